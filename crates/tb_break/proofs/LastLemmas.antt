@@ -1,6 +1,6 @@
 -- The best place is the last of least cost, by places.
 use Rattle.std.proofs.Common.{◌≡◌, refl, sym, subst, ◌∙◌, ap, ◌⊎◌, inl, inr, ℕ, suc, ◌<◌, ◌≤◌, ℤ, pos, Bool, true, false, List, [], ◌∷◌, ◌++◌, length, take, drop, filter, cond, Option, None, Some, append_assoc, length-append, arith}
-use Rattle.std.specs.Prelude.{int_le, int_lt, nat_le, ◌+ℤ◌, ◌≤ℤ◌, ◌<ℤ◌, ◌||◌, MatchOption, if◌then◌else◌}
+use Rattle.std.specs.Prelude.{int_le, int_lt, nat_le, ◌+ℤ◌, ◌≤ℤ◌, ◌<ℤ◌, MatchOption, if◌then◌else◌}
 use Rattle.std.specs.List.{AllByRecursion}
 use Rattle.std.proofs.lemmas.Int.{ints}
 use Rattle.std.proofs.lemmas.Bool.{cases_eq, true≢false}

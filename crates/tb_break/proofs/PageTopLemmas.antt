@@ -9,10 +9,10 @@ use Rattle.tb_node.specs.declared.Node.{Node}
 use Rattle.tb_node.specs.declared.Kind.{Kind}
 use Rattle.tb_node.specs.declared.Kind.TheVariants as kinds
 use Rattle.tb_node.specs.Shape.{Shape, box, glue, kern, penalty, other, is_discardable, is_box}
-use Rattle.tb_node.specs.PlainNodes.{leaf_shape, node_shape, shape_of, leaf_of, plain_of, plain_kind, matter_of, matter_shape, kind_shape, shape_of_kind, skip, plain}
+use Rattle.tb_node.specs.PlainNodes.{leaf_shape, shape_of, leaf_of, plain_kind, matter_of, matter_shape, kind_shape, shape_of_kind, skip}
 use Rattle.tb_node.specs.SmallAmounts.{IsSmallShape}
 use Rattle.tb_break.specs.SplitPlace.{NodesFit}
-use Rattle.tb_break.specs.PageTop.{pruned_at, pruned_by, pruned_list, pruned_leaves, pruned_nodes, glue_before, top_glue}
+use Rattle.tb_break.specs.PageTop.{pruned_at, pruned_by, pruned_list, pruned_leaves, glue_before, top_glue}
 use Rattle.tb_break.specs.PageTopTurns.{kept_at, before_box, boxed_at, from_box, turned_at, turned, moved_at, moved, top_at, with_front, topped}
 use Rattle.tb_pool.proofs.CallerLemmas.{list_same, with_list-twice}
 

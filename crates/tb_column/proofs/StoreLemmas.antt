@@ -1,11 +1,11 @@
 -- A store of which some lists were changed.
-use Rattle.std.proofs.Common.{◌≡◌, ◌≢◌, ℕ, List, [], ◌++◌, append_assoc, Option, Some, None, IsSome, is_some, unwrap_or, refl, sym, ap, ◌∙◌, arith}
+use Rattle.std.proofs.Common.{◌≡◌, ◌≢◌, ℕ, List, [], ◌++◌, append_assoc, Option, None, is_some, unwrap_or, sym, ap, ◌∙◌, arith}
 use Rattle.std.proofs.lemmas.Bool.{true≢false}
 use Rattle.std.specs.FinMap.{FinMap, get, insert, remove}
 use Rattle.std.specs.Ordering.{nat_cmp}
 use Rattle.tb_pool.specs.Lists.{Lists, IsLive, list_at, with_list}
 use Rattle.tb_pool.proofs.CallerLemmas.{list_same, list_other, insert-twice, with_list-twice}
-use Rattle.tb_pool.proofs.MapLemmas.{get-insert_same, get-insert_other, insert_from_get, same_from_get, list_steps}
+use Rattle.tb_pool.proofs.MapLemmas.{same_from_get, list_steps}
 use Rattle.tb_float.proofs.MoveLemmas.{joined-lists}
 
 module _ {T : Type 0} where

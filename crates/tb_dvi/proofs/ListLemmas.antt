@@ -8,7 +8,6 @@ use Rattle.tb_dvi.specs.declared.lister.Lister.{Lister}
 use Rattle.tb_dvi.specs.declared.lister.ListFault.{ListFault}
 use Rattle.tb_dvi.specs.declared.lister.ListFault.TheVariants as faults
 use Rattle.tb_dvi.specs.declared.DviCause.{DviCause}
-use Rattle.tb_dvi.specs.declared.DviCause.TheVariants as causes
 use Rattle.tb_dvi.specs.Machine.{Item, ended, State, Step, op_of, op_step, before, followed, run, pre_length, at_start, listed_after, listed}
 use Rattle.tb_dvi.specs.Listing.{item_line, listing}
 use Rattle.tb_dvi.specs.Refusal.{Misses}

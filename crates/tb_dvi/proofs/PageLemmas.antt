@@ -1,7 +1,5 @@
 -- The length of a page, and what is out of range.
-use Rattle.std.proofs.Common.{◌≡◌, ◌∙◌, ap, sym, ℕ, ◌+◌, ◌-◌, ◌<◌, ◌≤◌, ℤ, pos, true, false, ◌||◌, nat_lt, List, [], ◌∷◌, ◌++◌, length, flat_map, arith, length-append, le-ltb, lt-ltb}
-use Rattle.std.proofs.lemmas.Bool.Decides.{nat_tests}
-use Rattle.std.proofs.lemmas.Bool.{or_right, or_parts}
+use Rattle.std.proofs.Common.{◌≡◌, ◌∙◌, ap, sym, ℕ, ◌+◌, ◌-◌, ◌≤◌, ℤ, pos, false, ◌||◌, nat_lt, List, [], ◌∷◌, ◌++◌, length, flat_map, arith, length-append, le-ltb}
 use Rattle.tb_dvi.specs.File.{Page, placement_bytes, page_bytes, has_far, is_too_far}
 
 pub length-page : (last : ℤ) (p : Page) → length (page_bytes last p) ≡ 46 + length (flat_map placement_bytes p.placed)

@@ -3,7 +3,7 @@ use Rattle.std.proofs.Common.{◌≡◌, ◌≢◌, ℕ, suc, List, [], ◌∷�
 use Rattle.std.specs.Ordering.{nat_cmp}
 use Rattle.std.specs.FinMap.{FinMap, get, insert}
 use Rattle.tb_pool.specs.Lists.{Lists, IsLive, list_at, with_list}
-use Rattle.tb_pool.proofs.MapLemmas.{list_steps, same_from_get, get-insert_same, get-insert_other}
+use Rattle.tb_pool.proofs.MapLemmas.{list_steps, same_from_get, get-insert_same}
 use Rattle.tb_float.specs.Lists.{without_place}
 use Rattle.tb_float.proofs.ListLemmas.{slice_get-drop, slice_get-front, slice_get-one, without_place-parts, slice_set-parts, take-drop, some-list}
 

@@ -1,7 +1,5 @@
 -- What is known of the pool once the marks of a company are set.
-use Rattle.std.proofs.Common.{◌≡◌, Bool, List, Some, length, map, sym, ap, ◌∙◌}
-use Rattle.std.proofs.lemmas.List.{length-map}
-use Rattle.tb_node.specs.declared.Float.{Float}
+use Rattle.std.proofs.Common.{◌≡◌, Bool, List, Some, map, ap, ◌∙◌}
 use Rattle.tb_float.specs.declared.Part.{Part}
 use Rattle.tb_float.specs.Lists.{floats_of, IsWaiting}
 use Rattle.tb_float.specs.Pool.{FloatPool, marks_of, with_marks_of, marked_among, unmarked_among, marked_floats, unmarked_floats}
@@ -9,7 +7,7 @@ use Rattle.tb_float.proofs.WaitingLemmas.{marks-with, lists-marked, size-marked,
 use Rattle.tb_fpage.specs.declared.Wanted.{Wanted}
 use Rattle.tb_fpage.specs.Company.{Choice, company}
 use Rattle.tb_fpage.specs.Choice.{IsChosen}
-use Rattle.tb_fpage.proofs.LawLemmas.{company-is-lawful, marked-company, unmarked-company}
+use Rattle.tb_fpage.proofs.LawLemmas.{marked-company, unmarked-company}
 
 -- the floats that marks choose, if they are set in the list
 marked-with : (from : Part) → IsWaiting from → (ms : List Bool) (v : FloatPool) → marked_floats from (with_marks_of from ms v) ≡ marked_among ms (floats_of from v.lists)

@@ -2,7 +2,6 @@
 use Rattle.std.proofs.Common.{◌≡◌, ℕ, ◌+◌, ◌≤◌, Bool, true, false, nat_lt, List, [], ◌∷◌, ◌++◌, length, Option, Some, None, Result, Ok, Err, IfOk, if◌then◌else◌, refl, ap, ◌∙◌, sym, subst, arith}
 use Rattle.std.specs.List.{fold}
 use Rattle.std.specs.Str.Lines.{strip_carriage_return}
-use Rattle.std.proofs.lemmas.List.{length-append}
 use Rattle.std.proofs.lemmas.List.Sums.{fold-append, fold_push}
 use Rattle.std.proofs.lemmas.Bool.Decides.{nat_tests}
 use Rattle.tb_text.specs.Lines.{is_feed, lines_of}
@@ -18,7 +17,7 @@ use Rattle.tb_galley.specs.Grammar.{grammar, spelled, input_limit}
 use Rattle.tb_galley.specs.GalleyReader.{State, start, known_in, take_said, said_first, said_unless, verdict, Answers}
 use Rattle.tb_galley.specs.Valid.{IsValid}
 use Rattle.tb_galley.specs.declared.pieces.Progress.TheVariants.{Lines, TooLong, OutOfMemory}
-use Rattle.tb_galley.specs.Pieces.{Progress, Reading, with_byte, take_byte, with_last, count_after, fed, fed_more, Reaches, IsReached, HasRoom}
+use Rattle.tb_galley.specs.Pieces.{Progress, Reading, with_byte, take_byte, with_last, count_after, fed, Reaches, IsReached}
 use Rattle.tb_galley.proofs.SameStep.{left_exact}
 use Rattle.tb_galley.proofs.SoundReaders.{valid_galley}
 use Rattle.tb_galley.proofs.ByBytes.{closed, closed_text}

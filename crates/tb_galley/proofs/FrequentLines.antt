@@ -1,5 +1,5 @@
 -- Lines of the most frequent kinds, by their first bytes: boxes, glue, and `foot` and `endfoot` alone.
-use Rattle.std.proofs.Common.{◌≡◌, ◌≤◌, ◌<◌, ℕ, ℤ, ◌+◌, Bool, true, false, nat_lt, nat_le, ◌==◌, codes, List, [], ◌∷◌, length, Option, Some, None, Result, Ok, Err, refl, ap, sym, subst, ◌∙◌, arith, if◌then◌else◌}
+use Rattle.std.proofs.Common.{◌≡◌, ◌≤◌, ℕ, ℤ, ◌+◌, true, false, nat_lt, nat_le, ◌==◌, codes, List, [], ◌∷◌, length, Option, Some, None, Result, Ok, Err, refl, ap, sym, subst, ◌∙◌, arith, if◌then◌else◌}
 use Rattle.std.specs.Prelude.{is_some}
 use Rattle.std.proofs.lemmas.Bool.{eqb-true}
 use Rattle.std.proofs.lemmas.Bool.Decides.{nat_tests}
@@ -14,8 +14,8 @@ use Rattle.tb_galley.specs.declared.LeafKind.{LeafKind}
 use Rattle.tb_galley.specs.declared.LeafKind.TheVariants as leaves
 use Rattle.tb_galley.specs.declared.contents.Content.{Content}
 use Rattle.tb_galley.specs.declared.contents.Content.TheVariants as contents
-use Rattle.tb_galley.specs.Words.{LineWord, hbox, skip, foot, endfoot, is_item_word, Phase, at_start, among_sets, among_items, in_foot, ended, word_of, Known}
-use Rattle.tb_galley.specs.Faults.{place_causes, item_causes, cause_if}
+use Rattle.tb_galley.specs.Words.{LineWord, hbox, skip, foot, endfoot, Phase, at_start, among_sets, among_items, in_foot, ended, word_of, Known}
+use Rattle.tb_galley.specs.Faults.{place_causes, cause_if}
 use Rattle.tb_galley.specs.FieldReader.{Left, ◌>>=◌, mapped, finished, end_left, settled, at_fault, sized_left, glue_left, foot_left, named_class, content_left}
 use Rattle.tb_galley.specs.Line.{Said, said, first_of, content_line, line_left}
 use Rattle.tb_galley.specs.GalleyReader.{State, known_in, item_phase, foot_phase, endfoot_phase, takes_leaf, past_word, IsBoxLine, IsGlueLine, with_leaf, with_foot_begun, with_foot_ended, past_said, said_first, said_unless, take_said}

@@ -10,7 +10,7 @@ use Rattle.tb_scaled.specs.declared.Order.TheVariants as orders
 use Rattle.tb_scaled.specs.declared.Glue.{Glue}
 use Rattle.tb_node.specs.Names.{is_name, is_name_byte, is_alphanumeric}
 use Rattle.tb_text.specs.declared.TextFault.{TextFault}
-use Rattle.tb_text.specs.Numbers.{is_digit, integer_of, dimension_of, stretch_of}
+use Rattle.tb_text.specs.Numbers.{integer_of, dimension_of, stretch_of}
 use Rattle.tb_text.proofs.NumberTexts.{integer_back, dimension_back, stretch_back, unit_of, number_passes, number_some, number_short}
 use Rattle.tb_param.specs.Table.{is_within, is_dimen, is_glue}
 use Rattle.tb_galley.specs.declared.Cause.{Cause}

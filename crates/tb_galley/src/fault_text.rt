@@ -4,7 +4,7 @@ ghost use Rattle.tb_galley.specs.FaultText.{cause_name, is_range_cause, fault_te
 
 use crate::{Cause, Fault};
 use std::alloc::AllocError;
-use tb_text::put_number;
+use tb_text::put_counted;
 
 /// The name of the cause, as the line on standard error gives it: `line L field F: CAUSE`.
 pub fn cause_text(cause: Cause) -> &'static [u8]
@@ -65,10 +65,8 @@ pub fn is_range_cause(cause: Cause) -> bool
 pub fn put_fault(out: &mut Vec<u8>, fault: &Fault) -> Result<(), AllocError>
     ensures { OnOk result (out.new.items ≡ out.old.items ++ fault_text fault.now) }
 {
-    out.extend_from_slice(b"line ")?;
-    put_number(out, i128::from(fault.line))?;
-    out.extend_from_slice(b" field ")?;
-    put_number(out, i128::from(fault.field))?;
+    put_counted(out, b"line ", u64::from(fault.line))?;
+    put_counted(out, b" field ", u64::from(fault.field))?;
     out.extend_from_slice(b": ")?;
     out.extend_from_slice(cause_text(fault.cause))
 }

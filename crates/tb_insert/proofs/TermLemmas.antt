@@ -13,7 +13,7 @@ use Rattle.tb_node.specs.declared.Insertion.{Insertion}
 use Rattle.tb_node.specs.declared.Sums.{Sums}
 use Rattle.tb_node.specs.SmallAmounts.{IsAmount, IsSmall}
 use Rattle.tb_node.specs.Shape.{Shape, box, glue, kern, penalty, other}
-use Rattle.tb_node.specs.PlainNodes.{PlainKind, plain, ins, act, PlainNode, node_shape, inserted_of, Inserted, is_insertion_kind}
+use Rattle.tb_node.specs.PlainNodes.{ins, PlainNode, node_shape, inserted_of, Inserted, is_insertion_kind}
 use Rattle.tb_node.specs.Sums.{sums_of, size_of, list_stretch, stretch_of, list_shrink}
 use Rattle.tb_node.specs.NodeSums.{added_node, stretched_sums, more_at, order_index, stretch_with, shrink_with}
 use Rattle.tb_node.proofs.AddLemmas.{sums-append, added_stretches, size-append, depth-append, stretch-append, shrink-append, four}
@@ -21,7 +21,7 @@ use Rattle.tb_break.specs.Scan.{Scanned}
 use Rattle.tb_insert.specs.declared.Class.{Class}
 use Rattle.tb_insert.specs.declared.Account.{Account}
 use Rattle.tb_insert.specs.Terms.{Terms, sums_with, added_amounts}
-use Rattle.tb_insert.specs.Account.{Frozen, Labelled, labelled, labelled_with, label_of, terms_after, terms_of_labels, is_met, insertions, class_box}
+use Rattle.tb_insert.specs.Account.{Frozen, Labelled, labelled, label_of, terms_after, terms_of_labels, is_met, insertions, class_box}
 use Rattle.tb_insert.specs.AccountEntries.{Differ, numbered, boxed, IsAccountOf, EntryStands, IsScanOfPage, ComesTo, entry_of, met_scan}
 use Rattle.tb_insert.specs.Arrival.{InnerFits, ClassFits, ArriveFits, PageFits}
 use Rattle.tb_insert.proofs.AccountLemmas.{TermsNext, terms_next, labelled-append, new_skip, labelled-plain}

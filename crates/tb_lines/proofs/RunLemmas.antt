@@ -1,5 +1,5 @@
 -- Running sums and first words, with one more entry.
-use Rattle.std.proofs.Common.{◌≡◌, refl, sym, ◌∙◌, ap, subst, inl, inr, ℕ, zero, suc, ◌<◌, ◌≤◌, ◌+◌, ℤ, true, List, [], ◌∷◌, ◌++◌, length, take, set, get_or, ◌-◌, min, Option, Some, arith, length-append, replicate, length-set}
+use Rattle.std.proofs.Common.{◌≡◌, refl, sym, ◌∙◌, ap, subst, inl, inr, ℕ, zero, suc, ◌<◌, ◌≤◌, ◌+◌, ℤ, true, List, [], ◌∷◌, ◌++◌, length, take, set, get_or, ◌-◌, Option, Some, arith, length-append, replicate, length-set}
 use Rattle.std.specs.Prelude.{slice_get, if◌then◌else◌}
 use Rattle.std.proofs.lemmas.Bool.{cases_eq}
 use Rattle.std.proofs.lemmas.Option.{slice_get-get_or, get_or_from_slice_get}
@@ -9,7 +9,7 @@ use Rattle.tb_lines.specs.declared.sums.Sums.{Sums}
 use Rattle.tb_lines.specs.Entries.{is_word, first_word, line_start, line_between, entry_penalty, penalty_in, penalty_at}
 use Rattle.tb_lines.specs.SolutionLines.{is_within}
 use Rattle.tb_lines.specs.Demerits.{entry_sums, plus_sums, sums_of}
-use Rattle.tb_lines.specs.Prepared.{AreRunning, AreSmall, AreFirstWords}
+use Rattle.tb_lines.specs.Prepared.{AreRunning, AreSmall}
 use Rattle.tb_lines.proofs.LineSums.{sums_of-more, first_word-step, first_word-end, start_within, line_sums}
 
 get_before : {X : Type 0} (xs : List X) (x : X) (k : ℕ) → k < length xs → slice_get (xs ++ x ∷ []) k ≡ slice_get xs k

@@ -24,7 +24,7 @@ pub use galley::lines_galley;
 pub use laws::{check_lines, galleys_are_accepted, solutions_are_least};
 pub use line_texts::line_text;
 pub use reader::read_lines;
-pub use refusal_text::{put_counted, put_refusal};
+pub use refusal_text::put_refusal;
 pub use solution::{Solution, break_par};
 pub use tb_galley::{Cause as LinesCause, cause_text, is_range_cause};
 pub use text::{Item, Items, LineParams, Paragraph, Paragraphs, Text};

@@ -1,14 +1,14 @@
 //! The galley of the lines.
-ghost use Rattle.std.specs.Prelude.{◌≡◌, ◌<◌, ◌+◌, ◌++◌, ◌^◌, length, decimal, OnOk, IfOk, Option};
+ghost use Rattle.std.specs.Prelude.{◌≡◌, ◌<◌, ◌+◌, ◌++◌, ◌^◌, length, OnOk, IfOk, Option};
 ghost use Rattle.tb_lines.specs.LeastSolution.{IsLeastOf};
 ghost use Rattle.tb_lines.specs.Entries.{list_of};
-ghost use Rattle.tb_lines.specs.LineText.{width_text, glue_line, interline, penalty_after, penalty_line, penalty_before, space_before, box_line, one_line, entry_size, joined_size, size_of, line_sizes, lines_text, depth_after, paragraph_text, paragraph_depth, paragraphs_text, AreWithin, AreLeast, Writes, line_text};
+ghost use Rattle.tb_lines.specs.LineText.{glue_line, interline, penalty_after, penalty_line, penalty_before, space_before, box_line, one_line, entry_size, joined_size, size_of, line_sizes, lines_text, depth_after, paragraph_text, paragraph_depth, paragraphs_text, AreWithin, AreLeast, Writes, line_text};
 
 use crate::entries::{Entry, list_of};
 use crate::solution::Solution;
 use crate::text::{Item, LineParams, Paragraph, Text};
 use std::alloc::{AllocError, Global};
-use tb_text::put_number;
+use tb_text::{put, put_counted};
 
 // What follows the width of glue that neither stretches nor shrinks.
 const FIXED: &[u8] = b" plus 0 minus 0\n";
@@ -22,29 +22,10 @@ pub struct Size {
     pub depth: u32,
 }
 
-fn put(out: &mut Vec<u8>, text: &[u8]) -> Result<(), AllocError>
-    ensures { OnOk result (out.new.items ≡ out.old.items ++ text.now) }
-{
-    out.extend_from_slice(text)
-}
-
-fn put_count(out: &mut Vec<u8>, number: u64) -> Result<(), AllocError>
-    ensures { OnOk result (out.new.items ≡ out.old.items ++ decimal number) }
-{
-    put_number(out, i128::from(number))
-}
-
-fn put_width(out: &mut Vec<u8>, width: u32) -> Result<(), AllocError>
-    ensures { OnOk result (out.new.items ≡ out.old.items ++ width_text width) }
-{
-    put(out, b"glue ")?;
-    put_count(out, u64::from(width))
-}
-
 fn put_glue(out: &mut Vec<u8>, width: u32) -> Result<(), AllocError>
     ensures { OnOk result (out.new.items ≡ out.old.items ++ glue_line width) }
 {
-    put_width(out, width)?;
+    put_counted(out, b"glue ", u64::from(width))?;
     put(out, FIXED)
 }
 
@@ -84,8 +65,7 @@ fn put_penalty(out: &mut Vec<u8>, penalty: u64) -> Result<(), AllocError>
     if penalty == 0 {
         return Ok(());
     }
-    put(out, b"penalty ")?;
-    put_count(out, penalty)?;
+    put_counted(out, b"penalty ", penalty)?;
     put(out, b"\n")
 }
 
@@ -128,12 +108,9 @@ fn put_box(out: &mut Vec<u8>, name: &[u8], number: usize, size: Size) -> Result<
 {
     put(out, b"box ")?;
     put(out, name)?;
-    put(out, b".")?;
-    put_count(out, number as u64)?;
-    put(out, b" ")?;
-    put_count(out, u64::from(size.height))?;
-    put(out, b" ")?;
-    put_count(out, u64::from(size.depth))?;
+    put_counted(out, b".", number as u64)?;
+    put_counted(out, b" ", u64::from(size.height))?;
+    put_counted(out, b" ", u64::from(size.depth))?;
     put(out, b"\n")
 }
 

@@ -1,20 +1,11 @@
 //! The texts of refusals.
-ghost use Rattle.std.specs.Prelude.{◌≡◌, ◌++◌, decimal, OnOk};
+ghost use Rattle.std.specs.Prelude.{◌≡◌, ◌++◌, OnOk};
 ghost use Rattle.tb_lines.specs.RefusalText.{no_breaks_text, refusal_text};
 
 use crate::LinesRefusal;
 use std::alloc::AllocError;
 use tb_galley::{Fault, put_fault};
-use tb_text::put_number;
-
-/// Appends some words, and a number after them. `Err` comes only if memory runs out; a part of the text may be in `out`
-/// then.
-pub fn put_counted(out: &mut Vec<u8>, words: &[u8], number: u64) -> Result<(), AllocError>
-    ensures { OnOk result (out.new.items ≡ out.old.items ++ (words.now ++ decimal number)) }
-{
-    out.extend_from_slice(words)?;
-    put_number(out, i128::from(number))
-}
+use tb_text::put_counted;
 
 fn put_no_breaks(out: &mut Vec<u8>, paragraph: usize) -> Result<(), AllocError>
     ensures { OnOk result (out.new.items ≡ out.old.items ++ no_breaks_text paragraph) }

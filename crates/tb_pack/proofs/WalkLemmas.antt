@@ -12,8 +12,8 @@ use Rattle.tb_node.proofs.AddLemmas.{size-append, stretch-append, shrink-append}
 use Rattle.tb_pack.specs.declared.Sign.{Sign}
 use Rattle.tb_pack.specs.declared.Sign.TheVariants as signs
 use Rattle.tb_pack.specs.declared.Set.{Set}
-use Rattle.tb_pack.specs.Pack.{at_of, glue_by_sign, top_after}
-use Rattle.tb_pack.specs.Position.{Walked, glue_of, walked_past, top_of, HasPassed}
+use Rattle.tb_pack.specs.Pack.{glue_by_sign}
+use Rattle.tb_pack.specs.Position.{Walked, glue_of, walked_past, HasPassed}
 
 glue-append : (sign : Sign) (o : Order) (ns : List Shape) (n : Shape) → glue_by_sign sign o (ns ++ n ∷ []) ≡ glue_by_sign sign o ns +ℤ glue_of sign o n
 glue-append signs.None o ns n = omega (arith, ints)

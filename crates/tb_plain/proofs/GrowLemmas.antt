@@ -13,9 +13,9 @@ use Rattle.tb_param.specs.declared.Params.{Params}
 use Rattle.tb_builder.specs.declared.Builder.{Builder}
 use Rattle.tb_builder.specs.FiredPages.{Boxed, box_content, content_of}
 use Rattle.tb_builder.specs.Contents.{Contents, contents_of, box_count}
-use Rattle.tb_builder.specs.Ownership.{Lacks, has_class, ids_of, owned}
+use Rattle.tb_builder.specs.Ownership.{Lacks, ids_of, owned}
 use Rattle.tb_builder.specs.Courses.{IsSound}
-use Rattle.tb_builder.specs.Contributions.{NoPage, with_void, Taken}
+use Rattle.tb_builder.specs.Contributions.{with_void, Taken}
 use Rattle.tb_builder.proofs.Ownership.OwnedLemmas.{AllSame}
 use Rattle.tb_builder.proofs.Ownership.FrameLemmas.{frame_owned, frame_contents, frame_sound}
 use Rattle.tb_column.specs.Page.{AreLeaves}

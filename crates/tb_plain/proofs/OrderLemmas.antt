@@ -13,7 +13,7 @@ use Rattle.tb_builder.specs.Reach.{Reach, holds_box, laid_out}
 use Rattle.tb_builder.specs.FiredPages.{Fired, page_break, spent_kind, with_spent_break, unless_empty, held_of, held_insertions, box_content, content_of, frozen_for}
 use Rattle.tb_builder.specs.PageSums.{page_sums_of}
 use Rattle.tb_builder.proofs.Cutting.CutLemmas.{CutAt}
-use Rattle.tb_column.specs.Column.{shipped, is_ragged}
+use Rattle.tb_column.specs.Column.{is_ragged}
 use Rattle.tb_plain.specs.GalleyNodes.{clearing_penalty}
 use Rattle.tb_plain.specs.TakenFloats.{top_insertion, top_leaves, page_leaves, here_nodes, with_float, taken_nodes, act_nodes}
 use Rattle.tb_plain.specs.Firing.{feet_below, holds_any, ragged_end, makeup_column_nodes, page_for_held, put_back_after}

@@ -15,7 +15,7 @@ use Rattle.tb_builder.specs.FiredPages.{Fired, page_break, given_to, is_given, c
 use Rattle.tb_builder.specs.PageSums.{page_sums_of}
 use Rattle.tb_builder.proofs.FiredPages.PageWeights.{laid_out-weight, acted_weight, reach-weight, boxes_weight, fired-weight, labelled-class}
 use Rattle.tb_builder.proofs.Cutting.CutLemmas.{CutAt, class-both, class-take, class-drop, class-passed, spent-class}
-use Rattle.tb_column.specs.Column.{one, PlainSent, shipped, is_ragged}
+use Rattle.tb_column.specs.Column.{is_ragged}
 use Rattle.tb_column.proofs.PrintedLines.{sent_weight, sent_weight-append}
 use Rattle.tb_plain.specs.GalleyNodes.{clearing_penalty}
 use Rattle.tb_plain.specs.TakenFloats.{top_insertion, top_leaves, page_leaves, here_nodes, with_float, taken_nodes, act_nodes}

@@ -1,6 +1,6 @@
 -- 'Only these lists changed' is carried on from call to call.
-use Rattle.std.proofs.Common.{◌≡◌, refl, sym, subst, ◌∙◌, ℕ, List, [], ◌∷◌, ◌++◌, IsSome}
-use Rattle.tb_pool.specs.Lists.{Lists, IsLive, list_at}
+use Rattle.std.proofs.Common.{sym, subst, ◌∙◌, ℕ, List, [], ◌∷◌, ◌++◌, IsSome}
+use Rattle.tb_pool.specs.Lists.{Lists, IsLive}
 use Rattle.tb_pool.specs.Frame.{IsNoneOf, OnlyChanged}
 
 -- ---- none of these

@@ -1,28 +1,26 @@
 -- A page that is filled and fires, as part of a step of the run. No public clause cites this module.
-use Rattle.std.specs.Prelude.{◌≡◌, ℕ, ◌+◌, ◌≤◌, pos, ◌<ℤ◌, ◌≤ℤ◌, Bool, true, false, List, [], ◌++◌, map, Option, Some, None, int_lt, if◌then◌else◌}
+use Rattle.std.specs.Prelude.{◌≡◌, ℕ, ◌+◌, ◌≤◌, pos, ◌<ℤ◌, ◌≤ℤ◌, Bool, true, false, List, [], ◌++◌, map, Option, Some, None, int_lt}
 use Rattle.tb_pool.specs.Lists.{Lists}
 use Rattle.tb_node.specs.declared.Act.{Act}
 use Rattle.tb_node.specs.declared.Node.{Node}
 use Rattle.tb_node.specs.PlainNodes.{PlainNode}
 use Rattle.tb_node.specs.Fit.{shapes}
 use Rattle.tb_node.specs.Sums.{size_of}
-use Rattle.tb_param.specs.declared.Params.{Params}
 use Rattle.tb_builder.specs.declared.Ask.{Ask}
 use Rattle.tb_builder.specs.declared.Event.{Event}
 use Rattle.tb_builder.specs.declared.Page.{Page}
 use Rattle.tb_builder.specs.PageCalls.{PassedOver, ComesBy}
 use Rattle.tb_builder.specs.PageEvents.{fired_room}
-use Rattle.tb_builder.specs.FiredPages.{Boxed, Fired}
+use Rattle.tb_builder.specs.FiredPages.{Boxed}
 use Rattle.tb_builder.specs.SizedContents.{fired_count}
 use Rattle.tb_builder.specs.Contents.{node_count}
 use Rattle.tb_column.specs.declared.Sent.{Sent}
 use Rattle.tb_output.specs.declared.RunFault.{RunFault}
 use Rattle.tb_output.specs.declared.RunFault.TheVariants as faults
-use Rattle.tb_output.specs.State.{State, Recorded}
+use Rattle.tb_output.specs.State.{Recorded}
 use Rattle.tb_output.specs.Act.{Acted, went, full, act_on}
 use Rattle.tb_output.specs.ActCalls.{line_of, warnings_sent}
 use Rattle.tb_output.specs.Machine.{state_shown, events_shown}
-use Rattle.tb_output.specs.Output.{out}
 use Rattle.tb_output.specs.Firing.{CanFire, fired_in, whole_work}
 use Rattle.tb_run.specs.declared.happenings.Happening.{Happening}
 use Rattle.tb_run.specs.declared.happenings.Happening.TheVariants as happenings
@@ -31,7 +29,7 @@ use Rattle.tb_run.specs.declared.routine.Ending.{Ending}
 use Rattle.tb_run.specs.declared.routine.Ending.TheVariants as endings
 use Rattle.tb_run.specs.declared.routine.Filled.{Filled}
 use Rattle.tb_run.specs.declared.routine.Filled.TheVariants as filled
-use Rattle.tb_run.specs.Run.{RunEvent, dead_cycles, Step, ends, after_firing, held_count, step}
+use Rattle.tb_run.specs.Run.{RunEvent, dead_cycles, held_count, step}
 use Rattle.tb_run.specs.ServedStates.{AreRunClasses, IsServed, IsServedPage}
 use Rattle.tb_run.specs.Happenings.{events_of, noted, step_events, happened_lists}
 use Rattle.tb_run.specs.Routine.{held_in, state_of, IsConsistent, IsBounded, between_pages, EndsAs, IsEnded}
@@ -72,12 +70,6 @@ pub record HasNotActed (a : Act) (live : ℕ) (r q : Routine) : Type 0 where
   pub same : q ≡ r
 
 -- ---- a page is filled
-
--- the firing of a page in this state, after these events and records
-abbrev pub firing_step : Params → List RunEvent → List Recorded → State → Fired → Step
-firing_step p es rs s f =
-    let fired = after_firing p es rs (out p s f) in
-    if int_lt (pos s.dead_cycles) p.maxdeadcycles then fired else ends es rs (dead_cycles s.dead_cycles)
 
 -- the happenings are what is noted of these events, and none has lists
 pub record AreQuiet (wanted : Bool) (hs : List Happening) (es : List RunEvent) : Type 0 where

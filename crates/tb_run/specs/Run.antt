@@ -10,7 +10,7 @@ use Rattle.tb_insert.specs.declared.Class.{Class}
 use Rattle.tb_builder.specs.declared.Try.{Try}
 use Rattle.tb_builder.specs.Reach.{Reached, acted, tried, Reach, try_of}
 use Rattle.tb_builder.specs.Contents.{node_count, box_count}
-use Rattle.tb_builder.specs.FiredPages.{reach_of, fired_of}
+use Rattle.tb_builder.specs.FiredPages.{Fired, reach_of, fired_of}
 use Rattle.tb_column.specs.Column.{PlainSent, warned}
 use Rattle.tb_output.specs.State.{State, first_state, foot_class, ask_of, Recorded, emptied, Work}
 use Rattle.tb_output.specs.Act.{Acted, went, full, act_on}
@@ -79,11 +79,15 @@ after_firing p es rs w =
     if w.refused then ends events records (page_limit (pred w.state.page))
     else (if int_lt p.maxnodes (pos held) then ends events records (node_limit held) else goes_on events records w.state)
 
--- the firing of a page, if it is allowed
+-- the firing of a page in this state, after these events and records, if it is allowed
+abbrev pub firing_step : Params → List RunEvent → List Recorded → State → Fired → Step
+firing_step p es rs s f =
+    let fired = after_firing p es rs (out p s f) in
+    if int_lt (pos s.dead_cycles) p.maxdeadcycles then fired else ends es rs (dead_cycles s.dead_cycles)
+
+-- the firing of the page that is reached
 abbrev pub fire : Params → Reach → Progress → Step
-fire p w q =
-    let fired = after_firing p q.events q.records (out p q.state (fired_of (ask_of p q.state) q.state.classes q.state.boxes w)) in
-    if int_lt (pos q.state.dead_cycles) p.maxdeadcycles then fired else ends q.events q.records (dead_cycles q.state.dead_cycles)
+fire p w q = firing_step p q.events q.records q.state (fired_of (ask_of p q.state) q.state.classes q.state.boxes w)
 
 -- a step by the progress of its page: it ends at a full pool, fires, or is done when nothing fires
 abbrev pub after_progress : Params → Reach → Progress → Option (ℕ × ℕ) → Step

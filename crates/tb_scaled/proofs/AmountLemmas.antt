@@ -1,6 +1,5 @@
 -- An amount fits 64 bits, and so do the sum and the difference of two.
-use Rattle.std.proofs.Common.{ℤ, ◌+ℤ◌, FitsSigned, w64, rules}
-use Rattle.std.specs.Prelude.{◌-ℤ◌}
+use Rattle.std.proofs.Common.{ℤ, FitsSigned, w64, rules}
 use Rattle.std.proofs.lemmas.Int.{ints}
 use Rattle.tb_scaled.specs.Amount.{IsAmount}
 

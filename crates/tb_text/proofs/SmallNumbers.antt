@@ -1,5 +1,5 @@
 -- A field of a few digits and nothing else.
-use Rattle.std.proofs.Common.{◌≡◌, ℕ, ◌+◌, ◌-◌, ◌*◌, ◌^◌, ◌<◌, ◌≤◌, pos, ℤ, Bool, true, false, ◌&&◌, List, [], ◌∷◌, length, take, drop, get_or, zero, suc, if◌then◌else◌, Ok, refl, ap, sym, ◌∙◌, arith}
+use Rattle.std.proofs.Common.{◌≡◌, ℕ, ◌+◌, ◌-◌, ◌*◌, ◌^◌, ◌<◌, ◌≤◌, pos, ℤ, true, false, ◌&&◌, List, [], ◌∷◌, length, take, drop, get_or, zero, suc, if◌then◌else◌, Ok, refl, ap, sym, ◌∙◌, arith}
 use Rattle.std.proofs.lemmas.Bool.{and_parts}
 use Rattle.std.specs.List.{list_all, prefix_len}
 use Rattle.std.specs.Int.Digits.{number_from_digits, AllBelowBase}

@@ -13,6 +13,14 @@ pub fn put(out: &mut Vec<u8>, text: &[u8]) -> Result<(), AllocError>
     out.extend_from_slice(text)
 }
 
+/// Appends a text and a number in decimal. It fails only if there is no memory; a part may then be there.
+pub fn put_counted(out: &mut Vec<u8>, text: &[u8], number: u64) -> Result<(), AllocError>
+    ensures { OnOk result (out.new.items ≡ out.old.items ++ (text.now ++ decimal number)) }
+{
+    put(out, text)?;
+    put_number(out, i128::from(number))
+}
+
 /// Appends a space and a text. It fails only if there is no memory; a part may then be there.
 pub fn put_text(out: &mut Vec<u8>, text: &[u8]) -> Result<(), AllocError>
     ensures { OnOk result (out.new.items ≡ out.old.items ++ and_text text.now) }

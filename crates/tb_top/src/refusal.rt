@@ -13,7 +13,8 @@ use crate::{PageFault, Status};
 use std::alloc::{AllocError, Global};
 use tb_galley::{Cause, GalleyFault, is_range_cause, put_fault};
 use tb_io::SinkFault;
-use tb_lines::{LinesRefusal, put_counted, put_refusal};
+use tb_lines::{LinesRefusal, put_refusal};
+use tb_text::put_counted;
 use tb_words::WordsFault;
 
 /// Why a run was refused, with what its line on `err` shows.

@@ -1,5 +1,5 @@
 -- Nodes are counted, with counts that saturate.
-use Rattle.std.proofs.Common.{◌≡◌, refl, sym, subst, ◌∙◌, ap, ℕ, ◌+◌, ◌<◌, ◌≤◌, Bool, true, false, List, [], ◌∷◌, ◌++◌, length, map, drop, get_or, min, add-one, add_assoc, arith}
+use Rattle.std.proofs.Common.{◌≡◌, refl, sym, subst, ◌∙◌, ap, ℕ, ◌+◌, ◌<◌, Bool, true, false, List, [], ◌∷◌, ◌++◌, length, map, drop, get_or, min, add-one, add_assoc, arith}
 use Rattle.std.specs.Prelude.{option_to_list}
 use Rattle.std.proofs.Math.Seq.{drop-cons}
 use Rattle.std.proofs.lemmas.List.{length-map}
@@ -8,9 +8,7 @@ use Rattle.tb_node.specs.declared.Node.{Node}
 use Rattle.tb_node.specs.PlainNodes.{plain_of, leaf_of}
 use Rattle.tb_builder.specs.declared.ClassList.{ClassList}
 use Rattle.tb_builder.specs.FiredPages.{content_of}
-use Rattle.tb_builder.specs.Contents.{Contents, contents_count, kind_count, node_count, content_by, leaf_list, boxed_of, box_count}
-use Rattle.tb_builder.specs.declared.Ask.{Ask}
-use Rattle.tb_builder.specs.Pageable.{IsPageable}
+use Rattle.tb_builder.specs.Contents.{kind_count, node_count, content_by, leaf_list, boxed_of, box_count}
 use Rattle.tb_builder.specs.Ownership.{AllLive, inner_of, inner_ids, Ids, nodes_of, box_ids, VoidEmpty, IsOwned}
 use Rattle.tb_builder.proofs.Ownership.OwnedLemmas.{live-left, live-right, inner-append}
 

@@ -1,19 +1,14 @@
 -- The scan of a page, when a node without room goes on it.
-use Rattle.std.proofs.Common.{◌≡◌, refl, sym, ◌∙◌, ap, ℕ, ℤ, pos, Bool, true, false, List, [], ◌∷◌, ◌++◌, arith}
-use Rattle.std.specs.Prelude.{◌+ℤ◌, ◌-ℤ◌, map}
+use Rattle.std.proofs.Common.{◌≡◌, sym, ◌∙◌, ap, ℕ, ℤ, pos, Bool, true, false, List, [], ◌∷◌, ◌++◌}
+use Rattle.std.specs.Prelude.{map}
 use Rattle.std.proofs.lemmas.List.{map-append}
-use Rattle.std.proofs.lemmas.Int.{ints}
-use Rattle.tb_scaled.specs.Scaled.{min_ℤ}
-use Rattle.tb_scaled.specs.declared.Order.{Order}
-use Rattle.tb_scaled.specs.declared.Order.TheVariants.{Normal, Fil, Fill, Filll}
-use Rattle.tb_node.specs.Shape.{Shape, other}
+use Rattle.tb_node.specs.Shape.{other}
 use Rattle.tb_node.specs.PlainNodes.{ins, PlainNode, node_shape, Inserted, is_insertion_kind}
-use Rattle.tb_node.specs.Sums.{sums_of, size_of, list_stretch, list_shrink, stretches}
-use Rattle.tb_node.proofs.AddLemmas.{size-append, depth-append, stretch-append, shrink-append}
+use Rattle.tb_node.specs.Sums.{sums_of, list_shrink, stretches}
 use Rattle.tb_break.specs.Scan.{Scanned, empty_scan}
 use Rattle.tb_insert.specs.declared.Class.{Class}
 use Rattle.tb_insert.specs.Terms.{Terms, sums_with}
-use Rattle.tb_insert.specs.Account.{ClassBox, Frozen, labelled, terms_after, terms_of_labels, is_met, insertions, class_box, met_classes, skip_shapes}
+use Rattle.tb_insert.specs.Account.{ClassBox, Frozen, labelled, terms_after, terms_of_labels, is_met, insertions, class_box, skip_shapes}
 use Rattle.tb_insert.specs.AccountEntries.{Differ, numbered, boxed, IsScanOfPage, met_scan}
 use Rattle.tb_insert.proofs.TermLemmas.{skipped, sums-other, met_depth}
 use Rattle.tb_insert.proofs.AccountLemmas.{labelled-plain}

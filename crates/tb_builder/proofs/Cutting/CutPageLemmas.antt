@@ -1,6 +1,6 @@
 -- The page is cut at its break, and what comes after it goes back.
 use Rattle.std.proofs.Common.{◌≡◌, ◌≢◌, inl, inr, refl, sym, subst, ◌∙◌, ap, ℕ, true, List, [], ◌∷◌, ◌++◌, map, length, take, drop, Some, append_assoc, arith}
-use Rattle.std.specs.Prelude.{option_to_list, slice_set}
+use Rattle.std.specs.Prelude.{option_to_list}
 use Rattle.std.specs.FinMap.{get, insert}
 use Rattle.std.proofs.lemmas.Bool.{cases_eq}
 use Rattle.std.proofs.lemmas.List.{map-append, take-map, drop-map, take-append-drop, take_all, drop_all}

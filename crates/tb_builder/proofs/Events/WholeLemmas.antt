@@ -18,8 +18,8 @@ use Rattle.tb_builder.specs.Pageable.{IsSizedOnPage, IsSizedClass, IsSizedBox}
 use Rattle.tb_builder.specs.SizedContents.{IsSizedAsk, IsSizedContents, whole_count, AreBoxesOf, fired_count}
 use Rattle.tb_builder.proofs.Cutting.CutLemmas.{CutAt, reach-cut}
 use Rattle.tb_builder.proofs.Ranges.PageableLemmas.{count-append, pruned_sized, pruned_nodes_longer}
-use Rattle.tb_builder.proofs.Ranges.SizedLemmas.{FiredSized, EndSized, reach_sized, fired_by_sized}
-use Rattle.tb_builder.proofs.FiredPages.FiredCounts.{fired_by-fewer, reached_fewer}
+use Rattle.tb_builder.proofs.Ranges.SizedLemmas.{FiredSized, fired_by_sized}
+use Rattle.tb_builder.proofs.FiredPages.FiredCounts.{fired_by-fewer}
 use Rattle.tb_builder.proofs.Ranges.KeptLemmas.{kept-fits}
 use Rattle.tb_builder.proofs.Handover.CallLemmas.{list-sized, list-count}
 

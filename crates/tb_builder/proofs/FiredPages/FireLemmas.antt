@@ -1,5 +1,5 @@
 -- A page fires: what the builder held before, and what it holds afterwards.
-use Rattle.std.proofs.Common.{◌≡◌, ◌≢◌, refl, sym, subst, ◌∙◌, ap, ℕ, ◌≤◌, ℤ, pos, ◌+ℤ◌, true, false, List, [], ◌∷◌, ◌++◌, map, length, take, drop, Option, Some, None, is_some, IsSome, append_assoc, arith}
+use Rattle.std.proofs.Common.{◌≡◌, ◌≢◌, refl, sym, subst, ◌∙◌, ap, ℕ, ◌≤◌, ℤ, pos, ◌+ℤ◌, true, false, List, [], ◌∷◌, ◌++◌, map, length, take, drop, Option, Some, None, IsSome, append_assoc, arith}
 use Rattle.std.specs.FinMap.{get}
 use Rattle.std.proofs.lemmas.Bool.{true≢false}
 use Rattle.std.proofs.lemmas.Int.{ints}
@@ -19,7 +19,7 @@ use Rattle.tb_builder.specs.declared.Builder.{Builder}
 use Rattle.tb_builder.specs.Reach.{Reach, holds_box, reach_from, breakpoints}
 use Rattle.tb_builder.specs.FiredPages.{Fired, no_place, page_break, penalty_at, line_at, with_spent_break, box_after, held_insertions, fired_by}
 use Rattle.tb_builder.specs.Contents.{Contents, contents_of, frozen_or, frozen_of, reach_whole}
-use Rattle.tb_builder.specs.Ownership.{Lacks, AllLive, inner_ids, Ids, ids_of, owned, IsOwned}
+use Rattle.tb_builder.specs.Ownership.{Lacks, inner_ids, Ids, ids_of, owned, IsOwned}
 use Rattle.tb_builder.specs.Courses.{ChampionIs, AtStop, places_by, page_frozen, AllLoose, AllLasting, IsPageSoFar, IsSound}
 use Rattle.tb_builder.specs.LegalPlaces.{page_shapes}
 use Rattle.tb_break.specs.Places.{ends_lasting}

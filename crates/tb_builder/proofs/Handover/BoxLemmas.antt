@@ -1,24 +1,21 @@
 -- A class box is looked at, and its nodes are taken.
 use Rattle.std.proofs.Common.{◌≡◌, ◌≢◌, inl, inr, refl, sym, subst, ◌∙◌, ap, ℕ, zero, suc, ◌<◌, Bool, true, false, List, [], ◌∷◌, ◌++◌, length, map, None, is_none, is_some, get_or, arith}
-use Rattle.std.specs.Prelude.{◌==◌, ◌||◌, if◌then◌else◌, slice_set}
+use Rattle.std.specs.Prelude.{◌||◌, if◌then◌else◌, slice_set}
 use Rattle.std.specs.FinMap.{get, insert}
 use Rattle.std.proofs.lemmas.Bool.{true≢false, cases_eq, eqb-true}
-use Rattle.std.proofs.lemmas.Int.{ints}
 use Rattle.tb_pool.specs.Lists.{Lists, IsLive, list_at, with_list}
 use Rattle.tb_node.specs.declared.Node.{Node}
 use Rattle.tb_node.specs.Fit.{shapes}
-use Rattle.tb_node.specs.PlainNodes.{leaf_of, leaf_shape, leaf_node, plain_of, plain_list}
-use Rattle.tb_node.specs.declared.Kind.{Kind}
-use Rattle.tb_node.specs.declared.Kind.TheVariants as kinds
+use Rattle.tb_node.specs.PlainNodes.{leaf_of, leaf_shape, plain_of, plain_list}
 use Rattle.tb_insert.specs.declared.Class.{Class}
 use Rattle.tb_insert.proofs.AccountLemmas.{leaf_shapes}
 use Rattle.tb_builder.specs.declared.ClassList.{ClassList}
 use Rattle.tb_builder.specs.declared.Builder.{Builder}
 use Rattle.tb_builder.specs.FiredPages.{Boxed, content_of, box_content, box_size}
 use Rattle.tb_builder.specs.Contents.{Contents, contents_of, content_by, leaf_list, boxed_of}
-use Rattle.tb_builder.specs.Ownership.{Lacks, AllDiffer, AllLive, inner_ids, Ids, ids_of, nodes_of, box_ids, owned, is_plain, AllPlain, HoldPlain, VoidEmpty, has_class, has_number, IsFirst, IsClassList, ClassesFit, classes_of, AllKnown, IsOwned}
+use Rattle.tb_builder.specs.Ownership.{Lacks, AllDiffer, AllLive, inner_ids, Ids, ids_of, nodes_of, box_ids, owned, AllPlain, HoldPlain, VoidEmpty, has_class, has_number, IsFirst, IsClassList, ClassesFit, classes_of, AllKnown, IsOwned}
 use Rattle.tb_builder.specs.Courses.{IsPageSoFar, IsSound}
-use Rattle.tb_builder.specs.PageEvents.{SizesFit, BoxesFit}
+use Rattle.tb_builder.specs.PageEvents.{SizesFit}
 use Rattle.tb_builder.specs.Contributions.{NoPage, with_void, Taken}
 use Rattle.tb_builder.proofs.Ownership.OwnedLemmas.{Apart, AllSame, lacks-left, lacks-right, differ-left, differ-apart, plain-left, same_from, lists_same, view_same, inner-append, same-left, same-right}
 use Rattle.tb_builder.proofs.Turns.MoveLemmas.{Wrote, wrote_two}

@@ -1,5 +1,5 @@
 -- The room of a list, node by node.
-use Rattle.std.proofs.Common.{◌≡◌, refl, sym, subst, ◌∙◌, ap, ℤ, pos, ◌+ℤ◌, List, [], ◌∷◌, ◌++◌, map, append_assoc, append-nil, arith}
+use Rattle.std.proofs.Common.{◌≡◌, sym, subst, ◌∙◌, ap, ℤ, ◌+ℤ◌, List, [], ◌∷◌, ◌++◌, map, append_assoc, arith}
 use Rattle.std.proofs.lemmas.List.{map-append}
 use Rattle.std.proofs.lemmas.Int.{ints}
 use Rattle.tb_node.specs.declared.Node.{Node}

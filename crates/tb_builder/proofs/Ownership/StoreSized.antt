@@ -1,22 +1,18 @@
 -- Sized nodes of a store as the definitions see them, and back.
-use Rattle.std.proofs.Common.{◌≡◌, refl, sym, ◌∙◌, ap, ℕ, ◌≤◌, true, List, [], ◌∷◌, length, map, arith}
+use Rattle.std.proofs.Common.{◌≡◌, refl, ℕ, ◌≤◌, true, List, [], ◌∷◌, length, map, arith}
 use Rattle.std.specs.Prelude.{All}
 use Rattle.std.specs.List.{AllByRecursion}
-use Rattle.std.proofs.lemmas.Bool.{true≢false}
 use Rattle.std.proofs.lemmas.List.Elements.{All-from_recursion, recursion_from_All}
 use Rattle.tb_pool.specs.Lists.{Lists, list_at}
 use Rattle.tb_node.specs.declared.Node.{Node}
 use Rattle.tb_node.specs.declared.Kind.{Kind}
 use Rattle.tb_node.specs.declared.Kind.TheVariants as kinds
-use Rattle.tb_node.specs.declared.Insertion.{Insertion}
-use Rattle.tb_node.specs.Fit.{IsExtent, IsPenalty, IsSized, IsSizedNode, IsSizedLeaf}
-use Rattle.tb_node.specs.Sums.{size_of}
-use Rattle.tb_node.specs.PlainNodes.{matter_shape, matter_of, leaf_of, inserted_of, plain_kind, plain_of, shape_of, shape_of_kind, kind_shape, plain_list}
-use Rattle.tb_insert.proofs.AccountLemmas.{leaf_shapes}
+use Rattle.tb_node.specs.Fit.{IsSized, IsSizedNode, IsSizedLeaf}
+use Rattle.tb_node.specs.PlainNodes.{matter_shape, matter_of, leaf_of, plain_kind, plain_of, shape_of_kind, kind_shape, plain_list}
 use Rattle.tb_builder.specs.declared.ClassList.{ClassList}
 use Rattle.tb_builder.specs.Contents.{boxed_of, kind_count, node_count}
 use Rattle.tb_builder.specs.Ownership.{is_plain, AllPlain}
-use Rattle.tb_builder.specs.Pageable.{IsSizedInserted, IsSizedOnPage}
+use Rattle.tb_builder.specs.Pageable.{IsSizedOnPage}
 use Rattle.tb_builder.specs.SizedContents.{AreBoxesOf}
 use Rattle.tb_builder.proofs.Events.WholeLemmas.{IsMatterKind, AreMatter}
 

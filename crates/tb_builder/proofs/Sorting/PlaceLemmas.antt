@@ -1,8 +1,8 @@
 -- The search for the first insertion of a list.
-use Rattle.std.proofs.Common.{◌≡◌, refl, sym, subst, ◌∙◌, ap, ℕ, ◌-◌, ◌≤◌, ◌<◌, false, true, List, [], ◌∷◌, ◌++◌, length, take, drop, append_assoc, append-nil, length-append, arith}
+use Rattle.std.proofs.Common.{◌≡◌, refl, sym, subst, ◌∙◌, ap, ℕ, ◌-◌, ◌<◌, false, true, List, [], ◌∷◌, ◌++◌, length, drop, append_assoc, append-nil, length-append, arith}
 use Rattle.std.specs.Prelude.{◌||◌}
 use Rattle.std.proofs.lemmas.Bool.{true≢false, or_parts}
-use Rattle.std.proofs.Math.Seq.{take-append_seam, drop-append_seam}
+use Rattle.std.proofs.Math.Seq.{drop-append_seam}
 use Rattle.tb_node.specs.declared.Node.{Node}
 use Rattle.tb_builder.specs.Firing.{is_insertion, has_insertion, NoInsertions, begins_with_insertion, InsertionAt}
 

@@ -1,5 +1,5 @@
 -- The first box or rule of a page comes after the top glue.
-use Rattle.std.proofs.Common.{◌≡◌, inr, refl, sym, subst, ◌∙◌, ap, ℕ, ℤ, Bool, true, false, List, [], ◌∷◌, ◌++◌, map, Option, None, Some, append_assoc}
+use Rattle.std.proofs.Common.{◌≡◌, refl, sym, subst, ◌∙◌, ap, ℕ, ℤ, Bool, true, false, List, [], ◌∷◌, ◌++◌, map, Option, None, Some, append_assoc}
 use Rattle.std.specs.Prelude.{◌||◌}
 use Rattle.std.proofs.lemmas.Bool.{true≢false}
 use Rattle.tb_pool.specs.Lists.{Lists, list_at, with_list}
@@ -26,7 +26,6 @@ use Rattle.tb_builder.proofs.Turns.MoveLemmas.{Written, written_front}
 use Rattle.tb_builder.proofs.Turns.FillLemmas.{moves_from, page_from, waiting_from}
 use Rattle.tb_builder.proofs.LegalPlaces.CourseLemmas.{shape_is, loose_shape}
 use Rattle.tb_builder.proofs.Turns.TurnLemmas.{Lays, lays_closed, ahead_closed, lasting_places, frozen_as}
-use Rattle.tb_builder.proofs.Turns.MeetLemmas.{stays_from}
 
 -- ---- the top glue
 

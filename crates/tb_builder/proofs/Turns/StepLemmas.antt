@@ -10,7 +10,6 @@ use Rattle.tb_node.specs.NodeSums.{added_node}
 use Rattle.tb_node.specs.Roles.{act_of_kind}
 use Rattle.tb_break.specs.Places.{ends_lasting}
 use Rattle.tb_break.specs.Best.{Breakpoint, is_stop, least_cost}
-use Rattle.tb_break.specs.Scan.{Scanned}
 use Rattle.tb_break.specs.SplitPlace.{penalty_by}
 use Rattle.tb_insert.specs.Account.{Frozen, terms_after}
 use Rattle.tb_insert.proofs.TermLemmas.{scan_plain}

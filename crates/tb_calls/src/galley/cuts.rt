@@ -81,7 +81,7 @@ fn in_pieces(alloc: Global, text: &[u8], size: usize) -> Result<Reader, Fail>
 // Whether a text gives the same whole and cut into two pieces, wherever it is cut.
 fn is_same_in_two(alloc: Global, text: &[u8]) -> Result<bool, Fail> {
     let whole = answer(alloc, parse(alloc, text))?;
-    for (place, _) in text.iter().enumerate() {
+    for place in 0..=text.len() {
         let (front, back) = text.split_at(place);
         let mut reader = new_reader(alloc);
         reader.feed(front)?;

@@ -7,17 +7,14 @@ use Rattle.tb_node.specs.declared.Node.{Node}
 use Rattle.tb_column.specs.declared.Warn.{Warn}
 use Rattle.tb_column.specs.declared.Sent.{Sent}
 use Rattle.tb_column.specs.declared.Sent.TheVariants as events
-use Rattle.tb_column.specs.Column.{PlainSent, warned}
+use Rattle.tb_column.specs.Column.{PlainSent}
 use Rattle.tb_column.specs.Notes.{AreDistinct}
 use Rattle.tb_column.specs.StoredColumns.{sent_shown}
 use Rattle.tb_output.specs.Machine.{MachineView, events_shown, sent_lists, event_lists, left_lists, machine_lists, IsPageSent, IsMachine}
-use Rattle.tb_output.specs.State.{sends}
 use Rattle.tb_output.specs.PageChanges.{with_warning}
-use Rattle.tb_output.specs.FiringWork.{shows, Does}
 use Rattle.tb_output.specs.MachineFrame.{KeepsFields, IsBack, KeepsBack}
 use Rattle.tb_output.proofs.FiringWork.KeepLemmas.{keeps-back_alone}
 use Rattle.tb_output.proofs.FiringWork.BesideLemmas.{machine-with}
-use Rattle.tb_output.proofs.FiringWork.WorkingLemmas.{does-shown}
 
 pub lists-joined : (es fs : List Sent) → event_lists (es ++ fs) ≡ event_lists es ++ event_lists fs
 lists-joined [] fs = refl

@@ -1,6 +1,5 @@
 -- Floats move between the lists of the pool, or leave it; the machine is otherwise as it was.
-use Rattle.std.proofs.Common.{◌≡◌, refl, sym, subst, ◌∙◌, ap, ℕ, pos, List, [], ◌∷◌, ◌++◌, length, append_assoc, length-append, Bool, true, false, arith}
-use Rattle.std.specs.Prelude.{ℤ}
+use Rattle.std.proofs.Common.{◌≡◌, refl, sym, subst, ◌∙◌, ap, ℕ, List, [], ◌∷◌, ◌++◌, length, append_assoc, length-append, Bool, true, false, arith}
 use Rattle.std.specs.List.{AllByRecursion}
 use Rattle.tb_builder.proofs.Events.NextLemmas.{fresh_apart}
 use Rattle.tb_pool.specs.Lists.{Lists, IsLive}

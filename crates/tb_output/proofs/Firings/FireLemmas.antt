@@ -7,14 +7,13 @@ use Rattle.tb_node.specs.declared.Node.{Node}
 use Rattle.tb_builder.specs.declared.Builder.{Builder}
 use Rattle.tb_builder.specs.declared.Page.{Page}
 use Rattle.tb_builder.specs.Contents.{contents_of}
-use Rattle.tb_builder.specs.Courses.{IsSound}
 use Rattle.tb_output.specs.declared.RunFault.{RunFault}
 use Rattle.tb_output.specs.declared.RunFault.TheVariants as faults
 use Rattle.tb_output.specs.State.{Work, begun}
 use Rattle.tb_output.specs.Output.{after_page, waiting_again, out}
 use Rattle.tb_output.specs.Machine.{MachineView, state_shown, events_shown, AreOutputParams, IsMachine}
 use Rattle.tb_output.specs.FiringWork.{shows_boxes, shows_all, IsCutShort, Does}
-use Rattle.tb_output.specs.Firing.{fired_in, state_in, whole_work, CanFire, IsFired, fault_or_cycles, refusal_of, IsRefusal, KeepsAll}
+use Rattle.tb_output.specs.Firing.{fired_in, state_in, whole_work, IsFired, fault_or_cycles, refusal_of, IsRefusal, KeepsAll}
 use Rattle.tb_output.specs.FiringParts.{served}
 use Rattle.tb_output.proofs.FiringWork.BesideLemmas.{machine-beside}
 

@@ -8,23 +8,21 @@ use Rattle.tb_node.specs.PlainNodes.{PlainNode}
 use Rattle.tb_param.specs.declared.Params.{Params}
 use Rattle.tb_builder.specs.FiredPages.{Fired}
 use Rattle.tb_float.specs.declared.Entry.{Entry}
-use Rattle.tb_float.specs.declared.Part.{Part}
 use Rattle.tb_float.specs.Lists.{FloatLists, wide_part, wide_waiting}
 use Rattle.tb_fpage.specs.Company.{Choice}
 use Rattle.tb_margin.specs.declared.Placed.{Placed}
 use Rattle.tb_column.specs.Column.{PlainColumn, PlainSheet, PlainSent, shipped, warned}
 use Rattle.tb_column.specs.declared.Warn.TheVariants as warnings
-use Rattle.tb_output.specs.State.{State, Work, Recorded, begun, puts, sends, records_also, with_floats, footnotes, has_floats}
+use Rattle.tb_output.specs.State.{Work, Recorded, puts, sends, records_also, has_floats}
 use Rattle.tb_output.specs.FloatMoves
 use Rattle.tb_output.specs.Pages
 use Rattle.tb_output.specs.Columns
 use Rattle.tb_output.specs.Text
 use Rattle.tb_output.specs.Clear
 use Rattle.tb_output.specs.Output
-use Rattle.tb_output.specs.Firing.{page_work}
 use Rattle.tb_output.specs.FiringWork.{Continues}
-use Rattle.tb_output.proofs.StepLaws.ColumnSteps.{RecordLaw, no_law, course, ColumnStep, still, in_turn, records_one, ships_one, place_float-step, place_waiting-step, place_next-step, place_double-step, ship_wide-step, wide_pages-step, all_wide_pages-step, ship_pair-step, put_out_by-step, put_out-step, put_out_company-step, float_columns-step}
-use Rattle.tb_output.proofs.StepLaws.FiringSteps.{FiringStep, by_columns, warns_one, changes, fewer, afterwards, put_out_text-step, ordinary-step, defer-step, float_goes-step, note_goes-step, first_goes-step, float_or_note-step, clear_wide-step, clear_floats-step, clear_by-step, output_by-step, next_goal-step, page_work-step}
+use Rattle.tb_output.proofs.StepLaws.ColumnSteps.{RecordLaw, no_law, course, ColumnStep, still, in_turn, records_one, ships_one, place_next-step, place_double-step, ship_wide-step, wide_pages-step, all_wide_pages-step, ship_pair-step, put_out_company-step, float_columns-step}
+use Rattle.tb_output.proofs.StepLaws.FiringSteps.{FiringStep, by_columns, warns_one, changes, fewer, afterwards, put_out_text-step, defer-step, float_goes-step, note_goes-step, first_goes-step, clear_wide-step, output_by-step, next_goal-step}
 
 -- what is sent, the refusal, the page, the classes and what waits are as they were
 pub continues-same : {w next : Work} → next.sent ≡ w.sent → next.refused ≡ w.refused → next.state.page ≡ w.state.page → next.state.classes ≡ w.state.classes → next.state.waiting ≡ w.state.waiting → Continues w next

@@ -11,7 +11,7 @@ fn runs() -> [(&'static [u8], &'static [u8], u64); 2] {
 
 // A read that fails gives the status ReadFault and nothing else.
 #[test]
-fn each_failing_read_is_answered(rt: HostRuntime) -> Result<(), Fail> {
+fn each_failing_read_is_reported(rt: HostRuntime) -> Result<(), Fail> {
     for (input, report, reads) in runs() {
         for call in 1..12 {
             let calls = [call];
@@ -35,7 +35,7 @@ fn each_failing_read_is_answered(rt: HostRuntime) -> Result<(), Fail> {
 
 // A write that fails gives the status WriteFault and leaves a prefix of the report, the first one nothing.
 #[test]
-fn each_failing_write_is_answered(rt: HostRuntime) -> Result<(), Fail> {
+fn each_failing_write_is_reported(rt: HostRuntime) -> Result<(), Fail> {
     for (input, report, _) in runs() {
         let mut writes = 0;
         for call in 1..=16 {
@@ -67,7 +67,7 @@ fn each_failing_write_is_answered(rt: HostRuntime) -> Result<(), Fail> {
 
 // If err fails too, the status stays.
 #[test]
-fn failing_err_keeps_the_answer(rt: HostRuntime) -> Result<(), Fail> {
+fn failing_err_keeps_the_status(rt: HostRuntime) -> Result<(), Fail> {
     let first = [1];
     let read = Failing {
         reads: &first,
@@ -97,8 +97,8 @@ fn failing_err_keeps_the_answer(rt: HostRuntime) -> Result<(), Fail> {
     Ok(())
 }
 
-// In each mode a first read or a first write that fails is reported, and nothing is written. Refused words are refused
-// first, and so is what is refused before anything is written.
+// In each mode that reads or writes, a first read or a first write that fails is reported, and nothing is written. Refused
+// words are refused first, and so is what is refused before anything is written.
 #[test]
 fn first_fault_of_each_mode(rt: HostRuntime) -> Result<(), Fail> {
     let alloc = rt.alloc();
@@ -115,12 +115,14 @@ fn first_fault_of_each_mode(rt: HostRuntime) -> Result<(), Fail> {
         let name = row.name;
         let words = words_of(alloc, row)?;
         let unread = run_with(alloc, &words, row.input, &reads)?;
-        let (status, line) = match row.status {
-            2 => (2, row.err),
-            _ => (8, b"galley_pages: read fault\n".as_slice()),
+        let reads_nothing = row.status == 2 || row.words.iter().any(|word| *word == "gen");
+        let (status, out, line) = if reads_nothing {
+            (row.status, row.out, row.err)
+        } else {
+            (8, b"".as_slice(), b"galley_pages: read fault\n".as_slice())
         };
         assert_eq!(rt; unread.status, status, "{name}");
-        assert_eq!(rt; unread.out.held(), b"".as_slice(), "{name}");
+        assert_eq!(rt; unread.out.held(), out, "{name}");
         assert_eq!(rt; unread.err.held(), line, "{name}");
         let unwritten = run_with(alloc, &words, row.input, &writes)?;
         let (status, line) = if row.out.is_empty() {

@@ -17,7 +17,15 @@ pub struct ModeRow {
 }
 
 /// The worked rows of each mode, and of words that are refused.
-pub const MODE_ROWS: [ModeRow; 35] = [
+pub const MODE_ROWS: [ModeRow; 36] = [
+    ModeRow {
+        name: "galley of one generated item",
+        words: &["--mode", "gen", "--count", "1"],
+        input: b"",
+        status: 0,
+        out: b"gen 1 pages 1 boxes 1 floats 0 warnings 0\n",
+        err: b"",
+    },
     ModeRow {
         name: "mode report said",
         words: &["--mode", "report"],

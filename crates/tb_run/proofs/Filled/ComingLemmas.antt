@@ -21,10 +21,9 @@ use Rattle.tb_output.specs.State.{State, ask_of, Recorded, emptied}
 use Rattle.tb_output.specs.Act.{went, full, act_on}
 use Rattle.tb_output.specs.ActCalls.{IsSizedAct}
 use Rattle.tb_run.specs.GalleyNodes.{IsGalleyNode}
-use Rattle.tb_run.specs.Run.{offered, sent, done, pool_full, Progress, after_events, progress_by, progress, ends, after_progress, step}
+use Rattle.tb_run.specs.Run.{offered, sent, done, pool_full, Progress, after_events, progress_by, progress, ends, after_progress, step, firing_step}
 use Rattle.tb_run.specs.ServedStates.{AreRunnable, notes_waiting, notes_left, IsServed}
 use Rattle.tb_run.specs.Routine.{between_pages}
-use Rattle.tb_run.specs.RoutinePages.{firing_step}
 use Rattle.tb_run.proofs.ServedAgain.FiredNodes.{served-pruned, nodes-both, nodes-sized, nodes-served, notes-pruned}
 use Rattle.tb_run.proofs.Filled.ActedStates.{ActKeeps, keeps-same, keeps-then, act-sized, act-keeps, act-served, without-count}
 use Rattle.tb_run.proofs.Filled.ProgressLemmas.{progress-tried, progress-acted, progress-stuck}

@@ -40,10 +40,10 @@ use Rattle.tb_output.proofs.FiringWork.ApartLemmas.{fresh-none, lacks-none}
 use Rattle.tb_output.proofs.FiringWork.StandLemmas.{machine-live}
 use Rattle.tb_run.specs.declared.happenings.Happening.{Happening}
 use Rattle.tb_run.specs.declared.routine.Routine.{Routine}
-use Rattle.tb_run.specs.Run.{RunEvent, held_count}
+use Rattle.tb_run.specs.Run.{RunEvent, held_count, firing_step}
 use Rattle.tb_run.specs.ServedStates.{AreRunClasses, IsTextKind, notes_left, IsServedPage}
 use Rattle.tb_run.specs.Routine.{held_in, state_of, IsConsistent, IsBetweenFirings, IsReady}
-use Rattle.tb_run.specs.RoutinePages.{firing_step, IsBoundedPage, IsFiring}
+use Rattle.tb_run.specs.RoutinePages.{IsBoundedPage, IsFiring}
 use Rattle.tb_run.proofs.ServedAgain.ServedFirings.{reach_where}
 use Rattle.tb_run.proofs.Turns.CountedLemmas.{leaves-count}
 use Rattle.tb_run.proofs.Filled.ComingLemmas.{start, so_far, step-fires}

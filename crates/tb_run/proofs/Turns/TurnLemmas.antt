@@ -25,14 +25,13 @@ use Rattle.tb_run.specs.declared.happenings.Happening.TheVariants as happenings
 use Rattle.tb_run.specs.declared.routine.Routine.{Routine}
 use Rattle.tb_run.specs.declared.routine.Ending.{Ending}
 use Rattle.tb_run.specs.declared.routine.Ending.TheVariants as endings
-use Rattle.tb_run.specs.Run.{RunEvent, sent, dead_cycles, page_limit, node_limit, Step, ends, goes_on, after_firing, step, held_count}
+use Rattle.tb_run.specs.Run.{RunEvent, sent, dead_cycles, page_limit, node_limit, Step, ends, goes_on, after_firing, step, held_count, firing_step}
 use Rattle.tb_run.specs.ServedStates.{AreRunnable, AreRunClasses}
 use Rattle.tb_run.specs.Happenings.{events_of, noted, step_events, happened_lists}
-use Rattle.tb_run.specs.Routine.{state_of, with_events, IsReady, EndsAs, IsTurned, IsEnded, IsPage, ArePages, AreHappened}
-use Rattle.tb_run.specs.RoutinePages.{sent_happenings, firing_step, IsFilledLast, IsFiring, IsServedOn, IsOverLimit, IsFaultOf, ServesTo, Serves}
+use Rattle.tb_run.specs.Routine.{state_of, with_events, IsReady, EndsAs, IsTurned, IsPage, ArePages, AreHappened}
+use Rattle.tb_run.specs.RoutinePages.{sent_happenings, IsFilledLast, IsFiring, IsServedOn, IsOverLimit, IsFaultOf, ServesTo, Serves}
 use Rattle.tb_run.proofs.Turns.HappenedLemmas.{lists-append, events-append, noted-append, noted-sent, sent-events, sent-lists, sent-pages}
-use Rattle.tb_run.proofs.Filled.FillingLemmas.{taken-machine, taken-whole}
-use Rattle.tb_run.proofs.Turns.ServingLemmas.{sound-ended}
+use Rattle.tb_run.proofs.Filled.FillingLemmas.{taken-whole}
 
 -- ---- happenings without lists
 

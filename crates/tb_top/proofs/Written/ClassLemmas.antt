@@ -16,14 +16,13 @@ use Rattle.tb_galley.specs.Valid.{is_class, is_item, do_classes_rise, has_known_
 use Rattle.tb_param.specs.Table.{is_within}
 use Rattle.tb_insert.specs.declared.Class.{Class}
 use Rattle.tb_builder.proofs.FiredPages.PageWeights.{hits, IsOnce}
-use Rattle.tb_galley.specs.GalleyNodes.{expanded}
-use Rattle.tb_output.specs.State.{first_state, void_boxes}
+use Rattle.tb_output.specs.State.{void_boxes}
 use Rattle.tb_laws.proofs.NothingLost.StateWeights.{class_numbers}
 use Rattle.tb_laws.proofs.Closed.PutLemmas.{AreAmong}
 use Rattle.tb_run.specs.Run.{classes_of}
 use Rattle.tb_run.proofs.FromGalley.GalleyClasses.{AreAbove, rising-above, rising-rest, class-small, with_foot}
-use Rattle.tb_top.proofs.NothingLost.RunWeights.{Kept, fit-among}
-use Rattle.tb_top.proofs.NothingLost.StartLemmas.{start-kept, ItemFits, ItemsFit, NumbersDiffer, void-fit}
+use Rattle.tb_top.proofs.NothingLost.RunWeights.{fit-among}
+use Rattle.tb_top.proofs.NothingLost.StartLemmas.{ItemFits, ItemsFit, NumbersDiffer, void-fit}
 
 -- ---- the numbers differ
 

@@ -10,7 +10,7 @@ use Rattle.tb_node.specs.declared.Node.{Node}
 use Rattle.tb_param.specs.declared.Params.{Params}
 use Rattle.tb_column.specs.Column.{PlainSent, warned, shipped}
 use Rattle.tb_report.specs.declared.Totals.{Totals}
-use Rattle.tb_report.specs.RunTotals.{is_item_box, is_float_box, one_if, sheet_nodes, no_totals, with_sent, AreCounts}
+use Rattle.tb_report.specs.RunTotals.{is_item_box, is_float_box, sheet_nodes, no_totals, with_sent, AreCounts}
 use Rattle.tb_output.specs.State.{State}
 use Rattle.tb_laws.proofs.StepLaws.SentCounts.{warning_count, page_count}
 use Rattle.tb_run.specs.declared.happenings.Happening.{Happening}

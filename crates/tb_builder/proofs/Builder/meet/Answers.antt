@@ -1,6 +1,5 @@
 use Rattle.std.proofs.lemmas.Bool.{true≢false}
-use Rattle.tb_node.specs.declared.Insertion.{Insertion}
-use Rattle.std.proofs.Common.{is_some, None, ◌≡◌, refl, sym, subst, ◌∙◌, ap, ◌<◌, true, length, map, arith, FitsSigned, w64, to_z, of_z, ◌++◌, ◌∷◌, [], rules}
+use Rattle.std.proofs.Common.{is_some, ◌≡◌, refl, sym, subst, ◌∙◌, ap, ◌<◌, true, length, map, arith, FitsSigned, w64, to_z, of_z, ◌++◌, ◌∷◌, [], rules}
 use Rattle.std.specs.FinMap.{insert}
 use Rattle.std.proofs.lemmas.Int.{to_z-of_z}
 use Rattle.tb_pool.specs.Lists.{list_at, with_list}

@@ -1,7 +1,6 @@
-use Rattle.std.proofs.Common.{◌≡◌, ◌∙◌, sym, ap, refl, ◌++◌, None}
+use Rattle.std.proofs.Common.{◌∙◌, sym, ap, ◌++◌}
 use Rattle.std.specs.Option.{option_copied}
 use Rattle.tb_pool.specs.Lists.{list_at}
-use Rattle.tb_node.specs.declared.Insertion.{Insertion}
 use Rattle.tb_node.specs.PlainNodes.{plain_list}
 use Rattle.tb_insert.specs.Account.{labelled}
 use Rattle.tb_insert.specs.AccountEntries.{cut_in, last_let_in}

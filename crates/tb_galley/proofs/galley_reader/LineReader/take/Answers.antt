@@ -1,5 +1,5 @@
 use Rattle.std.proofs.Common.{◌≡◌, ◌≤◌, ◌∙◌, sym, subst, length, OnOk, None, true, arith}
-use Rattle.tb_galley.specs.GalleyReader.{takes_leaf, take_said}
+use Rattle.tb_galley.specs.GalleyReader.{takes_leaf}
 use Rattle.tb_galley.proofs.FrequentLines.{no_first, box_step, glue_step, foot_step, endfoot_step}
 use Rattle.tb_galley.proofs.galley_reader.LineReader.take.Goals as goal
 
