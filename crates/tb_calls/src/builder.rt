@@ -3,7 +3,7 @@
 ghost use Rattle.std.specs.Prelude.{◌≡◌, ◌+◌, ◌≤◌, ℕ, [], Some, None, length, All, IfOk, IfSome};
 ghost use Rattle.std.specs.FinMap.{get};
 ghost use Rattle.tb_pool.specs.Lists.{IsLive, list_at};
-ghost use Rattle.tb_node.specs.Fit.{IsExtent, IsSizedNode, shapes};
+ghost use Rattle.tb_node.specs.Fit.{IsSizedNode, shapes};
 ghost use Rattle.tb_node.specs.Sums.{size_of};
 ghost use Rattle.tb_builder.specs.Ownership.{Lacks, ids_of, owned};
 ghost use Rattle.tb_builder.specs.Contents.{contents_of};
@@ -11,11 +11,12 @@ ghost use Rattle.tb_builder.specs.Courses.{IsSound};
 ghost use Rattle.tb_builder.specs.Pageable.{IsGoal};
 ghost use Rattle.tb_builder.specs.WorkedPages.{IsMatter, BoxFits, AtRest, IsReady, waits};
 
+use crate::nodes::{forced, make_box, make_node, told_list};
 use std::alloc::{AllocError, Global};
 use std::test::Fail;
 use tb_builder::{Ask, Builder, Event, Page, new_builder};
 use tb_insert::Class;
-use tb_node::{Insertion, Kind, Node, What, list_extent};
+use tb_node::{Insertion, Kind, Node, list_extent};
 use tb_pool::{ListId, Lists};
 use tb_scaled::{Glue, Order, fixed};
 
@@ -52,23 +53,6 @@ fn open(alloc: Global, limit: i64, goal: i64) -> Result<Paged, AllocError>
     })
 }
 
-fn make_node(kind: Kind) -> Node
-    ensures { result.kind ≡ kind }
-{
-    Node { line: 7, kind }
-}
-
-fn make_box(height: i64) -> Node
-    requires { IsExtent height }
-    ensures { IsMatter result }
-{
-    make_node(Kind::Hbox {
-        what: What::Blank,
-        height,
-        depth: 0,
-    })
-}
-
 fn no_glue() -> Node
     ensures { IsMatter result }
 {
@@ -84,12 +68,6 @@ fn fill() -> Node
         order: Order::Fil,
         shrink: 0,
     }))
-}
-
-fn forced() -> Node
-    ensures { IsMatter result }
-{
-    make_node(Kind::Pen(-10000))
 }
 
 // Contributes these nodes.
@@ -194,27 +172,6 @@ fn one_note(alloc: Global, limit: i64, goal: i64, nodes: &[Node]) -> Result<Page
     give_note(&mut p, nodes)?;
     give(&mut p, &[fill(), forced()])?;
     Ok(p)
-}
-
-// The kind of a node, and its height, width or penalty.
-fn told(n: &Node) -> (char, i64) {
-    match n.kind {
-        Kind::Hbox { height, .. } => ('b', height),
-        Kind::Skip(g) => ('g', g.width),
-        Kind::Ins(i) => ('i', i.height),
-        Kind::Pen(p) => ('p', p),
-        _ => ('?', 0),
-    }
-}
-
-fn told_list(alloc: Global, store: &Lists<Node>, l: ListId) -> Result<Vec<(char, i64)>, AllocError>
-    requires { IsLive store.now l }
-{
-    let mut all = Vec::new(alloc);
-    for n in store.iter(l) {
-        all.push(told(n))?;
-    }
-    Ok(all)
 }
 
 // An empty list that is not the builder's.

@@ -12,6 +12,8 @@ mod galley;
 #[cfg(test)]
 mod lines;
 #[cfg(test)]
+mod nodes;
+#[cfg(test)]
 mod output;
 #[cfg(test)]
 mod plain;

@@ -11,11 +11,12 @@ ghost use Rattle.tb_builder.specs.WorkedPages.{IsMatter, IsReady, waits};
 ghost use Rattle.tb_plain.specs.Run.{makeup_ask, makeup_classes};
 ghost use Rattle.tb_plain.specs.MakeupCalls.{AreMakeupParams, CanAct, CanFire};
 
+use crate::nodes::{forced, make_box, make_node, told_list};
 use std::alloc::{AllocError, Global};
 use std::test::Fail;
 use tb_builder::{Ask, Builder, Event, Page, new_builder};
 use tb_insert::Class;
-use tb_node::{Act, Float, Insertion, Kind, Node, Places, What, name_of};
+use tb_node::{Act, Float, Insertion, Kind, Node, Places, name_of};
 use tb_param::{Choice, Params, defaults};
 use tb_plain::new_plain;
 use tb_pool::{ListId, Lists};
@@ -87,24 +88,6 @@ fn open(alloc: Global, p: &Params) -> Result<Paged, AllocError>
     })
 }
 
-fn make_node(kind: Kind) -> Node
-    ensures { result.kind ≡ kind }
-{
-    Node { line: 7, kind }
-}
-
-fn make_box(height: i64) -> Node
-    requires { IsExtent height }
-    ensures kind { result.kind ≡ Kind.Hbox What.Blank height (pos 0) }
-    ensures matter { IsMatter result }
-{
-    make_node(Kind::Hbox {
-        what: What::Blank,
-        height,
-        depth: 0,
-    })
-}
-
 fn fill() -> Node
     ensures { IsMatter result }
 {
@@ -114,12 +97,6 @@ fn fill() -> Node
         order: Order::Fill,
         shrink: 0,
     }))
-}
-
-fn forced() -> Node
-    ensures { IsMatter result }
-{
-    make_node(Kind::Pen(-10000))
 }
 
 // This node comes.
@@ -213,29 +190,6 @@ fn fires(p: &mut Paged) -> Result<Option<Page>, AllocError>
         }
     }
     Ok(None)
-}
-
-// What a node is, and its height, its width or its penalty.
-fn told(n: &Node) -> (char, i64) {
-    match n.kind {
-        Kind::Hbox { height, .. } => ('b', height),
-        Kind::Rule { height, .. } => ('r', height),
-        Kind::Skip(g) => ('g', g.width),
-        Kind::Kern(w) => ('k', w),
-        Kind::Pen(p) => ('p', p),
-        Kind::Ins(i) => ('i', i.height),
-        _ => ('?', 0),
-    }
-}
-
-fn told_list(alloc: Global, store: &Lists<Node>, l: ListId) -> Result<Vec<(char, i64)>, AllocError>
-    requires { IsLive store.now l }
-{
-    let mut all = Vec::new(alloc);
-    for n in store.iter(l) {
-        all.push(told(n))?;
-    }
-    Ok(all)
 }
 
 // A float of this height that may go into the text alone.

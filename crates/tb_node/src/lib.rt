@@ -130,10 +130,10 @@ pub struct Insertion {
     pub floating: i64,
 }
 
-/// The areas of a page that floats can be kept out of.
+/// Where floats can be kept out of a column.
 #[derive(Clone, Copy)]
 pub enum Area {
-    /// The top and the bottom.
+    /// Everywhere: the top, the bottom and the text.
     All,
     /// The top.
     Top,
