@@ -1,5 +1,5 @@
 //! The decisions on worked values.
-ghost use Rattle.std.specs.Prelude.{◌≡◌, ◌≢◌, ◌≤◌};
+ghost use Rattle.std.specs.Prelude.{◌≢◌};
 ghost use Rattle.tb_node.specs.Fit.{IsExtent};
 ghost use Rattle.tb_float.specs.Lists.{IsWaiting};
 ghost use Rattle.tb_float.specs.Ranges.{AreFloatParams};

@@ -1,13 +1,12 @@
 //! The tests that a decision makes, each by itself, and the room that is required.
-ghost use Rattle.std.specs.Prelude.{◌≡◌, ◌<◌, ◌+ℤ◌, ◌-ℤ◌, ◌≤ℤ◌, ◌&&◌, Bool, true, not, List, length, take, slice_get, Some, pos, int_lt, if◌then◌else◌};
+ghost use Rattle.std.specs.Prelude.{◌≡◌, ◌<◌, ◌+ℤ◌, ◌-ℤ◌, ◌&&◌, List, length, slice_get, Some, pos, if◌then◌else◌};
 ghost use Rattle.tb_scaled.specs.Scaled.{max_ℤ, fraction_of};
 ghost use Rattle.tb_node.specs.declared.Float.{Float as PlainFloat};
 ghost use Rattle.tb_node.specs.SmallAmounts.{IsAmount};
-ghost use Rattle.tb_float.specs.declared.Limit.TheVariants as limits;
 ghost use Rattle.tb_float.specs.declared.Suppress.{Suppress};
 ghost use Rattle.tb_float.specs.Lists.{HasFloatAt, IsWaiting, entries_of, floats_of, has_class};
 ghost use Rattle.tb_float.specs.Ranges.{AreFloatParams, IsDimension, IsExtent, IsRoom, IsWithin};
-ghost use Rattle.tb_float.specs.Rooms.{column_height_of, column_room_of, double_room_of};
+ghost use Rattle.tb_float.specs.Rooms.{column_height_of};
 ghost use Rattle.tb_area.specs.Area.{may_come, only_page, fits_column, fits_top, fits_bottom, is_above_its_class, tries_top, tries_bottom, text_minimum, next_separator, double_room_for, fits_double, goes_double, may_enter};
 ghost use Rattle.tb_area.specs.RequiredRoom.{IsRequired};
 

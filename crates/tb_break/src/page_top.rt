@@ -1,6 +1,6 @@
 //! The top of a page: what vanishes there, and the glue before the first box (TeX: The Program §968).
 
-ghost use Rattle.std.specs.Prelude.{◌≡◌, ◌<◌, ◌≤◌, ◌+◌, ◌-ℤ◌, ℕ, List, [], ◌∷◌, ◌++◌, pos, length, Some, true, false};
+ghost use Rattle.std.specs.Prelude.{◌≡◌, ◌<◌, ◌≤◌, ◌+◌, ◌-ℤ◌, List, [], ◌∷◌, ◌++◌, pos, length, Some, true, false};
 ghost use Rattle.tb_scaled.specs.Scaled.{max_ℤ};
 ghost use Rattle.tb_pool.specs.Lists.{IsLive, list_at, with_list};
 ghost use Rattle.tb_node.specs.declared.Node.{Node as NodeOf};

@@ -1,9 +1,9 @@
 //! The float pool's calls on worked values.
-ghost use Rattle.std.specs.Prelude.{◌≡◌, ◌≢◌, IfOk};
-ghost use Rattle.tb_float.specs.Ranges.{AreFloatParams, IsExtent};
+ghost use Rattle.std.specs.Prelude.{◌≡◌, ◌≢◌};
+ghost use Rattle.tb_float.specs.Ranges.{AreFloatParams};
 
 use std::test::Fail;
-use tb_float::{Entry, Full, Limit, Part, Pool, Suppress, new_pool};
+use tb_float::{Entry, Limit, Part, Pool, Suppress, new_pool};
 use tb_node::{Float, Margin, Name, Places, name_of};
 use tb_param::{Params, defaults};
 use tb_scaled::fixed;

@@ -1,7 +1,7 @@
 //! The start and the end of a file, and numbers in its bytes.
-ghost use Rattle.std.specs.Prelude.{◌≡◌, ◌≤◌, ◌<◌, ◌++◌, ◌∷◌, [], ℤ, pos, negsuc, neg_ℤ, ◌≤ℤ◌, FitsSigned, replicate, ◌%◌, OnOk, IfOk};
+ghost use Rattle.std.specs.Prelude.{◌≡◌, ◌≤◌, ◌<◌, ◌++◌, [], pos, negsuc, ◌≤ℤ◌, FitsSigned, replicate, ◌%◌, OnOk, IfOk};
 ghost use Rattle.std.specs.Int.{w32};
-ghost use Rattle.tb_dvi.specs.File.{signed_4, low_4, four, two_bytes, units, preamble, greatest_depth, filling, post_fields, file_end, post_bytes};
+ghost use Rattle.tb_dvi.specs.File.{signed_4, low_4, four, two_bytes, units, preamble, greatest_depth, post_fields, file_end, post_bytes};
 
 use std::alloc::{AllocError, Global};
 use tb_param::Params;

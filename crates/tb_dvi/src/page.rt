@@ -1,5 +1,5 @@
 //! The bytes of a page.
-ghost use Rattle.std.specs.Prelude.{◌≡◌, ◌≤◌, ◌<◌, ◌++◌, ℤ, pos, negsuc, ◌≤ℤ◌, All, false, IfOk, OnOk, IfErr};
+ghost use Rattle.std.specs.Prelude.{◌≡◌, ◌≤◌, ◌<◌, ◌++◌, pos, negsuc, ◌≤ℤ◌, All, false, IfOk, OnOk, IfErr};
 ghost use Rattle.tb_column.specs.Column.{one};
 ghost use Rattle.tb_column.specs.StoredColumns.{column_shown, sheet_shown};
 ghost use Rattle.tb_report.specs.Printable.{IsPrintable, IsPrintableSheet};

@@ -1,5 +1,5 @@
 //! The bytes of a page's items.
-ghost use Rattle.std.specs.Prelude.{◌≡◌, ◌++◌, ℤ, pos, negsuc, ◌+ℤ◌, ◌≤ℤ◌, ◌∷◌, [], List, codes, Option, OnOk};
+ghost use Rattle.std.specs.Prelude.{◌≡◌, ◌++◌, ℤ, pos, negsuc, ◌+ℤ◌, ◌≤ℤ◌, ◌∷◌, [], codes, Option, OnOk};
 ghost use Rattle.tb_report.specs.Lines.{where_text, side_text};
 ghost use Rattle.tb_text.specs.Fields.{and_count, and_text};
 ghost use Rattle.tb_node.specs.PlainNodes.{matter_of};

@@ -1,5 +1,5 @@
 //! A file that is written page by page.
-ghost use Rattle.std.specs.Prelude.{◌≡◌, ◌≤◌, ◌<◌, ◌+◌, ◌++◌, ◌||◌, nat_lt, ℤ, pos, negsuc, ◌≤ℤ◌, FitsSigned, OnOk, OnErr};
+ghost use Rattle.std.specs.Prelude.{◌≡◌, ◌≤◌, ◌<◌, ◌+◌, ◌++◌, ◌||◌, nat_lt, pos, FitsSigned, OnOk, OnErr};
 ghost use Rattle.std.specs.Int.{w32};
 ghost use Rattle.tb_column.specs.StoredColumns.{sheet_shown};
 ghost use Rattle.tb_report.specs.Printable.{IsPrintableSheet};

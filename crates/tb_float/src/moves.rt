@@ -1,5 +1,5 @@
 //! Entries that go from list to list, and out of the pool.
-ghost use Rattle.std.specs.Prelude.{◌≡◌, ◌≢◌, ◌<◌, ◌≤◌, ◌+◌, ℕ, ◌↔◌, [], ◌∷◌, slice_get, Some, IsNone, OnSome, IfSome, IfNone, length, drop};
+ghost use Rattle.std.specs.Prelude.{◌≡◌, ◌≢◌, ◌<◌, ◌≤◌, ◌+◌, ℕ, ◌↔◌, [], ◌∷◌, slice_get, Some, IsNone, OnSome, IfSome, IfNone, length};
 ghost use Rattle.tb_node.specs.declared.Float.{Float};
 ghost use Rattle.tb_float.specs.Lists.{entries_of, floats_of, entry_count, HasFloatAt, IsWaiting, float_entries};
 ghost use Rattle.tb_float.specs.Pool.{moved_float, joined_before, with_places, with_float_at, with_mark, without_entry, without_marks, HasNoMarks, marks_of, marked_floats, unmarked_floats, first_marked};

@@ -1,9 +1,9 @@
 //! The rooms that the floats in the lists leave, and the counts that are left.
-ghost use Rattle.std.specs.Prelude.{◌≡◌, ◌≤◌, ◌≤ℤ◌, ◌*ℤ◌, ◌-ℤ◌, ℤ, ℕ, List, length, pos, Bool, true, false};
+ghost use Rattle.std.specs.Prelude.{◌≡◌, ◌≤◌, ◌*ℤ◌, ◌-ℤ◌, ℤ, List, length, pos, false};
 ghost use Rattle.tb_node.specs.declared.Float.{Float};
 ghost use Rattle.tb_float.specs.Lists.{floats_of, holds_notes};
-ghost use Rattle.tb_float.specs.Ranges.{IsDimension, IsExtent, IsShare, IsCount, IsWithin, IsRoom, AreFloatParams};
-ghost use Rattle.tb_float.specs.Rooms.{total_height, floats_room, text_float_room, column_height_of, column_room_of, room_of, IsArea, limit_number, limit_used, is_suppressed, count_left_of, count_after, plain_count_after, area_taken};
+ghost use Rattle.tb_float.specs.Ranges.{IsDimension, IsShare, IsCount, IsWithin, IsRoom, AreFloatParams};
+ghost use Rattle.tb_float.specs.Rooms.{total_height, floats_room, text_float_room, column_height_of, column_room_of, room_of, IsArea, count_left_of, count_after, plain_count_after, area_taken};
 ghost use Rattle.tb_float.specs.Heights.{IsSumOf};
 ghost use Rattle.tb_scaled.specs.Scaled.{fraction_of};
 

@@ -1,5 +1,5 @@
 //! Slots in the lists of the store: moved by their links, taken out, searched.
-ghost use Rattle.std.specs.Prelude.{ℕ, ◌≡◌, ◌≢◌, ◌+◌, ◌<◌, ◌≤◌, [], ◌∷◌, ◌++◌, Some, IfSome, IfNone, IsTrue, length, true, map, slice_get, slice_set, take, drop};
+ghost use Rattle.std.specs.Prelude.{ℕ, ◌≡◌, ◌≢◌, ◌+◌, ◌<◌, [], ◌∷◌, ◌++◌, Some, IfSome, IfNone, length, true, map, slice_get, slice_set, take, drop};
 ghost use Rattle.std.specs.FinMap.{insert};
 ghost use Rattle.tb_pool.specs.Lists.{IsLive, list_at, with_list};
 ghost use Rattle.tb_float.specs.Slots.{SlotView};

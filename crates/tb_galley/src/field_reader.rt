@@ -1,12 +1,12 @@
 //! Reads the fields of a line.
-ghost use Rattle.std.specs.Prelude.{◌≡◌, ◌<◌, ◌≤◌, ◌+◌, [], map, ◌≤ℤ◌, ◌∷◌, true, IfOk, IfSome, MatchOption, ℤ, nat_abs, not, ◌==◌, codes, false, length, Option, Some, None, if◌then◌else◌, IsTrue};
+ghost use Rattle.std.specs.Prelude.{◌≡◌, ◌<◌, ◌≤◌, ◌+◌, [], map, ◌≤ℤ◌, true, IfOk, nat_abs, not, ◌==◌, codes, false, Option, Some, None, if◌then◌else◌, IsTrue};
 ghost use Rattle.std.specs.List.{list_all, list_any};
 ghost use Rattle.tb_galley.specs.Faults.{is_printable};
 ghost use Rattle.tb_galley.specs.Fields.{text_cause, are_places, is_place_byte, is_foot_class, class_slot};
 ghost use Rattle.tb_galley.specs.Words.{number_in};
 ghost use Rattle.tb_galley.specs.Grammar.{has_byte, places_at};
 ghost use Rattle.tb_galley.specs.FieldReader.{left_of, Gives, GivesBy, next_left, end_left, field_read, dimension_left, stretch_left, least_left, range_left, stretch_part, shrink_part, glue_left, next_is_by, is_end, fraction_left, choice_left, places_left, sized_left, name_left};
-ghost use Rattle.tb_text.specs.Lines.{begins_with, fields_of};
+ghost use Rattle.tb_text.specs.Lines.{begins_with};
 
 use crate::fields::{At, Fields};
 use crate::glue_words::{after_minus, after_plus};

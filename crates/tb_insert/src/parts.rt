@@ -1,6 +1,6 @@
 //! What becomes of an insertion: it goes whole, is split, or is late.
 
-ghost use Rattle.std.specs.Prelude.{◌≡◌, ◌^◌, ◌+ℤ◌, ℕ, List, Some, None, Option, nat_lt, length, if◌then◌else◌};
+ghost use Rattle.std.specs.Prelude.{◌≡◌, ◌^◌, ℕ, List, Some, None, Option, nat_lt, if◌then◌else◌};
 ghost use Rattle.tb_pool.specs.Lists.{list_at, IsLive};
 ghost use Rattle.tb_node.specs.declared.Node.{Node as NodeOf};
 ghost use Rattle.tb_node.specs.SmallAmounts.{IsAmount, IsSmall};

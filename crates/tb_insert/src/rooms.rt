@@ -1,6 +1,6 @@
 //! The room that a page has for an insertion, and what an insertion takes of it. Each function is one equation.
 
-ghost use Rattle.std.specs.Prelude.{◌≡◌, ◌^◌, ◌<ℤ◌, ◌≤ℤ◌, ◌+ℤ◌, ◌-ℤ◌, ◌*ℤ◌, int_div, pos, neg_ℤ, int_le, Bool, ◌||◌, ◌&&◌};
+ghost use Rattle.std.specs.Prelude.{◌≡◌, ◌^◌, ◌+ℤ◌, ◌-ℤ◌, ◌*ℤ◌, int_div, pos, int_le, ◌||◌};
 ghost use Rattle.tb_scaled.specs.Scaled.{min_ℤ};
 ghost use Rattle.tb_node.specs.SmallAmounts.{IsAmount, IsSmall};
 ghost use Rattle.tb_insert.specs.Account.{scaled_by, unscaled_room, clamped};

@@ -1,5 +1,5 @@
 //! Notes on worked values.
-ghost use Rattle.std.specs.Prelude.{◌≡◌, ◌≤ℤ◌, pos, IsOk, IfOk};
+ghost use Rattle.std.specs.Prelude.{◌≡◌, pos};
 
 use crate::place_note;
 use std::test::Fail;

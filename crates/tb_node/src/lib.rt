@@ -26,7 +26,7 @@ pub struct Name {
 }
 
 impl Model for Name {
-    ghost use Rattle.std.specs.Prelude.{◌≡◌, ◌<◌, ◌≤◌, ℕ, List, take};
+    ghost use Rattle.std.specs.Prelude.{◌≡◌, ◌<◌, ℕ, List};
 
     ghost Value = { List ℕ };
 

@@ -1,6 +1,6 @@
 //! What is put at the end of the list that goes back.
 
-ghost use Rattle.std.specs.Prelude.{◌≡◌, ◌≤◌, ◌+◌, ◌++◌, take, length, if◌then◌else◌, OnOk, OnErr};
+ghost use Rattle.std.specs.Prelude.{◌≡◌, ◌≤◌, ◌+◌, ◌++◌, take, if◌then◌else◌, OnOk, OnErr};
 ghost use Rattle.std.specs.FinMap.{remove};
 ghost use Rattle.tb_pool.specs.Lists.{IsLive, list_at, with_list};
 ghost use Rattle.tb_node.specs.Fit.{IsSizedNode};

@@ -11,7 +11,7 @@ ghost use Rattle.tb_output.specs.State.{has_floats};
 ghost use Rattle.tb_output.specs.Clear.{clear, clear_floats, clear_wide, deferred_again, double_again};
 ghost use Rattle.tb_output.specs.Machine.{machine_lists, IsMachine};
 ghost use Rattle.tb_output.specs.FiringWork.{shows_back, shows_page, IsCutShort, Does};
-ghost use Rattle.tb_output.specs.MachineFrame.{AreTextLists, AreNoneOf, HasFloats, HasGrown, IsBack, back_lists, KeepsBack};
+ghost use Rattle.tb_output.specs.MachineFrame.{AreTextLists, HasFloats, HasGrown, IsBack, back_lists, KeepsBack};
 ghost use Rattle.tb_output.specs.BackList.{clear_list};
 ghost use Rattle.tb_output.specs.FiringParts.{clear_noted};
 

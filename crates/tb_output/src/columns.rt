@@ -1,6 +1,6 @@
 //! Columns are made and put out, and the next one is begun.
 
-ghost use Rattle.std.specs.Prelude.{◌≡◌, ◌≢◌, ℕ, pos, List, ◌∷◌, [], Some, OnOk, OnErr, IfOk, IfErr, IsTrue, MatchBool, false};
+ghost use Rattle.std.specs.Prelude.{◌≡◌, ◌≢◌, ℕ, pos, ◌∷◌, [], Some, OnOk, OnErr, IfOk, IfErr, IsTrue, MatchBool, false};
 ghost use Rattle.std.specs.List.{AllByRecursion};
 ghost use Rattle.std.specs.FinMap.{get};
 ghost use Rattle.tb_scaled.specs.Amount.{IsAmount};

@@ -22,7 +22,7 @@ use std::alloc::AllocError;
 use tb_column::{Warn, push_made};
 use tb_float::{Entry, Part};
 use tb_margin::{Placed, place_note};
-use tb_node::{Kind, Margin, Name, Node, Side, What, Where};
+use tb_node::{Kind, Margin, Name, Node, Side, What};
 use tb_pool::{ListId, Lists};
 
 impl Machine {

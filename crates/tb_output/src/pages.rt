@@ -1,6 +1,6 @@
 //! Pages are shipped: of one column, of two, or of wide floats.
 
-ghost use Rattle.std.specs.Prelude.{◌≡◌, ◌≤◌, pos, ◌-ℤ◌, ◌∷◌, [], List, false, Some, IsSome, OnOk, OnErr, IfOk, IfErr, IsTrue, MatchBool};
+ghost use Rattle.std.specs.Prelude.{◌≡◌, ◌≤◌, pos, ◌-ℤ◌, ◌∷◌, [], false, Some, IsSome, OnOk, OnErr, IfOk, IfErr, IsTrue, MatchBool};
 ghost use Rattle.tb_scaled.specs.Amount.{IsAmount};
 ghost use Rattle.tb_pool.specs.Frame.{IsNoneOf};
 ghost use Rattle.tb_node.specs.PlainNodes.{plain_list};

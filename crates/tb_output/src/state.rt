@@ -2,7 +2,7 @@
 
 ghost use Rattle.std.specs.Prelude.{◌≡◌, ◌≤◌, pos, List, [], ◌∷◌, length, None, IsTrue, IfOk, IfSome, IfNone, OnErr};
 ghost use Rattle.std.specs.FinMap.{get};
-ghost use Rattle.tb_pool.specs.Lists.{Lists as ListMap, IsLive, list_at, with_list};
+ghost use Rattle.tb_pool.specs.Lists.{Lists as ListMap, list_at, with_list};
 ghost use Rattle.tb_node.specs.declared.Node.{Node as NodeValue};
 ghost use Rattle.tb_node.specs.PlainNodes.{PlainNode};
 ghost use Rattle.tb_builder.specs.FiredPages.{Boxed};

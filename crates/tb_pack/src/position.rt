@@ -2,8 +2,6 @@
 
 ghost use Rattle.std.specs.Prelude.{◌≡◌, ◌≢◌, ◌∷◌, ◌++◌, [], List, ℤ, pos, ◌*ℤ◌, ◌<ℤ◌, FitsSigned};
 ghost use Rattle.std.specs.Int.{w64};
-ghost use Rattle.tb_scaled.specs.declared.Glue.{Glue as GlueOf};
-ghost use Rattle.tb_scaled.specs.declared.Order.{Order as OrderOf};
 ghost use Rattle.tb_node.specs.PlainNodes.{shape_of};
 ghost use Rattle.tb_node.specs.Shape.{Shape, glue};
 ghost use Rattle.tb_node.specs.SmallAmounts.{IsSmallShape};

@@ -1,6 +1,6 @@
 //! The nodes of the lists, and the links between them.
 
-ghost use Rattle.std.specs.Prelude.{◌≡◌, ◌+◌, ◌-◌, ◌<◌, ℕ, List, None, Some, IsSome, slice_index};
+ghost use Rattle.std.specs.Prelude.{◌≡◌, ◌+◌, ◌-◌, ◌<◌, ℕ, List, None, Some, slice_index};
 ghost use Rattle.std.specs.Borrow.{sem};
 ghost use Rattle.slab.specs.Slab.{ContainsKey, get, Updates, slab_len};
 ghost use Rattle.slab.specs.Lends.{lends_value};

@@ -1,6 +1,6 @@
 //! The totals of a run.
-ghost use Rattle.std.specs.Prelude.{◌≡◌, ◌+◌, ◌<◌, ◌^◌, ◌∷◌, [], map, true, false};
-ghost use Rattle.tb_pool.specs.Lists.{IsLive, list_at};
+ghost use Rattle.std.specs.Prelude.{◌≡◌, ◌+◌, ◌<◌, [], true, false};
+ghost use Rattle.tb_pool.specs.Lists.{IsLive};
 ghost use Rattle.tb_node.specs.PlainNodes.{plain, matter_of};
 ghost use Rattle.tb_report.specs.RunTotals.{is_item_box, is_float_box};
 

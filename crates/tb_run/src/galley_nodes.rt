@@ -1,6 +1,6 @@
 //! The nodes of a galley's items, as they wait at the page builder.
 
-ghost use Rattle.std.specs.Prelude.{◌≡◌, ◌∷◌, ◌++◌, ◌+ℤ◌, [], true, false, pos, neg_ℤ, Some, None, OnOk, IfOk};
+ghost use Rattle.std.specs.Prelude.{◌≡◌, ◌∷◌, ◌++◌, [], true, false, Some, None, OnOk, IfOk};
 ghost use Rattle.tb_node.specs.PlainNodes.{act, on_line, newpage_kinds, clearpage_kinds};
 ghost use Rattle.tb_builder.specs.Contents.{contents_of};
 ghost use Rattle.tb_builder.specs.Ownership.{inner_of};

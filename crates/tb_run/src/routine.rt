@@ -1,6 +1,6 @@
 //! The output routine over one store: the page builder fills a page, and the machine serves it.
 
-ghost use Rattle.std.specs.Prelude.{◌≡◌, ◌≤◌, ◌≤ℤ◌, ◌+◌, ◌++◌, [], map, pos, IfOk, IfErr, IfNone, IfSome, OnOk, OnErr};
+ghost use Rattle.std.specs.Prelude.{◌≡◌, ◌≤◌, ◌≤ℤ◌, ◌+◌, ◌++◌, [], pos, IfOk, IfErr, IfNone, OnOk};
 ghost use Rattle.std.specs.List.{AllByRecursion};
 ghost use Rattle.std.specs.FinMap.{get};
 ghost use Rattle.std.specs.Prelude.{List, None};
@@ -8,7 +8,6 @@ ghost use Rattle.tb_node.specs.PlainNodes.{PlainNode, plain_list};
 ghost use Rattle.tb_node.specs.Fit.{shapes};
 ghost use Rattle.tb_node.specs.Sums.{size_of};
 ghost use Rattle.tb_builder.specs.FiredPages.{Boxed};
-ghost use Rattle.tb_builder.specs.Contents.{contents_of};
 ghost use Rattle.tb_builder.specs.PageEvents.{NextFits, fired_room};
 ghost use Rattle.tb_builder.specs.Courses.{IsSound};
 ghost use Rattle.tb_galley.specs.GalleyNodes.{expanded};
@@ -19,7 +18,7 @@ ghost use Rattle.tb_output.specs.Firing.{CanFire, CanGoBack, fired_in};
 ghost use Rattle.tb_run.specs.GalleyNodes.{AreGalleyNodes};
 ghost use Rattle.tb_run.specs.ServedStates.{AreRunnable, AreRunClasses, IsServedPage};
 ghost use Rattle.tb_run.specs.WaitingNodes.{AreItems};
-ghost use Rattle.tb_run.specs.Run.{classes_of, held_count, step};
+ghost use Rattle.tb_run.specs.Run.{classes_of, held_count};
 ghost use Rattle.tb_run.specs.Happenings.{happened_lists};
 ghost use Rattle.tb_run.specs.Routine.{held_in, state_of, IsConsistent, IsBounded, IsReady, AreHappened, ArePages, IsTurned, IsEnded, over_limit, with_events};
 ghost use Rattle.tb_run.specs.RoutinePages.{HasComeTo, Fills, Serves, IsBoundedPage, HasActed, HasNotActed, sent_happenings};
