@@ -60,3 +60,8 @@ forced_row = refl
 penalty_row : cost_of (record { total = pos 40; depth = pos 0; stretch = pos 60 ∷ pos 0 ∷ pos 0 ∷ pos 0 ∷ []; shrink = pos 0 }) (pos 100) (neg_ℤ (pos 9999)) (pos 0) ≡ neg_ℤ (pos 9899)
 unfolding page_badness cost_of_badness badness_of
 penalty_row = refl
+
+-- the same page once its goal is 90
+lower_goal_row : cost_of (record { total = pos 40; depth = pos 0; stretch = pos 60 ∷ pos 0 ∷ pos 0 ∷ pos 0 ∷ []; shrink = pos 0 }) (pos 90) (neg_ℤ (pos 9999)) (pos 0) ≡ neg_ℤ (pos 9942)
+unfolding page_badness cost_of_badness badness_of
+lower_goal_row = refl

@@ -59,11 +59,6 @@ abbrev pub solutions_from : LineParams → ℕ → List Paragraph → Result (Li
 solutions_from ps n [] = Ok []
 solutions_from ps n (p ∷ pars) = solved n (least_of ps p.items) (solutions_from ps (n + 1) pars)
 
--- what the code's solutions are
-abbrev pub solved_by : Result (Vec SolutionView Global) ℕ → Result (List SolutionView) ℕ
-solved_by (Ok v) = Ok v.items
-solved_by (Err n) = Err n
-
 -- why an input has no galley of lines: its first fault, or the first paragraph that no way breaks, counted from 1
 pub data NoGalley : Type 0 where
   faulty : Fault → NoGalley
@@ -92,7 +87,14 @@ abbrev pub refusal_of : LinesFault → LinesRefusal
 refusal_of (faults.At line field cause) = refusals.At line field cause
 refusal_of faults.Memory = refusals.Memory
 
--- what the code gives is this, unless memory runs out
+-- the solutions that the code gives are these, unless memory runs out
+abbrev pub GivesSolutions : Result (Vec SolutionView Global) LinesRefusal → Result (List SolutionView) ℕ → Type 0
+GivesSolutions (Ok v) answer = answer ≡ Ok v.items
+GivesSolutions (Err (refusals.At line field cause)) answer = ⊥
+GivesSolutions (Err (refusals.NoBreaks n)) answer = answer ≡ Err n
+GivesSolutions (Err refusals.Memory) answer = Unit {0}
+
+-- the galley that the code gives is this, unless memory runs out
 abbrev pub GivesGalley : Result (Vec ℕ Global) LinesRefusal → Result (List ℕ) NoGalley → Type 0
 GivesGalley (Ok v) answer = answer ≡ Ok v.items
 GivesGalley (Err (refusals.At line field cause)) answer = answer ≡ Err (faulty (fault line field cause))

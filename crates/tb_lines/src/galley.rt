@@ -1,6 +1,7 @@
 //! From a text's bytes to the galley of its lines.
 ghost use Rattle.std.specs.Prelude.{◌≡◌, IfOk};
-ghost use Rattle.tb_lines.specs.Galley.{solutions_from, solved_by, galley_of_text, refusal_of, lines_galley, GivesGalley};
+ghost use Rattle.tb_lines.specs.declared.LinesRefusal.TheVariants.{Memory};
+ghost use Rattle.tb_lines.specs.Galley.{solutions_from, refusal_of, lines_galley, GivesSolutions, GivesGalley};
 ghost use Rattle.tb_lines.specs.Accepted.{IsAccepted};
 
 use crate::line_texts::line_text;
@@ -10,54 +11,37 @@ use crate::text::Text;
 use crate::{LinesFault, LinesRefusal};
 use std::alloc::{AllocError, Global};
 
-// The least solutions of all paragraphs, or the number of the first paragraph that has none, counted from 1.
-fn solve(alloc: Global, text: &Text) -> Result<Result<Vec<Solution>, usize>, AllocError>
-    ensures { IfOk result (λ r. solved_by r ≡ solutions_from text.now.params 1 text.now.paragraphs) }
+impl From<LinesFault> for LinesRefusal {
+    ghost from_gives = { λ fault e. e ≡ refusal_of fault };
+
+    fn from(fault: LinesFault) -> Self {
+        match fault {
+            LinesFault::At { line, field, cause } => LinesRefusal::At { line, field, cause },
+            LinesFault::Memory => LinesRefusal::Memory,
+        }
+    }
+}
+
+impl From<AllocError> for LinesRefusal {
+    ghost from_gives = { λ _ e. e ≡ Memory };
+
+    fn from(_: AllocError) -> Self {
+        LinesRefusal::Memory
+    }
+}
+
+// The least solutions of all paragraphs, in order.
+fn solve(alloc: Global, text: &Text) -> Result<Vec<Solution>, LinesRefusal>
+    ensures { GivesSolutions result (solutions_from text.now.params 1 text.now.paragraphs) }
 {
     let mut solutions = Vec::new(alloc);
     for n in 0..text.paragraphs() {
-        match break_par(alloc, text, n)? {
-            Some(solution) => solutions.push(solution)?,
-            None => return Ok(Err(n + 1)),
-        }
+        let Some(solution) = break_par(alloc, text, n)? else {
+            return Err(LinesRefusal::NoBreaks { paragraph: n + 1 });
+        };
+        solutions.push(solution)?;
     }
-    Ok(Ok(solutions))
-}
-
-// The galley of solutions, or the number of the paragraph that has none.
-fn write_solved(
-    alloc: Global,
-    text: &Text,
-    solved: Result<Vec<Solution>, usize>,
-) -> Result<Vec<u8>, LinesRefusal>
-    requires { solved_by solved ≡ solutions_from text.now.params 1 text.now.paragraphs }
-    ensures { GivesGalley result (galley_of_text text.now) }
-{
-    match solved {
-        Ok(solutions) => match line_text(alloc, text, solutions.as_slice()) {
-            Ok(out) => Ok(out),
-            Err(_) => Err(LinesRefusal::Memory),
-        },
-        Err(paragraph) => Err(LinesRefusal::NoBreaks { paragraph }),
-    }
-}
-
-fn galley_of_text(alloc: Global, text: &Text) -> Result<Vec<u8>, LinesRefusal>
-    ensures { GivesGalley result (galley_of_text text.now) }
-{
-    match solve(alloc, text) {
-        Ok(solved) => write_solved(alloc, text, solved),
-        Err(_) => Err(LinesRefusal::Memory),
-    }
-}
-
-fn refusal_of(fault: LinesFault) -> LinesRefusal
-    ensures { result ≡ refusal_of fault }
-{
-    match fault {
-        LinesFault::At { line, field, cause } => LinesRefusal::At { line, field, cause },
-        LinesFault::Memory => LinesRefusal::Memory,
-    }
+    Ok(solutions)
 }
 
 /// Reads a text, breaks its paragraphs into lines of least demerits, and writes the galley of the lines, which the grammar
@@ -67,8 +51,7 @@ pub fn lines_galley(alloc: Global, bytes: &[u8]) -> Result<Vec<u8>, LinesRefusal
     ensures galley { GivesGalley result (lines_galley bytes.now) }
     ensures accepted { IfOk result (λ galley. IsAccepted galley.items) }
 {
-    match read_lines(alloc, bytes) {
-        Ok(text) => galley_of_text(alloc, &text),
-        Err(fault) => Err(refusal_of(fault)),
-    }
+    let text = read_lines(alloc, bytes)?;
+    let solutions = solve(alloc, &text)?;
+    Ok(line_text(alloc, &text, solutions.as_slice())?)
 }

@@ -1,4 +1,4 @@
-use crate::{Choice, ParamFault, Value, defaults};
+use crate::{Choice, ParamFault, Params, Value, defaults};
 use std::test::Fail;
 use tb_scaled::{Glue, Order};
 
@@ -16,7 +16,21 @@ const TOO_WIDE_GLUE: Glue = Glue {
     shrink: 0,
 };
 
-// Each range at its ends, and each refusal.
+// Of each form of parameter an amount.
+fn amounts(p: &Params) -> [i64; 8] {
+    [
+        p.textheight,
+        p.topfraction,
+        p.fptop.width,
+        p.floatingpenalty,
+        p.interlinepenalty,
+        p.pool,
+        p.maxdeadcycles,
+        p.maxnodes,
+    ]
+}
+
+// Each range at its ends, and each refusal, after which nothing has changed.
 #[test]
 fn keeps_to_the_ranges(rt: HostRuntime) -> Result<(), Fail> {
     let refused = Err(ParamFault::Range);
@@ -56,6 +70,9 @@ fn keeps_to_the_ranges(rt: HostRuntime) -> Result<(), Fail> {
     for (name, value, want) in rows {
         let mut params = defaults();
         assert!(rt; params.set(name, value) == want);
+        if want.is_err() {
+            assert_eq!(rt; amounts(&params), amounts(&defaults()));
+        }
     }
     Ok(())
 }

@@ -155,6 +155,28 @@ fn generated_galleys_are_run(rt: HostRuntime) -> Result<(), Fail> {
     Ok(())
 }
 
+// A penalty is tried in each pass that comes to it: its cost is -9899 while the goal is 100, and -9942 in the pass in which
+// a float at the bottom has left a goal of 90.
+#[test]
+fn penalty_costs_by_the_goal(rt: HostRuntime) -> Result<(), Fail> {
+    let alloc = rt.alloc();
+    let row = &FLOAT_ROWS[4];
+    assert_eq!(rt; row.name, "carried past a later float");
+    let words = vec![in alloc;
+        String::from_str(alloc, "galley_pages")?,
+        String::from_str(alloc, "--mode=trace")?,
+    ]?;
+    let left = run_with(alloc, &words, row.input, &NONE)?;
+    let trace = String::from_utf8(left.out.held().to_vec(alloc)?)?;
+    for wanted in [
+        "try 18 t 40 s 60 0 0 0 z 0 g 100 b 100 p -9999 c -9899 #",
+        "try 18 t 40 s 60 0 0 0 z 0 g 90 b 57 p -9999 c -9942 #",
+    ] {
+        assert!(rt; trace.lines().any(|line| line == wanted), "{wanted}");
+    }
+    Ok(())
+}
+
 #[test]
 fn modes_give_what_they_say(rt: HostRuntime) -> Result<(), Fail> {
     let alloc = rt.alloc();

@@ -196,6 +196,9 @@ mod tests {
     #[test]
     fn computes_the_worked_values(rt: HostRuntime) {
         assert_eq!(rt; round_decimals(&[7]), 45875);
+        assert_eq!(rt; round_decimals(&[5]), 32768);
+        assert_eq!(rt; round_decimals(&[3]), 19661);
+        assert_eq!(rt; round_decimals(&[2]), 13107);
         assert_eq!(rt; round_decimals(&[0, 0, 0, 1]), 7);
         assert_eq!(rt; badness(10, 5), 800);
         assert_eq!(rt; x_over_n(-7, 2), -3);

@@ -27,6 +27,7 @@ pub use makeup_pages::{PlainRunFault, paginate_plain};
 pub use pages::paginate;
 pub use rows::check_rows;
 pub use status::Status;
+pub use tb_generator::generate;
 pub use tb_makeup::first_unsuited;
 pub use tb_report::Totals;
 pub use top::run;

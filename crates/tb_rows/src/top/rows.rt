@@ -15,7 +15,7 @@ pub struct Row {
 }
 
 /// The worked rows with text and footnotes alone, and those of each refusal.
-pub const ROWS: [Row; 33] = [
+pub const ROWS: [Row; 35] = [
     Row {
         name: "three boxes one page",
         input: b"galley 1\nset textheight 30\nset topskip 10\nset maxdepth 0\nbox a 10 0\nglue 0 plus 5\nbox b 10 0\nglue 0 plus 5\nbox c 10 0\nend\n",
@@ -175,6 +175,21 @@ pub const ROWS: [Row; 33] = [
         input: b"galley 1\nset textheight 30\nset topskip 10\nset maxdepth 0\nset bottom flush\nbox a 20 0\nkern 0\nglue 0\nbox b 20 0\nend\n",
         status: 0,
         out: b"report 1\npage 1 one\ncolumn 1 text height 30 natural 20 set none\nbox a 0 20 0\npage 2 one\ncolumn 1 text height 30 natural 20 set stretch fil 10/65536\nbox b 0 20 0\nend pages 2 boxes 2 floats 0 warnings 0\n",
+        err: b"",
+    },
+    Row {
+        name: "kern without glue with few sets",
+        input: b"galley 1\nset textheight 30\nset topskip 10\nset maxdepth 0\nset bottom flush\nbox a 20 0\nkern 0\nbox b 20 0\nend\n",
+        status: 0,
+        out: b"report 1\npage 1 one\ncolumn 1 text height 30 natural 40 set none overfull 10\nbox a 0 20 0\nbox b 20 20 0\nend pages 1 boxes 2 floats 0 warnings 0\n",
+        err: b"",
+    },
+    // The clear of the end fires once: a second firing would be one too many.
+    Row {
+        name: "empty galley with one dead cycle",
+        input: b"galley 1\nset maxdeadcycles 1\nend\n",
+        status: 0,
+        out: b"report 1\nend pages 0 boxes 0 floats 0 warnings 0\n",
         err: b"",
     },
     Row {
