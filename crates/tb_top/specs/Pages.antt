@@ -45,10 +45,10 @@ Refuses v r old new faults.WriteFault = AppendsPrefix old new (view_text v r)
 Refuses v r old new faults.Memory = AppendsPrefix old new (view_text v r)
 
 -- a refusal that is not for the dead cycles
-abbrev pub IsNotForCycles : PageFault → Type 0
-IsNotForCycles (faults.PoolFull line live) = Unit {0}
-IsNotForCycles (faults.DeadCycles n) = ⊥
-IsNotForCycles (faults.PageLimit n) = Unit {0}
-IsNotForCycles (faults.NodeLimit n) = Unit {0}
-IsNotForCycles faults.WriteFault = Unit {0}
-IsNotForCycles faults.Memory = Unit {0}
+abbrev pub IsNoCycleFault : PageFault → Type 0
+IsNoCycleFault (faults.PoolFull line live) = Unit {0}
+IsNoCycleFault (faults.DeadCycles n) = ⊥
+IsNoCycleFault (faults.PageLimit n) = Unit {0}
+IsNoCycleFault (faults.NodeLimit n) = Unit {0}
+IsNoCycleFault faults.WriteFault = Unit {0}
+IsNoCycleFault faults.Memory = Unit {0}

@@ -7,7 +7,7 @@ ghost use Rattle.tb_pool.specs.Lists.{IsLive};
 ghost use Rattle.tb_run.specs.Run.{run_of};
 ghost use Rattle.tb_top.specs.Laws.{KeepsLaws, WithinLimits};
 ghost use Rattle.tb_top.specs.DeadCycles.{HasRoomForCycles};
-ghost use Rattle.tb_top.specs.Pages.{Paginates, Refuses, IsNotForCycles};
+ghost use Rattle.tb_top.specs.Pages.{Paginates, Refuses, IsNoCycleFault};
 ghost use Rattle.tb_top.specs.PagesWritten.{write_fault, EndsWell, StopsWith, IsRefusalOf, IsFaultRefusal};
 
 use crate::views::{is_traced, send, show};
@@ -63,7 +63,7 @@ pub fn paginate<K: Sink>(
     ensures done { IfOk result (Paginates view (run_of galley.now) (K.held out.old) (K.held out.new)) }
     ensures laws { IfOk result (KeepsLaws galley.now) }
     ensures limits { WithinLimits galley.now.params (run_of galley.now) }
-    ensures cycles { HasRoomForCycles galley.now → IfErr result IsNotForCycles }
+    ensures cycles { HasRoomForCycles galley.now → IfErr result IsNoCycleFault }
     ensures refused { IfErr result (Refuses view (run_of galley.now) (K.held out.old) (K.held out.new)) }
 
     ensures cause { result ≡ Err PageFault.WriteFault → Rose (K.faults out.old) (K.faults out.new) }

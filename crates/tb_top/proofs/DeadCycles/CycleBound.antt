@@ -23,7 +23,7 @@ use Rattle.tb_laws.proofs.DeadCycles.HighStates.{BoundedHigh}
 use Rattle.tb_laws.proofs.Closed.ClosingPages.{ActsClose}
 use Rattle.tb_laws.proofs.Closed.ClosingStates.{Closing}
 use Rattle.tb_run.specs.Run.{Step, ends, goes_on, done, pool_full, dead_cycles, page_limit, node_limit, step, run_of}
-use Rattle.tb_top.specs.DeadCycles.{HasRoomForCycles, IsNotCycles, DeadCyclesAreFew}
+use Rattle.tb_top.specs.DeadCycles.{HasRoomForCycles, EndsWithinCycles, DeadCyclesAreFew}
 use Rattle.tb_top.proofs.DeadCycles.ValidPenalties.{interline-calm}
 use Rattle.tb_top.proofs.Written.ClassLemmas.{valid-differ, valid-fit}
 use Rattle.tb_top.proofs.NothingLost.RunWeights.{Kept, page_of}
@@ -102,13 +102,13 @@ module _ (g : Galley) (valid : IsValid g) where
   empties : (s : State) → Kept s → Closing g.params s → ChangesEmpty g.params s (acted_of (page_of g.params s).reached)
   empties s c k = closing-changes g.params k.done s (acted_of (page_of g.params s).reached) (empty g.params calm s c k) (page_closes g.params calm s c k).acts_close
 
-  low-bound : g.params.topskip ≤ℤ g.params.textheight → HasRoomForCycles g → IsNotCycles (run_of g).end
+  low-bound : g.params.topskip ≤ℤ g.params.textheight → HasRoomForCycles g → EndsWithinCycles (run_of g).end
   low-bound room = not-cycles g calm (valid-differ g valid) (valid-fit g valid) (Bounded g.params m) (λ s b. more s.dead_cycles (low-few g.params m calm low room deep s b)) (low-goes g.params m calm low room deep) (low-start g calm (valid-differ g valid) (valid-fit g valid)) (Closing g.params) empties stays (start-closing g (valid-fit g valid))
     where
       more : (d : ℕ) → d ≤ m + 2 → d ≤ m + 3
       more d h = omega arith
 
-  high-bound : g.params.textheight <ℤ g.params.topskip → HasRoomForCycles g → IsNotCycles (run_of g).end
+  high-bound : g.params.textheight <ℤ g.params.topskip → HasRoomForCycles g → EndsWithinCycles (run_of g).end
   high-bound high = not-cycles g calm (valid-differ g valid) (valid-fit g valid) (BoundedHigh g.params m) (high-few g.params m calm deep (textheight-low g.params valid.params) high) (high-goes g.params m calm deep (textheight-low g.params valid.params) high) (high-start g calm (valid-differ g valid) (valid-fit g valid)) (Closing g.params) empties stays (start-closing g (valid-fit g valid))
 
 -- the dead-cycle bound
@@ -121,6 +121,6 @@ dead-cycle-bound g valid = by_skip (int_le g.params.topskip g.params.textheight)
     high : (t h : ℤ) → int_le t h ≡ false → h <ℤ t
     high t h e = grind (arith, ints, e)
 
-    by_skip : (x : Bool) → int_le g.params.topskip g.params.textheight ≡ x → HasRoomForCycles g → IsNotCycles (run_of g).end
+    by_skip : (x : Bool) → int_le g.params.topskip g.params.textheight ≡ x → HasRoomForCycles g → EndsWithinCycles (run_of g).end
     by_skip true e = low-bound g valid (room g.params.topskip g.params.textheight e)
     by_skip false e = high-bound g valid (high g.params.topskip g.params.textheight e)

@@ -25,7 +25,7 @@ use Rattle.tb_run.specs.Run.{End, done, pool_full, dead_cycles, page_limit, node
 use Rattle.tb_laws.proofs.DeadCycles.SpacedLemmas.{Spaced, spaced-any, spaced-both, free-alone}
 use Rattle.tb_laws.proofs.DeadCycles.HighStates.{cleared, BoundedHigh}
 use Rattle.tb_top.specs.Firings.{HasReason}
-use Rattle.tb_top.specs.DeadCycles.{is_cycling, cycling_items, HasRoomForCycles, IsNotCycles}
+use Rattle.tb_top.specs.DeadCycles.{cycling_count, cycling_items, HasRoomForCycles, EndsWithinCycles}
 use Rattle.tb_top.proofs.Written.FuelLemmas.{run-reason}
 use Rattle.tb_top.proofs.NothingLost.StartLemmas.{ItemFits, ItemsFit, NumbersDiffer, start-kept}
 use Rattle.tb_top.proofs.NothingLost.RunWeights.{page_of, Kept}
@@ -39,7 +39,7 @@ high-cost : (q : ℤ) → int_le eject_penalty q ≡ true → sort_cost (pen_sor
 high-cost q h = at-ordinary (sort_cost (pen_sort q) ≡ 0) (λ x. pen_sort q ≡ x) q h (λ e. ap sort_cost e) (λ e. ap sort_cost e) refl
 
 -- an item costs four at most, and nothing if it is no float, note, clear or change of columns
-item-cost : (ks : List ℕ) (p : Params) (two : Bool) (line : ℕ) (k : ItemKind) → ItemFits ks k → wait_cost (on_line line (item_kinds p two k)) ≤ 4 * is_cycling k
+item-cost : (ks : List ℕ) (p : Params) (two : Bool) (line : ℕ) (k : ItemKind) → ItemFits ks k → wait_cost (on_line line (item_kinds p two k)) ≤ 4 * cycling_count k
 item-cost ks p two line (items.Penalty n) f = let h : sort_cost (pen_sort n) ≡ 0 = high-cost n f in omega arith
 item-cost ks p two line (items.Float x vert) f = by_taking (has_second p && two && x.wide) vert
   where
@@ -66,9 +66,9 @@ items-cost ks p two [] f = omega arith
 items-cost ks p two (n ∷ ns) f =
     let after = two_after two n.kind in
     let a : wait_cost (on_line n.line (item_kinds p two n.kind) ++ item_nodes p after ns) ≡ wait_cost (on_line n.line (item_kinds p two n.kind)) + wait_cost (item_nodes p after ns) = cost-append (on_line n.line (item_kinds p two n.kind)) (item_nodes p after ns) in
-    let b : wait_cost (on_line n.line (item_kinds p two n.kind)) ≤ 4 * is_cycling n.kind = item-cost ks p two n.line n.kind f.0 in
+    let b : wait_cost (on_line n.line (item_kinds p two n.kind)) ≤ 4 * cycling_count n.kind = item-cost ks p two n.line n.kind f.0 in
     let c : wait_cost (item_nodes p after ns) ≤ 4 * cycling_items ns = items-cost ks p after ns f.1 in
-    sums (wait_cost (item_nodes p two (n ∷ ns))) (wait_cost (on_line n.line (item_kinds p two n.kind))) (wait_cost (item_nodes p after ns)) (is_cycling n.kind) (cycling_items ns) a b c
+    sums (wait_cost (item_nodes p two (n ∷ ns))) (wait_cost (on_line n.line (item_kinds p two n.kind))) (wait_cost (item_nodes p after ns)) (cycling_count n.kind) (cycling_items ns) a b c
   where
     sums : (x y z i j : ℕ) → x ≡ y + z → y ≤ 4 * i → z ≤ 4 * j → x ≤ 4 * (i + j)
     sums x y z i j a b c = omega arith
@@ -218,7 +218,7 @@ module _ (g : Galley) (calm : int_le g.params.interlinepenalty eject_penalty ≡
       sums-with x h = omega arith
 
   -- a run that has a reason to end for its dead cycles had as many as there may be, and those were few
-  no-reason : (e : End) → HasReason g.params e → RunCycles (most + 3) e → HasRoomForCycles g → IsNotCycles e
+  no-reason : (e : End) → HasReason g.params e → RunCycles (most + 3) e → HasRoomForCycles g → EndsWithinCycles e
   no-reason (done left) h k c = tt
   no-reason (pool_full line live) h k c = tt
   no-reason (dead_cycles n) h k c = no-room (cycling_items g.items) n g.params.maxdeadcycles c h k
@@ -231,16 +231,16 @@ module _ (g : Galley) (calm : int_le g.params.interlinepenalty eject_penalty ≡
   -- with a bound that each firing keeps, and an invariant by which the columns change only when no float is on the way, the run does not end for its dead cycles
   module _ (B : State → Type 0) (few : (s : State) → B s → s.dead_cycles ≤ most + 3) (goes : Goes g.params B) (start : B first)
       (I : State → Type 0) (empties : (s : State) → Kept s → I s → ChangesEmpty g.params s (acted_of (page_of g.params s).reached)) (keeps : (s : State) → Kept s → I s → StepStays I (step g.params s)) (begins : I first) where
-    pub not-cycles : HasRoomForCycles g → IsNotCycles (run_of g).end
+    pub not-cycles : HasRoomForCycles g → EndsWithinCycles (run_of g).end
     unfolding run_of
     not-cycles c = by_nodes (int_lt g.params.maxnodes (pos (held_count first)))
       where
         cycled : Cycled g.params calm B (most + 3) few goes first
         cycled = record { kept = start-kept g differ items_fit; bounded = start; ended = start-ended g items_fit }
 
-        run : IsNotCycles (run_from g.params (suc (firings_left g.params first)) first).end
+        run : EndsWithinCycles (run_from g.params (suc (firings_left g.params first)) first).end
         run = no-reason (run_from g.params (suc (firings_left g.params first)) first).end (run-reason g.params (suc (firings_left g.params first)) first (omega arith) (omega arith)) (run-cycles g.params calm B (most + 3) few goes I (λ s x i. empties s x.kept i) (λ s x i. keeps s x.kept i) (suc (firings_left g.params first)) first cycled begins) c
 
-        by_nodes : (t : Bool) → IsNotCycles (if t then record { events = []; records = []; end = node_limit (held_count first) } else run_from g.params (suc (firings_left g.params first)) first).end
+        by_nodes : (t : Bool) → EndsWithinCycles (if t then record { events = []; records = []; end = node_limit (held_count first) } else run_from g.params (suc (firings_left g.params first)) first).end
         by_nodes true = tt
         by_nodes false = run

@@ -6,11 +6,11 @@ use Rattle.tb_run.specs.Run.{End, done, pool_full, dead_cycles, page_limit, node
 use Rattle.tb_top.specs.declared.View.{View}
 use Rattle.tb_top.specs.declared.PageFault.{PageFault}
 use Rattle.tb_top.specs.declared.PageFault.TheVariants as faults
-use Rattle.tb_top.specs.Pages.{end_fault, EndsWith, Refuses, IsNotForCycles}
-use Rattle.tb_top.specs.DeadCycles.{IsNotCycles, HasRoomForCycles}
+use Rattle.tb_top.specs.Pages.{end_fault, EndsWith, Refuses, IsNoCycleFault}
+use Rattle.tb_top.specs.DeadCycles.{EndsWithinCycles, HasRoomForCycles}
 use Rattle.tb_top.proofs.DeadCycles.CycleBound.{dead-cycle-bound}
 
-not-ended : (e : End) (n : ℕ) → IsNotCycles e → end_fault e ≡ Some (faults.DeadCycles n) → ⊥
+not-ended : (e : End) (n : ℕ) → EndsWithinCycles e → end_fault e ≡ Some (faults.DeadCycles n) → ⊥
 not-ended (done left) n few is = cc
 not-ended (pool_full line live) n few is = cc
 not-ended (dead_cycles m) n few is = absurd few
@@ -21,7 +21,7 @@ not-ended (node_limit m) n few is = cc
 pub no-room : (g : Galley) → IsValid g → (v : View) (old new : Option (List ℕ)) (n : ℕ) → EndsWith v (run_of g) old new (faults.DeadCycles n) → HasRoomForCycles g → ⊥
 no-room g valid v old new n h room = not-ended (run_of g).end n (dead-cycle-bound g valid room) h.ended
 
-pub not-for-cycles : (g : Galley) → IsValid g → HasRoomForCycles g → (v : View) (old new : Option (List ℕ)) (f : PageFault) → Refuses v (run_of g) old new f → IsNotForCycles f
+pub not-for-cycles : (g : Galley) → IsValid g → HasRoomForCycles g → (v : View) (old new : Option (List ℕ)) (f : PageFault) → Refuses v (run_of g) old new f → IsNoCycleFault f
 not-for-cycles g valid room v old new (faults.PoolFull line live) h = tt
 not-for-cycles g valid room v old new (faults.DeadCycles n) h = absurd (no-room g valid v old new n h room)
 not-for-cycles g valid room v old new (faults.PageLimit n) h = tt
