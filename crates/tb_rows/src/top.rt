@@ -4,6 +4,7 @@ mod cuts;
 mod ends;
 mod float_places;
 mod float_rows;
+mod generated;
 mod long_page;
 mod modes;
 mod pages;
@@ -117,41 +118,6 @@ fn long_page_is_built_again_at_each_float(rt: HostRuntime) -> Result<(), Fail> {
     let left = run_on(alloc, &long_galley(alloc)?, &NONE)?;
     assert_eq!(rt; left.status, 0);
     assert!(rt; left.out.held() == long_report(alloc)?.as_slice());
-    Ok(())
-}
-
-#[test]
-fn generated_galleys_are_run(rt: HostRuntime) -> Result<(), Fail> {
-    let alloc = rt.alloc();
-    // The boxes and floats, counted by the rule of the generator in another language.
-    let rows = [
-        ("1", "gen 1 pages 1 boxes 1 floats 0 warnings 0"),
-        ("1000", "gen 1000 pages P boxes 527 floats 32 warnings W"),
-        ("40000", "gen 40000 pages P boxes 21227 floats 1310 warnings W"),
-    ];
-    for (count, wanted) in rows {
-        let words = vec![in alloc;
-            String::from_str(alloc, "galley_pages")?,
-            String::from_str(alloc, "--mode=gen")?,
-            String::from_str(alloc, "--count")?,
-            String::from_str(alloc, count)?,
-        ]?;
-        let left = run_with(alloc, &words, b"", &NONE)?;
-        assert_eq!(rt; left.status, 0, "{count}");
-        let line = String::from_utf8(left.out.held().to_vec(alloc)?)?;
-        let Some((line, "")) = line.split_once('\n') else {
-            panic!(rt; "no single line: {count}");
-        };
-        let found: Vec<&str> = line.split_whitespace().collect(alloc)?;
-        let wanted: Vec<&str> = wanted.split_whitespace().collect(alloc)?;
-        assert_eq!(rt; found.len(), wanted.len(), "{line}");
-        for (word, own) in wanted.iter().zip(found.iter()) {
-            // P and W stand for any number.
-            assert!(rt; word == own || matches!(*word, "P" | "W") && own.parse::<u64>().is_ok(), "{line}");
-        }
-        let again = run_with(alloc, &words, b"", &NONE)?;
-        assert!(rt; again.out.held() == left.out.held(), "{count}");
-    }
     Ok(())
 }
 
