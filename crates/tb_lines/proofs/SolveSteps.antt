@@ -51,8 +51,8 @@ solve_more ps pars n ss new s lt b h e =
 
 -- a paragraph that has none
 pub solve_none : (ps : LineParams) (pars : List Paragraph) (n : ℕ) (ss : List SolutionView) → n < length pars → IsBroken ps pars n None
-    → after_these ss (solutions_from ps (n + 1) (drop n pars)) ≡ solutions_from ps 1 pars → Err (n + 1) ≡ solutions_from ps 1 pars
-solve_none ps pars n ss lt b h = sym (ap (after_these ss) (solved_at ps pars n None lt b)) ∙ h
+    → after_these ss (solutions_from ps (n + 1) (drop n pars)) ≡ solutions_from ps 1 pars → solutions_from ps 1 pars ≡ Err (n + 1)
+solve_none ps pars n ss lt b h = sym h ∙ ap (after_these ss) (solved_at ps pars n None lt b)
 
 nothing_more : (ss : List SolutionView) → ss ++ [] ≡ ss
 nothing_more [] = refl
@@ -60,5 +60,5 @@ nothing_more (s ∷ ss) = ap (λ xs. s ∷ xs) (nothing_more ss)
 
 -- all paragraphs are solved
 pub solve_done : (ps : LineParams) (pars : List Paragraph) (n : ℕ) (ss : List SolutionView) → length pars ≤ n
-    → after_these ss (solutions_from ps (n + 1) (drop n pars)) ≡ solutions_from ps 1 pars → Ok ss ≡ solutions_from ps 1 pars
-solve_done ps pars n ss le h = ap Ok (sym (nothing_more ss)) ∙ sym (ap (after_these ss) (at_drop_all (solutions_from ps (n + 1)) pars n le)) ∙ h
+    → after_these ss (solutions_from ps (n + 1) (drop n pars)) ≡ solutions_from ps 1 pars → solutions_from ps 1 pars ≡ Ok ss
+solve_done ps pars n ss le h = sym h ∙ ap (after_these ss) (at_drop_all (solutions_from ps (n + 1)) pars n le) ∙ ap Ok (nothing_more ss)

@@ -39,7 +39,9 @@ fn solve(alloc: Global, text: &Text) -> Result<Vec<Solution>, LinesRefusal>
         let Some(solution) = break_par(alloc, text, n)? else {
             return Err(LinesRefusal::NoBreaks { paragraph: n + 1 });
         };
-        solutions.push(solution)?;
+        let Ok(()) = solutions.push(solution) else {
+            return Err(LinesRefusal::Memory);
+        };
     }
     Ok(solutions)
 }

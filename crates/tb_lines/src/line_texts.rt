@@ -2,7 +2,7 @@
 ghost use Rattle.std.specs.Prelude.{◌≡◌, ◌<◌, ◌+◌, ◌++◌, ◌^◌, length, OnOk, IfOk, Option};
 ghost use Rattle.tb_lines.specs.LeastSolution.{IsLeastOf};
 ghost use Rattle.tb_lines.specs.Entries.{list_of};
-ghost use Rattle.tb_lines.specs.LineText.{glue_line, interline, penalty_after, penalty_line, penalty_before, space_before, box_line, one_line, entry_size, joined_size, size_of, line_sizes, lines_text, depth_after, paragraph_text, paragraph_depth, paragraphs_text, AreWithin, AreLeast, Writes, line_text};
+ghost use Rattle.tb_lines.specs.LineText.{width_text, glue_line, interline, penalty_after, penalty_line, penalty_before, space_before, box_line, one_line, entry_size, joined_size, size_of, line_sizes, lines_text, depth_after, paragraph_text, paragraph_depth, paragraphs_text, AreWithin, AreLeast, Writes, line_text};
 
 use crate::entries::{Entry, list_of};
 use crate::solution::Solution;
@@ -22,10 +22,16 @@ pub struct Size {
     pub depth: u32,
 }
 
+fn put_width(out: &mut Vec<u8>, width: u32) -> Result<(), AllocError>
+    ensures { OnOk result (out.new.items ≡ out.old.items ++ width_text width) }
+{
+    put_counted(out, b"glue ", u64::from(width))
+}
+
 fn put_glue(out: &mut Vec<u8>, width: u32) -> Result<(), AllocError>
     ensures { OnOk result (out.new.items ≡ out.old.items ++ glue_line width) }
 {
-    put_counted(out, b"glue ", u64::from(width))?;
+    put_width(out, width)?;
     put(out, FIXED)
 }
 

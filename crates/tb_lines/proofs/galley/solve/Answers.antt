@@ -12,14 +12,14 @@ loop-n-preserved c =
     let broken : IsBroken t.params t.paragraphs c.loop-n.n c.in_ok-solution.field-0 = λ p e. c.in_ok-solution.ensures p e in
     let end = c.paragraphs-n-end.ensures in
     solve_more t.params t.paragraphs c.loop-n.n c.loop-n.solutions.items c.push.new.self.items c.in-Some.solution (omega arith)
-    (subst (λ o. IsBroken t.params t.paragraphs c.loop-n.n o) c.in-Some.is broken) c.loop-n.invariant c.in_ok-push-in-Some.ensures.items
+    (subst (λ o. IsBroken t.params t.paragraphs c.loop-n.n o) c.in-Some.is broken) c.loop-n.invariant c.in-Ok.ensures.items
 
-pub returns-in-None : goal.returns-in-None
-returns-in-None c =
+pub returns-in_default : goal.returns-in_default
+returns-in_default c =
     let t = c.args.text.now in
     let broken : IsBroken t.params t.paragraphs c.loop-n.n c.in_ok-solution.field-0 = λ p e. c.in_ok-solution.ensures p e in
     let end = c.paragraphs-n-end.ensures in
-    solve_none t.params t.paragraphs c.loop-n.n c.loop-n.solutions.items (omega arith) (subst (λ o. IsBroken t.params t.paragraphs c.loop-n.n o) c.in-None.is broken) c.loop-n.invariant
+    solve_none t.params t.paragraphs c.loop-n.n c.loop-n.solutions.items (omega arith) (subst (λ o. IsBroken t.params t.paragraphs c.loop-n.n o) c.in_default.is broken) c.loop-n.invariant
 
 pub returns : goal.returns
 returns c =

@@ -10,5 +10,5 @@ on_ok (Err e) P Q f h = h
 pub returns : goal.returns
 returns c =
     on_ok c.put.result _ _
-    (λ e. e ∙ ap (λ xs. xs ++ fixed_text) c.in_ok-put_counted.ensures ∙ append_assoc c.args.out.now.items (width_text c.args.width) fixed_text)
+    (λ e. e ∙ ap (λ xs. xs ++ fixed_text) c.in_ok-put_width.ensures ∙ append_assoc c.args.out.now.items (width_text c.args.width) fixed_text)
     c.put.ensures
