@@ -133,12 +133,7 @@ fn galley_of(alloc: Global, sample: Sample) -> Result<Vec<u8>, AllocError> {
 }
 
 // Reads a report: each float is there once, the one of its class named x before y, and the areas are within their limits.
-fn check_floats(
-    rt: &impl Abort,
-    alloc: Global,
-    report: &str,
-    sample: Sample,
-) -> Result<(), Fail> {
+fn check_floats(rt: &impl Abort, alloc: Global, report: &str, sample: Sample) -> Result<(), Fail> {
     let mut seen = [0u8; 27];
     let mut areas = NO_FLOATS;
     for line in report.lines() {
@@ -165,7 +160,10 @@ fn check_floats(
             _ => {}
         }
     }
-    assert!(rt; seen[1..].iter().all(|count| *count == 2), "a float is missing");
+    assert!(rt;
+        seen[1..].iter().all(|count| *count == 2),
+        "a float is missing"
+    );
     Ok(())
 }
 

@@ -25,11 +25,25 @@ fn check_line(
     assert!(rt; text.lines().count() == 1 && text.ends_with('\n'), "{text}");
     let words: Vec<&str> = text.split_whitespace().collect(alloc)?;
     match words.as_slice() {
-        ["gen", n, "pages", pages, "boxes", boxes, "floats", floats, "warnings", warnings] => {
+        [
+            "gen",
+            n,
+            "pages",
+            pages,
+            "boxes",
+            boxes,
+            "floats",
+            floats,
+            "warnings",
+            warnings,
+        ] => {
             assert_eq!(rt; number(n), Some(wanted.0), "{text}");
             assert_eq!(rt; number(boxes), Some(wanted.1), "{text}");
             assert_eq!(rt; number(floats), Some(wanted.2), "{text}");
-            assert!(rt; number(pages).is_some() && number(warnings).is_some(), "{text}");
+            assert!(rt;
+                number(pages).is_some() && number(warnings).is_some(),
+                "{text}"
+            );
         }
         _ => panic!(rt; "another line: {text}"),
     }
