@@ -26,7 +26,7 @@ use tb_pool::Lists;
 use tb_scaled::{AWFUL_BAD, EJECT_PENALTY, Glue};
 
 /// The course of a page of marks, notes and whatsits whose goal and depth limit (sp) are frozen now.
-pub fn started(goal: i64, max_depth: i64, lasting: bool) -> Course
+pub(crate) fn started(goal: i64, max_depth: i64, lasting: bool) -> Course
     requires low { pos 0 ≤ℤ max_depth }
     requires limit { IsAmount max_depth }
     ensures { (z : Frozen) (page : List PlainNode) → z.goal ≡ goal → z.limit ≡ max_depth → Differ z.classes → AllLoose page → lasting ≡ ends_lasting (page_shapes page)
@@ -55,7 +55,7 @@ fn made_try(line: u32, sums: Sums, goal: i64, offer: Offer, penalty: i64) -> Try
 }
 
 /// What a builder keeps until a place is tried.
-pub fn no_try() -> Try {
+pub(crate) fn no_try() -> Try {
     Try {
         line: 0,
         sums: Sums {
@@ -74,7 +74,7 @@ pub fn no_try() -> Try {
 
 /// Whether the page fires at the place that was tried: it is overfull there, or the break is forced (TeX: The Program
 /// §1005).
-pub fn stops(t: &Try) -> bool
+pub(crate) fn stops(t: &Try) -> bool
     ensures { result ≡ (int_le awful_bad t.now.cost || int_le t.now.penalty (negsuc 9999)) }
 {
     t.cost >= AWFUL_BAD || t.penalty <= EJECT_PENALTY

@@ -38,7 +38,7 @@ fn is_insertion(n: &Node) -> bool
 /// The walk does not test for the end of the list: what comes after it is proved never to be reached, and it shifts by
 /// the whole width, which LLVM takes as undefined.
 #[inline(never)]
-pub fn insertion_place(store: &Lists<Node>, l: ListId) -> usize
+pub(crate) fn insertion_place(store: &Lists<Node>, l: ListId) -> usize
     requires live { IsLive store.now l }
     requires some { has_insertion (list_at store.now l) ≡ true }
     ensures { InsertionAt (list_at store.now l) result }
@@ -57,7 +57,7 @@ pub fn insertion_place(store: &Lists<Node>, l: ListId) -> usize
 }
 
 /// Whether a node is neither an act nor an insertion, nor a kern, whose place depends on the nodes after it.
-pub fn is_walked(n: &Node) -> bool
+pub(crate) fn is_walked(n: &Node) -> bool
     ensures no_act { result ≡ true → act_of_kind n.now.kind ≡ None }
     ensures no_insertion { result ≡ true → insertion_of_kind n.now.kind ≡ None }
     ensures no_kern { result ≡ true → (lasting follows : Bool) → penalty_by lasting follows (shape_of n.now) ≡ penalty_by lasting false (shape_of n.now) }
@@ -75,7 +75,7 @@ fn is_space(n: &Node) -> bool
 
 /// What a walk sees of a node. Glue is tested for first, so that no table of jumps is made of the kinds.
 #[inline(always)]
-pub fn seen_in(n: &Node) -> Seen
+pub(crate) fn seen_in(n: &Node) -> Seen
     ensures { result ≡ seen_of n.now.kind }
 {
     if is_space(n) {
@@ -97,7 +97,7 @@ pub fn seen_in(n: &Node) -> Seen
 
 /// The glue that a node is. A walk reads it only once its place was tried.
 #[inline(always)]
-pub fn glue_in(n: &Node) -> Glue
+pub(crate) fn glue_in(n: &Node) -> Glue
     requires { seen_of n.now.kind ≡ Space }
     ensures { shape_of n.now ≡ glue result }
 {
@@ -113,7 +113,7 @@ pub fn glue_in(n: &Node) -> Glue
 
 /// The first node of a list. A walk begins there: `get` would ask first which end is nearer.
 #[inline(always)]
-pub fn first_in(store: &Lists<Node>, l: ListId) -> Option<&Node>
+pub(crate) fn first_in(store: &Lists<Node>, l: ListId) -> Option<&Node>
     requires { IsLive store.now l }
     ensures { option_copied result ≡ slice_get (list_at store.now l) 0 }
 {
@@ -130,7 +130,7 @@ fn is_kern(n: &Node) -> bool
 /// The penalty of the place before the first node of a list, `n`, if it is legal; `lasting` says whether a node that
 /// does not vanish comes before the place. Only for a kern is it asked whether glue follows.
 #[inline(always)]
-pub fn penalty_of(store: &Lists<Node>, l: ListId, n: &Node, lasting: bool) -> Option<i64>
+pub(crate) fn penalty_of(store: &Lists<Node>, l: ListId, n: &Node, lasting: bool) -> Option<i64>
     requires live { IsLive store.now l }
     requires node { IsSmallShape (shape_of n.now) }
     ensures value { result ≡ penalty_by lasting (nodes_glue_first (drop 1 (list_at store.now l))) (shape_of n.now) }
@@ -153,7 +153,7 @@ fn skip_one(nodes: &mut Iter<'_, Node>)
 
 /// Whether glue comes next after the first node of the list, acts aside.
 #[inline(never)]
-pub fn glue_follows(store: &Lists<Node>, l: ListId) -> bool
+pub(crate) fn glue_follows(store: &Lists<Node>, l: ListId) -> bool
     requires { IsLive store.now l }
     ensures { result ≡ nodes_glue_first (drop 1 (list_at store.now l)) }
 {
@@ -169,7 +169,7 @@ pub fn glue_follows(store: &Lists<Node>, l: ListId) -> bool
 
 /// Takes off the first node of a list that is not empty.
 #[tactic(auto, using(tb_pool::proofs::MapLemmas::list_steps))]
-pub fn drop_first(store: &mut Lists<Node>, l: ListId)
+pub(crate) fn drop_first(store: &mut Lists<Node>, l: ListId)
     requires { IsLive store.old l }
     ensures rest { (n : NodeOf) (ns : List NodeOf) → list_at store.old l ≡ n ∷ ns → store.new.lists ≡ with_list store.old l ns }
     ensures spare { store.old.spare ≤ store.new.spare }

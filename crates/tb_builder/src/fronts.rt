@@ -16,7 +16,13 @@ use tb_pool::{ListId, Lists};
 /// Moves the nodes before a place of a list to the end of another. On the way the rest is in a list that is empty
 /// before and afterwards.
 #[inline(always)]
-pub fn move_front(store: &mut Lists<Node>, to: ListId, from: ListId, between: ListId, place: usize)
+pub(crate) fn move_front(
+    store: &mut Lists<Node>,
+    to: ListId,
+    from: ListId,
+    between: ListId,
+    place: usize,
+)
     requires to_live { IsLive store.old to }
     requires from_live { IsLive store.old from }
     requires between_live { IsLive store.old between }
@@ -35,7 +41,7 @@ pub fn move_front(store: &mut Lists<Node>, to: ListId, from: ListId, between: Li
 
 /// Moves the nodes before a place of a list to the end of another. The rest, whose first node vanishes, stays, pruned
 /// for the top of a page; on the way it is in a list that is empty before and afterwards.
-pub fn give_front(
+pub(crate) fn give_front(
     store: &mut Lists<Node>,
     to: ListId,
     from: ListId,
@@ -64,7 +70,7 @@ pub fn give_front(
 
 /// Takes off the first node of a list, and puts this one at the end of another.
 #[tactic(auto, using(tb_pool::proofs::MapLemmas::list_steps))]
-pub fn pass_on(store: &mut Lists<Node>, from: ListId, to: ListId, last: Node)
+pub(crate) fn pass_on(store: &mut Lists<Node>, from: ListId, to: ListId, last: Node)
     requires from_live { IsLive store.old from }
     requires to_live { IsLive store.old to }
     requires apart { from ≢ to }

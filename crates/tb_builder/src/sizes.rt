@@ -12,7 +12,7 @@ use tb_pool::{ListId, Lists};
 use tb_scaled::sum;
 
 /// The room that a list takes, in sp.
-pub fn list_size(store: &Lists<Node>, l: ListId) -> i64
+pub(crate) fn list_size(store: &Lists<Node>, l: ListId) -> i64
     requires live { IsLive store.now l }
     requires fits { SizesFit (shapes store.now l) }
     ensures { result ≡ size_of (shapes store.now l) }
@@ -21,7 +21,7 @@ pub fn list_size(store: &Lists<Node>, l: ListId) -> i64
 }
 
 /// The room that a list takes, which may have been pruned, in sp.
-pub fn pruned_size(store: &Lists<Node>, l: ListId) -> i64
+pub(crate) fn pruned_size(store: &Lists<Node>, l: ListId) -> i64
     requires live { IsLive store.now l }
     requires fits { RoomFits (shapes store.now l) }
     ensures { result ≡ size_of (shapes store.now l) }

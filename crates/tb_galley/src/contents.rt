@@ -157,7 +157,7 @@ fn foot(draft: &Draft, fields: &mut Fields<'_>) -> Result<u8, At>
 
 /// What the fields after a line's word say, by what the lines before gave.
 #[tactic(auto, unfolding(crate::specs::FieldReader::content_left))]
-pub fn read_content(
+pub(crate) fn read_content(
     draft: &Draft,
     line: u32,
     word: Word,

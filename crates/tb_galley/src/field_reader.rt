@@ -16,7 +16,7 @@ use tb_scaled::{Glue, Order};
 use tb_text::{TextFault, dimension, fraction, integer, split_amount, split_field, stretch};
 
 /// Whether each byte of a field is one of ASCII's 94 printable ones.
-pub fn is_printable(field: &[u8]) -> bool
+pub(crate) fn is_printable(field: &[u8]) -> bool
     ensures { result ≡ list_all is_printable field.now }
 {
     field.iter().all(|b| *b >= 33 && *b <= 126)

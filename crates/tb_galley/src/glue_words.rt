@@ -7,7 +7,7 @@ use tb_text::split_field;
 
 /// What follows the first field of a line, if that is `plus`.
 #[inline(always)]
-pub fn after_plus(line: &[u8]) -> Option<&[u8]>
+pub(crate) fn after_plus(line: &[u8]) -> Option<&[u8]>
     ensures fields { MatchOption result (next_is_by (codes "plus") (fields_of line.now) ≡ false) (λ r. fields_of line.now ≡ codes "plus" ∷ fields_of r.now) }
     ensures shorter { MatchOption result (0 ≤ length line.now) (λ r. length r.now < length line.now) }
 {
@@ -30,7 +30,7 @@ fn near_plus(line: &[u8]) -> Option<&[u8]>
 
 /// What follows the first field of a line, if that is `minus`.
 #[inline(always)]
-pub fn after_minus(line: &[u8]) -> Option<&[u8]>
+pub(crate) fn after_minus(line: &[u8]) -> Option<&[u8]>
     ensures fields { MatchOption result (next_is_by (codes "minus") (fields_of line.now) ≡ false) (λ r. fields_of line.now ≡ codes "minus" ∷ fields_of r.now) }
     ensures shorter { MatchOption result (0 ≤ length line.now) (λ r. length r.now < length line.now) }
 {
@@ -52,7 +52,7 @@ fn near_minus(line: &[u8]) -> Option<&[u8]>
 }
 
 /// Whether a line begins with a space.
-pub fn begins_with_space(line: &[u8]) -> bool
+pub(crate) fn begins_with_space(line: &[u8]) -> bool
     ensures { result ≡ begins_with 32 line.now }
 {
     match line {

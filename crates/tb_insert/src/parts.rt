@@ -41,7 +41,7 @@ fn label_of(
 }
 
 /// The same, by the entry of the class.
-pub fn label_by(
+pub(crate) fn label_by(
     store: &Lists<Node>,
     i: &Insertion,
     class: &Class,
@@ -63,7 +63,7 @@ pub fn label_by(
 }
 
 /// What an insertion takes of its class.
-pub fn taken(part: &Part, i: &Insertion) -> i64
+pub(crate) fn taken(part: &Part, i: &Insertion) -> i64
     ensures { (held : ℕ → List NodeOf) → result ≡ taken_by (label_part part.now) (inserted_of held i.now) }
 {
     match part {
@@ -74,7 +74,7 @@ pub fn taken(part: &Part, i: &Insertion) -> i64
 }
 
 /// What it adds to the penalties.
-pub fn part_penalty(part: &Part, i: &Insertion) -> i64
+pub(crate) fn part_penalty(part: &Part, i: &Insertion) -> i64
     ensures { (held : ℕ → List NodeOf) → result ≡ penalty_of (label_part part.now) (inserted_of held i.now) }
 {
     match part {
@@ -85,7 +85,7 @@ pub fn part_penalty(part: &Part, i: &Insertion) -> i64
 }
 
 /// Whether the insertion is split.
-pub fn part_splits(part: &Part) -> bool
+pub(crate) fn part_splits(part: &Part) -> bool
     ensures { result ≡ is_split (label_part part.now) }
 {
     match part {
@@ -96,7 +96,7 @@ pub fn part_splits(part: &Part) -> bool
 }
 
 /// The last insertion of its class that is let in.
-pub fn last_of(part: &Part, index: usize, last: Option<usize>) -> Option<usize>
+pub(crate) fn last_of(part: &Part, index: usize, last: Option<usize>) -> Option<usize>
     ensures { result ≡ (if is_let_in (label_part part.now) then Some index else last) }
 {
     match part {
@@ -125,7 +125,7 @@ fn some_below(k: usize, count: usize) -> Option<usize>
 }
 
 /// The split insertion of its class with the place of its break, if that is before its end.
-pub fn cut_of(
+pub(crate) fn cut_of(
     part: &Part,
     store: &Lists<Node>,
     i: &Insertion,

@@ -23,7 +23,7 @@ fn wide(v: i64) -> i128
 }
 
 /// How much of a height counts against the goal.
-pub fn scaled(factor: i64, v: i64) -> i128
+pub(crate) fn scaled(factor: i64, v: i64) -> i128
     requires { IsAmount factor }
     ensures value { result ≡ scaled_by factor v }
     ensures wide { IsWithin (2 ^ 114) result }
@@ -52,7 +52,7 @@ fn product(a: i64, b: i64) -> i128
 }
 
 /// What is left of the page.
-pub fn page_room(goal: i128, s: &Sums) -> i128
+pub(crate) fn page_room(goal: i128, s: &Sums) -> i128
     requires goal { IsWithin (2 ^ 115) goal }
     requires sums { IsSmall s.now }
     ensures value { result ≡ (goal -ℤ s.now.total) -ℤ s.now.depth }
@@ -62,7 +62,14 @@ pub fn page_room(goal: i128, s: &Sums) -> i128
 }
 
 /// Whether the charge fits into what is left, and the class stays within its limit.
-pub fn goes_whole(charge: i128, room: i128, shrink: i64, height: i64, v: i64, limit: i64) -> bool
+pub(crate) fn goes_whole(
+    charge: i128,
+    room: i128,
+    shrink: i64,
+    height: i64,
+    v: i64,
+    limit: i64,
+) -> bool
     requires room { IsWithin (2 ^ 116) room }
     ensures { result ≡ goes_whole charge room shrink height v limit }
 {
@@ -100,7 +107,7 @@ fn unscaled_room(factor: i64, room: i128) -> i128
 }
 
 /// The height to which an insertion is split, if the class has this much left.
-pub fn split_height(factor: i64, room: i128, left: i128) -> i64
+pub(crate) fn split_height(factor: i64, room: i128, left: i128) -> i64
     requires { IsWithin (2 ^ 116) room }
     ensures value { result ≡ split_height factor room left }
     ensures amount { IsAmount result }
@@ -129,14 +136,14 @@ fn clamped(w: i128) -> i64
 }
 
 /// What is left of a class's limit.
-pub fn left_of(limit: i64, height: i64) -> i128
+pub(crate) fn left_of(limit: i64, height: i64) -> i128
     ensures { result ≡ limit -ℤ height }
 {
     wide(limit) - wide(height)
 }
 
 /// The goal with the class's box and skip taken off, unless the class was met before.
-pub fn met_goal(met: bool, goal: i64, class: &Class, size: i64) -> i128
+pub(crate) fn met_goal(met: bool, goal: i64, class: &Class, size: i64) -> i128
     requires factor { IsAmount class.now.factor }
     ensures value { result ≡ met_goal met goal class.now size }
     ensures room { IsWithin (2 ^ 115) result }
@@ -156,14 +163,14 @@ fn fall(goal: i64, a: i128, b: i64) -> i128
 }
 
 /// The height of a class: that of its box until the class is met.
-pub fn met_height(met: bool, height: i64, size: i64) -> i64
+pub(crate) fn met_height(met: bool, height: i64, size: i64) -> i64
     ensures { result ≡ met_height met height size }
 {
     if met { height } else { size }
 }
 
 /// The goal less what an insertion takes.
-pub fn less_of(a: i128, b: i128) -> i64
+pub(crate) fn less_of(a: i128, b: i128) -> i64
     requires a { IsWithin (2 ^ 115) a }
     requires b { IsWithin (2 ^ 114) b }
     requires fits { IsAmount (a -ℤ b) }

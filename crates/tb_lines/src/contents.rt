@@ -94,7 +94,7 @@ fn read_pen(fields: &mut Fields<'_>) -> Result<Item, At>
 
 /// What the fields after a line's word say.
 #[tactic(auto, unfolding(crate::specs::FieldReader::content_left))]
-pub fn read_content(word: Word, fields: &mut Fields<'_>) -> Result<Content, At>
+pub(crate) fn read_content(word: Word, fields: &mut Fields<'_>) -> Result<Content, At>
     ensures read { Gives result (left_of fields.new) (content_left word (left_of fields.old)) }
     ensures kind { IfOk result (λ k. holds_item k ≡ true → is_inner_word word ≡ true) }
 {

@@ -77,7 +77,7 @@ fn feasible_demerits(params: &LineParams, penalty: i16, badness: i64) -> Option<
 /// The demerits of a line with these sums that ends at this penalty; `None` if it is not feasible.
 #[inline(always)]
 #[tactic(auto, unfolding(crate::specs::Demerits::sums_demerits))]
-pub fn sums_demerits(params: &LineParams, s: &Sums, penalty: i16) -> Option<i64>
+pub(crate) fn sums_demerits(params: &LineParams, s: &Sums, penalty: i16) -> Option<i64>
     requires width { s.now.width ≤ 281474976710656 }
     requires stretch { s.now.stretch ≤ 281474976710656 }
     requires shrink { s.now.shrink ≤ 281474976710656 }

@@ -21,14 +21,14 @@ pub enum Entry {
 }
 
 /// Whether an entry is a word.
-pub fn is_word(entry: &Entry) -> bool
+pub(crate) fn is_word(entry: &Entry) -> bool
     ensures { result ≡ is_word entry.now }
 {
     matches!(*entry, Entry::Item(Item::Word { .. }))
 }
 
 /// The penalty of a line that ends at an entry.
-pub fn entry_penalty(entry: &Entry) -> i16
+pub(crate) fn entry_penalty(entry: &Entry) -> i16
     ensures { result ≡ entry_penalty entry.now }
 {
     match *entry {
@@ -38,7 +38,7 @@ pub fn entry_penalty(entry: &Entry) -> i16
 }
 
 /// Whether a line must end at an entry.
-pub fn is_forced_entry(entry: &Entry) -> bool
+pub(crate) fn is_forced_entry(entry: &Entry) -> bool
     ensures { result ≡ int_eq (entry_penalty entry.now) (negsuc 9999) }
 {
     entry_penalty(entry) == FORCED
@@ -66,7 +66,7 @@ fn is_after_word(entries: &[Entry], place: usize) -> bool
 }
 
 /// Whether a line may end at a place.
-pub fn is_legal(entries: &[Entry], place: usize) -> bool
+pub(crate) fn is_legal(entries: &[Entry], place: usize) -> bool
     requires { place < length entries.now }
     ensures { result ≡ is_legal entries.now place }
 {
@@ -75,7 +75,7 @@ pub fn is_legal(entries: &[Entry], place: usize) -> bool
 
 /// A paragraph's list: its items, then a penalty that forbids a break, the glue that fills its last line, and a penalty
 /// that forces a break.
-pub fn list_of(alloc: Global, items: &[Item]) -> Result<Vec<Entry>, AllocError>
+pub(crate) fn list_of(alloc: Global, items: &[Item]) -> Result<Vec<Entry>, AllocError>
     ensures { IfOk result (λ v. v.items ≡ list_of items.now) }
 {
     let mut entries = Vec::with_capacity(alloc, items.len().saturating_add(3))?;

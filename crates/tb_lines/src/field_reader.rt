@@ -11,7 +11,7 @@ const MAX_NAME: usize = 58;
 
 /// The next field as a dimension in sp of at least `low`, which is not below 0; a lesser one has this cause.
 #[tactic(auto, unfolding(crate::specs::FieldReader::size_left))]
-pub fn read_size(fields: &mut Fields<'_>, low: i64, cause: Cause) -> Result<u32, At>
+pub(crate) fn read_size(fields: &mut Fields<'_>, low: i64, cause: Cause) -> Result<u32, At>
     requires { pos 0 ≤ℤ low }
     ensures { Gives result (left_of fields.new) (size_left low cause (left_of fields.old)) }
 {
@@ -20,7 +20,7 @@ pub fn read_size(fields: &mut Fields<'_>, low: i64, cause: Cause) -> Result<u32,
 
 /// The same of at least 0, for a field that seldom is a few digits alone or with `pt` behind: most have a point.
 #[tactic(auto, unfolding(crate::specs::FieldReader::size_left))]
-pub fn read_decimal(fields: &mut Fields<'_>, cause: Cause) -> Result<u32, At>
+pub(crate) fn read_decimal(fields: &mut Fields<'_>, cause: Cause) -> Result<u32, At>
     ensures { Gives result (left_of fields.new) (size_left (pos 0) cause (left_of fields.old)) }
 {
     Ok(fields.decimal_from(0, cause)? as u32)
@@ -28,7 +28,7 @@ pub fn read_decimal(fields: &mut Fields<'_>, cause: Cause) -> Result<u32, At>
 
 /// The next field as the name of a paragraph.
 #[tactic(auto, unfolding(crate::specs::FieldReader::name_left))]
-pub fn read_name(fields: &mut Fields<'_>) -> Result<Name, At>
+pub(crate) fn read_name(fields: &mut Fields<'_>) -> Result<Name, At>
     ensures { Gives result (left_of fields.new) (name_left (left_of fields.old)) }
 {
     let number = fields.number;
@@ -41,7 +41,7 @@ pub fn read_name(fields: &mut Fields<'_>) -> Result<Name, At>
 
 /// The next field as the number of the header.
 #[tactic(auto, unfolding(crate::specs::FieldReader::header_left))]
-pub fn read_header(fields: &mut Fields<'_>) -> Result<(), At>
+pub(crate) fn read_header(fields: &mut Fields<'_>) -> Result<(), At>
     ensures { Gives result (left_of fields.new) (header_left (left_of fields.old)) }
 {
     let number = fields.number;

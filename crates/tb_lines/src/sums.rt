@@ -84,7 +84,7 @@ fn with_sums(before: usize, total: &Sums, more: &Sums) -> Sums
 }
 
 /// The sums between two places, from those before each.
-pub fn between(start: &Sums, end: &Sums) -> Sums
+pub(crate) fn between(start: &Sums, end: &Sums) -> Sums
     requires width { start.now.width ≤ end.now.width }
     requires stretch { start.now.stretch ≤ end.now.stretch }
     requires shrink { start.now.shrink ≤ end.now.shrink }
@@ -100,7 +100,7 @@ pub fn between(start: &Sums, end: &Sums) -> Sums
 }
 
 /// The sums of what is before each place.
-pub fn running_sums(alloc: Global, entries: &[Entry]) -> Result<Vec<Sums>, AllocError>
+pub(crate) fn running_sums(alloc: Global, entries: &[Entry]) -> Result<Vec<Sums>, AllocError>
     requires { length entries.now ≤ 65536 }
     ensures { IfOk result (λ v. AreRunning entries.now v.items) }
 {
@@ -122,7 +122,7 @@ fn start_at(entry: &Entry, place: usize, next: usize) -> usize
 }
 
 /// The first word from each place on, or the list's end.
-pub fn word_starts(alloc: Global, entries: &[Entry]) -> Result<Vec<usize>, AllocError>
+pub(crate) fn word_starts(alloc: Global, entries: &[Entry]) -> Result<Vec<usize>, AllocError>
     requires { length entries.now ≤ 65536 }
     ensures { IfOk result (λ v. AreFirstWords entries.now v.items) }
 {
@@ -137,7 +137,7 @@ pub fn word_starts(alloc: Global, entries: &[Entry]) -> Result<Vec<usize>, Alloc
 const MAX_SHRINK: u64 = 281_474_976_710_656;
 
 /// The width with all shrink taken off, in sp, plus 2^48, so that it is never below 0.
-pub fn least_width(s: &Sums) -> u64
+pub(crate) fn least_width(s: &Sums) -> u64
     requires width { s.now.width ≤ 281474976710656 }
     requires shrink { s.now.shrink ≤ 281474976710656 }
     ensures value { result ≡ least_width s.now }
@@ -155,7 +155,11 @@ fn floor_at(legal: bool, width: u64, next: u64) -> u64
 }
 
 /// The least of the widths before the legal breaks from each place on.
-pub fn floors(alloc: Global, entries: &[Entry], sums: &[Sums]) -> Result<Vec<u64>, AllocError>
+pub(crate) fn floors(
+    alloc: Global,
+    entries: &[Entry],
+    sums: &[Sums],
+) -> Result<Vec<u64>, AllocError>
     requires few { length entries.now ≤ 65536 }
     requires running { AreRunning entries.now sums.now }
     ensures { IfOk result (λ v. AreFloors entries.now v.items) }

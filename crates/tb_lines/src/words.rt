@@ -68,7 +68,7 @@ const PARAMETERS: [(&[u8], Parameter); 8] = [
 
 /// The word that a text is.
 #[tactic(auto, unfolding(crate::specs::Words::word_of))]
-pub fn word_of(text: &[u8]) -> Option<Word>
+pub(crate) fn word_of(text: &[u8]) -> Option<Word>
     ensures { result ≡ word_of text.now }
 {
     spelled_value(&WORDS, text)
@@ -76,14 +76,14 @@ pub fn word_of(text: &[u8]) -> Option<Word>
 
 /// The parameter of this name.
 #[tactic(auto, unfolding(crate::specs::Fields::parameter_of))]
-pub fn parameter_of(text: &[u8]) -> Option<Parameter>
+pub(crate) fn parameter_of(text: &[u8]) -> Option<Parameter>
     ensures { result ≡ parameter_of text.now }
 {
     spelled_value(&PARAMETERS, text)
 }
 
 /// How the value of a parameter is written.
-pub fn form_of(parameter: Parameter) -> Form
+pub(crate) fn form_of(parameter: Parameter) -> Form
     ensures { result ≡ form_of parameter }
 {
     match parameter {
@@ -110,7 +110,7 @@ fn is_inner(word: Word) -> bool
 }
 
 /// The cause of a refusal if a field after this word is missing.
-pub fn missing_cause(word: Word) -> Cause
+pub(crate) fn missing_cause(word: Word) -> Cause
     ensures { result ≡ missing_cause word }
 {
     match word {
@@ -120,7 +120,7 @@ pub fn missing_cause(word: Word) -> Cause
 }
 
 /// Why the word may not come in this phase.
-pub fn place_cause(phase: Phase, word: Option<Word>) -> Option<Cause>
+pub(crate) fn place_cause(phase: Phase, word: Option<Word>) -> Option<Cause>
     ensures { result ≡ first_of (place_causes phase word) }
 {
     match phase {
@@ -190,7 +190,7 @@ fn is_full(inside: Option<usize>) -> bool
 }
 
 /// Whether the line is one too many, after this many lines that count, and this many items of the open paragraph.
-pub fn item_cause(count: u32, inside: Option<usize>, word: Word) -> Option<Cause>
+pub(crate) fn item_cause(count: u32, inside: Option<usize>, word: Word) -> Option<Cause>
     ensures value { result ≡ first_of (item_causes count inside (Option.Some word)) }
     ensures room { IsNone result → is_inner_word word ≡ true → is_full inside ≡ false }
 {
@@ -212,7 +212,7 @@ fn later_phase(phase: Phase, next: Phase) -> Phase
 }
 
 /// The phase after a line of this word.
-pub fn next_phase(phase: Phase, word: Word) -> Phase
+pub(crate) fn next_phase(phase: Phase, word: Word) -> Phase
     ensures { result ≡ next_phase phase (Option.Some word) }
 {
     match word {
@@ -225,7 +225,7 @@ pub fn next_phase(phase: Phase, word: Word) -> Phase
 }
 
 /// How many lines count, with this one.
-pub fn count_with(count: u32, word: Word) -> u32
+pub(crate) fn count_with(count: u32, word: Word) -> u32
     requires { count < 4294967295 }
     ensures { result ≡ count_with count (Option.Some word) }
 {

@@ -30,7 +30,7 @@ fn out_of_range(ok: bool) -> Option<ParamFault>
 }
 
 /// What is wrong with a value in a parameter of this form.
-pub fn value_fault(form: Form, value: Value) -> Option<ParamFault>
+pub(crate) fn value_fault(form: Form, value: Value) -> Option<ParamFault>
     ensures { result ≡ value_fault form value }
 {
     match (form, value) {

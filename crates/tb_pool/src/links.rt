@@ -15,7 +15,7 @@ use std::alloc::Allocator;
 /// `slab[key]` tests at run time whether there is a value. Here the arm without one is proved never to be reached, and it
 /// shifts by the whole width, which LLVM takes as undefined: so it drops the test.
 #[inline(always)]
-pub fn get_unchecked<T, A: Allocator>(slab: &Slab<T, A>, key: usize) -> &T
+pub(crate) fn get_unchecked<T, A: Allocator>(slab: &Slab<T, A>, key: usize) -> &T
     requires { ContainsKey slab.now key }
     ensures { get slab.now key ≡ Some result.now }
 {
@@ -31,7 +31,7 @@ pub fn get_unchecked<T, A: Allocator>(slab: &Slab<T, A>, key: usize) -> &T
 
 /// The value under a key that has one, for writing. LLVM knows from the read before that it is there, and drops the test.
 #[inline(always)]
-pub fn get_unchecked_mut<T, A: Allocator>(slab: &mut Slab<T, A>, key: usize) -> &mut T
+pub(crate) fn get_unchecked_mut<T, A: Allocator>(slab: &mut Slab<T, A>, key: usize) -> &mut T
     requires { ContainsKey slab.old key }
     ensures* writes_back { sem 𝓛 (lends_value T.row A.row A.Allocator slab.entry key result) }
     ensures value { get slab.old key ≡ Some result.now }
@@ -42,7 +42,7 @@ pub fn get_unchecked_mut<T, A: Allocator>(slab: &mut Slab<T, A>, key: usize) -> 
 
 /// Takes out the value under a key that has one, also without the test.
 #[inline(always)]
-pub fn remove_unchecked<T>(slab: &mut Slab<T>, key: usize) -> T
+pub(crate) fn remove_unchecked<T>(slab: &mut Slab<T>, key: usize) -> T
     requires { ContainsKey slab.old key }
     ensures value { get slab.old key ≡ Some result }
     ensures updates { Updates slab.old slab.new key None }
@@ -54,7 +54,7 @@ pub fn remove_unchecked<T>(slab: &mut Slab<T>, key: usize) -> T
 }
 
 /// Links the last node of a list to the first of another, if each has one.
-pub fn link<T>(nodes: &mut Slab<Node<T>>, front: Ends, back: Ends)
+pub(crate) fn link<T>(nodes: &mut Slab<Node<T>>, front: Ends, back: Ends)
     requires last_there { 0 < front.len → ContainsKey nodes.old front.last }
     requires first_there { 0 < back.len → ContainsKey nodes.old back.first }
     ensures { IsLinked nodes.old nodes.new front back }
@@ -67,7 +67,7 @@ pub fn link<T>(nodes: &mut Slab<Node<T>>, front: Ends, back: Ends)
 }
 
 /// The key of the node at place k of a list, found from the nearer end.
-pub fn key_at<T>(nodes: &Slab<Node<T>>, ends: Ends, k: usize) -> usize
+pub(crate) fn key_at<T>(nodes: &Slab<Node<T>>, ends: Ends, k: usize) -> usize
     requires within { k < ends.len }
     requires path { HasPath nodes.now ends }
     ensures { (ks : List ℕ) → IsPath nodes.now ks → IsEnds ends ks → result ≡ slice_index ks k }

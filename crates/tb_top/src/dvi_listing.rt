@@ -14,7 +14,7 @@ const INPUT_LIMIT: usize = tb_galley::INPUT_LIMIT as usize;
 
 /// What the pages of a DVI file show, line by line. It is refused if the file is longer than 8388608 bytes, at the first
 /// command that fails, or if there is no memory.
-pub fn listing_of(alloc: Global, input: &[u8]) -> Result<Vec<u8>, Refusal>
+pub(crate) fn listing_of(alloc: Global, input: &[u8]) -> Result<Vec<u8>, Refusal>
     ensures text { IfOk result (λ text. listing_reply input.now ≡ text_reply text.items) }
     ensures refused { IfErr result (IsNoListing (listing_reply input.now)) }
 {

@@ -76,7 +76,11 @@ impl From<DviFault> for DviRunFault {
 /// It fails as `paginate` does, and if a page is out of range (`TooFar`): an item is too far up or down for four bytes, or
 /// the page would end past place 2147483000. The preamble and the pages before are written then. After `WriteFault`,
 /// which comes only if `out` failed, and after `Memory` a prefix of them is written.
-pub fn paginate_dvi<K: Sink>(alloc: Global, galley: &Galley, out: &mut K) -> Result<(), DviRunFault>
+pub(crate) fn paginate_dvi<K: Sink>(
+    alloc: Global,
+    galley: &Galley,
+    out: &mut K,
+) -> Result<(), DviRunFault>
     requires valid { IsValid galley.now }
     ensures done { OnOk result (WritesFile galley.now (K.held out.old) (K.held out.new)) }
     ensures refused { IfErr result (RefusesFile galley.now (K.held out.old) (K.held out.new)) }

@@ -16,7 +16,7 @@ pub enum DviRefusal {
 }
 
 /// The status of the run.
-pub fn dvi_status(refusal: DviRefusal) -> Status
+pub(crate) fn dvi_status(refusal: DviRefusal) -> Status
     ensures { result ≡ dvi_status refusal }
 {
     match refusal {
@@ -26,7 +26,7 @@ pub fn dvi_status(refusal: DviRefusal) -> Status
 }
 
 /// Appends what the line on `err` shows of it.
-pub fn put_dvi(line: &mut Vec<u8>, refusal: DviRefusal) -> Result<(), AllocError>
+pub(crate) fn put_dvi(line: &mut Vec<u8>, refusal: DviRefusal) -> Result<(), AllocError>
     ensures { OnOk result (line.new.items ≡ line.old.items ++ dvi_text refusal) }
 {
     match refusal {

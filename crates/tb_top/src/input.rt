@@ -68,7 +68,10 @@ const PIECE: usize = 4096;
 /// Reads pieces of at most 4096 bytes into an empty input, to the end of the source or up to the piece with which more than
 /// 8388608 bytes were taken; whatever it returns, no more was taken. It fails if the source fails or memory runs out, and
 /// what `input` holds is open then.
-pub fn read_input<S: Source, I: Input>(source: &mut S, input: &mut I) -> Result<(), InputFault>
+pub(crate) fn read_input<S: Source, I: Input>(
+    source: &mut S,
+    input: &mut I,
+) -> Result<(), InputFault>
     requires { I.holds input.old [] }
     ensures read { OnOk result (HasRead I.holds (S.left source.old) (S.left source.new) input.new) }
     ensures failed { IsErrOf result InputFault.Failed → Rose (S.faults source.old) (S.faults source.new) }
@@ -88,7 +91,7 @@ pub fn read_input<S: Source, I: Input>(source: &mut S, input: &mut I) -> Result<
 }
 
 /// Reads the whole input as one text.
-pub fn read_text<S: Source>(alloc: Global, source: &mut S) -> Result<Vec<u8>, InputFault>
+pub(crate) fn read_text<S: Source>(alloc: Global, source: &mut S) -> Result<Vec<u8>, InputFault>
     ensures read { IfOk result (λ text. Gives (S.left source.old) (S.left source.new) text.items) }
     ensures failed { IsErrOf result InputFault.Failed → Rose (S.faults source.old) (S.faults source.new) }
     ensures stops { StopsReading (S.left source.old) (S.left source.new) }

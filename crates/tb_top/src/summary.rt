@@ -6,7 +6,7 @@ use std::alloc::{AllocError, Global};
 use tb_report::{Totals, put_total, put_totals};
 
 /// The line of the totals of this many generated items.
-pub fn summary_text(alloc: Global, count: u32, t: &Totals) -> Result<Vec<u8>, AllocError>
+pub(crate) fn summary_text(alloc: Global, count: u32, t: &Totals) -> Result<Vec<u8>, AllocError>
     ensures { IfOk result (λ text. text.items ≡ summary_line count t.now) }
 {
     let mut out = Vec::new(alloc);
