@@ -3,7 +3,7 @@
 # AllocError, as 'N of M'. A run that ended otherwise is printed. Fails if N is less than M, or if no test is found. A test
 # that handles the failure itself counts as one that ended otherwise. Nothing is proved.
 #
-# usage: bench/failing_tests.sh CRATE
+# usage: bench/failing_tests.sh CRATE [MODULE]   the tests of a crate, or those of one of its modules
 set -euo pipefail
 
 bench=$(cd "$(dirname "${BASH_SOURCE[0]}")" && pwd)
@@ -11,12 +11,12 @@ crate=$(cd "$bench/../crates/$1" && pwd)
 work=$(mktemp -d)
 trap 'rm -rf "$work"' EXIT
 
-PYTHONDONTWRITEBYTECODE=1 PYTHONPATH=$bench python3 - "$crate" "$work" <<'PY'
+PYTHONDONTWRITEBYTECODE=1 PYTHONPATH=$bench python3 - "$crate" "$work" "${2:-}" <<'PY'
 import sys
 
 from fail_alloc import ENDED, NUMBER, Build
 
-crate, work = sys.argv[1:]
+crate, work, module = sys.argv[1:]
 
 
 def run(built, number, test):
@@ -26,7 +26,8 @@ def run(built, number, test):
 
 
 built = Build(crate, work, ["--test"], "/dev/null")
-tests = [line.split(": ")[0] for line in run(built, NUMBER, "--list")[1].splitlines() if line.endswith(": test")]
+listed = run(built, NUMBER, "--list")[1].splitlines()
+tests = [line.split(": ")[0] for line in listed if line.endswith(": test") and line.startswith(module)]
 if not tests:
     sys.exit("no test is found")
 told = failed = 0

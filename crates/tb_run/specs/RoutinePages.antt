@@ -29,7 +29,7 @@ use Rattle.tb_run.specs.declared.routine.Ending.{Ending}
 use Rattle.tb_run.specs.declared.routine.Ending.TheVariants as endings
 use Rattle.tb_run.specs.declared.routine.Filled.{Filled}
 use Rattle.tb_run.specs.declared.routine.Filled.TheVariants as filled
-use Rattle.tb_run.specs.Run.{RunEvent, dead_cycles, held_count, step}
+use Rattle.tb_run.specs.Run.{RunEvent, dead_cycles, held_count, step, firing_step}
 use Rattle.tb_run.specs.ServedStates.{AreRunClasses, IsServed, IsServedPage}
 use Rattle.tb_run.specs.Happenings.{events_of, noted, step_events, happened_lists}
 use Rattle.tb_run.specs.Routine.{held_in, state_of, IsConsistent, IsBounded, between_pages, EndsAs, IsEnded}
