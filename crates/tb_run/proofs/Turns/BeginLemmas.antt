@@ -35,9 +35,7 @@ use Rattle.tb_run.specs.Routine.{held_in, state_of, between_pages, IsReady}
 
 act-few : (a : Act) → kind_notes (act a) ≤ 1
 act-few (acts.Take f) = omega arith
-act-few (acts.TakeMargin m) = omega arith
-act-few (acts.Suppress area) = omega arith
-act-few (acts.Columns two) = omega arith
+act-few a = omega arith
 
 kind-few : (k : PlainKind) → kind_notes k ≤ kind_count k
 kind-few (plain m) = omega arith

@@ -44,8 +44,7 @@ lines-append (e ∷ es) rest = ap (λ ls. sent_lines e ++ ls) (lines-append es r
 pub view-text : (v : View) (r : MakeupRun) → makeup_text v r ≡ viewed v ((header ++ page_lines r.sent) ++ closing_lines r.end r.sent)
 unfolding makeup_report
 view-text views.Report r = refl
-view-text views.Trace r = refl
-view-text views.Silent r = refl
+view-text v r = refl
 
 -- the text of a run that shipped these pages first
 text-from : (v : View) (r : MakeupRun) (es rest : List PlainSent) → r.sent ≡ es ++ rest → makeup_text v r ≡ viewed v (header ++ page_lines es) ++ viewed v (page_lines rest ++ closing_lines r.end r.sent)

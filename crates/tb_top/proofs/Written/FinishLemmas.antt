@@ -70,11 +70,8 @@ module _ (v : View) (r : Routine) (t : Totals) (whole : Run) (old mid new : Opti
 
 no-write : (e : Ending) → IsRefusalOf e faults.WriteFault → ⊥
 no-write endings.Done h = h
-no-write (endings.PoolFull line live) h = cc
 no-write (endings.Fault (refused.DeadCycles n)) h = cc
-no-write (endings.Fault (refused.PageLimit n)) h = cc
-no-write (endings.Fault refused.Memory) h = cc
-no-write (endings.NodeLimit n) h = cc
+no-write e h = cc
 
 module _ (v : View) (r : Routine) (t : Totals) (e : Ending) (old new : Option (List ℕ)) (before now : ℕ) where
   -- it comes only if the sink's faults rose

@@ -88,8 +88,7 @@ noted-events wanted (sent e ∷ es) t = noted-events wanted es (with_sent e t)
 
 pub viewed-append : (v : View) (a b : List ℕ) → viewed v (a ++ b) ≡ viewed v a ++ viewed v b
 viewed-append views.Report a b = refl
-viewed-append views.Trace a b = refl
-viewed-append views.Silent a b = refl
+viewed-append v a b = refl
 
 -- ---- the run from here
 
