@@ -1,0 +1,3 @@
+pub mod TestedLemmas
+pub mod AreaLemmas
+pub mod ColumnLemmas
