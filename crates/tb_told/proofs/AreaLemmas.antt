@@ -70,8 +70,8 @@ column_decides p l s r f =
     let inside = r +ℤ p.intextsep.width in
     let to = if f.places.h then inside else r in
     place_by (all_hold (here_tests p l inside f)) _ (if has_class f.class l.bottom then told_bottom p l s r f else told_areas p l s to f) Here
-        (if has_class f.class l.bottom then where_of (bottom_or_deferred p l s r f) else where_of (top_or_bottom p l s to f)) refl
-        (place_by (has_class f.class l.bottom) (told_bottom p l s r f) (told_areas p l s to f) (where_of (bottom_or_deferred p l s r f)) (where_of (top_or_bottom p l s to f)) (bottom_decides p l s r f) (areas_decide p l s to f))
+    (if has_class f.class l.bottom then where_of (bottom_or_deferred p l s r f) else where_of (top_or_bottom p l s to f)) refl
+    (place_by (has_class f.class l.bottom) (told_bottom p l s r f) (told_areas p l s to f) (where_of (bottom_or_deferred p l s r f)) (where_of (top_or_bottom p l s to f)) (bottom_decides p l s r f) (areas_decide p l s to f))
     ∙ column_by (has_class f.class l.bottom) f.places.h (fits_column p l inside) (where_of (bottom_or_deferred p l s r f)) (λ z. where_of (top_or_bottom p l s z f)) inside r
 
 -- a float enters a column exactly if all tests of it hold
@@ -107,10 +107,10 @@ pub next_decides : (p : Params) (l : FloatLists) (s : Suppress) (before : List F
 next_decides p l s before f =
     let r = f.height +ℤ text_minimum p l f in
     asked_by f.wide _ (next_place p l s before f)
-        (place_by (all_hold (enter_tests p l s before r f)) (told_areas p l s r f) _ (where_of (top_or_bottom p l s r f)) Deferred (areas_decide p l s r f) refl
-        ∙ ap (λ b. if b then where_of (top_or_bottom p l s r f) else Deferred) (enters_if p l s before r f)
-        ∙ next_by (may_enter p l s before r f) (top_or_bottom p l s r f))
-        (λ e. stays (not (only_page f)) f.wide (is_first_of_class f before) (may_come p l s limits.Total f) (fits_column p l r) (top_or_bottom p l s r f) e)
+    (place_by (all_hold (enter_tests p l s before r f)) (told_areas p l s r f) _ (where_of (top_or_bottom p l s r f)) Deferred (areas_decide p l s r f) refl
+    ∙ ap (λ b. if b then where_of (top_or_bottom p l s r f) else Deferred) (enters_if p l s before r f)
+    ∙ next_by (may_enter p l s before r f) (top_or_bottom p l s r f))
+    (λ e. stays (not (only_page f)) f.wide (is_first_of_class f before) (may_come p l s limits.Total f) (fits_column p l r) (top_or_bottom p l s r f) e)
 
 stays_single : (a wide b c d : Bool) → wide ≡ false → (if a && wide && b && c && d then Double else Deferred) ≡ Deferred
 stays_single false wide b c d e = refl
@@ -121,5 +121,5 @@ stays_single true true b c d e = cc
 pub wide_decides : (p : Params) (l : FloatLists) (s : Suppress) (before : List Float) (f : Float) → place_told (told_wide p l s before f) ≡ double_place p l s before f
 wide_decides p l s before f =
     wide_by f.wide _ (double_place p l s before f)
-        (ap (λ b. if b then Double else Deferred) (enter_and f.places.t f.wide (may_come p l s limits.Double f) (is_first_of_class f before) (fits_double p l f)))
-        (λ e. stays_single f.places.t f.wide (may_come p l s limits.Double f) (is_first_of_class f before) (fits_double p l f) e)
+    (ap (λ b. if b then Double else Deferred) (enter_and f.places.t f.wide (may_come p l s limits.Double f) (is_first_of_class f before) (fits_double p l f)))
+    (λ e. stays_single f.places.t f.wide (may_come p l s limits.Double f) (is_first_of_class f before) (fits_double p l f) e)

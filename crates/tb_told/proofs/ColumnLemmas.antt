@@ -93,9 +93,9 @@ from_takes z before (f ∷ fs) =
     let found = company_from z (before ++ f ∷ []) fs in
     let rest = from_takes z (before ++ f ∷ []) fs in
     wide_by (beq f.wide z.wide) (told_float z before f fs later) later (taken_floats (if is_head z before f && is_made z cs then Some cs else found))
-        (λ wide. float_by (all_hold (alone_tests z before f)) (is_head z before f) (is_made z cs) (told_head z before f fs later) later cs found (heads_if z before f wide)
-            (head_by (is_made z cs) (companied f (made_told z cs)) (told_made z before f fs) later cs found refl refl (made_takes z before f fs) rest) rest)
-        (λ narrow. rest ∙ other_by (f.places.p || z.clearing) (beq f.wide z.wide) (int_le f.height z.height) (not (has_class f.class before)) (is_made z cs) cs found narrow)
+    (λ wide. float_by (all_hold (alone_tests z before f)) (is_head z before f) (is_made z cs) (told_head z before f fs later) later cs found (heads_if z before f wide)
+    (head_by (is_made z cs) (companied f (made_told z cs)) (told_made z before f fs) later cs found refl refl (made_takes z before f fs) rest) rest)
+    (λ narrow. rest ∙ other_by (f.places.p || z.clearing) (beq f.wide z.wide) (int_le f.height z.height) (not (has_class f.class before)) (is_made z cs) cs found narrow)
 
 -- the floats that are told to be taken are those of the company that makes the column
 pub column_takes : (z : Wanted) (fs : List Float) → floats_told (told_column z fs) ≡ taken_floats (company z fs)

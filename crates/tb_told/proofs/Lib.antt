@@ -1,3 +1,5 @@
 pub mod TestedLemmas
 pub mod AreaLemmas
 pub mod ColumnLemmas
+pub mod ValueLemmas
+pub mod LineLemmas

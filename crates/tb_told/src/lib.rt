@@ -2,6 +2,22 @@
 //! and the lines that say so.
 #![tactic(auto)]
 
+mod amounts;
+mod areas;
+mod columns;
+mod decisions;
+mod fields;
+mod heads;
+mod places;
+mod tested;
+
+pub use crate::areas::{above_both, at_bottom, at_top, entering_current, entering_next, in_text};
+pub use crate::columns::{put_alone, put_company, put_joining};
+pub use crate::decisions::{
+    put_above_both, put_at_bottom, put_at_top, put_back, put_entering, put_goes, put_in_text,
+};
+pub use crate::heads::alone_at;
+pub use crate::places::{put_begins, put_beside, put_call, put_wait};
 use tb_node::Float;
 
 /// A test that a decision about a float makes, by the word with which it is told.
