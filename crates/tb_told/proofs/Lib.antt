@@ -3,3 +3,4 @@ pub mod AreaLemmas
 pub mod ColumnLemmas
 pub mod ValueLemmas
 pub mod LineLemmas
+pub mod TellingLemmas

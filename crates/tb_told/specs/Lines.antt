@@ -118,6 +118,11 @@ told_line name (tests_bottom t) = bottom_line name t
 told_line name (tests_wide t) = wide_line name t
 told_line name (goes w) = goes_line name (where_text w)
 
+-- the lines of a decision, one after another
+abbrev pub told_lines : Name → List Told → List ℕ
+told_lines name [] = []
+told_lines name (t ∷ ts) = told_line name t ++ told_lines name ts
+
 -- ---- the lines of a column of floats
 
 abbrev pub alone_line : Name → Alone → List ℕ

@@ -9,6 +9,7 @@ mod decisions;
 mod fields;
 mod heads;
 mod places;
+mod telling;
 mod tested;
 
 pub use crate::areas::{above_both, at_bottom, at_top, entering_current, entering_next, in_text};

@@ -104,7 +104,7 @@ one_column p l s r f =
     let inside = r +ℤ p.intextsep.width in
     let to = if f.places.h then inside else r in
     one_by f (all_hold (here_tests p l inside f)) (goes places.Here ∷ []) (if has_class f.class l.bottom then told_bottom p l s r f else told_areas p l s to f) (one_goes f places.Here)
-        (one_by f (has_class f.class l.bottom) (told_bottom p l s r f) (told_areas p l s to f) (one_bottom p l s r f) (one_areas p l s to f))
+    (one_by f (has_class f.class l.bottom) (told_bottom p l s r f) (told_areas p l s to f) (one_bottom p l s r f) (one_areas p l s to f))
 
 one_call : (p : Params) (l : FloatLists) (s : Suppress) (h : ℤ) (f : Float) → One f (told_call p l s h f)
 one_call p l s h f =
@@ -126,6 +126,7 @@ column_none at z fs = by_width (has_width z.wide fs)
     all_none : (ts : List ToldColumn) → placements_told (tales (map (λ t. in_column t) ts)) ≡ []
     all_none [] = refl
     all_none (t ∷ ts) = all_none ts
+
     by_width : (b : Bool) → placements_told (tales (if b then Rattle.tb_told.specs.Tales.begins at z ∷ map (λ t. in_column t) (told_of_column z fs) else [])) ≡ []
     by_width true = all_none (told_of_column z fs)
     by_width false = refl
@@ -170,11 +171,13 @@ placed-told p place f left ts w only is = by_place (is_placed place) w.refused �
   where
     r : Recorded
     r = placed f place w.state.floats (column_height_of p w.state.floats)
+
     by_place : (b t : Bool) → placements_of (if b then (if t then w else record w { records = w.records ++ r ∷ [] }) else w).records ≡ placements_of w.records ++ (if t then [] else (if b then record { float = f; place = place } ∷ [] else []))
     by_place true true = sym (append-nil (placements_of w.records))
     by_place true false = placements-append w.records (r ∷ [])
     by_place false true = sym (append-nil (placements_of w.records))
     by_place false false = sym (append-nil (placements_of w.records))
+
     by_over : (t : Bool) → placements_told (if t then [] else tales (decisions f ts)) ≡ (if t then [] else placement_if f place)
     by_over true = refl
     by_over false = only ∙ ap (λ x. placement_if f x) is
@@ -187,9 +190,11 @@ waiting-told from p place f before rest ts w only is = by_place (is_placed place
     none false true e h = h
     none false false e h = h
     none true t e h = cc
+
     by_over : (t : Bool) → placements_told (if t then [] else tales (decisions f ts)) ≡ (if t then [] else placement_if f place)
     by_over true = refl
     by_over false = only ∙ ap (λ x. placement_if f x) is
+
     by_place : (b : Bool) → is_placed place ≡ b → Tells w (if b then place_float p place f (with_floats_of from (before ++ rest) w.state.floats) w else w) (unless_over w (tales (decisions f ts)))
     by_place true e = placed-told p place f (with_floats_of from (before ++ rest) w.state.floats) ts w only is
     by_place false e = quiet w w (unless_over w (tales (decisions f ts))) refl (none (is_placed place) w.refused e (by_over w.refused))
@@ -202,8 +207,8 @@ next-told p before (f ∷ rest) w =
     let place = next_place p l s before f in
     let v = place_waiting parts.Deferred p place f before rest w in
     follows w v (place_next p (still_deferred place f before) rest v) (unless_over w (tales (decisions f (told_next p l s before f)))) (Firing.next_pieces p (still_deferred place f before) rest v)
-        (waiting-told parts.Deferred p place f before rest (told_next p l s before f) w (one_next p l s before f) (next_decides p l s before f))
-        (next-told p (still_deferred place f before) rest v)
+    (waiting-told parts.Deferred p place f before rest (told_next p l s before f) w (one_next p l s before f) (next_decides p l s before f))
+    (next-told p (still_deferred place f before) rest v)
 
 double-told : (from : Part) (p : Params) (before fs : List Float) (w : Work) → Tells w (place_double from p before fs w) (Firing.double_pieces from p before fs w)
 double-told from p before [] w = quiet w w [] refl refl
@@ -213,8 +218,8 @@ double-told from p before (f ∷ rest) w =
     let place = double_place p l s before f in
     let v = place_waiting from p place f before rest w in
     follows w v (place_double from p (still_deferred place f before) rest v) (unless_over w (tales (decisions f (told_wide p l s before f)))) (Firing.double_pieces from p (still_deferred place f before) rest v)
-        (waiting-told from p place f before rest (told_wide p l s before f) w (one_wide p l s before f) (wide_decides p l s before f))
-        (double-told from p (still_deferred place f before) rest v)
+    (waiting-told from p place f before rest (told_wide p l s before f) w (one_wide p l s before f) (wide_decides p l s before f))
+    (double-told from p (still_deferred place f before) rest v)
 
 -- ---- pages
 
@@ -231,8 +236,8 @@ wide-told p clearing (suc n) w =
     let fs = wide_waiting p w.state.floats in
     let z = wide_wanted p clearing in
     follows w w (wide_pages_by (λ w'. wide_pages p clearing n w') p w (company z fs)) (unless_over w (tales (column_tales (spot_of w.state) z fs))) (Firing.wide_pieces_by (λ w'. Firing.wide_pieces p clearing n w') p w (company z fs))
-        (quiet w w (unless_over w (tales (column_tales (spot_of w.state) z fs))) refl (over_none w.refused (tales (column_tales (spot_of w.state) z fs)) (column_none (spot_of w.state) z fs)))
-        (by_company (λ v. wide-told p clearing n v) (company z fs))
+    (quiet w w (unless_over w (tales (column_tales (spot_of w.state) z fs))) refl (over_none w.refused (tales (column_tales (spot_of w.state) z fs)) (column_none (spot_of w.state) z fs)))
+    (by_company (λ v. wide-told p clearing n v) (company z fs))
   where
     by_company : ((v : Work) → Tells v (wide_pages p clearing n v) (Firing.wide_pieces p clearing n v)) → (o : Option (List Choice)) → Tells w (wide_pages_by (λ w'. wide_pages p clearing n w') p w o) (Firing.wide_pieces_by (λ w'. Firing.wide_pieces p clearing n w') p w o)
     by_company again None = quiet w w [] refl refl
@@ -240,10 +245,10 @@ wide-told p clearing (suc n) w =
         let v = ship_wide p cs w in
         let c = wide_floats_column p p.textheight (chosen_floats cs) in
         follows w w (wide_pages p clearing n v) (unless_over w (tale (puts_out c) ∷ [])) (Firing.ship_pieces p w ++ Firing.wide_pieces p clearing n v)
-            (quiet w w (unless_over w (tale (puts_out c) ∷ [])) refl (over_none w.refused (tale (puts_out c) ∷ []) refl))
-            (follows w v (wide_pages p clearing n v) (Firing.ship_pieces p w) (Firing.wide_pieces p clearing n v)
-                (ship-told p (wide c) (with_floats (Rattle.tb_float.specs.Lists.with_wide_waiting p (left_floats cs) w.state.floats) w))
-                (again v))
+        (quiet w w (unless_over w (tale (puts_out c) ∷ [])) refl (over_none w.refused (tale (puts_out c) ∷ []) refl))
+        (follows w v (wide_pages p clearing n v) (Firing.ship_pieces p w) (Firing.wide_pieces p clearing n v)
+        (ship-told p (wide c) (with_floats (Rattle.tb_float.specs.Lists.with_wide_waiting p (left_floats cs) w.state.floats) w))
+        (again v))
 
 pair-told : (p : Params) (c : PlainColumn) (w : Work) → Tells w (ship_pair p c w) (Firing.pair_pieces p c w)
 pair-told p c w =
@@ -251,10 +256,10 @@ pair-told p c w =
     let v = without_double (ship p sheet w) in
     let u = all_wide_pages p false v in
     follows w v (fill_double p u) (Firing.ship_pieces p w) (Firing.after_pair p v)
-        (ship-told p sheet w)
-        (follows v u (fill_double p u) (Firing.all_wide_pieces p false v) (Firing.fill_double_pieces p u)
-            (wide-told p false (length (wide_waiting p v.state.floats)) v)
-            (double-told (wide_part p) p [] (wide_waiting p u.state.floats) u))
+    (ship-told p sheet w)
+    (follows v u (fill_double p u) (Firing.all_wide_pieces p false v) (Firing.fill_double_pieces p u)
+    (wide-told p false (length (wide_waiting p v.state.floats)) v)
+    (double-told (wide_part p) p [] (wide_waiting p u.state.floats) u))
 
 put_by-told : (p : Params) (c : PlainColumn) (w : Work) → Tells w (put_out_by p c w) (Firing.put_out_pieces_by p c w)
 put_by-told p c w = by_columns w.state.two_columns w.state.first_column
@@ -268,8 +273,8 @@ put_out-told : (p : Params) (c : PlainColumn) (w : Work) → Tells w (put_out p 
 put_out-told p c w =
     let v = records_also (output c) w in
     follows w w (put_out p c w) (unless_over w (tale (puts_out c) ∷ [])) (Firing.put_out_pieces_by p c v)
-        (quiet w w (unless_over w (tale (puts_out c) ∷ [])) refl (over_none w.refused (tale (puts_out c) ∷ []) refl))
-        (put_by-told p c v ∙ ap (λ xs. xs ++ placements_told (Firing.put_out_pieces_by p c v)) (column-quiet c w))
+    (quiet w w (unless_over w (tale (puts_out c) ∷ [])) refl (over_none w.refused (tale (puts_out c) ∷ []) refl))
+    (put_by-told p c v ∙ ap (λ xs. xs ++ placements_told (Firing.put_out_pieces_by p c v)) (column-quiet c w))
 
 -- ---- columns
 
@@ -282,25 +287,25 @@ columns-told p clearing (suc n) w =
     let fs = w.state.floats.deferred in
     let z = single_wanted p w.state.floats clearing in
     follows w w (float_columns_by (λ w'. float_columns p clearing n w') p w (company z fs)) (unless_over w (tales (column_tales (spot_of w.state) z fs))) (Firing.float_pieces_by (λ w'. Firing.float_pieces p clearing n w') p w (company z fs))
-        (quiet w w (unless_over w (tales (column_tales (spot_of w.state) z fs))) refl (over_none w.refused (tales (column_tales (spot_of w.state) z fs)) (column_none (spot_of w.state) z fs)))
-        (by_company (λ v. columns-told p clearing n v) (company z fs))
+    (quiet w w (unless_over w (tales (column_tales (spot_of w.state) z fs))) refl (over_none w.refused (tales (column_tales (spot_of w.state) z fs)) (column_none (spot_of w.state) z fs)))
+    (by_company (λ v. columns-told p clearing n v) (company z fs))
   where
     by_company : ((v : Work) → Tells v (float_columns p clearing n v) (Firing.float_pieces p clearing n v)) → (o : Option (List Choice)) → Tells w (float_columns_by (λ w'. float_columns p clearing n w') p w o) (Firing.float_pieces_by (λ w'. Firing.float_pieces p clearing n w') p w o)
     by_company again None = quiet w w [] refl refl
     by_company again (Some cs) =
         let v = put_out_company p cs w in
         follows w v (float_columns p clearing n v) (Firing.company_pieces p cs w) (Firing.float_pieces p clearing n v)
-            (put_out-told p (single_floats_column p (column_height_of p w.state.floats) (chosen_floats cs)) (with_deferred (left_floats cs) w))
-            (again v)
+        (put_out-told p (single_floats_column p (column_height_of p w.state.floats) (chosen_floats cs)) (with_deferred (left_floats cs) w))
+        (again v)
 
 ordinary-told : (p : Params) (body : List PlainNode) (w : Work) → Tells w (ordinary p body w) (Firing.ordinary_pieces p body w)
 ordinary-told p body w =
     let v = put_out_text p body w in
     let u = all_float_columns p false v in
     follows w v (fill_column p u) (Firing.text_pieces p body w) (Firing.start_pieces p v) (text_column-told p body w)
-        (follows v u (fill_column p u) (Firing.all_float_pieces p false v) (Firing.fill_pieces p u)
-            (columns-told p false (length v.state.floats.deferred) v)
-            (next-told p [] u.state.floats.deferred u))
+    (follows v u (fill_column p u) (Firing.all_float_pieces p false v) (Firing.fill_pieces p u)
+    (columns-told p false (length v.state.floats.deferred) v)
+    (next-told p [] u.state.floats.deferred u))
 
 -- ---- a clear
 
@@ -309,13 +314,14 @@ clear_wide-told p w = by_columns w.state.two_columns w.state.first_column
   where
     v : Work
     v = with_floats (double_again p w.state.floats) w
+
     by_columns : (t u : Bool) → Tells w (if not t then w else (if u then all_wide_pages p true v else puts (made Rattle.tb_node.specs.PlainNodes.blank_box ∷ clear_again) w))
         (if not t then [] else (if u then unless_over w (tales (back_tales places.Double w.state.floats.double)) ++ Firing.all_wide_pieces p true v else []))
     by_columns false u = quiet w w [] refl refl
     by_columns true true =
         follows w v (all_wide_pages p true v) (unless_over w (tales (back_tales places.Double w.state.floats.double))) (Firing.all_wide_pieces p true v)
-            (quiet w v (unless_over w (tales (back_tales places.Double w.state.floats.double))) refl (over_none w.refused (tales (back_tales places.Double w.state.floats.double)) (ap (λ ts. placements_told (tales ts)) (sym (append-nil (back_tales places.Double w.state.floats.double))) ∙ back_none places.Double w.state.floats.double [] refl)))
-            (wide-told p true (length (wide_waiting p v.state.floats)) v)
+        (quiet w v (unless_over w (tales (back_tales places.Double w.state.floats.double))) refl (over_none w.refused (tales (back_tales places.Double w.state.floats.double)) (ap (λ ts. placements_told (tales ts)) (sym (append-nil (back_tales places.Double w.state.floats.double))) ∙ back_none places.Double w.state.floats.double [] refl)))
+        (wide-told p true (length (wide_waiting p v.state.floats)) v)
     by_columns true false = quiet w (puts (made Rattle.tb_node.specs.PlainNodes.blank_box ∷ clear_again) w) [] refl refl
 
 rest-records : (w : Work) → (clear_rest w).records ≡ w.records
@@ -331,12 +337,12 @@ clear_floats-told p body w =
     let u = all_float_columns p true v in
     let x = clear_wide p u in
     before-quiet w x (clear_rest x) (Firing.clear_floats_pieces p body w) (rest-records x)
-        (follows w v x (unless_over w (tales (back_tales places.Top w.state.floats.top ++ back_tales places.Bottom w.state.floats.bottom))) (Firing.clear_columns_pieces p v)
-            (quiet w v (unless_over w (tales (back_tales places.Top w.state.floats.top ++ back_tales places.Bottom w.state.floats.bottom))) refl (over_none w.refused (tales (back_tales places.Top w.state.floats.top ++ back_tales places.Bottom w.state.floats.bottom)) (back_none places.Top w.state.floats.top (back_tales places.Bottom w.state.floats.bottom)
-                (ap (λ ts. placements_told (tales ts)) (sym (append-nil (back_tales places.Bottom w.state.floats.bottom))) ∙ back_none places.Bottom w.state.floats.bottom [] refl))))
-            (follows v u x (Firing.all_float_pieces p true v) (Firing.clear_wide_pieces p u)
-                (columns-told p true (length v.state.floats.deferred) v)
-                (clear_wide-told p u)))
+    (follows w v x (unless_over w (tales (back_tales places.Top w.state.floats.top ++ back_tales places.Bottom w.state.floats.bottom))) (Firing.clear_columns_pieces p v)
+    (quiet w v (unless_over w (tales (back_tales places.Top w.state.floats.top ++ back_tales places.Bottom w.state.floats.bottom))) refl (over_none w.refused (tales (back_tales places.Top w.state.floats.top ++ back_tales places.Bottom w.state.floats.bottom)) (back_none places.Top w.state.floats.top (back_tales places.Bottom w.state.floats.bottom)
+    (ap (λ ts. placements_told (tales ts)) (sym (append-nil (back_tales places.Bottom w.state.floats.bottom))) ∙ back_none places.Bottom w.state.floats.bottom [] refl))))
+    (follows v u x (Firing.all_float_pieces p true v) (Firing.clear_wide_pieces p u)
+    (columns-told p true (length v.state.floats.deferred) v)
+    (clear_wide-told p u)))
 
 clear-told : (p : Params) (body : List PlainNode) (w : Work) → Tells w (clear p body w) (Firing.clear_pieces p body w)
 clear-told p body w = by_notes (footnotes w.state)
@@ -402,8 +408,8 @@ note-told : (p : Params) (height depth : ℤ) (m : Margin) (es : List Entry) (w 
 note-told p height depth m es w =
     let at = placed_note p w.state.page w.state.two_columns w.state.first_column height w.state.note_bottom m in
     quiet w (note_goes p depth m (record w.state.floats { current = es }) w at) (unless_over w (tales (Firing.note_tale p height m w.state ∷ [])))
-        (note-records m at (with_note_bottom at.bottom (with_floats (record w.state.floats { current = es }) w)))
-        (over_none w.refused (tales (Firing.note_tale p height m w.state ∷ [])) refl)
+    (note-records m at (with_note_bottom at.bottom (with_floats (record w.state.floats { current = es }) w)))
+    (over_none w.refused (tales (Firing.note_tale p height m w.state ∷ [])) refl)
 
 first-told : (p : Params) (vert : Bool) (height depth page_height : ℤ) (es : List Entry) (w : Work) →
     Tells w (first_goes p vert height depth page_height es w) (unless_over w (tales (Firing.first_tales p height page_height es w.state)))
@@ -411,7 +417,7 @@ first-told p vert height depth page_height (entries.Float f ∷ es) w =
     let l = w.state.floats in
     let s = w.state.suppress in
     goes-told p vert f (record l { current = es }) (told_call p l s page_height f) w (current_place p l s page_height f)
-        (current-in p l s page_height f) (one_call p l s page_height f) (call_decides p l s page_height f)
+    (current-in p l s page_height f) (one_call p l s page_height f) (call_decides p l s page_height f)
     ∙ ap (λ xs. placements_of w.records ++ xs) (by_over w.refused)
   where
     by_over : (t : Bool) → placements_told (if t then [] else tales (decisions f (told_call p w.state.floats w.state.suppress page_height f))) ≡ placements_told (if t then [] else tales (Firing.first_tales p height page_height (entries.Float f ∷ es) w.state))

@@ -66,7 +66,7 @@ firing_happens p es rs s f =
     let w = out p s f in
     let held = held_count w.state in
     allowed_by (int_lt (pos s.dead_cycles) p.maxdeadcycles) (after_firing p es rs w) es rs (dead_cycles s.dead_cycles) (all_shown (woven (firing_pieces p s f) w.sent))
-        (firing_by w.refused (int_lt p.maxnodes (pos held)) es (map sent w.sent) (rs ++ w.records) [] (page_limit (pred w.state.page)) (node_limit held) (node_limit held) w.state (all_shown (woven (firing_pieces p s f) w.sent)) (woven_sends (firing_pieces p s f) w.sent))
+    (firing_by w.refused (int_lt p.maxnodes (pos held)) es (map sent w.sent) (rs ++ w.records) [] (page_limit (pred w.state.page)) (node_limit held) (node_limit held) w.state (all_shown (woven (firing_pieces p s f) w.sent)) (woven_sends (firing_pieces p s f) w.sent))
 
 reach_by : (fires : Bool) (fired : Step) (x : List RunEvent) (rs : List Recorded) (e : End) (shown : List Shown) → step_events fired ≡ x ++ happened_among shown →
     step_events (if fires then fired else ends x rs e) ≡ x ++ happened_among (if fires then shown else [])
@@ -119,7 +119,7 @@ unfolding shown_run run_of
 run_happens g =
     let s = first_state g.params (classes_of g) (expanded g) in
     limit_by (int_lt g.params.maxnodes (pos (held_count s))) (shown_from g.params (suc (firings_left g.params s)) s) (run_from g.params (suc (firings_left g.params s)) s) (node_limit (held_count s))
-        (from_happens g.params (suc (firings_left g.params s)) s)
+    (from_happens g.params (suc (firings_left g.params s)) s)
 
 -- the lines of what is shown, without those of the tales, are the lines of the run's events: the trace
 pub lines_left : (g : Galley) → all_event_lines (happened_among (shown_run g)) ≡ all_event_lines (run_of g).events
