@@ -19,6 +19,7 @@ pub use crate::decisions::{
 };
 pub use crate::heads::alone_at;
 pub use crate::places::{put_begins, put_beside, put_call, put_wait};
+pub use crate::telling::{put_called, put_double, put_next};
 use tb_node::Float;
 
 /// A test that a decision about a float makes, by the word with which it is told.
