@@ -8,6 +8,7 @@ mod columns;
 mod decisions;
 mod fields;
 mod heads;
+mod laws;
 mod places;
 mod telling;
 mod tested;
@@ -18,6 +19,7 @@ pub use crate::decisions::{
     put_above_both, put_at_bottom, put_at_top, put_back, put_entering, put_goes, put_in_text,
 };
 pub use crate::heads::alone_at;
+pub use crate::laws::{the_company_is_told, what_is_told_is_the_decision, yes_says_that_all_hold};
 pub use crate::places::{put_begins, put_beside, put_call, put_wait};
 pub use crate::telling::{put_called, put_double, put_next};
 use tb_node::Float;
