@@ -1,13 +1,13 @@
 -- The floats that are told to be taken are those of the company, and each test that is told is one of the definition.
 use Rattle.std.proofs.Common.{◌≡◌, Bool, true, false, List, [], ◌∷◌, ◌++◌, map, Some, refl, sym, ap, ◌∙◌, append_assoc}
-use Rattle.std.specs.Prelude.{◌&&◌, ◌||◌, not, Option, None, int_le, if◌then◌else◌}
+use Rattle.std.specs.Prelude.{◌&&◌, ◌||◌, not, Option, int_le, if◌then◌else◌}
 use Rattle.std.specs.Bool.{beq}
 use Rattle.tb_node.specs.declared.Float.{Float}
 use Rattle.tb_float.specs.Lists.{has_class}
 use Rattle.tb_told.specs.Tested.{all_hold}
 use Rattle.tb_fpage.specs.declared.Wanted.{Wanted}
 use Rattle.tb_fpage.specs.Company.{Choice, passed_over, all_chosen, joins, company_of_head, is_head, is_made, company_from, company, chosen_floats}
-use Rattle.tb_told.specs.ColumnTold.{alone_tests, joins_tests, sum_with, ToldColumn, heads, companied, takes, joining, joins_told, if_of_width, made_told, told_joins, told_made, told_head, told_float, told_from, told_column, floats_told, taken_floats}
+use Rattle.tb_told.specs.ColumnTold.{alone_tests, joins_tests, sum_with, ToldColumn, companied, takes, joining, joins_told, if_of_width, made_told, told_joins, told_made, told_head, told_float, told_from, told_column, floats_told, taken_floats}
 
 -- ---- the tests are those of the definition
 

@@ -1,5 +1,5 @@
 -- The lines of a decision, area by area.
-use Rattle.std.proofs.Common.{◌≡◌, Bool, true, false, ℕ, List, [], ◌∷◌, ◌++◌, append-nil, Some, refl, sym, ap, ◌∙◌}
+use Rattle.std.proofs.Common.{◌≡◌, Bool, true, false, List, [], ◌∷◌, ◌++◌, append-nil, refl, sym, ap, ◌∙◌}
 use Rattle.std.specs.Prelude.{ℤ, ◌+ℤ◌, if◌then◌else◌}
 use Rattle.tb_node.specs.declared.Name.{Name}
 use Rattle.tb_node.specs.declared.Float.{Float}
@@ -8,17 +8,16 @@ use Rattle.tb_node.specs.declared.Where.TheVariants.{Here, Top, Bottom, Double, 
 use Rattle.tb_param.specs.declared.Params.{Params}
 use Rattle.tb_float.specs.declared.Suppress.{Suppress}
 use Rattle.tb_float.specs.Lists.{FloatLists, has_class}
-use Rattle.tb_scaled.specs.Scaled.{max_ℤ}
-use Rattle.tb_area.specs.Area.{at_top, at_bottom, deferred, where_of, next_separator, tries_top, text_minimum}
+use Rattle.tb_area.specs.Area.{at_top, at_bottom, deferred, where_of, next_separator, tries_top}
 use Rattle.tb_report.specs.Lines.{where_text}
 use Rattle.tb_told.specs.declared.AtBottom.{AtBottom}
 use Rattle.tb_told.specs.declared.AtTop.{AtTop}
 use Rattle.tb_told.specs.declared.InText.{InText}
 use Rattle.tb_told.specs.declared.Entering.{Entering}
 use Rattle.tb_told.specs.declared.AboveBoth.{AboveBoth}
-use Rattle.tb_told.specs.Tested.{first_failed, all_hold, is_yes}
-use Rattle.tb_told.specs.AreaTold.{Told, enter_tests, here_tests, top_tests, bottom_tests, wide_tests, enter_told, here_told, top_told, bottom_told, wide_told, told_bottom, told_areas, told_column, told_call, told_next, told_wide, goes}
-use Rattle.tb_told.specs.Lines.{enter_line, here_line, top_line, bottom_line, wide_line, goes_line, told_line, told_lines}
+use Rattle.tb_told.specs.Tested.{all_hold, is_yes}
+use Rattle.tb_told.specs.AreaTold.{Told, enter_tests, here_tests, top_tests, bottom_tests, wide_tests, enter_told, here_told, top_told, bottom_told, wide_told, told_bottom, told_areas, told_column, told_wide, goes}
+use Rattle.tb_told.specs.Lines.{enter_line, here_line, top_line, bottom_line, wide_line, goes_line, told_lines}
 use Rattle.tb_told.proofs.TestedLemmas.{yes_is_all}
 
 bottom-by : (b : Bool) → (if b then Bottom else Deferred) ≡ where_of (if b then at_bottom else deferred)

@@ -3,7 +3,7 @@ use Rattle.std.proofs.Common.{◌≡◌, Bool, true, false, ℕ, zero, suc, ◌�
 use Rattle.std.specs.Prelude.{◌&&◌, ◌||◌, not, Option, Some, None, is_some, ◌==◌, if◌then◌else◌}
 use Rattle.tb_node.specs.declared.Float.{Float}
 use Rattle.tb_told.specs.declared.Test.{Test}
-use Rattle.tb_float.specs.Lists.{has_class, float_entries}
+use Rattle.tb_float.specs.Lists.{has_class}
 use Rattle.tb_told.specs.Tested.{Tested, first_failed, all_hold, is_yes, first_of_class, first_float}
 
 yes_by : (b : Bool) (t : Test) (ts : List Tested) → is_yes (first_failed ts) ≡ all_hold ts → is_yes (if b then first_failed ts else Some t) ≡ (b && all_hold ts)

@@ -1,6 +1,6 @@
 -- The first of several tests that fails, as it is found from the last one back.
-use Rattle.std.proofs.Common.{◌≡◌, Bool, List, [], ◌∷◌, Some, sym, ap, ◌∙◌}
-use Rattle.std.specs.Prelude.{ℤ, Option, None, if◌then◌else◌}
+use Rattle.std.proofs.Common.{◌≡◌, Bool, List, [], ◌∷◌, Some, ap, ◌∙◌}
+use Rattle.std.specs.Prelude.{Option, None, if◌then◌else◌}
 use Rattle.tb_told.specs.declared.Test.{Test}
 use Rattle.tb_told.specs.Tested.{Tested, tested, first_failed}
 

@@ -1,5 +1,5 @@
 -- What is told where a column of floats is looked for: of each head, of the company that is made, and which floats it takes.
-use Rattle.std.specs.Prelude.{ℤ, Bool, true, not, ◌||◌, List, [], ◌∷◌, ◌++◌, length, map, Option, Some, None, int_le, if◌then◌else◌}
+use Rattle.std.specs.Prelude.{ℤ, true, not, ◌||◌, List, [], ◌∷◌, ◌++◌, length, map, Option, Some, None, int_le, if◌then◌else◌}
 use Rattle.std.specs.Bool.{beq}
 use Rattle.tb_node.specs.declared.Float.{Float}
 use Rattle.tb_told.specs.declared.Test.TheVariants as tests

@@ -1,6 +1,6 @@
 -- Each float that a firing places is told to go there, and no other: the placements that are told are those that are recorded.
 use Rattle.std.proofs.Common.{◌≡◌, ℕ, zero, suc, pos, Bool, true, false, List, [], ◌∷◌, ◌++◌, append_assoc, append-nil, map, length, Some, None, refl, sym, ap, ◌∙◌}
-use Rattle.std.specs.Prelude.{ℤ, ◌+◌, ◌+ℤ◌, ◌-ℤ◌, ◌&&◌, ◌||◌, not, Option, int_le, int_lt, if◌then◌else◌}
+use Rattle.std.specs.Prelude.{ℤ, ◌+◌, ◌+ℤ◌, ◌-ℤ◌, ◌||◌, not, Option, int_le, int_lt, if◌then◌else◌}
 use Rattle.tb_scaled.specs.Scaled.{max_ℤ, eject_penalty}
 use Rattle.tb_scaled.specs.Glue.{filling_glue}
 use Rattle.tb_node.specs.declared.Float.{Float}
@@ -13,15 +13,14 @@ use Rattle.tb_param.specs.declared.Params.{Params}
 use Rattle.tb_builder.specs.FiredPages.{Fired}
 use Rattle.tb_float.specs.declared.Entry.{Entry}
 use Rattle.tb_float.specs.declared.Entry.TheVariants as entries
-use Rattle.tb_float.specs.declared.Limit.TheVariants as limits
 use Rattle.tb_float.specs.declared.Part.{Part}
 use Rattle.tb_float.specs.declared.Part.TheVariants as parts
 use Rattle.tb_float.specs.declared.Suppress.{Suppress}
 use Rattle.tb_float.specs.Lists.{FloatLists, has_class, with_floats_of, wide_part, wide_waiting}
 use Rattle.tb_float.specs.Rooms.{column_height_of}
 use Rattle.tb_told.specs.Tested.{all_hold}
-use Rattle.tb_area.specs.Area.{AreaPlace, at_top, at_bottom, deferred, where_of, current_place, next_place, double_place, may_enter, by_class, here_or_area, top_or_bottom, bottom_or_deferred, text_minimum, next_separator, tries_top, fits_column}
-use Rattle.tb_told.specs.AreaTold.{Told, enters, goes, told_bottom, told_areas, told_column, told_call, told_next, told_wide, place_told, enter_tests, here_tests, top_tests, bottom_tests, wide_tests}
+use Rattle.tb_area.specs.Area.{AreaPlace, at_top, at_bottom, deferred, where_of, current_place, next_place, double_place, may_enter, top_or_bottom, bottom_or_deferred, text_minimum, next_separator, tries_top, fits_column}
+use Rattle.tb_told.specs.AreaTold.{Told, goes, told_bottom, told_areas, told_column, told_call, told_next, told_wide, place_told, enter_tests, here_tests, top_tests}
 use Rattle.tb_told.proofs.AreaLemmas.{call_decides, next_decides, wide_decides}
 use Rattle.tb_fpage.specs.declared.Wanted.{Wanted}
 use Rattle.tb_fpage.specs.Company.{Choice, company, chosen_floats, left_floats}
@@ -31,17 +30,17 @@ use Rattle.tb_margin.specs.Margin.{placed_note}
 use Rattle.tb_column.specs.Column.{PlainColumn, PlainSheet, PlainSent, Notes, warned, shipped, one, wide, text_column, single_floats_column, wide_floats_column, pair_sheet}
 use Rattle.tb_column.specs.declared.Warn.TheVariants as warnings
 use Rattle.tb_output.specs.State.{State, Work, Recorded, placed, output, emptied, begun, footnotes, puts, sends, records_also, with_floats}
-use Rattle.tb_output.specs.FloatMoves.{joined_to, is_placed, place_float, still_deferred, place_waiting, place_next, place_double}
-use Rattle.tb_output.specs.Pages.{ship_now, ship, wide_wanted, ship_wide, wide_pages, wide_pages_by, all_wide_pages, after_column, keep_left, left_or, without_double, with_deferred, fill_double, ship_pair, put_out_by, put_out}
+use Rattle.tb_output.specs.FloatMoves.{is_placed, place_float, still_deferred, place_waiting, place_next, place_double}
+use Rattle.tb_output.specs.Pages.{ship_now, ship, wide_wanted, ship_wide, wide_pages, wide_pages_by, all_wide_pages, keep_left, left_or, without_double, with_deferred, fill_double, ship_pair, put_out_by, put_out}
 use Rattle.tb_output.specs.Columns.{put_out_text, put_out_company, single_wanted, float_columns, float_columns_by, all_float_columns, fill_column, ordinary, without_column_floats}
 use Rattle.tb_output.specs.Clear.{cleared_front, deferred_again, double_again, clear_wide, clear_rest, clear_floats, clear_by, clear, clear_again}
-use Rattle.tb_output.specs.Text.{without_firing_box, notes_height, list_back, puts_interline, only_here, with_top, defer, float_goes, note_goes, note_at, moved_warning, with_note_bottom, first_goes, float_or_note_in, float_or_note}
+use Rattle.tb_output.specs.Text.{without_firing_box, notes_height, list_back, puts_interline, only_here, with_top, defer, float_goes, note_goes, note_at, moved_warning, with_note_bottom, first_goes, float_or_note}
 use Rattle.tb_output.specs.Output.{clear_penalty, par_penalty, vert_penalty, is_int, hold, output_by, leave_column, goal_by, next_goal, is_crowded, hold_penalty, after_page, waiting_again, out}
 use Rattle.tb_told.specs.declared.Spot.{Spot}
 use Rattle.tb_told.specs.Tales.{Tale, put_out as puts_out, decides, in_column, back, decisions, has_width, column_tales, back_tales}
 use Rattle.tb_why.specs.Firing
 use Rattle.tb_why.specs.Firing.{spot_of, Piece, tale, next_sent, tales, unless_over}
-use Rattle.tb_why.specs.Placements.{Placement, placements_of, placement_if, placement_told, placement_in, placements_told}
+use Rattle.tb_why.specs.Placements.{placements_of, placement_if, placement_in, placements_told}
 
 -- ---- lists
 

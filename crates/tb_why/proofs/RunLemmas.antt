@@ -10,14 +10,14 @@ use Rattle.tb_galley.specs.GalleyNodes.{expanded}
 use Rattle.tb_builder.specs.FiredPages.{Fired, reach_of, fired_of}
 use Rattle.tb_builder.specs.Reach.{Reach}
 use Rattle.tb_column.specs.Column.{PlainSent}
-use Rattle.tb_output.specs.State.{State, Work, Recorded, emptied, first_state, ask_of}
+use Rattle.tb_output.specs.State.{State, Recorded, emptied, first_state, ask_of}
 use Rattle.tb_output.specs.Output.{out}
-use Rattle.tb_run.specs.Run.{RunEvent, sent, End, done, pool_full, dead_cycles, page_limit, node_limit, Progress, progress, Step, ends, goes_on, step, step_of, after_progress, fire, firing_step, after_firing, Run, run_after, run_by, run_from, run_of_state, run_of, firings_left, held_count, classes_of}
+use Rattle.tb_run.specs.Run.{RunEvent, sent, End, done, dead_cycles, page_limit, node_limit, Progress, progress, Step, ends, goes_on, step, step_of, after_progress, fire, firing_step, after_firing, Run, run_by, run_from, run_of, firings_left, held_count, classes_of}
 use Rattle.tb_run.specs.Happenings.{step_events}
 use Rattle.tb_told.specs.Tales.{Tale}
-use Rattle.tb_why.specs.Firing.{Piece, tale, next_sent, firing_pieces, WhyEvent, told, sends, all_sent, woven}
+use Rattle.tb_why.specs.Firing.{Piece, tale, next_sent, firing_pieces, all_sent, woven}
 use Rattle.tb_why.specs.ShownLines.{all_event_lines}
-use Rattle.tb_why.specs.WhyRun.{Shown, happens, tells, all_happen, shown_of, all_shown, happened_among, wait_tales, firing_shown, fired_shown, shown_by, step_shown, shown_after, shown_from, shown_of_state, shown_run}
+use Rattle.tb_why.specs.WhyRun.{Shown, happens, tells, all_happen, all_shown, happened_among, wait_tales, firing_shown, fired_shown, shown_by, step_shown, shown_after, shown_from, shown_run}
 
 -- ---- lists of what is shown
 

@@ -1,5 +1,5 @@
 -- Where floats are told to go, and where a run places them.
-use Rattle.std.specs.Prelude.{ℕ, List, [], ◌∷◌, ◌++◌, map, if◌then◌else◌}
+use Rattle.std.specs.Prelude.{List, [], ◌∷◌, ◌++◌, if◌then◌else◌}
 use Rattle.tb_node.specs.declared.Float.{Float}
 use Rattle.tb_node.specs.declared.Where.{Where}
 use Rattle.tb_told.specs.AreaTold.{Told, enters, tests_here, tests_top, tests_bottom, tests_wide, goes}

@@ -1,13 +1,12 @@
 -- The summary: one story of each float that was called or waits, as the tales and the shipped pages tell it.
-use Rattle.std.specs.Prelude.{ℕ, zero, suc, ℤ, pos, ◌+◌, ◌-◌, ◌+ℤ◌, ◌-ℤ◌, Bool, true, false, not, ◌&&◌, ◌||◌, ◌==◌, List, [], ◌∷◌, ◌++◌, map, codes, Option, Some, None, if◌then◌else◌}
+use Rattle.std.specs.Prelude.{ℕ, ℤ, pos, ◌+◌, ◌-◌, ◌+ℤ◌, ◌-ℤ◌, Bool, true, false, ◌&&◌, ◌||◌, ◌==◌, List, [], ◌∷◌, ◌++◌, map, codes, Option, Some, None, if◌then◌else◌}
 use Rattle.std.specs.Str.{bytes_eq}
 use Rattle.tb_text.specs.Fields.{and_number, and_count, and_text, line}
 use Rattle.tb_node.specs.declared.Float.{Float}
-use Rattle.tb_node.specs.declared.What.{What}
 use Rattle.tb_node.specs.declared.What.TheVariants as what
 use Rattle.tb_node.specs.declared.Where.{Where}
 use Rattle.tb_node.specs.declared.Where.TheVariants as places
-use Rattle.tb_node.specs.PlainNodes.{Matter, hbox, PlainKind, plain, PlainNode}
+use Rattle.tb_node.specs.PlainNodes.{hbox, PlainKind, plain, PlainNode}
 use Rattle.tb_told.specs.declared.Test.{Test}
 use Rattle.tb_told.specs.declared.Test.TheVariants as tests
 use Rattle.tb_told.specs.AreaTold.{Told, enters, tests_here, tests_top, tests_bottom, tests_wide, goes, failed_in}
@@ -15,7 +14,7 @@ use Rattle.tb_told.specs.declared.Alone.{Alone}
 use Rattle.tb_told.specs.declared.Joining.{Joining}
 use Rattle.tb_told.specs.declared.Made.{Made}
 use Rattle.tb_told.specs.ColumnTold.{ToldColumn, heads, joining, companied, takes}
-use Rattle.tb_column.specs.Column.{PlainColumn, PlainSheet, one, wide, two, PlainSent, warned, shipped}
+use Rattle.tb_column.specs.Column.{PlainColumn, PlainSheet, one, wide, two, warned, shipped}
 use Rattle.tb_report.specs.Lines.{where_text}
 use Rattle.tb_run.specs.Run.{RunEvent, offered, sent}
 use Rattle.tb_told.specs.Lines.{test_text}

@@ -2,14 +2,13 @@
 use Rattle.std.specs.Prelude.{ℕ, zero, suc, pos, List, [], ◌∷◌, ◌++◌, length, drop, map, Option, Some, None, int_lt, if◌then◌else◌}
 use Rattle.tb_scaled.specs.Scaled.{awful_bad}
 use Rattle.tb_param.specs.declared.Params.{Params}
-use Rattle.tb_param.specs.Release.{has_second}
 use Rattle.tb_galley.specs.declared.Galley.{Galley}
 use Rattle.tb_galley.specs.GalleyNodes.{expanded}
 use Rattle.tb_builder.specs.FiredPages.{Fired, reach_of, fired_of}
 use Rattle.tb_builder.specs.Reach.{Reach}
 use Rattle.tb_output.specs.State.{State, first_state, ask_of}
 use Rattle.tb_output.specs.Output.{out}
-use Rattle.tb_run.specs.Run.{RunEvent, offered, sent, Progress, progress, Step, ends, goes_on, step, firings_left, held_count, classes_of}
+use Rattle.tb_run.specs.Run.{RunEvent, sent, Progress, progress, Step, ends, goes_on, step, firings_left, held_count, classes_of}
 use Rattle.tb_told.specs.Tales.{Tale, waits}
 use Rattle.tb_why.specs.Firing.{spot_of, firing_pieces, WhyEvent, told, sends, woven}
 

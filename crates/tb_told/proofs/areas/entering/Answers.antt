@@ -1,15 +1,13 @@
-use Rattle.std.proofs.Common.{◌≡◌, List, [], ◌∷◌, take, length, refl, sym, ap, ◌∙◌, FitsSigned, w64, rules}
-use Rattle.std.specs.Prelude.{ℤ, ◌+ℤ◌, not, ◌||◌, is_some}
+use Rattle.std.proofs.Common.{[], ◌∷◌, refl, ap, ◌∙◌, FitsSigned, w64, rules}
+use Rattle.std.specs.Prelude.{not, is_some}
 use Rattle.std.proofs.lemmas.Int.{to_z-of_z}
-use Rattle.tb_told.proofs.TestedLemmas.{first_is, first_is_either, none_is}
+use Rattle.tb_told.proofs.TestedLemmas.{first_is, none_is}
 use Rattle.tb_told.proofs.ValueLemmas.{one-test, last-test}
-use Rattle.tb_node.specs.declared.Float.{Float}
 use Rattle.tb_float.specs.Lists.{has_class}
 use Rattle.tb_float.specs.declared.Limit.TheVariants as limits
 use Rattle.tb_area.specs.Area.{only_page, is_first_of_class, may_come, fits_column}
 use Rattle.tb_told.specs.declared.Test.TheVariants as tests
 use Rattle.tb_told.specs.Tested.{tested}
-use Rattle.tb_told.specs.AreaTold.{enter_told}
 use Rattle.tb_told.proofs.areas.entering.Goals as goal
 
 pub returns-clause-told : goal.returns-clause-told

@@ -1,5 +1,5 @@
-use Rattle.std.proofs.Common.{◌≡◌, ◌≤◌, length, refl, sym, ap, ◌∙◌, FitsSigned, w64, rules, arith}
-use Rattle.std.specs.Prelude.{ℤ, ◌+ℤ◌}
+use Rattle.std.proofs.Common.{ap, ◌∙◌, FitsSigned, w64, rules}
+use Rattle.std.specs.Prelude.{◌+ℤ◌}
 use Rattle.std.proofs.lemmas.Int.{to_z-of_z}
 use Rattle.tb_scaled.specs.Scaled.{max_ℤ}
 use Rattle.tb_told.specs.AreaTold.{enter_told}

@@ -1,5 +1,5 @@
-use Rattle.std.proofs.Common.{◌≡◌, take, refl, sym, ap, ◌∙◌, FitsSigned, w64, rules}
-use Rattle.std.specs.Prelude.{ℤ, ◌+ℤ◌}
+use Rattle.std.proofs.Common.{take, ap, ◌∙◌, FitsSigned, w64, rules}
+use Rattle.std.specs.Prelude.{◌+ℤ◌}
 use Rattle.std.proofs.lemmas.Int.{to_z-of_z}
 use Rattle.tb_told.specs.AreaTold.{enter_told}
 use Rattle.tb_told.proofs.areas.entering_next.Goals as goal

@@ -1,7 +1,7 @@
-use Rattle.std.proofs.Common.{◌≡◌, List, [], ◌∷◌, take, length, refl, sym, ap, ◌∙◌, FitsSigned, w64, rules}
-use Rattle.std.specs.Prelude.{ℤ, ◌+ℤ◌, not, ◌||◌, is_some, int_le}
+use Rattle.std.proofs.Common.{[], ◌∷◌, take, ap, ◌∙◌, FitsSigned, w64, rules}
+use Rattle.std.specs.Prelude.{not, ◌||◌, is_some, int_le}
 use Rattle.std.proofs.lemmas.Int.{to_z-of_z}
-use Rattle.tb_told.proofs.TestedLemmas.{first_is, first_is_either, none_is}
+use Rattle.tb_told.proofs.TestedLemmas.{first_is, none_is}
 use Rattle.tb_told.proofs.ValueLemmas.{one-test, last-test}
 use Rattle.tb_float.specs.Lists.{has_class, floats_of}
 use Rattle.tb_told.specs.declared.Test.TheVariants as tests

@@ -1,4 +1,3 @@
-use Rattle.std.proofs.Common.{◌≡◌, ◌++◌, ap, ◌∙◌}
 use Rattle.std.proofs.lemmas.Int.{to_z-of_z}
 use Rattle.tb_report.specs.Lines.{where_text}
 use Rattle.tb_report.proofs.JoinedTexts.{on_joined}

@@ -1,16 +1,13 @@
-use Rattle.std.proofs.Common.{◌≡◌, ◌++◌, List, [], true, false, take, sym, ap, ◌∙◌, append-nil, FitsSigned, w64, rules}
-use Rattle.std.specs.Prelude.{is_some, ◌+ℤ◌}
+use Rattle.std.proofs.Common.{sym, ap, ◌∙◌, FitsSigned, w64, rules}
+use Rattle.std.specs.Prelude.{is_some}
 use Rattle.std.proofs.lemmas.Int.{to_z-of_z}
-use Rattle.tb_scaled.specs.Scaled.{max_ℤ}
-use Rattle.tb_node.specs.declared.Where.TheVariants.{Here, Top, Deferred}
+use Rattle.tb_node.specs.declared.Where.TheVariants.{Here}
 use Rattle.tb_report.specs.Lines.{where_text}
 use Rattle.tb_report.proofs.JoinedTexts.{on_joined}
-use Rattle.tb_float.specs.Lists.{floats_of}
-use Rattle.tb_area.specs.Area.{text_minimum}
-use Rattle.tb_told.specs.AreaTold.{told_bottom, told_areas, told_column, told_call, told_next, told_wide}
-use Rattle.tb_told.specs.Lines.{enter_line, here_line, top_line, wide_line, goes_line, told_lines}
+use Rattle.tb_told.specs.AreaTold.{told_bottom, told_areas, told_column}
+use Rattle.tb_told.specs.Lines.{here_line, goes_line, told_lines}
 use Rattle.tb_told.proofs.TestedLemmas.{first_is}
-use Rattle.tb_told.proofs.TellingLemmas.{top-goes, top-fails, here-goes, here-bottom, here-areas, enters-on, enters-not, not-asked, asked, single-not-asked, wide-lines}
+use Rattle.tb_told.proofs.TellingLemmas.{here-goes, here-bottom, here-areas}
 use Rattle.tb_told.proofs.telling.put_column.Goals as goal
 
 pub returns-then-is_yes : goal.returns-then-is_yes

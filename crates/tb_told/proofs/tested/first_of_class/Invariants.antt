@@ -1,4 +1,4 @@
-use Rattle.std.proofs.Common.{◌≡◌, ◌≤◌, List, take, length}
+use Rattle.std.proofs.Common.{◌≡◌, List, take}
 use Rattle.tb_node.specs.declared.Float.{Float}
 use Rattle.tb_float.specs.Lists.{float_entries, floats_of}
 use Rattle.tb_told.specs.Tested.{first_of_class}
