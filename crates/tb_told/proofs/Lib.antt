@@ -4,3 +4,4 @@ pub mod ColumnLemmas
 pub mod ValueLemmas
 pub mod LineLemmas
 pub mod TellingLemmas
+pub mod FillingLemmas

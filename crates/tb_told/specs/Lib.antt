@@ -3,3 +3,4 @@ pub mod AreaTold
 pub mod ColumnTold
 pub mod Tales
 pub mod Lines
+pub mod Filled
