@@ -44,19 +44,19 @@ turn-moved p s k f a v u old new m told =
     let next = slice_get-drop k d f m.there in
     record {
       lists = ap (λ left. filled p s before left l) next
-        ∙ ap (λ c. filled p s (still_before c f before) rest (gone_to c f before rest l)) m.decided
-        ∙ ap (λ b. filled p s b rest gone) (m.still before)
-        ∙ ap (λ n. filled p s before rest n) (sym m.lists)
-        ∙ ap (λ b. filled p s b rest u.lists) (sym front)
-        ∙ ap (λ left. filled p s (take k u.lists.deferred) left u.lists) (sym back);
+          ∙ ap (λ c. filled p s (still_before c f before) rest (gone_to c f before rest l)) m.decided
+          ∙ ap (λ b. filled p s b rest gone) (m.still before)
+          ∙ ap (λ n. filled p s before rest n) (sym m.lists)
+          ∙ ap (λ b. filled p s b rest u.lists) (sym front)
+          ∙ ap (λ left. filled p s (take k u.lists.deferred) left u.lists) (sym back);
       lines = ap (λ left. old ++ filled_lines p s before left l) next
-        ∙ ap (λ c. old ++ (text ++ filled_lines p s (still_before c f before) rest (gone_to c f before rest l))) m.decided
-        ∙ ap (λ b. old ++ (text ++ filled_lines p s b rest gone)) (m.still before)
-        ∙ ap (λ n. old ++ (text ++ filled_lines p s before rest n)) (sym m.lists)
-        ∙ ap (λ b. old ++ (text ++ filled_lines p s b rest u.lists)) (sym front)
-        ∙ ap (λ left. old ++ (text ++ filled_lines p s (take k u.lists.deferred) left u.lists)) (sym back)
-        ∙ sym (append_assoc old text (filled_lines p s (take k u.lists.deferred) (drop k u.lists.deferred) u.lists))
-        ∙ ap (λ t. t ++ filled_lines p s (take k u.lists.deferred) (drop k u.lists.deferred) u.lists) (sym told);
+          ∙ ap (λ c. old ++ (text ++ filled_lines p s (still_before c f before) rest (gone_to c f before rest l))) m.decided
+          ∙ ap (λ b. old ++ (text ++ filled_lines p s b rest gone)) (m.still before)
+          ∙ ap (λ n. old ++ (text ++ filled_lines p s before rest n)) (sym m.lists)
+          ∙ ap (λ b. old ++ (text ++ filled_lines p s b rest u.lists)) (sym front)
+          ∙ ap (λ left. old ++ (text ++ filled_lines p s (take k u.lists.deferred) left u.lists)) (sym back)
+          ∙ sym (append_assoc old text (filled_lines p s (take k u.lists.deferred) (drop k u.lists.deferred) u.lists))
+          ∙ ap (λ t. t ++ filled_lines p s (take k u.lists.deferred) (drop k u.lists.deferred) u.lists) (sym told);
       left = omega (arith, ap length are, length-append before rest, ap length whole, length-append before (f ∷ rest));
     }
 
@@ -72,13 +72,13 @@ turn-kept p s k f l old new there stays told =
     let front : take (suc k) d ≡ before ++ f ∷ [] = take-at d k f there in
     record {
       lists = ap (λ left. filled p s before left l) next
-        ∙ ap (λ c. filled p s (still_before c f before) rest (gone_to c f before rest l)) stays
-        ∙ ap (λ b. filled p s b rest l) (sym front);
+          ∙ ap (λ c. filled p s (still_before c f before) rest (gone_to c f before rest l)) stays
+          ∙ ap (λ b. filled p s b rest l) (sym front);
       lines = ap (λ left. old ++ filled_lines p s before left l) next
-        ∙ ap (λ c. old ++ (text ++ filled_lines p s (still_before c f before) rest (gone_to c f before rest l))) stays
-        ∙ ap (λ b. old ++ (text ++ filled_lines p s b rest l)) (sym front)
-        ∙ sym (append_assoc old text (filled_lines p s (take (suc k) d) rest l))
-        ∙ ap (λ t. t ++ filled_lines p s (take (suc k) d) rest l) (sym told);
+          ∙ ap (λ c. old ++ (text ++ filled_lines p s (still_before c f before) rest (gone_to c f before rest l))) stays
+          ∙ ap (λ b. old ++ (text ++ filled_lines p s b rest l)) (sym front)
+          ∙ sym (append_assoc old text (filled_lines p s (take (suc k) d) rest l))
+          ∙ ap (λ t. t ++ filled_lines p s (take (suc k) d) rest l) (sym told);
       left = omega arith;
     }
 

@@ -19,7 +19,7 @@ pub use crate::columns::{put_alone, put_company, put_joining};
 pub use crate::decisions::{
     put_above_both, put_at_bottom, put_at_top, put_back, put_entering, put_goes, put_in_text,
 };
-pub use crate::filling::put_filled;
+pub use crate::filling::{put_doubled, put_filled};
 pub use crate::heads::alone_at;
 pub use crate::laws::{the_company_is_told, what_is_told_is_the_decision, yes_says_that_all_hold};
 pub use crate::places::{put_begins, put_beside, put_call, put_wait};
