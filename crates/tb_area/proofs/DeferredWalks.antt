@@ -255,32 +255,20 @@ double-over (f ∷ fs) (suc k) r a goes above stays =
     omega (arith, double-over fs k r a goes above (λ e. omega (arith, stays e)))
 
 pub gone-double : (from : Part) → IsWaiting from → (k : ℕ) (f : Float) (v : FloatPool) → (moved_float from k parts.Double f v).lists ≡ gone_double from true f (take k (floats_of from v.lists)) (drop (suc k) (floats_of from v.lists)) v.lists
-gone-double parts.Current waits k f v = absurd waits
-gone-double parts.Here waits k f v = absurd waits
-gone-double parts.Top waits k f v = absurd waits
-gone-double parts.Bottom waits k f v = absurd waits
-gone-double parts.Double waits k f v = absurd waits
 gone-double parts.Deferred waits k f v = ap (λ (fs : List Float). record v.lists { double = v.lists.double ++ f ∷ []; deferred = fs }) (without_place-parts k v.lists.deferred)
 gone-double parts.Second waits k f v = ap (λ (fs : List Float). record v.lists { double = v.lists.double ++ f ∷ []; second = fs }) (without_place-parts k v.lists.second)
+gone-double from waits k f v = absurd waits
 
 -- the list has one float less then
 pub double-parts : (from : Part) → IsWaiting from → (k : ℕ) (f : Float) (v : FloatPool) → floats_of from (moved_float from k parts.Double f v).lists ≡ without_place k (floats_of from v.lists)
-double-parts parts.Current waits k f v = absurd waits
-double-parts parts.Here waits k f v = absurd waits
-double-parts parts.Top waits k f v = absurd waits
-double-parts parts.Bottom waits k f v = absurd waits
-double-parts parts.Double waits k f v = absurd waits
 double-parts parts.Deferred waits k f v = refl
 double-parts parts.Second waits k f v = refl
+double-parts from waits k f v = absurd waits
 
 pub size-double : (from : Part) → IsWaiting from → (k : ℕ) (f : Float) (v : FloatPool) → (moved_float from k parts.Double f v).size ≡ v.size
-size-double parts.Current waits k f v = absurd waits
-size-double parts.Here waits k f v = absurd waits
-size-double parts.Top waits k f v = absurd waits
-size-double parts.Bottom waits k f v = absurd waits
-size-double parts.Double waits k f v = absurd waits
 size-double parts.Deferred waits k f v = refl
 size-double parts.Second waits k f v = refl
+size-double from waits k f v = absurd waits
 
 -- ---- one float fewer is left
 

@@ -105,15 +105,11 @@ pub fill-order : (k : ℕ) (p : Params) (s : Suppress) (l : FloatLists) → colu
 fill-order k p s l = filled-order k p s [] l.deferred l refl
 
 gone_double-order : (from : Part) → IsWaiting from → (k : ℕ) (b : Bool) (f : Float) (before rest : List Float) (l : FloatLists) → floats_of from l ≡ before ++ f ∷ rest → PassesNone l before f (if b then places.Double else places.Deferred) → double_order from k (gone_double from b f before rest l) ≡ double_order from k l
-gone_double-order parts.Current w k b f before rest l e order = absurd w
-gone_double-order parts.Here w k b f before rest l e order = absurd w
-gone_double-order parts.Top w k b f before rest l e order = absurd w
-gone_double-order parts.Bottom w k b f before rest l e order = absurd w
-gone_double-order parts.Double w k b f before rest l e order = absurd w
 gone_double-order parts.Deferred w k true f before rest l e order = two-order k f l.double before rest order ∙ ap (λ d. of_class k (l.double ++ d)) (sym e)
 gone_double-order parts.Deferred w k false f before rest l e order = refl
 gone_double-order parts.Second w k true f before rest l e order = two-order k f l.double before rest order ∙ ap (λ d. of_class k (l.double ++ d)) (sym e)
 gone_double-order parts.Second w k false f before rest l e order = refl
+gone_double-order from w k b f before rest l e order = absurd w
 
 pub gone_double-waiting : (from : Part) → IsWaiting from → (b : Bool) (f : Float) (before rest : List Float) (l : FloatLists) → floats_of from l ≡ before ++ f ∷ rest → floats_of from (gone_double from b f before rest l) ≡ still_single b f before ++ rest
 gone_double-waiting from w true f before rest l e = floats-with from w (before ++ rest) (record l { double = l.double ++ f ∷ [] })

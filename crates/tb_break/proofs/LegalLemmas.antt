@@ -5,7 +5,7 @@ use Rattle.std.proofs.lemmas.Bool.Decides.{nat_tests}
 use Rattle.std.proofs.lemmas.List.{length-map}
 use Rattle.tb_scaled.specs.Scaled.{eject_penalty}
 use Rattle.tb_node.specs.declared.Node.{Node}
-use Rattle.tb_node.specs.Shape.{Shape, box, glue, kern, penalty, other, is_discardable}
+use Rattle.tb_node.specs.Shape.{Shape, box, is_discardable}
 use Rattle.tb_node.specs.PlainNodes.{shape_of}
 use Rattle.tb_break.specs.Places.{ends_lasting, begins_with_glue, split_penalty, legal_at}
 use Rattle.tb_break.specs.SplitPlace.{penalty_by, is_glue}
@@ -13,10 +13,7 @@ use Rattle.tb_break.proofs.FindLemmas.{legal_is, ends_with}
 
 begins_is : (n : Shape) (rest : List Shape) → begins_with_glue (n ∷ rest) ≡ is_glue n
 begins_is (box h d) rest = refl
-begins_is (glue g) rest = refl
-begins_is (kern w) rest = refl
-begins_is (penalty p) rest = refl
-begins_is other rest = refl
+begins_is n rest = refl
 
 -- the node at a place is the first of the rest there
 pub node_at : (ns : List Node) (k : ℕ) (n : Node) → Some n ≡ slice_get ns k → drop k (map shape_of ns) ≡ shape_of n ∷ drop (suc k) (map shape_of ns)

@@ -8,7 +8,7 @@ use Rattle.tb_pool.specs.declared.ListId.{ListId}
 use Rattle.tb_node.specs.declared.Node.{Node}
 use Rattle.tb_node.specs.declared.Kind.{Kind}
 use Rattle.tb_node.specs.declared.Kind.TheVariants as kinds
-use Rattle.tb_node.specs.Shape.{Shape, box, glue, kern, penalty, other, is_discardable, is_box}
+use Rattle.tb_node.specs.Shape.{Shape, box, other, is_discardable, is_box}
 use Rattle.tb_node.specs.PlainNodes.{leaf_shape, shape_of, leaf_of, plain_kind, matter_of, matter_shape, kind_shape, shape_of_kind, skip}
 use Rattle.tb_node.specs.SmallAmounts.{IsSmallShape}
 use Rattle.tb_break.specs.SplitPlace.{NodesFit}
@@ -21,10 +21,7 @@ use Rattle.tb_pool.proofs.CallerLemmas.{list_same, with_list-twice}
 module _ {N M : Type 0} (f : N → M) (shape : N → Shape) (shape' : M → Shape) (new : N → Glue → N) (new' : M → Glue → M) where
   pruned_at-map : (t : ℤ) (s : Shape) (n : N) (ns pruned : List N) → ((g : Glue) → f (new n g) ≡ new' (f n) g) → map f (pruned_at new t s n ns pruned) ≡ pruned_at new' t s (f n) (map f ns) (map f pruned)
   pruned_at-map t (box h d) n ns pruned e = ap (λ m. m ∷ f n ∷ map f ns) (e (top_glue t h))
-  pruned_at-map t (glue g) n ns pruned e = refl
-  pruned_at-map t (kern w) n ns pruned e = refl
-  pruned_at-map t (penalty p) n ns pruned e = refl
-  pruned_at-map t other n ns pruned e = refl
+  pruned_at-map t s n ns pruned e = refl
 
   pub pruned_by-map : (t : ℤ) → ((n : N) → shape' (f n) ≡ shape n) → ((n : N) (g : Glue) → f (new n g) ≡ new' (f n) g) → (ns : List N) → map f (pruned_by shape new t ns) ≡ pruned_by shape' new' t (map f ns)
   pruned_by-map t same made [] = refl
@@ -35,27 +32,11 @@ module _ {N M : Type 0} (f : N → M) (shape : N → Shape) (shape' : M → Shap
 
 plain_shape : (held : ListId → List Node) (k : Kind) → kind_shape (plain_kind held k) ≡ shape_of_kind k
 plain_shape held (kinds.Hbox what h d) = refl
-plain_shape held (kinds.Rule name h d) = refl
-plain_shape held (kinds.Skip g) = refl
-plain_shape held (kinds.Kern w) = refl
-plain_shape held (kinds.Pen p) = refl
-plain_shape held (kinds.Mark name) = refl
-plain_shape held (kinds.Note name) = refl
-plain_shape held kinds.Whatsit = refl
-plain_shape held (kinds.Ins i) = refl
-plain_shape held (kinds.Act a) = refl
+plain_shape held k = refl
 
 matter_shape-of : (k : Kind) → matter_shape (matter_of k) ≡ shape_of_kind k
 matter_shape-of (kinds.Hbox what h d) = refl
-matter_shape-of (kinds.Rule name h d) = refl
-matter_shape-of (kinds.Skip g) = refl
-matter_shape-of (kinds.Kern w) = refl
-matter_shape-of (kinds.Pen p) = refl
-matter_shape-of (kinds.Mark name) = refl
-matter_shape-of (kinds.Note name) = refl
-matter_shape-of kinds.Whatsit = refl
-matter_shape-of (kinds.Ins i) = refl
-matter_shape-of (kinds.Act a) = refl
+matter_shape-of k = refl
 
 -- a pruned list of a store, in leaves
 pub leaf-pruned_list : (t : ℤ) (ns : List Node) → map leaf_of (pruned_list t ns) ≡ pruned_leaves t (map leaf_of ns)
@@ -66,10 +47,8 @@ leaf-pruned_list t ns = pruned_by-map leaf_of shape_of leaf_shape glue_before (�
 pruned_at-parts : (t : ℤ) (s : Shape) (n : Node) (ns : List Node) → shape_of n ≡ s → before_box ns ++ topped t (from_box ns) ≡ pruned_list t ns
     → kept_at s n (before_box ns) ++ topped t (boxed_at s (n ∷ ns) (from_box ns)) ≡ pruned_at glue_before t s n ns (pruned_list t ns)
 pruned_at-parts t (box h d) n ns e later = ap (λ s. with_front (top_at t s n) (n ∷ ns)) e
-pruned_at-parts t (glue g) n ns e later = later
-pruned_at-parts t (kern w) n ns e later = later
-pruned_at-parts t (penalty p) n ns e later = later
 pruned_at-parts t other n ns e later = ap (λ ms. n ∷ ms) later
+pruned_at-parts t s n ns e later = later
 
 -- first what does not vanish before the first box, then the list from there on with its top glue
 pub pruned_list-parts : (t : ℤ) (ns : List Node) → before_box ns ++ topped t (from_box ns) ≡ pruned_list t ns
@@ -78,10 +57,7 @@ pruned_list-parts t (n ∷ ns) = pruned_at-parts t (shape_of n) n ns refl (prune
 
 parts_at-length : (s : Shape) (n : Node) (ns : List Node) → length (before_box ns) + length (from_box ns) ≤ length ns → length (kept_at s n (before_box ns)) + length (boxed_at s (n ∷ ns) (from_box ns)) ≤ suc (length ns)
 parts_at-length (box h d) n ns e = omega arith
-parts_at-length (glue g) n ns e = omega arith
-parts_at-length (kern w) n ns e = omega arith
-parts_at-length (penalty p) n ns e = omega arith
-parts_at-length other n ns e = omega arith
+parts_at-length s n ns e = omega arith
 
 -- the two parts are no longer than the list
 pub parts-length : (ns : List Node) → length (before_box ns) + length (from_box ns) ≤ length ns
@@ -99,10 +75,7 @@ topped-length t (n ∷ ns) = with_front-length (top_at t (shape_of n) n) (n ∷ 
 -- no top glue comes before a node that is no box or rule
 pub untopped : (t : ℤ) (s : Shape) (n : Node) → is_box s ≡ false → top_at t s n ≡ None
 untopped t (box h d) n e = cc
-untopped t (glue g) n e = refl
-untopped t (kern w) n e = refl
-untopped t (penalty p) n e = refl
-untopped t other n e = refl
+untopped t s n e = refl
 
 -- a pruned list has at most one more node
 pub length-pruned_list : (t : ℤ) (ns : List Node) → length (pruned_list t ns) ≤ length ns + 1
@@ -126,25 +99,18 @@ vanishes s n k e t a b = record { more = []; count = cc; few = omega arith; turn
 
 pub steps : (s : Shape) (n : Node) (k : ℕ) → moved_at s ≡ Some k → Steps s n k
 steps (box h d) n k e = cc
-steps (glue g) n k e = vanishes (glue g) n k e (λ ns. refl) (λ later. refl) (λ ns later. refl)
-steps (kern w) n k e = vanishes (kern w) n k e (λ ns. refl) (λ later. refl) (λ ns later. refl)
-steps (penalty p) n k e = vanishes (penalty p) n k e (λ ns. refl) (λ later. refl) (λ ns later. refl)
 steps other n k e = record { more = n ∷ []; count = cc; few = omega arith; turned_is = λ ns. refl; kept_is = λ later. refl; boxed_is = λ ns later. refl }
+steps s n k e = vanishes s n k e (λ ns. refl) (λ later. refl) (λ ns later. refl)
 
 -- a node that is no box vanishes if it does not last, else it goes to the end
 pub vanishing : (s : Shape) (n : Node) (ns : List Node) → is_box s ≡ false → not (is_discardable s) ≡ false → turned_at s n ns ≡ ns
 vanishing (box h d) n ns b e = cc
-vanishing (glue g) n ns b e = refl
-vanishing (kern w) n ns b e = refl
-vanishing (penalty p) n ns b e = refl
 vanishing other n ns b e = cc
+vanishing s n ns b e = refl
 
 pub boxed_turn : (s : Shape) (n : Node) (ns : List Node) → is_box s ≡ true → turned_at s n ns ≡ n ∷ ns
 boxed_turn (box h d) n ns e = refl
-boxed_turn (glue g) n ns e = cc
-boxed_turn (kern w) n ns e = cc
-boxed_turn (penalty p) n ns e = cc
-boxed_turn other n ns e = cc
+boxed_turn s n ns e = cc
 
 -- the list after this many nodes were looked at: these are left, and these went to the end
 pub record Turning (old now : Lists Node) (l : ℕ) (turn all count : ℕ) : Type 0 where
@@ -204,10 +170,7 @@ module _ (old now new : Lists Node) (l turn all count : ℕ) where
 
   boxed : (s : Shape) (n : Node) → moved_at s ≡ None → (ns later : List Node) → (turned_at s n ns ≡ n ∷ ns) × (kept_at s n later ≡ []) × (boxed_at s ns later ≡ ns)
   boxed (box h d) n e ns later = (refl, refl, refl)
-  boxed (glue g) n e ns later = cc
-  boxed (kern w) n e ns later = cc
-  boxed (penalty p) n e ns later = cc
-  boxed other n e ns later = cc
+  boxed s n e ns later = cc
 
   pub stops : turn < all → Turning old now l turn all count → new.lists ≡ with_list now l (turned (list_at now l)) → moved (list_at now l) ≡ None → Stopped
   stops lt g e m = by_rest g.rest refl
@@ -297,10 +260,8 @@ some_left old now l front aside turn lt g none =
 -- no node that is kept is a box or rule
 kept-untopped : (t : ℤ) (s : Shape) (n : Node) (ns : List Node) → shape_of n ≡ s → topped t (before_box ns) ≡ before_box ns → topped t (kept_at s n (before_box ns)) ≡ kept_at s n (before_box ns)
 kept-untopped t (box h d) n ns e later = refl
-kept-untopped t (glue g) n ns e later = later
-kept-untopped t (kern w) n ns e later = later
-kept-untopped t (penalty p) n ns e later = later
 kept-untopped t other n ns e later = ap (λ s. with_front (top_at t s n) (n ∷ before_box ns)) e
+kept-untopped t s n ns e later = later
 
 before-untopped : (t : ℤ) (ns : List Node) → topped t (before_box ns) ≡ before_box ns
 before-untopped t [] = refl
@@ -330,10 +291,7 @@ first_is m n ms ns e = cc
 
 box_at-fits : (s : Shape) (m : Node) (ms : List Node) (n : Node) (ns : List Node) → Each (m ∷ ms) → (from_box ms ≡ n ∷ ns → IsSmallShape (shape_of n)) → boxed_at s (m ∷ ms) (from_box ms) ≡ n ∷ ns → IsSmallShape (shape_of n)
 box_at-fits (box h d) m ms n ns fit later e = fits_first m ms fit n (first_is m n ms ns e)
-box_at-fits (glue g) m ms n ns fit later e = later e
-box_at-fits (kern w) m ms n ns fit later e = later e
-box_at-fits (penalty p) m ms n ns fit later e = later e
-box_at-fits other m ms n ns fit later e = later e
+box_at-fits s m ms n ns fit later e = later e
 
 box_fits : (ms : List Node) (n : Node) (ns : List Node) → Each ms → from_box ms ≡ n ∷ ns → IsSmallShape (shape_of n)
 box_fits [] n ns fit e = cc
@@ -341,10 +299,8 @@ box_fits (m ∷ ms) n ns fit e = box_at-fits (shape_of m) m ms n ns fit (box_fit
 
 kept_at-fits : (s : Shape) (m : Node) (ms : List Node) (n : Node) (ns : List Node) → Each (m ∷ ms) → (before_box ms ≡ n ∷ ns → IsSmallShape (shape_of n)) → kept_at s m (before_box ms) ≡ n ∷ ns → IsSmallShape (shape_of n)
 kept_at-fits (box h d) m ms n ns fit later e = cc
-kept_at-fits (glue g) m ms n ns fit later e = later e
-kept_at-fits (kern w) m ms n ns fit later e = later e
-kept_at-fits (penalty p) m ms n ns fit later e = later e
 kept_at-fits other m ms n ns fit later e = fits_first m ms fit n (first_is m n (before_box ms) ns e)
+kept_at-fits s m ms n ns fit later e = later e
 
 kept_fits : (ms : List Node) (n : Node) (ns : List Node) → Each ms → before_box ms ≡ n ∷ ns → IsSmallShape (shape_of n)
 kept_fits [] n ns fit e = cc

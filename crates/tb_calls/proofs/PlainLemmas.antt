@@ -169,10 +169,8 @@ is_page events.Empty = false
 
 -- unless the page fired
 pub filling_again : (stopped : Bool) (v : Event) (c d : Contents) (ask : Ask) (t : Lists Node) → is_page v ≡ false → c.stopped ≡ stopped → IsFilling c ask → NextIs stopped v c ask d t → IsFilling d ask
-filling_again true (events.Try x) c d ask t on going f h = absurd h
-filling_again true (events.Act a) c d ask t on going f h = absurd h
 filling_again true (events.Fired page) c d ask t on going f h = absurd (true≢false on)
-filling_again true events.Empty c d ask t on going f h = absurd h
+filling_again true v c d ask t on going f h = absurd h
 filling_again false v c d ask t on going f h = record {
   asked = f.asked;
   sized = event-sized c d ask v f.asked f.sized going h.0 h.1;

@@ -51,20 +51,12 @@ pub record MarkedSoFar (from : Part) (sep : Glue) (l : ℕ) (s0 : Lists Node) (v
 marks-left : (from : Part) (k : ℕ) (v : FloatPool) → IsWaiting from → marks_of from (without_entry from k v) ≡ without_place k (marks_of from v)
 marks-left parts.Deferred k v waits = refl
 marks-left parts.Second k v waits = refl
-marks-left parts.Current k v waits = absurd waits
-marks-left parts.Here k v waits = absurd waits
-marks-left parts.Top k v waits = absurd waits
-marks-left parts.Bottom k v waits = absurd waits
-marks-left parts.Double k v waits = absurd waits
+marks-left from k v waits = absurd waits
 
 floats-left : (from : Part) (k : ℕ) (v : FloatPool) → IsWaiting from → floats_of from (without_entry from k v).lists ≡ without_place k (floats_of from v.lists)
 floats-left parts.Deferred k v waits = refl
 floats-left parts.Second k v waits = refl
-floats-left parts.Current k v waits = absurd waits
-floats-left parts.Here k v waits = absurd waits
-floats-left parts.Top k v waits = absurd waits
-floats-left parts.Bottom k v waits = absurd waits
-floats-left parts.Double k v waits = absurd waits
+floats-left from k v waits = absurd waits
 
 -- a marked float was the first one that has a mark, so each float that waits still has one
 mark_for_each : (from : Part) (v w : FloatPool) (f : Float) → IsWaiting from → length (marks_of from v) ≡ length (floats_of from v.lists) → marked_floats from v ≡ f ∷ marked_floats from w
@@ -128,31 +120,22 @@ pub here_more : (v w : FloatPool) (e : Entry) → Some e ≡ slice_get (float_en
 here_more v w e h is = ap (λ (fs : List Float). length fs) (first_float v.lists.here e h).first ∙ ap (λ (u : FloatPool). suc (length u.lists.here)) (sym is)
 
 area_first : (a : Part) → IsArea a → (v : FloatPool) (e : Entry) → Some e ≡ slice_get (entries_of a v.lists) 0 → FirstFloat (floats_of a v.lists) (floats_of a (without_entry a 0 v).lists) e
-area_first parts.Current area v e h = absurd area
-area_first parts.Here area v e h = absurd area
 area_first parts.Top area v e h = first_float v.lists.top e h
 area_first parts.Bottom area v e h = first_float v.lists.bottom e h
-area_first parts.Deferred area v e h = absurd area
-area_first parts.Second area v e h = absurd area
 area_first parts.Double area v e h = first_float v.lists.double e h
+area_first a area v e h = absurd area
 
 area_rest : (a : Part) → IsArea a → (v : FloatPool) → without_entries a (without_entry a 0 v) ≡ without_entries a v
-area_rest parts.Current area v = absurd area
-area_rest parts.Here area v = absurd area
 area_rest parts.Top area v = refl
 area_rest parts.Bottom area v = refl
-area_rest parts.Deferred area v = absurd area
-area_rest parts.Second area v = absurd area
 area_rest parts.Double area v = refl
+area_rest a area v = absurd area
 
 pub area_none : (a : Part) → IsArea a → (v : FloatPool) → entry_count a v.lists ≡ 0 → floats_of a v.lists ≡ []
-area_none parts.Current area v e = absurd area
-area_none parts.Here area v e = absurd area
 area_none parts.Top area v e = nil_from_length v.lists.top e
 area_none parts.Bottom area v e = nil_from_length v.lists.bottom e
-area_none parts.Deferred area v e = absurd area
-area_none parts.Second area v e = absurd area
 area_none parts.Double area v e = nil_from_length v.lists.double e
+area_none a area v e = absurd area
 
 -- the entry is a float
 pub area_float : (a : Part) → IsArea a → (v : FloatPool) (e : Entry) → Some e ≡ slice_get (entries_of a v.lists) 0 → is_float e ≡ true
@@ -195,13 +178,10 @@ module _ (a : Part) (area : IsArea a) (place : Where) (sep : Glue) (l : ℕ) (s0
 
 -- how many they are
 pub area_count : (a : Part) → IsArea a → (v : FloatPool) → length (floats_of a v.lists) ≡ entry_count a v.lists
-area_count parts.Current area v = absurd area
-area_count parts.Here area v = absurd area
 area_count parts.Top area v = refl
 area_count parts.Bottom area v = refl
-area_count parts.Deferred area v = absurd area
-area_count parts.Second area v = absurd area
 area_count parts.Double area v = refl
+area_count a area v = absurd area
 
 above-full : (place : Where) (sep last : Glue) (fs : List Float) → length fs ≢ 0 → boxes_with place sep fs ++ made_node (kinds.Skip (negated_glue sep)) ∷ made_node (kinds.Skip last) ∷ [] ≡ boxes_above place sep last fs
 above-full place sep last [] some = absurd (some refl)

@@ -73,21 +73,13 @@ module _ (old new : Lists Node) (l : ℕ) (xs : List Node) (fresh : get old.list
 pub waiting-count : (from : Part) (l : FloatLists) → IsWaiting from → length (floats_of from l) ≡ entry_count from l
 waiting-count parts.Deferred l waits = refl
 waiting-count parts.Second l waits = refl
-waiting-count parts.Current l waits = absurd waits
-waiting-count parts.Here l waits = absurd waits
-waiting-count parts.Top l waits = absurd waits
-waiting-count parts.Bottom l waits = absurd waits
-waiting-count parts.Double l waits = absurd waits
+waiting-count from l waits = absurd waits
 
 -- none is left of a list whose marked floats have gone
 pub none-marked : (from : Part) (v : FloatPool) → IsWaiting from → marked_floats from (without_marked from v) ≡ []
 none-marked parts.Deferred v waits = marked-false (length (unmarked_floats parts.Deferred v)) (unmarked_floats parts.Deferred v)
 none-marked parts.Second v waits = marked-false (length (unmarked_floats parts.Second v)) (unmarked_floats parts.Second v)
-none-marked parts.Current v waits = absurd waits
-none-marked parts.Here v waits = absurd waits
-none-marked parts.Top v waits = absurd waits
-none-marked parts.Bottom v waits = absurd waits
-none-marked parts.Double v waits = absurd waits
+none-marked from v waits = absurd waits
 
 -- ---- a column of floats
 

@@ -29,31 +29,16 @@ use Rattle.tb_column.proofs.FloatLemmas.{boxes_above-held, boxes_below-held}
 -- a node's shape does not depend on the lists of insertions
 kind_shape-held : (held : ℕ → List Node) (k : Kind) → kind_shape (plain_kind held k) ≡ shape_of_kind k
 kind_shape-held held (kinds.Hbox what h d) = refl
-kind_shape-held held (kinds.Rule name h d) = refl
-kind_shape-held held (kinds.Skip g) = refl
-kind_shape-held held (kinds.Kern w) = refl
-kind_shape-held held (kinds.Pen p) = refl
-kind_shape-held held (kinds.Mark name) = refl
-kind_shape-held held (kinds.Note name) = refl
-kind_shape-held held kinds.Whatsit = refl
-kind_shape-held held (kinds.Ins i) = refl
-kind_shape-held held (kinds.Act a) = refl
+kind_shape-held held k = refl
 
 pub shapes-held : (held : ℕ → List Node) (ns : List Node) → map node_shape (map (plain_of held) ns) ≡ map shape_of ns
 shapes-held held [] = refl
 shapes-held held (n ∷ ns) = λ i. kind_shape-held held n.kind i ∷ shapes-held held ns i
 
 leaf_kind-held : (held : ℕ → List Node) (k : Kind) → is_leaf_kind k → plain_kind held k ≡ plain (matter_of k)
-leaf_kind-held held (kinds.Hbox what h d) leaf = refl
-leaf_kind-held held (kinds.Rule name h d) leaf = refl
-leaf_kind-held held (kinds.Skip g) leaf = refl
-leaf_kind-held held (kinds.Kern w) leaf = refl
-leaf_kind-held held (kinds.Pen p) leaf = refl
-leaf_kind-held held (kinds.Mark name) leaf = refl
-leaf_kind-held held (kinds.Note name) leaf = refl
-leaf_kind-held held kinds.Whatsit leaf = refl
 leaf_kind-held held (kinds.Ins i) leaf = absurd leaf
 leaf_kind-held held (kinds.Act a) leaf = absurd leaf
+leaf_kind-held held k leaf = refl
 
 -- what neither insertions nor acts show does not depend on the lists of insertions either
 pub leaves-held : (held : ℕ → List Node) (ns : List Node) → AreLeaves ns → map (plain_of held) ns ≡ map leaf_node (map leaf_of ns)

@@ -11,8 +11,10 @@ use Rattle.tb_dvi.specs.declared.DviCause.{DviCause}
 use Rattle.tb_dvi.specs.Machine.{Item, ended, State, Step, op_of, op_step, before, followed, run, pre_length, at_start, listed_after, listed}
 use Rattle.tb_dvi.specs.Listing.{item_line, listing}
 use Rattle.tb_dvi.specs.Refusal.{Misses}
-use Rattle.tb_dvi.specs.Lister.{IsInBounds, state_of, CommandStops, Ends, CommandPasses}
+use Rattle.tb_dvi.specs.Reading.{HasBegun, IsReading}
+use Rattle.tb_dvi.specs.Lister.{state_of, CommandStops, Ends, CommandPasses}
 use Rattle.tb_dvi.proofs.LawLemmas.{before-before, before-none}
+use Rattle.tb_dvi.proofs.BoundLemmas.{more}
 
 -- bytes that a command took are passed
 run-past : (size place : ℕ) (s : State) (bytes : List ℕ) → size ≤ length bytes → run size place s bytes ≡ run 0 (place + size) s (drop size bytes)
@@ -41,15 +43,7 @@ same-at [] i a b h = absurd (not-suc-le-zero h)
 same-at (x ∷ xs) zero a b h = refl
 same-at (x ∷ xs) (suc i) a b h = same-at xs i a b (omega (arith, h))
 
--- what is listed so far, and that the machine goes on from here
-pub record Reading (bytes : List ℕ) (place : ℕ) (l : Lister) : Type 0 where
-  pub items : List Item
-  pub goes_on : listed bytes ≡ before items (run 0 place (state_of l) (drop place bytes))
-  pub text : l.out.items ≡ listing items
-  pub within : place ≤ length bytes
-  pub bounds : IsInBounds place l
-
-module _ (bytes : List ℕ) (place : ℕ) (l : Lister) (now : Reading bytes place l) where
+module _ (bytes : List ℕ) (place : ℕ) (l : Lister) (now : IsReading bytes place l) where
   module _ (b : ℕ) (here : place < length bytes) (is : b ≡ get_or bytes place b) where
     -- the command at this place
     its_step : Step
@@ -80,7 +74,7 @@ module _ (bytes : List ℕ) (place : ℕ) (l : Lister) (now : Reading bytes plac
     )
 
     -- the file goes on
-    pub goes_here : (next : ℕ) (new : Lister) → CommandPasses place next (length (drop (place + 1) bytes)) l new (op_step place (op_of b) (drop (place + 1) bytes) (state_of l)) → Reading bytes next new
+    pub goes_here : (next : ℕ) (new : Lister) → CommandPasses place next (length (drop (place + 1) bytes)) l new (op_step place (op_of b) (drop (place + 1) bytes) (state_of l)) → IsReading bytes next new
     goes_here next new p = record {
       items = now.items ++ p.takes.items;
       goes_on =
@@ -98,16 +92,16 @@ module _ (bytes : List ℕ) (place : ℕ) (l : Lister) (now : Reading bytes plac
     }
 
 -- after the preamble
-pub begins : (bytes : List ℕ) (n : ℕ) (l : Lister) → pre_length bytes ≡ Ok n → n ≤ length bytes → state_of l ≡ at_start → l.out.items ≡ listing [] → IsInBounds n l → Reading bytes n l
-begins bytes n l pre within start text bounds = record {
+pub begins : (bytes : List ℕ) (n : ℕ) (l : Lister) → pre_length bytes ≡ Ok n → n ≤ length bytes → HasBegun l → IsReading bytes n l
+begins bytes n l pre within begun = record {
   items = [];
   goes_on =
       ap (λ r. listed_after r bytes) pre ∙ run-past n 0 at_start bytes within
-      ∙ (λ i. run 0 (zero-add n i) (sym start i) (drop n bytes))
+      ∙ (λ i. run 0 (zero-add n i) (sym begun.state i) (drop n bytes))
       ∙ sym (before-none (run 0 n (state_of l) (drop n bytes)));
-  text = text;
+  text = begun.text;
   within = within;
-  bounds = bounds;
+  bounds = more 0 n l (omega arith) begun.bounds;
 }
 
 -- a preamble that is refused

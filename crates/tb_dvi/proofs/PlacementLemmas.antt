@@ -73,15 +73,7 @@ module _ (held : ℕ → List Node) (h at : ℤ) (s : Set) where
   -- what is shown of a node does not depend on the lists of insertions
   kind_spot-held : (k : Kind) → kind_spot (plain_kind held k) ≡ matter_spot (matter_of k)
   kind_spot-held (kinds.Ins i) = refl
-  kind_spot-held (kinds.Act a) = refl
-  kind_spot-held (kinds.Hbox what x d) = refl
-  kind_spot-held (kinds.Rule name x d) = refl
-  kind_spot-held (kinds.Skip g) = refl
-  kind_spot-held (kinds.Kern w) = refl
-  kind_spot-held (kinds.Pen p) = refl
-  kind_spot-held (kinds.Mark name) = refl
-  kind_spot-held (kinds.Note name) = refl
-  kind_spot-held kinds.Whatsit = refl
+  kind_spot-held k = refl
 
   -- the placements of the rest of a list, after the nodes before
   abbrev pub placed : List Node → List Node → List Placement

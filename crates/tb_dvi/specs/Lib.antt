@@ -3,6 +3,7 @@ pub mod File
 pub mod Machine
 pub mod Listing
 pub mod Page
+pub mod Reading
 pub mod Refusal
 pub mod Lister
 pub mod Progress

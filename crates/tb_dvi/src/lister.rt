@@ -4,6 +4,7 @@ ghost use Rattle.std.specs.List.{list_all};
 ghost use Rattle.tb_dvi.specs.Machine.{unsigned_number, pre_length, is_filling, is_end, op_of, op_size, op_step, page_step, between_step, end_step, whole_step, Item, listed};
 ghost use Rattle.tb_dvi.specs.Listing.{listing};
 ghost use Rattle.tb_dvi.specs.Lister.{IsInBounds, IsBounded, IsShort, state_of, TakesOr, EndsOr, Steps};
+ghost use Rattle.tb_dvi.specs.Reading.{HasBegun, IsReading};
 ghost use Rattle.tb_dvi.specs.Refusal.{Misses};
 
 use crate::DviCause;
@@ -204,6 +205,37 @@ impl Lister {
         }
         self.whole_step(place, op, args)
     }
+
+    // Takes the commands from a place on, up to the end of the file.
+    fn read_on(&mut self, start: usize, bytes: &[u8]) -> Result<(), ListFault>
+        requires length { length bytes.now ≤ 8388608 }
+        requires reading { IsReading bytes.now start self.old }
+        ensures text { IfOk result (λ _. (items : List Item) × (listed bytes.now ≡ Ok items) × (self.new.out.items ≡ listing items)) }
+        ensures fault { IfErr result (λ e. Misses e (listed bytes.now)) }
+    {
+        let mut place = start;
+        while place < bytes.len() {
+            match self.step(place, bytes[place], &bytes[place + 1..])? {
+                Next::At(next) => place = next,
+                Next::End => return Ok(()),
+            }
+        }
+        Err(failed(place, DviCause::Truncated))
+    }
+}
+
+// The lister before the first command.
+fn begun(alloc: Global) -> Result<Lister, AllocError>
+    ensures { IfOk result HasBegun }
+{
+    let mut out = Vec::new(alloc);
+    put(&mut out, b"dvi 1\n")?;
+    Ok(Lister {
+        out,
+        stack: Stack::new(alloc),
+        mode: Mode::Between,
+        pages: 0,
+    })
 }
 
 // The text of a special whose length has this many bytes.
@@ -275,22 +307,11 @@ pub fn list(alloc: Global, bytes: &[u8]) -> Result<Vec<u8>, ListFault>
     ensures text { IfOk result (λ text. (items : List Item) × (listed bytes.now ≡ Ok items) × (text.items ≡ listing items)) }
     ensures fault { IfErr result (λ e. Misses e (listed bytes.now)) }
 {
-    let mut place = match pre_length(bytes) {
+    let start = match pre_length(bytes) {
         Ok(length) => length,
         Err(cause) => return Err(failed(0, cause)),
     };
-    let mut lister = Lister {
-        out: Vec::new(alloc),
-        stack: Stack::new(alloc),
-        mode: Mode::Between,
-        pages: 0,
-    };
-    put(&mut lister.out, b"dvi 1\n")?;
-    while place < bytes.len() {
-        match lister.step(place, bytes[place], &bytes[place + 1..])? {
-            Next::At(next) => place = next,
-            Next::End => return Ok(lister.out),
-        }
-    }
-    Err(failed(place, DviCause::Truncated))
+    let mut lister = begun(alloc)?;
+    lister.read_on(start, bytes)?;
+    Ok(lister.out)
 }

@@ -24,17 +24,12 @@ pub contents-only : (p : Part) (es : List Entry) (fs : List Float) (ms : List Bo
 contents-only parts.Current es fs ms v parts.Current ne = absurd (ne refl)
 contents-only parts.Current es fs ms v q ne = refl
 contents-only parts.Here es fs ms v parts.Here ne = absurd (ne refl)
-contents-only parts.Here es fs ms v q ne = refl
 contents-only parts.Top es fs ms v parts.Top ne = absurd (ne refl)
-contents-only parts.Top es fs ms v q ne = refl
 contents-only parts.Bottom es fs ms v parts.Bottom ne = absurd (ne refl)
-contents-only parts.Bottom es fs ms v q ne = refl
 contents-only parts.Deferred es fs ms v parts.Deferred ne = absurd (ne refl)
-contents-only parts.Deferred es fs ms v q ne = refl
 contents-only parts.Double es fs ms v parts.Double ne = absurd (ne refl)
-contents-only parts.Double es fs ms v q ne = refl
 contents-only parts.Second es fs ms v parts.Second ne = absurd (ne refl)
-contents-only parts.Second es fs ms v q ne = refl
+contents-only p es fs ms v q ne = refl
 
 -- what is known of no list that changed is still known
 pub still-known : (k : Firsts) (p : Part) (l m : FloatLists) → ChangesOnly p l m → (IsWaiting p → k.of ≢ Some p) → KnowsFirsts k l → KnowsFirsts k m

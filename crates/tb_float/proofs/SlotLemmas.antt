@@ -46,8 +46,7 @@ class-parts k (suc n) (s ∷ ss) = by_entry s.entry (class-parts k n ss)
 
 float_before-append : (e : Entry) (fs gs : List Float) → float_before e (fs ++ gs) ≡ float_before e fs ++ gs
 float_before-append (entries.Float f) fs gs = refl
-float_before-append (entries.Left m) fs gs = refl
-float_before-append (entries.Right m) fs gs = refl
+float_before-append e fs gs = refl
 
 pub floats_among-append : (es ds : List Entry) → floats_among (es ++ ds) ≡ floats_among es ++ floats_among ds
 floats_among-append [] ds = refl
@@ -135,8 +134,7 @@ slots-sum p (s ∷ ss) h = entry-sum s.entry (length ss) (floats_in ss) h.0.size
 
 entry-taken : (e : Entry) (fs : List Float) → total_height (float_before e fs) ≡ total_height (float_before e []) +ℤ total_height fs
 entry-taken (entries.Float f) fs = omega (arith, ints)
-entry-taken (entries.Left m) fs = omega (arith, ints)
-entry-taken (entries.Right m) fs = omega (arith, ints)
+entry-taken e fs = omega (arith, ints)
 
 -- the sum without the float at a place
 pub total-without : (k : ℕ) (ss : List SlotView) (s : SlotView) → slice_get ss k ≡ Some s → total_height (floats_in (without_place k ss)) ≡ total_height (floats_in ss) -ℤ total_height (float_before s.entry [])

@@ -146,26 +146,17 @@ known-contents : (P : Float → Type 0) (p q : Part) (es : List Entry) (fs : Lis
 known-contents P parts.Current parts.Current es fs ms v e f h = e
 known-contents P parts.Current q es fs ms v e f h = h
 known-contents P parts.Here parts.Here es fs ms v e f h = f
-known-contents P parts.Here q es fs ms v e f h = h
 known-contents P parts.Top parts.Top es fs ms v e f h = f
-known-contents P parts.Top q es fs ms v e f h = h
 known-contents P parts.Bottom parts.Bottom es fs ms v e f h = f
-known-contents P parts.Bottom q es fs ms v e f h = h
 known-contents P parts.Deferred parts.Deferred es fs ms v e f h = f
-known-contents P parts.Deferred q es fs ms v e f h = h
 known-contents P parts.Double parts.Double es fs ms v e f h = f
-known-contents P parts.Double q es fs ms v e f h = h
 known-contents P parts.Second parts.Second es fs ms v e f h = f
-known-contents P parts.Second q es fs ms v e f h = h
+known-contents P p q es fs ms v e f h = h
 
 chosen-contents : (p : Part) (es : List Entry) (fs : List Float) (ms : List Bool) (v : FloatPool) (more n : ℕ) → chosen_count v ≤ n → (IsWaiting p → length (marked_among ms fs) ≤ length (marked_floats p v) + more) → chosen_count (with_contents p es fs ms v) ≤ n + more
 chosen-contents parts.Deferred es fs ms v more n h k = omega (arith, h, k tt)
 chosen-contents parts.Second es fs ms v more n h k = omega (arith, h, k tt)
-chosen-contents parts.Current es fs ms v more n h k = omega (arith, h)
-chosen-contents parts.Here es fs ms v more n h k = omega (arith, h)
-chosen-contents parts.Top es fs ms v more n h k = omega (arith, h)
-chosen-contents parts.Bottom es fs ms v more n h k = omega (arith, h)
-chosen-contents parts.Double es fs ms v more n h k = omega (arith, h)
+chosen-contents p es fs ms v more n h k = omega (arith, h)
 
 contents-tracked : (P : Float → Type 0) (n : ℕ) (p : Part) (es : List Entry) (fs : List Float) (ms : List Bool) (v : FloatPool) → Tracks P n v → AllByRecursion P (floats_among es) → AllByRecursion P fs → (IsWaiting p → length (marked_among ms fs) ≤ length (marked_floats p v)) → Tracks P n (with_contents p es fs ms v)
 contents-tracked P n p es fs ms v t e f k = record {
@@ -241,11 +232,7 @@ tracked-mark P n m p k v t more few = record {
     by_part : (q : Part) → chosen_count (with_mark q k v) ≤ n + 1
     by_part parts.Deferred = omega (arith, t.few, count-mark k v.marks v.lists.deferred)
     by_part parts.Second = omega (arith, t.few, count-mark k v.second_marks v.lists.second)
-    by_part parts.Current = omega (arith, t.few)
-    by_part parts.Here = omega (arith, t.few)
-    by_part parts.Top = omega (arith, t.few)
-    by_part parts.Bottom = omega (arith, t.few)
-    by_part parts.Double = omega (arith, t.few)
+    by_part q = omega (arith, t.few)
 
 pub tracked-unmarked : (P : Float → Type 0) (n : ℕ) (p : Part) (v : FloatPool) → Tracks P n v → Tracks P n (without_marks p v)
 tracked-unmarked P n p v t = record { floats = known-marks P p (replicate (length (marks_of p v)) false) v t.floats; few = by_part p }
@@ -253,11 +240,7 @@ tracked-unmarked P n p v t = record { floats = known-marks P p (replicate (lengt
     by_part : (q : Part) → chosen_count (without_marks q v) ≤ n
     by_part parts.Deferred = omega (arith, t.few, ap length (marked-false (length v.marks) v.lists.deferred))
     by_part parts.Second = omega (arith, t.few, ap length (marked-false (length v.second_marks) v.lists.second))
-    by_part parts.Current = omega (arith, t.few)
-    by_part parts.Here = omega (arith, t.few)
-    by_part parts.Top = omega (arith, t.few)
-    by_part parts.Bottom = omega (arith, t.few)
-    by_part parts.Double = omega (arith, t.few)
+    by_part q = omega (arith, t.few)
 
 -- one that was marked has left
 pub tracked-fewer : (P : Float → Type 0) (n : ℕ) (p : Part) (k : ℕ) (f : Float) (v : FloatPool) → IsWaiting p → Tracks P n v → marked_floats p v ≡ f ∷ marked_floats p (without_entry p k v) → Tracks P (n - 1) (without_entry p k v)

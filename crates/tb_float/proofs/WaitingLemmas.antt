@@ -102,7 +102,6 @@ pub other-marks : (p from : Part) → p ≢ from → (ms : List Bool) (v : Float
 other-marks parts.Deferred parts.Deferred ne ms v = absurd (ne refl)
 other-marks parts.Deferred from ne ms v = refl
 other-marks parts.Second parts.Second ne ms v = absurd (ne refl)
-other-marks parts.Second from ne ms v = refl
 other-marks p from ne ms v = refl
 
 -- ---- what one list holds is written

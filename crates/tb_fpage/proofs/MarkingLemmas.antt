@@ -140,7 +140,6 @@ none-left w all over = sym (drop_of_length-le all over)
 
 marks-again : (from : Part) (ms ns : List Bool) (v : FloatPool) → with_marks_of from ms (with_marks_of from ns v) ≡ with_marks_of from ms v
 marks-again parts.Deferred ms ns v = refl
-marks-again parts.Second ms ns v = refl
 marks-again p ms ns v = refl
 
 pub marks-set : (from : Part) → IsWaiting from → (k : ℕ) (u t : FloatPool) → t ≡ with_mark from k u → marks_of from t ≡ slice_set (marks_of from u) k true

@@ -82,8 +82,7 @@ is_late_cause (Some c) = is_late c
 
 late_text : (e : TextFault) → is_late (text_cause e) ≡ true
 late_text faults.BadNumber = refl
-late_text faults.BadUnit = refl
-late_text faults.Dimension = refl
+late_text e = refl
 
 late_if : (t : Bool) (c : Cause) → is_late c ≡ true → is_late_cause (if t then None else Some c) ≡ true
 late_if true c h = refl
@@ -134,13 +133,8 @@ late_glue c [] h = refl
 late_glue c (f ∷ fs) h = late_stretch c fs h
 
 late_form : (fs : List (List ℕ)) (form : Form) → list_all is_late_slot (form_slots fs form) ≡ true
-late_form fs (forms.Int low high) = refl
-late_form fs (forms.Dim low) = refl
-late_form fs forms.Frac = refl
 late_form fs forms.Skip = late_glue causes.WrongForm fs refl
-late_form fs forms.Bottom = refl
-late_form fs forms.Switch = refl
-late_form fs forms.Release = refl
+late_form fs form = refl
 
 late_rows : (fs : List (List ℕ)) (r : Option Row) → list_all is_late_slot (row_slots fs r) ≡ true
 late_rows fs None = refl

@@ -267,14 +267,8 @@ margin_is m vert =
 
 pub item_is : (version : ℕ) (k : ItemKind) → is_single k ≡ true → item_text version k ≡ line (item_line k)
 unfolding area_fields
-item_is version (items.Hbox name h d) single = cc
-item_is version (items.Rule name h d) single = cc
-item_is version (items.Skip g) single = cc
-item_is version (items.Kern w) single = cc
-item_is version (items.Penalty p) single = cc
 item_is version (items.Mark name) single = ap (λ t. line (codes "mark " ++ t)) (sym (nothing_more name))
 item_is version (items.Note name) single = ap (λ t. line (codes "note " ++ t)) (sym (nothing_more name))
-item_is version (items.Foot class ls) single = cc
 item_is version (items.Float f vert) single = ap line (float_is f vert)
 item_is version (items.Margin m vert) single = ap line (margin_is m vert)
 item_is version items.NewPage single = refl
@@ -284,8 +278,8 @@ item_is version (items.NoPageBreak k) single = ap (λ t. line (codes "nopagebrea
 item_is version items.OneColumn single = refl
 item_is version items.TwoColumn single = refl
 item_is version (items.Suppress areas.All) single = refl
-item_is version (items.Suppress areas.Top) single = refl
-item_is version (items.Suppress areas.Bottom) single = refl
+item_is version (items.Suppress a) single = refl
+item_is version k single = cc
 
 -- an item with this line in it
 abbrev pub on_line_kind : ℕ → ItemKind → ItemKind
@@ -412,14 +406,8 @@ named_back known w make name good fit content = record { fit = fit; short = omeg
 
 pub item_back : (known : Known) (m : ℕ) (k : ItemKind) → is_single k ≡ true → is_item m k ≡ true → ReadsAs known (item_word k) (item_fields k) (λ n. contents.Item (on_line_kind n k))
 unfolding area_fields
-item_back known m (items.Hbox name h d) single good = cc
-item_back known m (items.Rule name h d) single good = cc
-item_back known m (items.Skip g) single good = cc
-item_back known m (items.Kern w) single good = cc
-item_back known m (items.Penalty p) single good = cc
 item_back known m (items.Mark name) single good = named_back known mark (λ t. items.Mark t) name good (name_fit name good, tt) (λ n. refl)
 item_back known m (items.Note name) single good = named_back known note (λ t. items.Note t) name good (name_fit name good, tt) (λ n. refl)
-item_back known m (items.Foot class ls) single good = cc
 item_back known m (items.Float f vert) single good = float_back known f vert (second_so (f.line == m) (is_float f) good)
 item_back known m (items.Margin a vert) single good = margin_back known a vert (second_so (a.line == m) (is_margin a) good)
 item_back known m items.NewPage single good = record { fit = tt; short = omega arith; content = λ n. refl }
@@ -431,3 +419,4 @@ item_back known m items.TwoColumn single good = record { fit = tt; short = omega
 item_back known m (items.Suppress areas.All) single good = record { fit = tt; short = omega arith; content = λ n. refl }
 item_back known m (items.Suppress areas.Top) single good = record { fit = (record { text = word_text (codes "t") refl (omega arith); slot = refl }, tt); short = omega arith; content = λ n. refl }
 item_back known m (items.Suppress areas.Bottom) single good = record { fit = (record { text = word_text (codes "b") refl (omega arith); slot = refl }, tt); short = omega arith; content = λ n. refl }
+item_back known m k single good = cc

@@ -101,9 +101,7 @@ joined_text z unit h k =
 
 unit_printable : (o : Order) → list_all is_printable (unit_of o) ≡ true
 unit_printable orders.Normal = refl
-unit_printable orders.Fil = refl
-unit_printable orders.Fill = refl
-unit_printable orders.Filll = refl
+unit_printable o = refl
 
 stretch_fit : (z : ℤ) (o : Order) → is_dimen z ≡ true → IsFit stretch_slot (signed_decimal z ++ unit_of o)
 stretch_fit z o h =
@@ -198,15 +196,11 @@ dimen_length z h = number_short z (omega arith)
 
 same_unit : (o : Order) → unit_text o ≡ unit_of o
 same_unit orders.Normal = refl
-same_unit orders.Fil = refl
-same_unit orders.Fill = refl
-same_unit orders.Filll = refl
+same_unit o = refl
 
 unit_length : (o : Order) → length (unit_of o) ≤ 6
 unit_length orders.Normal = omega arith
-unit_length orders.Fil = omega arith
-unit_length orders.Fill = omega arith
-unit_length orders.Filll = omega arith
+unit_length o = omega arith
 
 abbrev pub glue_fields : Glue → List (List ℕ)
 glue_fields g = signed_decimal g.width ∷ codes "plus" ∷ (signed_decimal g.stretch ++ unit_of g.order) ∷ codes "minus" ∷ signed_decimal g.shrink ∷ []

@@ -206,50 +206,8 @@ header_line n ended c d v some place s = cc
 
 -- the release stays if another parameter is set
 keeps_release : (field : Field) (value : Value) (ps : Params) → is_known_in 1 field ≡ true → has_second (with_value field value ps) ≡ has_second ps
-keeps_release fields.Textheight value ps known = refl
-keeps_release fields.Topskip value ps known = refl
-keeps_release fields.Maxdepth value ps known = refl
-keeps_release fields.Baselineskip value ps known = refl
-keeps_release fields.Bottom value ps known = refl
-keeps_release fields.Topnumber value ps known = refl
-keeps_release fields.Bottomnumber value ps known = refl
-keeps_release fields.Totalnumber value ps known = refl
-keeps_release fields.Dbltopnumber value ps known = refl
-keeps_release fields.Topfraction value ps known = refl
-keeps_release fields.Bottomfraction value ps known = refl
-keeps_release fields.Textfraction value ps known = refl
-keeps_release fields.Floatpagefraction value ps known = refl
-keeps_release fields.Dbltopfraction value ps known = refl
-keeps_release fields.Dblfloatpagefraction value ps known = refl
-keeps_release fields.Floatsep value ps known = refl
-keeps_release fields.Textfloatsep value ps known = refl
-keeps_release fields.Intextsep value ps known = refl
-keeps_release fields.Dblfloatsep value ps known = refl
-keeps_release fields.Dbltextfloatsep value ps known = refl
-keeps_release fields.Fptop value ps known = refl
-keeps_release fields.Fpsep value ps known = refl
-keeps_release fields.Fpbot value ps known = refl
-keeps_release fields.Dblfptop value ps known = refl
-keeps_release fields.Dblfpsep value ps known = refl
-keeps_release fields.Dblfpbot value ps known = refl
-keeps_release fields.Skipfootins value ps known = refl
-keeps_release fields.Footlimit value ps known = refl
-keeps_release fields.Footsplittop value ps known = refl
-keeps_release fields.Footsplitdepth value ps known = refl
-keeps_release fields.Footfloating value ps known = refl
-keeps_release fields.Splittopskip value ps known = refl
-keeps_release fields.Splitmaxdepth value ps known = refl
-keeps_release fields.Floatingpenalty value ps known = refl
-keeps_release fields.Interlinepenalty value ps known = refl
-keeps_release fields.Parskip value ps known = refl
-keeps_release fields.Marginparpush value ps known = refl
-keeps_release fields.Mparswitch value ps known = refl
-keeps_release fields.Reversemargin value ps known = refl
-keeps_release fields.Pool value ps known = refl
-keeps_release fields.Maxdeadcycles value ps known = refl
-keeps_release fields.Maxpages value ps known = refl
-keeps_release fields.Maxnodes value ps known = refl
 keeps_release fields.Release value ps known = cc
+keeps_release field value ps known = refl
 
 -- a parameter that the version knows
 set_fits : (v : ℕ) (cs : List ClassLine) (field : Field) (value : Value) (ps : Params) → is_known_in v field ≡ true → fits_version v cs ps ≡ true → fits_version v cs (with_value field value ps) ≡ true

@@ -35,31 +35,20 @@ use Rattle.tb_galley.proofs.SoundLines.{Rises, numbers, Sound, drafted, past_lin
 
 leaf_item_range : (n : ℕ) (k : LeafKind) → is_leaf k ≡ true → is_item n (item_kind k) ≡ true
 leaf_item_range n (leaves.Hbox name h d) good = good
-leaf_item_range n (leaves.Rule name h d) good = good
-leaf_item_range n (leaves.Skip g) good = good
-leaf_item_range n (leaves.Kern w) good = good
-leaf_item_range n (leaves.Penalty p) good = good
+leaf_item_range n k good = good
 
 leaf_item_weight : (k : LeafKind) → weight_of (item_kind k) ≡ 1
 leaf_item_weight (leaves.Hbox name h d) = refl
-leaf_item_weight (leaves.Rule name h d) = refl
-leaf_item_weight (leaves.Skip g) = refl
-leaf_item_weight (leaves.Kern w) = refl
-leaf_item_weight (leaves.Penalty p) = refl
+leaf_item_weight k = refl
 
 leaf_item_lines : (n : ℕ) (k : LeafKind) → (lines_of_item n (item_kind k) ≡ []) ⊎ (lines_of_item n (item_kind k) ≡ n ∷ [])
 leaf_item_lines n (leaves.Hbox name h d) = inr refl
 leaf_item_lines n (leaves.Rule name h d) = inr refl
-leaf_item_lines n (leaves.Skip g) = inl refl
-leaf_item_lines n (leaves.Kern w) = inl refl
-leaf_item_lines n (leaves.Penalty p) = inl refl
+leaf_item_lines n k = inl refl
 
 leaf_item_class : (ks : List ℕ) (k : LeafKind) → has_known_class ks (item_kind k) ≡ true
 leaf_item_class ks (leaves.Hbox name h d) = refl
-leaf_item_class ks (leaves.Rule name h d) = refl
-leaf_item_class ks (leaves.Skip g) = refl
-leaf_item_class ks (leaves.Kern w) = refl
-leaf_item_class ks (leaves.Penalty p) = refl
+leaf_item_class ks k = refl
 
 -- whether a box may come in the phase, and whether an item may that is outside feet alone
 abbrev takes_leaves : Phase → Bool

@@ -48,11 +48,7 @@ value_is (values.Dim n) = ap (λ t. 32 ∷ t) (sym (nothing_more (signed_decimal
 value_is (values.Skip g) = glue_is g
 value_is (values.Frac n) = ap (λ t. 32 ∷ t) (sym (nothing_more (signed_decimal n ++ codes "/65536")))
 value_is (values.Word choices.Flush) = refl
-value_is (values.Word choices.Ragged) = refl
-value_is (values.Word choices.On) = refl
-value_is (values.Word choices.Off) = refl
-value_is (values.Word choices.R2014) = refl
-value_is (values.Word choices.R2015) = refl
+value_is (values.Word c) = refl
 
 -- a form whose ranges are dimensions at most
 abbrev pub is_plain_form : Form → Bool

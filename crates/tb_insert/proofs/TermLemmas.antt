@@ -12,7 +12,7 @@ use Rattle.tb_node.specs.declared.Node.{Node}
 use Rattle.tb_node.specs.declared.Insertion.{Insertion}
 use Rattle.tb_node.specs.declared.Sums.{Sums}
 use Rattle.tb_node.specs.SmallAmounts.{IsAmount, IsSmall}
-use Rattle.tb_node.specs.Shape.{Shape, box, glue, kern, penalty, other}
+use Rattle.tb_node.specs.Shape.{Shape, glue, other}
 use Rattle.tb_node.specs.PlainNodes.{ins, PlainNode, node_shape, inserted_of, Inserted, is_insertion_kind}
 use Rattle.tb_node.specs.Sums.{sums_of, size_of, list_stretch, stretch_of, list_shrink}
 use Rattle.tb_node.specs.NodeSums.{added_node, stretched_sums, more_at, order_index, stretch_with, shrink_with}
@@ -39,18 +39,12 @@ amounts_commute Filll v p q r s a b c d = ap (λ x. (p +ℤ a) ∷ (q +ℤ b) �
 
 stretch_commutes : (n : Shape) (p q r s a b c d : ℤ)
     → added_amounts (stretch_with n (p ∷ q ∷ r ∷ s ∷ [])) (a ∷ b ∷ c ∷ d ∷ []) ≡ stretch_with n (added_amounts (p ∷ q ∷ r ∷ s ∷ []) (a ∷ b ∷ c ∷ d ∷ []))
-stretch_commutes (box h e) p q r s a b c d = refl
 stretch_commutes (glue g) p q r s a b c d = amounts_commute g.order g.stretch p q r s a b c d
-stretch_commutes (kern w) p q r s a b c d = refl
-stretch_commutes (penalty x) p q r s a b c d = refl
-stretch_commutes other p q r s a b c d = refl
+stretch_commutes n p q r s a b c d = refl
 
 shrink_commutes : (n : Shape) (z t : ℤ) → shrink_with n z +ℤ t ≡ shrink_with n (z +ℤ t)
-shrink_commutes (box h e) z t = refl
 shrink_commutes (glue g) z t = swap z g.shrink t
-shrink_commutes (kern w) z t = refl
-shrink_commutes (penalty x) z t = refl
-shrink_commutes other z t = refl
+shrink_commutes n z t = refl
 
 pub with_terms : (limit : ℤ) (ns : List Shape) (n : Shape) (t : Terms) (a b c d : ℤ) → t.stretch ≡ a ∷ b ∷ c ∷ d ∷ []
     → sums_with (sums_of limit (ns ++ n ∷ [])) t ≡ added_node limit (sums_with (sums_of limit ns) t) n

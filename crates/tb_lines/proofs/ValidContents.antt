@@ -111,14 +111,11 @@ IsLow (forms.Dimension low) = pos 0 ≤ℤ low
 IsLow (forms.Integer high) = Unit {0}
 
 low_is : (p : Parameter) → IsLow (form_of p)
-low_is parameters.Hsize = omega (arith, ints)
 low_is parameters.Tolerance = tt
 low_is parameters.LinePenalty = tt
 low_is parameters.ClubPenalty = tt
 low_is parameters.WidowPenalty = tt
-low_is parameters.BaselineSkip = omega (arith, ints)
-low_is parameters.LineSkip = omega (arith, ints)
-low_is parameters.ParSkip = omega (arith, ints)
+low_is p = omega (arith, ints)
 
 value_ok : (form : Form) (l : Left) (y : ℕ × Left) → IsLow form → value_left form l ≡ Ok y → IsFormValue form y.0
 unfolding value_left

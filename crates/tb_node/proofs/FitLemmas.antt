@@ -55,10 +55,7 @@ nodes_fit ns h before n rest e = sized-fits n (sized_inside before n rest (subst
 
 room_within : (n : Shape) → IsSized n → IsWithin 2147483646 (room_of n)
 room_within (box h d) s = record { low = omega (arith, ints); high = omega (arith, ints) }
-room_within (glue g) s = record { low = omega (arith, ints); high = omega (arith, ints) }
-room_within (kern w) s = record { low = omega (arith, ints); high = omega (arith, ints) }
-room_within (penalty p) s = record { low = omega (arith, ints); high = omega (arith, ints) }
-room_within other s = record { low = omega (arith, ints); high = omega (arith, ints) }
+room_within n s = record { low = omega (arith, ints); high = omega (arith, ints) }
 
 amount_within : (o o' : Order) (z : ℤ) → IsDimension z → IsWithin 1073741823 (amount_at o o' z)
 amount_within Normal Normal z h = record { low = omega (arith, ints); high = omega (arith, ints) }
@@ -71,18 +68,12 @@ nothing_within : IsWithin 1073741823 (pos 0)
 nothing_within = record { low = omega (arith, ints); high = omega (arith, ints) }
 
 stretch_within : (o : Order) (n : Shape) → IsSized n → IsWithin 1073741823 (stretch_of o n)
-stretch_within o (box h d) s = nothing_within
 stretch_within o (glue g) s = amount_within o g.order g.stretch s.1
-stretch_within o (kern w) s = nothing_within
-stretch_within o (penalty p) s = nothing_within
-stretch_within o other s = nothing_within
+stretch_within o n s = nothing_within
 
 shrink_within : (n : Shape) → IsSized n → IsWithin 1073741823 (shrink_of n)
-shrink_within (box h d) s = nothing_within
 shrink_within (glue g) s = record { low = omega (arith, ints); high = omega (arith, ints) }
-shrink_within (kern w) s = nothing_within
-shrink_within (penalty p) s = nothing_within
-shrink_within other s = nothing_within
+shrink_within n s = nothing_within
 
 -- a sum of one more amount
 more_within : (b k : ℕ) (x y : ℤ) → IsWithin b x → IsWithin (b * k) y → IsWithin (b * suc k) (x +ℤ y)

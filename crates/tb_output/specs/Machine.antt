@@ -1,5 +1,5 @@
 -- The output routine's machine as contracts see it.
-use Rattle.std.specs.Prelude.{◌≡◌, ◌≤◌, ℕ, suc, ℤ, pos, ◌≤ℤ◌, Bool, false, List, [], ◌∷◌, ◌++◌, map, Option, Some, None, IsSome}
+use Rattle.std.specs.Prelude.{◌≡◌, ◌≤◌, ℕ, suc, ℤ, pos, ◌≤ℤ◌, nat_abs, Bool, true, false, List, [], ◌∷◌, ◌++◌, map, Option, Some, None, IsSome}
 use Rattle.std.specs.List.{AllByRecursion}
 use Rattle.tb_pool.specs.Lists.{Lists, list_at}
 use Rattle.tb_node.specs.declared.Node.{Node}
@@ -11,6 +11,7 @@ use Rattle.tb_insert.specs.declared.Class.{Class}
 use Rattle.tb_builder.specs.FiredPages.{Boxed}
 use Rattle.tb_builder.specs.Pageable.{IsGoal}
 use Rattle.tb_float.specs.declared.Suppress.{Suppress}
+use Rattle.tb_float.specs.Lists.{no_floats}
 use Rattle.tb_float.specs.Pool.{FloatPool, HasNoMarks}
 use Rattle.tb_float.specs.Ranges.{IsShare}
 use Rattle.tb_column.specs.declared.Column.{Column}
@@ -24,7 +25,7 @@ use Rattle.tb_column.specs.Notes.{AreDistinct}
 use Rattle.tb_column.specs.Page.{IsPageList, IsPageColumn}
 use Rattle.tb_column.specs.Ranges.{IsSizedGlue, AreColumnParams}
 use Rattle.tb_output.specs.declared.RunFault.{RunFault}
-use Rattle.tb_output.specs.State.{State}
+use Rattle.tb_output.specs.State.{State, no_suppress}
 
 -- between two firings: the state of the routine, with the names of its lists, the events that were not taken yet, and the fault that ended the run
 pub record MachineView : Type 0 where
@@ -43,6 +44,26 @@ pub record MachineView : Type 0 where
   pub pool : FloatPool
   pub events : List Sent
   pub fault : Option RunFault
+
+-- before the first page, with this list for the held page
+abbrev pub first_view : Params → List Class → ℕ → MachineView
+first_view p cs held_page = record {
+  params = p;
+  classes = cs;
+  goal = p.textheight;
+  page = 1;
+  dead_cycles = 0;
+  held_page = held_page;
+  held_room = pos 0;
+  note_bottom = pos 0;
+  suppress = no_suppress;
+  two_columns = false;
+  first_column = true;
+  left_column = None;
+  pool = record { lists = no_floats; marks = []; second_marks = []; size = nat_abs p.pool };
+  events = [];
+  fault = None;
+}
 
 -- ---- what it shows
 

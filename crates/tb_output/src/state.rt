@@ -8,7 +8,7 @@ ghost use Rattle.tb_node.specs.PlainNodes.{PlainNode};
 ghost use Rattle.tb_builder.specs.FiredPages.{Boxed};
 ghost use Rattle.tb_output.specs.State.{first_state, ask_of, no_suppress, void_boxes};
 ghost use Rattle.tb_output.specs.Firing.{IsReach};
-ghost use Rattle.tb_output.specs.Machine.{state_shown, IsMachine, IsPoolSize, AreOutputParams, AreClassesFrom};
+ghost use Rattle.tb_output.specs.Machine.{first_view, state_shown, IsMachine, IsPoolSize, AreOutputParams, AreClassesFrom};
 
 use crate::Machine;
 use crate::classes::copied;
@@ -20,7 +20,7 @@ use tb_float::{Part, Suppress, new_pool};
 use tb_insert::Class;
 use tb_node::Node;
 use tb_param::Params;
-use tb_pool::Lists;
+use tb_pool::{ListId, Lists};
 
 /// Nothing is kept out of the areas of floats.
 pub(crate) fn no_suppress() -> Suppress
@@ -64,12 +64,30 @@ pub fn new_machine(
     ensures opened { IfOk result (λ m. store.new.lists ≡ with_list store.old m.held_page []) }
     ensures err { OnErr result (store.new.lists ≡ store.old.lists) }
 {
+    let held_page = store.add_list()?;
+    match with_held_page(alloc, p, classes, held_page) {
+        Ok(machine) => Ok(machine),
+        Err(error) => {
+            store.close(held_page);
+            Err(error)
+        }
+    }
+}
+
+// A machine before the first page whose held page is this list. The pool is made last, so that no failure lets go of it.
+fn with_held_page(
+    alloc: Global,
+    p: &Params,
+    classes: &[Class],
+    held_page: ListId,
+) -> Result<Machine, AllocError>
+    requires { AreOutputParams p.now }
+    ensures { IfOk result (λ m. m ≡ first_view p.now classes.now held_page) }
+{
     let size = pool_size(p);
     let known = copied(alloc, classes)?;
+    let events = roomy_events(alloc, size as usize)?;
     let pool = new_pool(alloc, size)?;
-    let mut events = Events::new(alloc);
-    events.keep_room(size as usize)?;
-    let held_page = store.add_list()?;
     Ok(Machine {
         alloc,
         params: *p,
@@ -88,6 +106,16 @@ pub fn new_machine(
         events,
         fault: None,
     })
+}
+
+// No events, and room for a number of them.
+fn roomy_events(alloc: Global, room: usize) -> Result<Events, AllocError>
+    requires { room ≤ 4096 }
+    ensures { IfOk result (λ e. e ≡ record { sent = []; room = room }) }
+{
+    let mut events = Events::new(alloc);
+    events.keep_room(room)?;
+    Ok(events)
 }
 
 // How far down or up the marginal notes of a column may reach, in sp.

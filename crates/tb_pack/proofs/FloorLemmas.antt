@@ -1,5 +1,6 @@
 -- Positions fit 128 bits.
-use Rattle.std.proofs.Common.{ℕ, suc, ◌*◌, ◌/◌, ◌≤◌, ℤ, pos, negsuc, neg_ℤ, ◌*ℤ◌, FitsSigned, w64, arith}
+use Rattle.std.proofs.Common.{ℕ, suc, ◌*◌, ◌/◌, ◌≤◌, ℤ, pos, negsuc, neg_ℤ, ◌*ℤ◌, ◌+ℤ◌, ◌-ℤ◌, FitsSigned, w64, arith}
+use Rattle.std.specs.Int.{w128}
 use Rattle.std.proofs.lemmas.Int.{ints}
 use Rattle.std.proofs.Math.Nat.{mul-le-mul, div-le_self}
 use Rattle.tb_scaled.specs.Scaled.{floor_div}
@@ -32,3 +33,10 @@ floor_div_small (negsuc n) d h = let least : n / d ≤ n = div-le_self n d in re
 pub floor_small : (n d : ℤ) → IsProduct n → IsProduct (floor_ratio n d)
 floor_small n (pos d) h = floor_div_small n d h
 floor_small n (negsuc d) h = floor_div_small (neg_ℤ n) (suc d) (record { low = omega (arith, ints); high = omega (arith, ints) })
+
+-- a place and such a share fit 128 bits
+pub sum_fits : (a z : ℤ) → FitsSigned w64 a → IsProduct z → FitsSigned w128 (a +ℤ z)
+sum_fits a z f h = let low = h.low in let high = h.high in omega (arith, ints)
+
+pub difference_fits : (a z : ℤ) → FitsSigned w64 a → IsProduct z → FitsSigned w128 (a -ℤ z)
+difference_fits a z f h = let low = h.low in let high = h.high in omega (arith, ints)

@@ -56,52 +56,31 @@ AllRows P (r ∷ rs) = P r × AllRows P rs
 
 int_fits : (low high : ℤ) (v : Value) → fits (forms.Int low high) v ≡ true → fits (forms.Int low high) (kinds.Int (amount_of v)) ≡ true
 int_fits low high (kinds.Int n) h = h
-int_fits low high (kinds.Dim n) h = cc
-int_fits low high (kinds.Skip g) h = cc
-int_fits low high (kinds.Frac n) h = cc
-int_fits low high (kinds.Word c) h = cc
+int_fits low high v h = cc
 
 dim_fits : (low : ℤ) (v : Value) → fits (forms.Dim low) v ≡ true → fits (forms.Dim low) (kinds.Dim (amount_of v)) ≡ true
-dim_fits low (kinds.Int n) h = cc
 dim_fits low (kinds.Dim n) h = h
-dim_fits low (kinds.Skip g) h = cc
-dim_fits low (kinds.Frac n) h = cc
-dim_fits low (kinds.Word c) h = cc
+dim_fits low v h = cc
 
 frac_fits : (v : Value) → fits forms.Frac v ≡ true → fits forms.Frac (kinds.Frac (amount_of v)) ≡ true
-frac_fits (kinds.Int n) h = cc
-frac_fits (kinds.Dim n) h = cc
-frac_fits (kinds.Skip g) h = cc
 frac_fits (kinds.Frac n) h = h
-frac_fits (kinds.Word c) h = cc
+frac_fits v h = cc
 
 skip_fits : (v : Value) → fits forms.Skip v ≡ true → fits forms.Skip (kinds.Skip (glue_of v)) ≡ true
-skip_fits (kinds.Int n) h = cc
-skip_fits (kinds.Dim n) h = cc
 skip_fits (kinds.Skip g) h = h
-skip_fits (kinds.Frac n) h = cc
-skip_fits (kinds.Word c) h = cc
+skip_fits v h = cc
 
 bottom_fits : (v : Value) → fits forms.Bottom v ≡ true → fits forms.Bottom (kinds.Word (choice_of v)) ≡ true
-bottom_fits (kinds.Int n) h = cc
-bottom_fits (kinds.Dim n) h = cc
-bottom_fits (kinds.Skip g) h = cc
-bottom_fits (kinds.Frac n) h = cc
 bottom_fits (kinds.Word c) h = h
+bottom_fits v h = cc
 
 switch_fits : (v : Value) → fits forms.Switch v ≡ true → fits forms.Switch (kinds.Word (choice_of v)) ≡ true
-switch_fits (kinds.Int n) h = cc
-switch_fits (kinds.Dim n) h = cc
-switch_fits (kinds.Skip g) h = cc
-switch_fits (kinds.Frac n) h = cc
 switch_fits (kinds.Word c) h = h
+switch_fits v h = cc
 
 release_fits : (v : Value) → fits forms.Release v ≡ true → fits forms.Release (kinds.Word (choice_of v)) ≡ true
-release_fits (kinds.Int n) h = cc
-release_fits (kinds.Dim n) h = cc
-release_fits (kinds.Skip g) h = cc
-release_fits (kinds.Frac n) h = cc
 release_fits (kinds.Word c) h = h
+release_fits v h = cc
 
 rows_fit : AllRows FitsPlace rows
 rows_fit = (

@@ -21,16 +21,9 @@ same-one s t l h xs a = same-two s t l l (λ q n m. h q n) xs a a
 -- ---- nodes that are neither insertions nor acts
 
 plain-leaf : (k : Kind) → is_plain k ≡ true → is_leaf_kind k
-plain-leaf (kinds.Hbox what h d) p = tt
-plain-leaf (kinds.Rule name h d) p = tt
-plain-leaf (kinds.Skip g) p = tt
-plain-leaf (kinds.Kern w) p = tt
-plain-leaf (kinds.Pen q) p = tt
-plain-leaf (kinds.Mark name) p = tt
-plain-leaf (kinds.Note name) p = tt
-plain-leaf kinds.Whatsit p = tt
 plain-leaf (kinds.Ins i) p = absurd (true≢false (sym p))
 plain-leaf (kinds.Act a) p = absurd (true≢false (sym p))
+plain-leaf k p = tt
 
 pub plain-leaves : (ns : List Node) → AllPlain ns → AreLeaves ns
 plain-leaves [] h = tt

@@ -27,23 +27,15 @@ foot-ours : (class : ℕ) → (class == 254) ≡ true → IsOnce ours class
 foot-ours class h = subst (IsOnce ours) (sym (eqb-true class 254 h)) refl
 
 item-ours : (p : Params) (n : ℕ) (k : ItemKind) → is_suited k ≡ true → AllOurs (on_line n (makeup_kinds p k))
-item-ours p n (items.Hbox name h d) s = (tt, tt)
-item-ours p n (items.Rule name h d) s = (tt, tt)
-item-ours p n (items.Skip g) s = (tt, tt)
-item-ours p n (items.Kern w) s = (tt, tt)
-item-ours p n (items.Penalty q) s = (tt, tt)
-item-ours p n (items.Mark name) s = (tt, tt)
-item-ours p n (items.Note name) s = (tt, tt)
 item-ours p n (items.Foot class ls) s = (foot-ours class s, tt)
 item-ours p n (items.Float f vert) s = (tt, (tt, tt))
 item-ours p n (items.Margin m vert) s = absurd (true≢false (sym s))
 item-ours p n items.NewPage s = (tt, (tt, tt))
 item-ours p n items.ClearPage s = (tt, (tt, tt))
-item-ours p n (items.PageBreak q) s = (tt, tt)
-item-ours p n (items.NoPageBreak q) s = (tt, tt)
 item-ours p n items.OneColumn s = absurd (true≢false (sym s))
 item-ours p n items.TwoColumn s = absurd (true≢false (sym s))
 item-ours p n (items.Suppress area) s = absurd (true≢false (sym s))
+item-ours p n k s = (tt, tt)
 
 suited-both : (n : Item) (ns : List Item) → unsuited_among (n ∷ ns) ≡ None → (is_suited n.kind ≡ true) × (unsuited_among ns ≡ None)
 suited-both n ns h = by_test (is_suited n.kind) refl h

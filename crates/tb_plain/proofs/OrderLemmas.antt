@@ -4,7 +4,7 @@ use Rattle.std.specs.Prelude.{◌||◌, ◌&&◌, int_lt, int_le, if◌then◌el
 use Rattle.tb_node.specs.declared.Act.{Act}
 use Rattle.tb_node.specs.declared.Act.TheVariants as acts
 use Rattle.tb_node.specs.declared.Float.{Float}
-use Rattle.tb_node.specs.PlainNodes.{hbox, rule, skip, kerned, pen, mark, note, whatsit, Leaf, Inserted, leaf_node, PlainKind, plain, ins, act, PlainNode, on_line}
+use Rattle.tb_node.specs.PlainNodes.{hbox, rule, Leaf, Inserted, leaf_node, PlainKind, plain, ins, act, PlainNode, on_line}
 use Rattle.tb_param.specs.declared.Params.{Params}
 use Rattle.tb_break.specs.PageTop.{pruned_nodes}
 use Rattle.tb_insert.specs.Account.{Labelled, Label, whole, split, late, labelled}
@@ -27,14 +27,7 @@ use Rattle.tb_plain.proofs.ReachLemmas.{fired_here, makeup-cut, firing-cases, st
 node-pruned : (t : ℤ) (ns : List PlainNode) → prints (pruned_nodes t ns) ≡ prints ns → (n : ℕ) (k : PlainKind) → prints (pruned_nodes t (record { line = n; kind = k } ∷ ns)) ≡ printed n k ++ prints ns
 node-pruned t ns h n (plain (hbox w a d)) = refl
 node-pruned t ns h n (plain (rule name a d)) = refl
-node-pruned t ns h n (plain (skip g)) = h
-node-pruned t ns h n (plain (kerned w)) = h
-node-pruned t ns h n (plain (pen p)) = h
-node-pruned t ns h n (plain (mark name)) = h
-node-pruned t ns h n (plain (note name)) = h
-node-pruned t ns h n (plain whatsit) = h
-node-pruned t ns h n (ins i) = h
-node-pruned t ns h n (act a) = h
+node-pruned t ns h n k = h
 
 prints-pruned : (t : ℤ) (ns : List PlainNode) → prints (pruned_nodes t ns) ≡ prints ns
 prints-pruned t [] = refl
@@ -58,15 +51,7 @@ prints-spent (n ∷ ns) = by_kind n.line n.kind
   where
     by_kind : (l : ℕ) (k : PlainKind) → printed l (spent_kind k) ++ prints ns ≡ printed l k ++ prints ns
     by_kind l (plain (hbox w a d)) = refl
-    by_kind l (plain (rule name a d)) = refl
-    by_kind l (plain (skip g)) = refl
-    by_kind l (plain (kerned w)) = refl
-    by_kind l (plain (pen p)) = refl
-    by_kind l (plain (mark name)) = refl
-    by_kind l (plain (note name)) = refl
-    by_kind l (plain whatsit) = refl
-    by_kind l (ins i) = refl
-    by_kind l (act a) = refl
+    by_kind l k = refl
 
 -- insertions that are held show nothing
 unless-prints : (l : ℕ) (i : Inserted) (ls : List Leaf) (xs : List PlainNode) → prints (on_line l (unless_empty i ls) ++ xs) ≡ prints xs
@@ -128,9 +113,7 @@ taken-prints p s f xs = by_places f.places.h (int_lt s.goal (with_float p s f)) 
 
 put-prints : (p : Params) (s : PageSums) (a : Act) (xs : List PlainNode) → prints (act_nodes p s a ++ xs) ≡ prints xs
 put-prints p s (acts.Take f) xs = taken-prints p s f xs
-put-prints p s (acts.TakeMargin m) xs = refl
-put-prints p s (acts.Suppress area) xs = refl
-put-prints p s (acts.Columns two) xs = refl
+put-prints p s a xs = refl
 
 abbrev ActShows : AtAct → List PlainNode → Type 0
 ActShows no_act ns = Unit {0}

@@ -7,7 +7,7 @@ use Rattle.std.proofs.Math.Bool.{or-true}
 use Rattle.tb_node.specs.declared.Act.{Act}
 use Rattle.tb_node.specs.declared.Act.TheVariants as acts
 use Rattle.tb_node.specs.declared.Float.{Float}
-use Rattle.tb_node.specs.PlainNodes.{blank_box, hbox, rule, skip, kerned, pen, mark, note, whatsit, Leaf, Inserted, PlainKind, plain, ins, act, PlainNode, without_acts, on_line, made}
+use Rattle.tb_node.specs.PlainNodes.{blank_box, hbox, skip, pen, Leaf, Inserted, PlainKind, plain, ins, act, PlainNode, without_acts, on_line, made}
 use Rattle.tb_param.specs.declared.Params.{Params}
 use Rattle.tb_break.specs.Best.{Breakpoint, is_stop}
 use Rattle.tb_break.specs.PageTop.{pruned_nodes}
@@ -34,15 +34,7 @@ acts-append (x ∷ xs) ys = let h : act_count (xs ++ ys) ≡ act_count xs + act_
 
 node-pruned : (t : ℤ) (ns : List PlainNode) → act_count (pruned_nodes t ns) ≡ act_count ns → (n : ℕ) (k : PlainKind) → act_count (pruned_nodes t (record { line = n; kind = k } ∷ ns)) ≡ one_act k + act_count ns
 node-pruned t ns h n (plain (hbox w a d)) = omega arith
-node-pruned t ns h n (plain (rule name a d)) = omega arith
-node-pruned t ns h n (plain (skip g)) = omega arith
-node-pruned t ns h n (plain (kerned w)) = omega arith
-node-pruned t ns h n (plain (pen p)) = omega arith
-node-pruned t ns h n (plain (mark name)) = omega arith
-node-pruned t ns h n (plain (note name)) = omega arith
-node-pruned t ns h n (plain whatsit) = omega arith
-node-pruned t ns h n (ins i) = omega arith
-node-pruned t ns h n (act a) = omega arith
+node-pruned t ns h n k = omega arith
 
 acts-pruned : (t : ℤ) (ns : List PlainNode) → act_count (pruned_nodes t ns) ≡ act_count ns
 acts-pruned t [] = refl
@@ -145,15 +137,7 @@ spent-acts (n ∷ ns) = by_kind n.kind
   where
     by_kind : (k : PlainKind) → one_act (spent_kind k) + act_count ns ≡ one_act k + act_count ns
     by_kind (plain (hbox w a d)) = refl
-    by_kind (plain (rule name a d)) = refl
-    by_kind (plain (skip g)) = refl
-    by_kind (plain (kerned w)) = refl
-    by_kind (plain (pen p)) = refl
-    by_kind (plain (mark name)) = refl
-    by_kind (plain (note name)) = refl
-    by_kind (plain whatsit) = refl
-    by_kind (ins i) = refl
-    by_kind (act a) = refl
+    by_kind k = refl
 
 drop-acts : (k : ℕ) (ns : List PlainNode) → act_count (drop k ns) ≤ act_count ns
 drop-acts zero ns = omega arith
@@ -193,9 +177,7 @@ taken-acts p s f = by_places f.places.h (int_lt s.goal (with_float p s f)) (f.pl
 
 pub put-acts : (p : Params) (s : PageSums) (a : Act) → act_count (act_nodes p s a) ≡ 0
 put-acts p s (acts.Take f) = taken-acts p s f
-put-acts p s (acts.TakeMargin m) = refl
-put-acts p s (acts.Suppress area) = refl
-put-acts p s (acts.Columns two) = refl
+put-acts p s a = refl
 
 -- the act is one of the acts of the list
 abbrev HasAct : AtAct → List PlainNode → Type 0

@@ -120,9 +120,7 @@ taken-ours p s f = by_places f.places.h (int_lt s.goal (with_float p s f)) (f.pl
 
 put-ours : (p : Params) (s : PageSums) (a : Act) → AllOurs (act_nodes p s a)
 put-ours p s (acts.Take f) = taken-ours p s f
-put-ours p s (acts.TakeMargin m) = tt
-put-ours p s (acts.Suppress area) = tt
-put-ours p s (acts.Columns two) = tt
+put-ours p s a = tt
 
 -- nothing weighs in the margin
 abbrev pub NoMargin : Weight → Type 0

@@ -19,15 +19,7 @@ module _ (held : ℕ → List Node) where
   -- a node's line and its shape do not depend on the lists of insertions
   node_line-held : (k : Kind) (top : ℤ) → node_line (plain_kind held k) top ≡ matter_line (matter_of k) top
   node_line-held (kinds.Ins i) top = refl
-  node_line-held (kinds.Act a) top = refl
-  node_line-held (kinds.Hbox what h d) top = refl
-  node_line-held (kinds.Rule name h d) top = refl
-  node_line-held (kinds.Skip g) top = refl
-  node_line-held (kinds.Kern w) top = refl
-  node_line-held (kinds.Pen p) top = refl
-  node_line-held (kinds.Mark name) top = refl
-  node_line-held (kinds.Note name) top = refl
-  node_line-held kinds.Whatsit top = refl
+  node_line-held k top = refl
 
   -- the nodes before are printed, and these are left
   pub record Printing (s : Set) (ns : List Node) (w : Walked) (old now : List ℕ) (rest : List Node) : Type 0 where

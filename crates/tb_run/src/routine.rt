@@ -9,6 +9,8 @@ ghost use Rattle.tb_node.specs.Fit.{shapes};
 ghost use Rattle.tb_node.specs.Sums.{size_of};
 ghost use Rattle.tb_builder.specs.FiredPages.{Boxed};
 ghost use Rattle.tb_builder.specs.PageEvents.{NextFits, fired_room};
+ghost use Rattle.tb_builder.specs.Contents.{contents_of, nothing_yet};
+ghost use Rattle.tb_builder.specs.Ownership.{ClassesFit};
 ghost use Rattle.tb_builder.specs.Courses.{IsSound};
 ghost use Rattle.tb_galley.specs.GalleyNodes.{expanded};
 ghost use Rattle.tb_output.specs.State.{first_state};
@@ -31,6 +33,7 @@ use crate::spent_lists::{close_happened, close_list};
 use std::alloc::{AllocError, Global};
 use tb_builder::{Ask, Builder, Event, Page, new_builder};
 use tb_galley::Galley;
+use tb_insert::Class;
 use tb_node::{Act, Node};
 use tb_output::{Full, Machine, RunFault, new_machine};
 use tb_param::exceeds;
@@ -91,6 +94,45 @@ fn line_of(act: &Act) -> u32
     }
 }
 
+// A builder of these classes for which all nodes of a galley wait.
+fn waiting_builder(
+    alloc: Global,
+    store: &mut Lists<Node>,
+    galley: &Galley,
+    served: &[Class],
+) -> Result<Builder, AllocError>
+    requires classes { ClassesFit served.now }
+    requires items { AreItems served.now galley.now.items }
+    ensures sound { IfOk result (λ b. IsSound b store.new) }
+    ensures contents { IfOk result (λ b. contents_of b store.new ≡ record (nothing_yet served.now) { waiting = expanded galley.now }) }
+{
+    let mut builder = new_builder(alloc, store, served)?;
+    expand(store, &mut builder, galley)?;
+    Ok(builder)
+}
+
+// The routine of a galley that has these classes. The machine is made last, so that no failure lets go of it.
+fn begun(alloc: Global, galley: &Galley, served: &[Class]) -> Result<Routine, AllocError>
+    requires params { AreRunnable galley.now.params }
+    requires classes { AreRunClasses served.now }
+    requires items { AreItems served.now galley.now.items }
+    requires nodes { AreGalleyNodes served.now (expanded galley.now) }
+
+    ensures state { IfOk result (λ r. state_of r ≡ first_state galley.now.params served.now (expanded galley.now)) }
+    ensures params { IfOk result (λ r. r.machine.params ≡ galley.now.params) }
+    ensures ready { IfOk result IsReady }
+{
+    let mut store = Lists::new(alloc);
+    let builder = waiting_builder(alloc, &mut store, galley, served)?;
+    let machine = new_machine(alloc, &mut store, &galley.params, served)?;
+    Ok(Routine {
+        store,
+        builder,
+        machine,
+        most: MOST_NODES,
+    })
+}
+
 impl Routine {
     /// All nodes of a galley wait for its first page. It fails only if memory runs out.
     pub fn new(alloc: Global, galley: &Galley) -> Result<Self, AllocError>
@@ -103,18 +145,8 @@ impl Routine {
         ensures params { IfOk result (λ r. r.machine.params ≡ galley.now.params) }
         ensures ready { IfOk result IsReady }
     {
-        let mut store = Lists::new(alloc);
         let classes = classes_of(alloc, galley)?;
-        let served = classes.as_slice();
-        let machine = new_machine(alloc, &mut store, &galley.params, served)?;
-        let mut builder = new_builder(alloc, &mut store, served)?;
-        expand(&mut store, &mut builder, galley)?;
-        Ok(Routine {
-            store,
-            builder,
-            machine,
-            most: MOST_NODES,
-        })
+        begun(alloc, galley, classes.as_slice())
     }
 
     /// The ending if more nodes are held than `maxnodes`: those that wait, those of the held page and those of

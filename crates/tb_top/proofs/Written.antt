@@ -8,3 +8,4 @@ pub mod GoingLemmas
 pub mod TurnLemmas
 pub mod FinishLemmas
 pub mod FuelLemmas
+pub mod FirstRuns

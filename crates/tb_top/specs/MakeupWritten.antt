@@ -5,12 +5,19 @@ use Rattle.tb_io.specs.declared.sink.SinkFault.{SinkFault}
 use Rattle.tb_io.specs.declared.sink.SinkFault.TheVariants as outputs
 use Rattle.tb_report.specs.declared.Totals.{Totals}
 use Rattle.tb_report.specs.Lines.{end_lines}
+use Rattle.tb_plain.specs.Run.{MakeupRun, makeup_of_state}
+use Rattle.tb_makeup.specs.declared.makeup.Makeup.{Makeup}
+use Rattle.tb_makeup.specs.Makeup.{state_of}
 use Rattle.tb_makeup.specs.declared.makeup.MakeupEnding.{MakeupEnding}
 use Rattle.tb_makeup.specs.declared.makeup.MakeupEnding.TheVariants as endings
 use Rattle.tb_top.specs.declared.View.{View}
 use Rattle.tb_top.specs.declared.makeup_pages.PlainRunFault.{PlainRunFault}
 use Rattle.tb_top.specs.declared.makeup_pages.PlainRunFault.TheVariants as faults
 use Rattle.tb_top.specs.Views.{viewed, FailsToShow}
+
+-- the run of a page makeup from here on
+abbrev pub run_on : Makeup → MakeupRun
+run_on r = makeup_of_state r.plain.params (state_of r)
 
 -- the fault of pages whose text was not written
 abbrev pub write_fault : SinkFault → PlainRunFault

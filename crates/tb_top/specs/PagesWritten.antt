@@ -16,7 +16,13 @@ use Rattle.tb_output.specs.declared.RunFault.TheVariants as refused
 use Rattle.tb_run.specs.declared.routine.Routine.{Routine}
 use Rattle.tb_run.specs.declared.routine.Ending.{Ending}
 use Rattle.tb_run.specs.declared.routine.Ending.TheVariants as endings
+use Rattle.tb_run.specs.Run.{Run, run_of_state}
+use Rattle.tb_run.specs.Routine.{state_of}
 use Rattle.tb_top.specs.Views.{viewed, FailsToShow}
+
+-- the run of a routine from here on
+abbrev pub run_on : Routine → Run
+run_on r = run_of_state r.machine.params (state_of r)
 
 -- the fault of pages whose text was not written
 abbrev pub write_fault : SinkFault → PageFault

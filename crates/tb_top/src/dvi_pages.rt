@@ -4,12 +4,15 @@ ghost use Rattle.std.specs.Prelude.{◌≡◌, ◌≤◌, ◌∷◌, [], ◌++�
 ghost use Rattle.std.specs.Int.{w32};
 ghost use Rattle.tb_io.specs.Faults.{Rose};
 ghost use Rattle.tb_galley.specs.Valid.{IsValid};
+ghost use Rattle.tb_galley.specs.GalleyNodes.{expanded};
 ghost use Rattle.tb_column.specs.StoredColumns.{sheet_shown};
 ghost use Rattle.tb_output.specs.Machine.{IsPageSheet};
+ghost use Rattle.tb_output.specs.State.{first_state};
 ghost use Rattle.tb_dvi.specs.File.{Page, sheet_page};
 ghost use Rattle.tb_dvi.specs.Progress.{IsInFile};
 ghost use Rattle.tb_run.specs.Happenings.{event_of, events_of};
-ghost use Rattle.tb_run.specs.Routine.{IsPage, ArePages};
+ghost use Rattle.tb_run.specs.Run.{classes_of};
+ghost use Rattle.tb_run.specs.Routine.{IsReady, IsPage, ArePages, state_of};
 ghost use Rattle.tb_top.specs.DviPages.{event_pages};
 ghost use Rattle.tb_top.specs.DviFiles.{WritesFile, RefusesFile};
 ghost use Rattle.tb_top.specs.DviWritten.{HoldsPages, SendsPages, IsWriteFailure, EndsFile, StopsFile};
@@ -86,9 +89,26 @@ pub(crate) fn paginate_dvi<K: Sink>(
     ensures refused { IfErr result (RefusesFile galley.now (K.held out.old) (K.held out.new)) }
     ensures cause { result ≡ Err (DviRunFault.Pages PageFault.WriteFault) → Rose (K.faults out.old) (K.faults out.new) }
 {
+    let mut routine = Routine::new(alloc, galley)?;
+    write_run(alloc, galley, &mut routine, out)
+}
+
+// Runs the routine of a galley from its first page on to its end, and writes its file.
+fn write_run<K: Sink>(
+    alloc: Global,
+    galley: &Galley,
+    routine: &mut Routine,
+    out: &mut K,
+) -> Result<(), DviRunFault>
+    requires ready { IsReady routine.old }
+    requires state { state_of routine.old ≡ first_state galley.now.params (classes_of galley.now) (expanded galley.now) }
+    requires params { routine.old.machine.params ≡ galley.now.params }
+    ensures done { OnOk result (WritesFile galley.now (K.held out.old) (K.held out.new)) }
+    ensures refused { IfErr result (RefusesFile galley.now (K.held out.old) (K.held out.new)) }
+    ensures cause { result ≡ Err (DviRunFault.Pages PageFault.WriteFault) → Rose (K.faults out.old) (K.faults out.new) }
+{
     let start = pre_bytes(alloc)?;
     write_all(out, &start)?;
-    let mut routine = Routine::new(alloc, galley)?;
     let mut progress = Progress::new();
     let mut happened = Vec::new(alloc);
     let mut text = Vec::new(alloc);

@@ -1,14 +1,16 @@
 //! From a galley to the text of its run under plain TeX's page makeup.
 
-ghost use Rattle.std.specs.Prelude.{◌≡◌, ◌≢◌, ◌≤◌, [], Err, OnOk, IfOk, IfErr};
+ghost use Rattle.std.specs.Prelude.{◌≡◌, ◌≢◌, ◌≤◌, [], Err, IsTrue, OnOk, IfOk, IfErr};
 ghost use Rattle.tb_io.specs.Faults.{Rose};
 ghost use Rattle.tb_galley.specs.Valid.{IsValid};
 ghost use Rattle.tb_report.specs.Lines.{end_lines};
+ghost use Rattle.tb_param.specs.Ranges.{are_params};
 ghost use Rattle.tb_plain.specs.Run.{makeup_of};
 ghost use Rattle.tb_plain.specs.Suitability.{IsSuited};
+ghost use Rattle.tb_makeup.specs.Makeup.{IsReady};
 ghost use Rattle.tb_top.specs.MakeupLaws.{MakesUpOnce};
 ghost use Rattle.tb_top.specs.MakeupPages.{MakesPages, RefusesPages};
-ghost use Rattle.tb_top.specs.MakeupWritten.{write_fault, EndsWell, StopsWith};
+ghost use Rattle.tb_top.specs.MakeupWritten.{write_fault, run_on, EndsWell, StopsWith};
 
 use crate::View;
 use crate::views::{send, show};
@@ -77,8 +79,28 @@ pub fn paginate_plain<K: Sink>(
     ensures silent { view ≡ View.Silent → result ≢ Err PlainRunFault.WriteFault }
     ensures later { K.faults out.old ≤ K.faults out.new }
 {
-    show(view, HEADER, out)?;
     let mut makeup = Makeup::new(alloc, galley)?;
+    run_on(alloc, &mut makeup, view, out)
+}
+
+// Runs a page makeup from its first page on to its end.
+fn run_on<K: Sink>(
+    alloc: Global,
+    makeup: &mut Makeup,
+    view: View,
+    out: &mut K,
+) -> Result<Totals, PlainRunFault>
+    requires ready { IsReady makeup.old }
+    requires params { IsTrue (are_params makeup.old.plain.params) }
+    requires page { makeup.old.plain.page ≡ 1 }
+
+    ensures done { IfOk result (MakesPages view (run_on makeup.old) (K.held out.old) (K.held out.new)) }
+    ensures refused { IfErr result (RefusesPages view (run_on makeup.old) (K.held out.old) (K.held out.new)) }
+    ensures cause { result ≡ Err PlainRunFault.WriteFault → Rose (K.faults out.old) (K.faults out.new) }
+    ensures silent { view ≡ View.Silent → result ≢ Err PlainRunFault.WriteFault }
+    ensures later { K.faults out.old ≤ K.faults out.new }
+{
+    show(view, HEADER, out)?;
     let mut totals = Totals::new();
     let mut happened = Vec::new(alloc);
     let mut text = Vec::new(alloc);

@@ -1,14 +1,16 @@
 //! From a galley to the text of its run.
 
-ghost use Rattle.std.specs.Prelude.{◌≡◌, ◌≢◌, ◌≤◌, Err, IfOk, IfErr, IfNone, IfSome};
+ghost use Rattle.std.specs.Prelude.{◌≡◌, ◌≢◌, ◌≤◌, Err, IsTrue, IfOk, IfErr, IfNone, IfSome};
 ghost use Rattle.tb_io.specs.Faults.{Rose};
 ghost use Rattle.tb_galley.specs.Valid.{IsValid};
 ghost use Rattle.tb_pool.specs.Lists.{IsLive};
+ghost use Rattle.tb_param.specs.Ranges.{are_params};
 ghost use Rattle.tb_run.specs.Run.{run_of};
+ghost use Rattle.tb_run.specs.Routine.{IsReady, state_of};
 ghost use Rattle.tb_top.specs.Laws.{KeepsLaws, WithinLimits};
 ghost use Rattle.tb_top.specs.DeadCycles.{HasRoomForCycles};
 ghost use Rattle.tb_top.specs.Pages.{Paginates, Refuses, IsNoCycleFault};
-ghost use Rattle.tb_top.specs.PagesWritten.{write_fault, EndsWell, StopsWith, IsRefusalOf, IsFaultRefusal};
+ghost use Rattle.tb_top.specs.PagesWritten.{write_fault, run_on, EndsWell, StopsWith, IsRefusalOf, IsFaultRefusal};
 
 use crate::views::{is_traced, send, show};
 use crate::{PageFault, View};
@@ -70,19 +72,40 @@ pub fn paginate<K: Sink>(
     ensures silent { view ≡ View.Silent → result ≢ Err PageFault.WriteFault }
     ensures later { K.faults out.old ≤ K.faults out.new }
 {
-    show(view, HEADER, out)?;
     let mut routine = Routine::new(alloc, galley)?;
+    run_on(alloc, &mut routine, view, out)
+}
+
+// Runs a routine from its first page on to its end.
+fn run_on<K: Sink>(
+    alloc: Global,
+    routine: &mut Routine,
+    view: View,
+    out: &mut K,
+) -> Result<Totals, PageFault>
+    requires ready { IsReady routine.old }
+    requires params { IsTrue (are_params routine.old.machine.params) }
+    requires page { (state_of routine.old).page ≡ 1 }
+    requires cycles { (state_of routine.old).dead_cycles ≡ 0 }
+
+    ensures done { IfOk result (Paginates view (run_on routine.old) (K.held out.old) (K.held out.new)) }
+    ensures refused { IfErr result (Refuses view (run_on routine.old) (K.held out.old) (K.held out.new)) }
+    ensures cause { result ≡ Err PageFault.WriteFault → Rose (K.faults out.old) (K.faults out.new) }
+    ensures silent { view ≡ View.Silent → result ≢ Err PageFault.WriteFault }
+    ensures later { K.faults out.old ≤ K.faults out.new }
+{
+    show(view, HEADER, out)?;
     let mut totals = Totals::new();
     let mut happened = Vec::new(alloc);
     let mut text = Vec::new(alloc);
     if let Some(ending) = routine.node_limit() {
-        return finish(alloc, &routine, view, &totals, ending, out);
+        return finish(alloc, routine, view, &totals, ending, out);
     }
     'firing: loop {
         let ending = routine.turn(is_traced(view), &mut happened)?;
         send(&routine.store, &happened, view, &mut totals, &mut text, out)?;
         if let Some(ending) = ending {
-            return finish(alloc, &routine, view, &totals, ending, out);
+            return finish(alloc, routine, view, &totals, ending, out);
         }
         routine.make_room(&happened);
     }

@@ -122,14 +122,10 @@ module _ (limit : ℤ) (terms : List PlainNode → Terms) where
       high p e = grind (arith, ints, e)
 
   node-cut : (before : List PlainNode) (l : ℕ) (k : PlainKind) (rest : List PlainNode) (w : Reach) → CutAt (before ++ without_acts (record { line = l; kind = k } ∷ [])) rest w → CutAt before (record { line = l; kind = k } ∷ rest) (reach_node limit terms before (record { line = l; kind = k }) rest w k)
-  node-cut before l (plain (hbox a b d)) rest w h = at-cut before l (hbox a b d) rest w None tt h
-  node-cut before l (plain (rule a b d)) rest w h = at-cut before l (rule a b d) rest w None tt h
   node-cut before l (plain (skip g)) rest w h = at-cut before l (skip g) rest w _ tt h
   node-cut before l (plain (kerned g)) rest w h = at-cut before l (kerned g) rest w _ tt h
   node-cut before l (plain (pen p)) rest w h = pen-cut before l p rest w (int_lt p inf_penalty) refl h
-  node-cut before l (plain (mark a)) rest w h = at-cut before l (mark a) rest w None tt h
-  node-cut before l (plain (note a)) rest w h = at-cut before l (note a) rest w None tt h
-  node-cut before l (plain whatsit) rest w h = at-cut before l whatsit rest w None tt h
+  node-cut before l (plain k) rest w h = at-cut before l k rest w None tt h
   node-cut before l (ins i) rest w h = record {
     front = record { line = l; kind = ins i } ∷ h.front;
     whole = ap (λ ns. record { line = l; kind = ins i } ∷ ns) h.whole;
@@ -192,11 +188,8 @@ prune-more k l t (plain (rule w a d)) ns c g h = (tt, (tt, g))
 prune-more k l t (plain (skip g)) ns c i h = h
 prune-more k l t (plain (kerned g)) ns c i h = h
 prune-more k l t (plain (pen g)) ns c i h = h
-prune-more k l t (plain (mark g)) ns c i h = (tt, h)
-prune-more k l t (plain (note g)) ns c i h = (tt, h)
-prune-more k l t (plain whatsit) ns c i h = (tt, h)
 prune-more k l t (ins x) ns c i h = (c, h)
-prune-more k l t (act a) ns c i h = (tt, h)
+prune-more k l t n ns c g h = (tt, h)
 
 pub class-pruned : (k : List ℕ) (t : ℤ) (ns : List PlainNode) → AllOfClass k ns → AllOfClass k (pruned_nodes t ns)
 class-pruned k t [] h = tt
@@ -208,15 +201,8 @@ spent-class k (n ∷ ns) h = (by_kind n.kind h.0, h.1)
   where
     by_kind : (n : PlainKind) → OfClass k n → OfClass k (spent_kind n)
     by_kind (plain (hbox w a d)) h = tt
-    by_kind (plain (rule w a d)) h = tt
-    by_kind (plain (skip g)) h = tt
-    by_kind (plain (kerned g)) h = tt
-    by_kind (plain (pen g)) h = tt
-    by_kind (plain (mark g)) h = tt
-    by_kind (plain (note g)) h = tt
-    by_kind (plain whatsit) h = tt
     by_kind (ins i) h = h
-    by_kind (act a) h = tt
+    by_kind n h = tt
 
 -- if the insertions of a list are of these classes, so are those before a cut, and those of the rest
 pub cut-class : (k : List ℕ) (i : ℕ) (ns : List PlainNode) (w : Reach) → CutAt [] ns w → AllOfClass k ns → AllOfClass k (take i w.passed) × AllOfClass k (with_spent_break (drop i w.passed ++ w.beyond))

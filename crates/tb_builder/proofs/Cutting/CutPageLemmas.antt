@@ -24,31 +24,15 @@ use Rattle.tb_builder.proofs.Ownership.RelistLemmas.{Relisted, relisted_own, rel
 
 pub spent_inner : (k : Kind) → inner_of (spent_node_kind k) ≡ inner_of k
 spent_inner (kinds.Hbox what h d) = refl
-spent_inner (kinds.Rule name h d) = refl
-spent_inner (kinds.Skip g) = refl
-spent_inner (kinds.Kern w) = refl
-spent_inner (kinds.Pen p) = refl
-spent_inner (kinds.Mark name) = refl
-spent_inner (kinds.Note name) = refl
-spent_inner kinds.Whatsit = refl
-spent_inner (kinds.Ins i) = refl
-spent_inner (kinds.Act a) = refl
+spent_inner k = refl
 
 spent_ids : (ns : List Node) → inner_ids (spent_nodes ns) ≡ inner_ids ns
 spent_ids [] = refl
 spent_ids (n ∷ ns) = ap (λ o. option_to_list o ++ inner_ids ns) (spent_inner n.kind)
 
 spent_is_known : (cs : List Class) (k : Kind) → is_known cs k ≡ true → is_known cs (spent_node_kind k) ≡ true
-spent_is_known cs (kinds.Hbox what h d) e = refl
-spent_is_known cs (kinds.Rule name h d) e = refl
-spent_is_known cs (kinds.Skip g) e = refl
-spent_is_known cs (kinds.Kern w) e = refl
-spent_is_known cs (kinds.Pen p) e = refl
-spent_is_known cs (kinds.Mark name) e = refl
-spent_is_known cs (kinds.Note name) e = refl
-spent_is_known cs kinds.Whatsit e = refl
 spent_is_known cs (kinds.Ins i) e = e
-spent_is_known cs (kinds.Act a) e = refl
+spent_is_known cs k e = refl
 
 spent_known : (cs : List Class) (ns : List Node) → AllKnown cs ns → AllKnown cs (spent_nodes ns)
 spent_known cs [] h = tt
@@ -56,15 +40,7 @@ spent_known cs (n ∷ ns) h = (spent_is_known cs n.kind h.0, h.1)
 
 spent_one : (held : ℕ → List Node) (line : ℕ) (k : Kind) → (let m : Node = record { line = line; kind = spent_node_kind k } in let n : Node = record { line = line; kind = k } in plain_of held m ≡ record (plain_of held n) { kind = spent_kind (plain_of held n).kind })
 spent_one held line (kinds.Hbox what h d) = refl
-spent_one held line (kinds.Rule name h d) = refl
-spent_one held line (kinds.Skip g) = refl
-spent_one held line (kinds.Kern w) = refl
-spent_one held line (kinds.Pen p) = refl
-spent_one held line (kinds.Mark name) = refl
-spent_one held line (kinds.Note name) = refl
-spent_one held line kinds.Whatsit = refl
-spent_one held line (kinds.Ins i) = refl
-spent_one held line (kinds.Act a) = refl
+spent_one held line k = refl
 
 -- a list with its break spent, in plain nodes
 pub spent_plain : (held : ℕ → List Node) (ns : List Node) → map (plain_of held) (spent_nodes ns) ≡ with_spent_break (map (plain_of held) ns)

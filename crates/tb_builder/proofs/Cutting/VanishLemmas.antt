@@ -8,7 +8,7 @@ use Rattle.tb_scaled.specs.Scaled.{inf_penalty, eject_penalty, awful_bad, min_�
 use Rattle.tb_node.specs.declared.Sums.{Sums}
 use Rattle.tb_node.specs.Shape.{Shape, box, glue, kern, penalty, other, is_discardable}
 use Rattle.tb_node.specs.Sums.{sums_of, list_shrink}
-use Rattle.tb_node.specs.PlainNodes.{Matter, hbox, rule, skip, kerned, pen, mark, note, whatsit, matter_shape, leaf_shape, Inserted, PlainKind, plain, ins, act, PlainNode, node_shape, without_acts}
+use Rattle.tb_node.specs.PlainNodes.{Matter, skip, kerned, pen, matter_shape, leaf_shape, Inserted, PlainKind, plain, ins, act, PlainNode, node_shape, without_acts}
 use Rattle.tb_break.specs.declared.Found.{Found}
 use Rattle.tb_break.specs.Places.{legal_penalty, ends_lasting, begins_with_glue, last_or}
 use Rattle.tb_break.specs.Best.{Breakpoint, is_stop, up_to_stop, least_cost, cheapest, best_or}
@@ -187,14 +187,10 @@ module _ (limit : ℤ) (terms : List PlainNode → Terms) where
 
   matter_at : (before : List PlainNode) (l : ℕ) (m : Matter) (rest : List PlainNode) (later : Reach) → Vanishing (before ++ record { line = l; kind = plain m } ∷ []) later
       → Vanishing before (reach_at limit terms before (record { line = l; kind = plain m }) rest later (legal_penalty (map node_shape before) (matter_shape m ∷ map node_shape (without_acts rest))))
-  matter_at before l (hbox a b d) rest later h = passes before (record { line = l; kind = plain (hbox a b d) }) later h
-  matter_at before l (rule a b d) rest later h = passes before (record { line = l; kind = plain (rule a b d) }) later h
   matter_at before l (skip g) rest later h = by_penalty before (record { line = l; kind = plain (skip g) }) rest later (ends_lasting (map node_shape before)) (pos 0) (free _) refl h
   matter_at before l (kerned g) rest later h = by_penalty before (record { line = l; kind = plain (kerned g) }) rest later (begins_with_glue (map node_shape (without_acts rest))) (pos 0) (free _) refl h
   matter_at before l (pen p) rest later h = by_penalty before (record { line = l; kind = plain (pen p) }) rest later (int_lt p inf_penalty) p (legal p) refl h
-  matter_at before l (mark a) rest later h = passes before (record { line = l; kind = plain (mark a) }) later h
-  matter_at before l (note a) rest later h = passes before (record { line = l; kind = plain (note a) }) later h
-  matter_at before l whatsit rest later h = passes before (record { line = l; kind = plain whatsit }) later h
+  matter_at before l m rest later h = passes before (record { line = l; kind = plain m }) later h
 
   node_at : (before : List PlainNode) (l : ℕ) (k : PlainKind) (rest : List PlainNode) (later : Reach) → Vanishing (before ++ without_acts (record { line = l; kind = k } ∷ [])) later → Vanishing before (reach_node limit terms before (record { line = l; kind = k }) rest later k)
   node_at before l (plain m) rest later h = matter_at before l m rest later h

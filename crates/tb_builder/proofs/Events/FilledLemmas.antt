@@ -41,34 +41,18 @@ use Rattle.tb_builder.proofs.LegalPlaces.WithoutLemmas.{without_fits}
 -- ---- an act
 
 act_inner : (a : Act) (k : Kind) → act_of_kind k ≡ Some a → inner_of k ≡ None
-act_inner a (kinds.Hbox what h d) e = refl
-act_inner a (kinds.Rule name h d) e = refl
-act_inner a (kinds.Skip g) e = refl
-act_inner a (kinds.Kern w) e = refl
-act_inner a (kinds.Pen p) e = refl
-act_inner a (kinds.Mark name) e = refl
-act_inner a (kinds.Note name) e = refl
-act_inner a kinds.Whatsit e = refl
 act_inner a (kinds.Ins i) e = cc
-act_inner a (kinds.Act x) e = refl
+act_inner a k e = refl
 
 plain_act : (held : ℕ → List Node) (n : Node) (a : Act) → act_of_kind n.kind ≡ Some a → (let m : PlainNode = record { line = n.line; kind = act a } in plain_of held n ≡ m)
 plain_act held n a e = by_kind n.kind e
   where
     by_kind : (k : Kind) → act_of_kind k ≡ Some a → (let x : Node = record { line = n.line; kind = k } in (let m : PlainNode = record { line = n.line; kind = act a } in plain_of held x ≡ m))
-    by_kind (kinds.Hbox what h d) e = cc
-    by_kind (kinds.Rule name h d) e = cc
-    by_kind (kinds.Skip g) e = cc
-    by_kind (kinds.Kern w) e = cc
-    by_kind (kinds.Pen p) e = cc
-    by_kind (kinds.Mark name) e = cc
-    by_kind (kinds.Note name) e = cc
-    by_kind kinds.Whatsit e = cc
-    by_kind (kinds.Ins i) e = cc
     by_kind (kinds.Act x) e = let same : x ≡ a = cc in ap (λ y. with_act n.line y) same
       where
         with_act : ℕ → Act → PlainNode
         with_act line y = record { line = line; kind = act y }
+    by_kind k e = cc
 
 -- the first waiting node, an act, was handed out
 module _ (b : Builder) (s t : Lists Node) (ask : Ask) (n : Node) (ns : List Node) (a : Act) (sound : IsSound b s) (on : b.stopped ≡ false) (first : list_at s b.waiting ≡ n ∷ ns) (is : act_of_kind n.kind ≡ Some a) (dropped : t.lists ≡ with_list s b.waiting ns) where

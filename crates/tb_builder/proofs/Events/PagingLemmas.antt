@@ -144,11 +144,9 @@ module _ (s : Contents) (rs : List Reached) (c d : Contents) (ask : Ask) (h : Ha
 
   -- a stop was tried before
   comes_page : (e : Event) (t : Lists Node) → c.stopped ≡ true → FiresWith e c ask d t → ComesTo e s rs c ask d t
-  comes_page (events.Try x) t off f = absurd f
-  comes_page (events.Act a) t off f = absurd f
   comes_page (events.Fired p) t off f =
       let same = (h.stops off).fired in record { page = subst (λ x. PageIs p x t) same f.page; after = f.after ∙ ap (after_fired c) same; stopped = off }
-  comes_page events.Empty t off f = absurd f
+  comes_page e t off f = absurd f
 
   comes_by : (b : Bool) (e : Event) (t : Lists Node) → c.stopped ≡ b → NextIs b e c ask d t → ComesTo e s rs c ask d t
   comes_by true e t off n = comes_page e t off n

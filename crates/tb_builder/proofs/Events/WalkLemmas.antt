@@ -54,17 +54,13 @@ turn_keeps b d s t ask o turn = record { others = λ q live out. turn.frame.othe
 
 -- an event that is no page that fires gives no list out
 given_here : (e : Event) (c x : Contents) (s t y : Lists Node) (i : Ids) (ask : Ask) → FirstIs e (laid c ask) (reach_ahead c ask) (places_of c ask) ask x → IsGivenOut e s i y
-given_here (events.Try p) c x s t y i ask f = tt
-given_here (events.Act a) c x s t y i ask f = tt
 given_here (events.Fired p) c x s t y i ask f = absurd f
-given_here events.Empty c x s t y i ask f = tt
+given_here e c x s t y i ask f = tt
 
 -- and it tells no room
 pub told_here : (e : Event) (c x : Contents) (b : Builder) (y : Lists Node) (ask : Ask) → FirstIs e (laid c ask) (reach_ahead c ask) (places_of c ask) ask x → TellsRoom e b y
-told_here (events.Try p) c x b y ask f = tt
-told_here (events.Act a) c x b y ask f = tt
 told_here (events.Fired p) c x b y ask f = absurd f
-told_here events.Empty c x b y ask f = tt
+told_here e c x b y ask f = tt
 
 -- a turn without an event comes before a call
 next_later : (b d x : Builder) (s t y : Lists Node) (ask : Ask) (e : Event) → b.stopped ≡ false → TurnIs b s ask None d t → IsNext d t ask e x y → IsNext b s ask e x y
@@ -92,10 +88,8 @@ comes_later b d x s t y ask e on turn (p ∷ ps) h = (next_later b d p.builder s
 
 -- a call after memory was taken
 given_room : (e : Event) (s t y : Lists Node) (i : Ids) → t.lists ≡ s.lists → IsGivenOut e t i y → IsGivenOut e s i y
-given_room (events.Try p) s t y i same h = tt
-given_room (events.Act a) s t y i same h = tt
 given_room (events.Fired p) s t y i same h = (sym (one_same s t same p.body) ∙ h.0, h.1, h.2)
-given_room events.Empty s t y i same h = tt
+given_room e s t y i same h = tt
 
 next_room : (b x : Builder) (s t y : Lists Node) (ask : Ask) (e : Event) → t.lists ≡ s.lists → IsNext b t ask e x y → IsNext b s ask e x y
 next_room b x s t y ask e same h =
@@ -301,15 +295,7 @@ seen_solid h d n e = by_kind n.kind e
   where
     by_kind : (k : Kind) → seen_of k ≡ seen.Solid h d → (let x : Node = record { line = n.line; kind = k } in SeenSolid h d x)
     by_kind (kinds.Hbox what a b) e = record { shape = cc; no_act = refl; no_insertion = refl }
-    by_kind (kinds.Rule name a b) e = cc
-    by_kind (kinds.Skip g) e = cc
-    by_kind (kinds.Kern w) e = cc
-    by_kind (kinds.Pen p) e = cc
-    by_kind (kinds.Mark name) e = cc
-    by_kind (kinds.Note name) e = cc
-    by_kind kinds.Whatsit e = cc
-    by_kind (kinds.Ins i) e = cc
-    by_kind (kinds.Act a) e = cc
+    by_kind k e = cc
 
 -- it is glue
 pub record SeenSpace (n : Node) : Type 0 where
@@ -322,16 +308,8 @@ pub seen_space : (n : Node) → seen_of n.kind ≡ seen.Space → SeenSpace n
 seen_space n e = by_kind n.kind e
   where
     by_kind : (k : Kind) → seen_of k ≡ seen.Space → (let x : Node = record { line = n.line; kind = k } in SeenSpace x)
-    by_kind (kinds.Hbox what a b) e = cc
-    by_kind (kinds.Rule name a b) e = cc
     by_kind (kinds.Skip f) e = record { g = f; shape = refl; no_act = refl; no_insertion = refl }
-    by_kind (kinds.Kern w) e = cc
-    by_kind (kinds.Pen p) e = cc
-    by_kind (kinds.Mark name) e = cc
-    by_kind (kinds.Note name) e = cc
-    by_kind kinds.Whatsit e = cc
-    by_kind (kinds.Ins i) e = cc
-    by_kind (kinds.Act a) e = cc
+    by_kind k e = cc
 
 -- ---- a node of the walk
 

@@ -4,7 +4,7 @@
 use Rattle.std.proofs.Common.{◌≡◌, refl, subst, ◌∙◌, ap, ℕ, zero, suc, ◌+◌, ◌≤◌, ℤ, Bool, true, false, List, [], ◌∷◌, ◌++◌, length, length-append, take, drop, map, Some, arith}
 use Rattle.std.specs.Prelude.{if◌then◌else◌, ◌==◌}
 use Rattle.std.proofs.lemmas.Bool.{or_parts, eqb-true}
-use Rattle.tb_node.specs.PlainNodes.{hbox, rule, skip, kerned, pen, mark, note, whatsit, Leaf, leaf_shape, Inserted, PlainKind, plain, ins, act, PlainNode, without_acts, without_insertions, on_line}
+use Rattle.tb_node.specs.PlainNodes.{hbox, Leaf, leaf_shape, Inserted, PlainKind, plain, ins, act, PlainNode, without_acts, without_insertions, on_line}
 use Rattle.tb_break.specs.PageTop.{pruned_leaves}
 use Rattle.tb_insert.specs.declared.Class.{Class}
 use Rattle.tb_insert.specs.Terms.{Terms}
@@ -26,8 +26,7 @@ use Rattle.tb_builder.proofs.Ranges.PrunedLemmas.{pruned_no_longer}
 
 acts_fewer : (l : ℕ) (k : PlainKind) (ns : List PlainNode) → node_count (without_acts ns) ≤ node_count ns → node_count (without_acts (record { line = l; kind = k } ∷ ns)) ≤ kind_count k + node_count ns
 acts_fewer l (plain m) ns h = omega (arith, h)
-acts_fewer l (ins i) ns h = omega (arith, h)
-acts_fewer l (act a) ns h = omega (arith, h)
+acts_fewer l k ns h = omega (arith, h)
 
 without_acts_fewer : (ns : List PlainNode) → node_count (without_acts ns) ≤ node_count ns
 without_acts_fewer [] = omega arith
@@ -84,8 +83,7 @@ labelled_count z ns = let h : label_count (labelled z ns) ≡ 0 + inserted_count
 
 apart : (l : ℕ) (k : PlainKind) (ns : List PlainNode) → node_count (without_insertions ns) + inserted_count ns ≡ node_count ns → node_count (without_insertions (record { line = l; kind = k } ∷ ns)) + (kind_inserted k + inserted_count ns) ≡ kind_count k + node_count ns
 apart l (plain m) ns h = omega arith
-apart l (ins i) ns h = omega arith
-apart l (act a) ns h = omega arith
+apart l k ns h = omega arith
 
 -- a list has as many nodes as it has without its insertions, and in them
 pub insertions_apart : (ns : List PlainNode) → node_count (without_insertions ns) + inserted_count ns ≡ node_count ns
@@ -99,15 +97,7 @@ count-split (suc k) (n ∷ ns) = let h : node_count (take k ns) + node_count (dr
 
 spent_kind_count : (k : PlainKind) → kind_count (spent_kind k) ≡ kind_count k
 spent_kind_count (plain (hbox w a b)) = refl
-spent_kind_count (plain (rule w a b)) = refl
-spent_kind_count (plain (skip g)) = refl
-spent_kind_count (plain (kerned w)) = refl
-spent_kind_count (plain (pen p)) = refl
-spent_kind_count (plain (mark w)) = refl
-spent_kind_count (plain (note w)) = refl
-spent_kind_count (plain whatsit) = refl
-spent_kind_count (ins i) = refl
-spent_kind_count (act a) = refl
+spent_kind_count k = refl
 
 pub spent_count : (ns : List PlainNode) → node_count (with_spent_break ns) ≡ node_count ns
 spent_count [] = refl

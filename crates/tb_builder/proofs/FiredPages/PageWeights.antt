@@ -2,7 +2,7 @@
 use Rattle.std.proofs.Common.{◌≡◌, refl, ◌∙◌, ap, ℕ, suc, ◌+◌, ℤ, Bool, true, false, List, [], ◌∷◌, ◌++◌, length, map, take, drop, Option, Some, None, arith}
 use Rattle.std.specs.Prelude.{◌==◌, ◌||◌, if◌then◌else◌}
 use Rattle.std.specs.List.{AllByRecursion}
-use Rattle.tb_node.specs.PlainNodes.{Matter, hbox, rule, skip, kerned, pen, mark, note, whatsit, Leaf, Inserted, PlainKind, plain, ins, act, PlainNode, without_acts, without_insertions, on_line}
+use Rattle.tb_node.specs.PlainNodes.{Matter, hbox, Leaf, Inserted, PlainKind, plain, ins, act, PlainNode, without_acts, without_insertions, on_line}
 use Rattle.tb_node.proofs.Weights.{Weight, matter_weight, leaves_weight, act_weight, kind_weight, nodes_weight, kind_inserted, inserted_weight, weight-append, leaves-append, leaves-split, weight-split, insertions-apart}
 use Rattle.tb_break.specs.Best.{Breakpoint, is_stop}
 use Rattle.tb_break.specs.PageTop.{pruned_leaves, pruned_nodes}
@@ -15,13 +15,7 @@ use Rattle.tb_builder.specs.FiredPages.{Boxed, Fired, page_break, from_break, sp
 
 leaf-pruned : (v : Weight) (t : ℤ) (ls : List Leaf) → leaves_weight v (pruned_leaves t ls) ≡ leaves_weight v ls → (n : ℕ) (m : Matter) → leaves_weight v (pruned_leaves t (record { line = n; matter = m } ∷ ls)) ≡ matter_weight v n m + leaves_weight v ls
 leaf-pruned v t ls h n (hbox w a d) = omega arith
-leaf-pruned v t ls h n (rule name a d) = omega arith
-leaf-pruned v t ls h n (skip g) = omega arith
-leaf-pruned v t ls h n (kerned w) = omega arith
-leaf-pruned v t ls h n (pen p) = omega arith
-leaf-pruned v t ls h n (mark name) = omega arith
-leaf-pruned v t ls h n (note name) = omega arith
-leaf-pruned v t ls h n whatsit = omega arith
+leaf-pruned v t ls h n m = omega arith
 
 pub pruned_leaves-weight : (v : Weight) (t : ℤ) (ls : List Leaf) → leaves_weight v (pruned_leaves t ls) ≡ leaves_weight v ls
 pruned_leaves-weight v t [] = refl
@@ -29,15 +23,7 @@ pruned_leaves-weight v t (l ∷ ls) = leaf-pruned v t ls (pruned_leaves-weight v
 
 node-pruned : (v : Weight) (t : ℤ) (ns : List PlainNode) → nodes_weight v (pruned_nodes t ns) ≡ nodes_weight v ns → (n : ℕ) (k : PlainKind) → nodes_weight v (pruned_nodes t (record { line = n; kind = k } ∷ ns)) ≡ kind_weight v n k + nodes_weight v ns
 node-pruned v t ns h n (plain (hbox w a d)) = omega arith
-node-pruned v t ns h n (plain (rule name a d)) = omega arith
-node-pruned v t ns h n (plain (skip g)) = omega arith
-node-pruned v t ns h n (plain (kerned w)) = omega arith
-node-pruned v t ns h n (plain (pen p)) = omega arith
-node-pruned v t ns h n (plain (mark name)) = omega arith
-node-pruned v t ns h n (plain (note name)) = omega arith
-node-pruned v t ns h n (plain whatsit) = omega arith
-node-pruned v t ns h n (ins i) = omega arith
-node-pruned v t ns h n (act a) = omega arith
+node-pruned v t ns h n k = omega arith
 
 pub pruned_nodes-weight : (v : Weight) (t : ℤ) (ns : List PlainNode) → nodes_weight v (pruned_nodes t ns) ≡ nodes_weight v ns
 pruned_nodes-weight v t [] = refl
@@ -283,15 +269,7 @@ spent-weight v (n ∷ ns) = by_kind n.line n.kind
   where
     by_kind : (l : ℕ) (k : PlainKind) → kind_weight v l (spent_kind k) + nodes_weight v ns ≡ kind_weight v l k + nodes_weight v ns
     by_kind l (plain (hbox w a d)) = refl
-    by_kind l (plain (rule name a d)) = refl
-    by_kind l (plain (skip g)) = refl
-    by_kind l (plain (kerned w)) = refl
-    by_kind l (plain (pen p)) = refl
-    by_kind l (plain (mark name)) = refl
-    by_kind l (plain (note name)) = refl
-    by_kind l (plain whatsit) = refl
-    by_kind l (ins i) = refl
-    by_kind l (act a) = refl
+    by_kind l k = refl
 
 abbrev pub fired_weight : Weight → Fired → ℕ
 fired_weight v f = nodes_weight v f.body + boxes_weight v f.boxes + nodes_weight v f.held + nodes_weight v f.rest

@@ -1,7 +1,7 @@
 -- What waits grows at its end: the places of the page and the stop stay.
 use Rattle.std.proofs.Common.{◌≡◌, refl, sym, subst, ◌∙◌, ap, ℕ, ℤ, Bool, true, false, List, [], ◌∷◌, ◌++◌, length, length-append, Option, None, Some, append_assoc, append-nil, arith}
 use Rattle.std.proofs.lemmas.Bool.{true≢false}
-use Rattle.tb_node.specs.Shape.{Shape, box, glue, kern, penalty, other}
+use Rattle.tb_node.specs.Shape.{Shape, box, kern}
 use Rattle.tb_node.specs.PlainNodes.{PlainKind, plain, ins, act, PlainNode, node_shape, kind_shape, without_acts}
 use Rattle.tb_break.specs.Places.{ends_lasting, begins_with_glue}
 use Rattle.tb_break.specs.Best.{Breakpoint, is_stop}
@@ -21,17 +21,11 @@ use Rattle.tb_builder.proofs.LegalPlaces.PageLemmas.{first_of, reach_next, at_pl
 
 first_glue : (s : Shape) (ns ms : List Shape) → begins_with_glue (s ∷ ns) ≡ begins_with_glue (s ∷ ms)
 first_glue (box h d) ns ms = refl
-first_glue (glue g) ns ms = refl
-first_glue (kern w) ns ms = refl
-first_glue (penalty p) ns ms = refl
-first_glue other ns ms = refl
+first_glue s ns ms = refl
 
 glue_alone : (s : Shape) → begins_with_glue (s ∷ []) ≡ is_glue s
 glue_alone (box h d) = refl
-glue_alone (glue g) = refl
-glue_alone (kern w) = refl
-glue_alone (penalty p) = refl
-glue_alone other = refl
+glue_alone s = refl
 
 -- a node comes after the others
 pub glue_grows : (ns : List PlainNode) (m : PlainNode) → (without_acts ns ≡ [] → is_glue (node_shape m) ≡ false) → glue_first (ns ++ m ∷ []) ≡ glue_first ns
@@ -58,11 +52,8 @@ glue_kept ns m e = glue_grows ns m (λ none. absurd (true≢false (sym e ∙ no_
 -- ---- the penalty of a place
 
 penalty_same : (lasting g h : Bool) (s : Shape) → (is_kern s ≡ true → g ≡ h) → penalty_by lasting g s ≡ penalty_by lasting h s
-penalty_same lasting g h (box x d) e = refl
-penalty_same lasting g h (glue x) e = refl
 penalty_same lasting g h (kern w) e = ap (λ b. penalty_by lasting b (kern w)) (e refl)
-penalty_same lasting g h (penalty p) e = refl
-penalty_same lasting g h other e = refl
+penalty_same lasting g h s e = refl
 
 node_same : (lasting g h : Bool) (n : PlainNode) → (is_kern (node_shape n) ≡ true → g ≡ h) → node_penalty lasting g n ≡ node_penalty lasting h n
 node_same lasting g h n e = by_kind n.kind
@@ -75,11 +66,9 @@ node_same lasting g h n e = by_kind n.kind
 -- a legal place before a kern has glue after it
 kern_legal : (lasting g : Bool) (s : Shape) (p : ℤ) → penalty_by lasting g s ≡ Some p → is_kern s ≡ true → g ≡ true
 kern_legal lasting g (box x d) p e k = absurd (true≢false (sym k))
-kern_legal lasting g (glue x) p e k = absurd (true≢false (sym k))
 kern_legal lasting true (kern w) p e k = refl
 kern_legal lasting false (kern w) p e k = cc
-kern_legal lasting g (penalty q) p e k = absurd (true≢false (sym k))
-kern_legal lasting g other p e k = absurd (true≢false (sym k))
+kern_legal lasting g s p e k = absurd (true≢false (sym k))
 
 node_legal : (lasting g : Bool) (n : PlainNode) (p : ℤ) → node_penalty lasting g n ≡ Some p → is_kern (node_shape n) ≡ true → g ≡ true
 node_legal lasting g n p e k = by_kind n.kind e

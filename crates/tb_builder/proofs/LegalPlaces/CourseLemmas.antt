@@ -10,7 +10,7 @@ use Rattle.tb_node.specs.declared.Sums.{Sums}
 use Rattle.tb_node.specs.declared.Kind.{Kind}
 use Rattle.tb_node.specs.declared.Kind.TheVariants as kinds
 use Rattle.tb_node.specs.Shape.{Shape, other, is_discardable}
-use Rattle.tb_node.specs.PlainNodes.{hbox, rule, skip, kerned, pen, mark, note, whatsit, Inserted, PlainKind, plain, ins, act, PlainNode, plain_of, plain_kind, node_shape, shape_of, is_act_kind, is_insertion_kind}
+use Rattle.tb_node.specs.PlainNodes.{mark, note, whatsit, Inserted, PlainKind, plain, ins, act, PlainNode, plain_of, plain_kind, node_shape, shape_of, is_act_kind, is_insertion_kind}
 use Rattle.tb_node.specs.NodeSums.{added_node}
 use Rattle.tb_node.specs.Roles.{act_of_kind, insertion_of_kind}
 use Rattle.tb_node.specs.Sums.{size_of}
@@ -45,70 +45,30 @@ shape_is held n = by_kind n.kind
   where
     by_kind : (k : Kind) → (let x : Node = record { line = n.line; kind = k } in node_shape (plain_of held x) ≡ shape_of x)
     by_kind (kinds.Hbox what h d) = refl
-    by_kind (kinds.Rule name h d) = refl
-    by_kind (kinds.Skip g) = refl
-    by_kind (kinds.Kern w) = refl
-    by_kind (kinds.Pen p) = refl
-    by_kind (kinds.Mark name) = refl
-    by_kind (kinds.Note name) = refl
-    by_kind kinds.Whatsit = refl
-    by_kind (kinds.Ins i) = refl
-    by_kind (kinds.Act a) = refl
+    by_kind k = refl
 
 pub no_act : (held : ℕ → List Node) (k : Kind) → act_of_kind k ≡ None → is_act_kind (plain_kind held k) ≡ false
-no_act held (kinds.Hbox what h d) e = refl
-no_act held (kinds.Rule name h d) e = refl
-no_act held (kinds.Skip g) e = refl
-no_act held (kinds.Kern w) e = refl
-no_act held (kinds.Pen p) e = refl
-no_act held (kinds.Mark name) e = refl
-no_act held (kinds.Note name) e = refl
-no_act held kinds.Whatsit e = refl
-no_act held (kinds.Ins i) e = refl
 no_act held (kinds.Act a) e = cc
+no_act held k e = refl
 
 pub no_insertion : (held : ℕ → List Node) (k : Kind) → insertion_of_kind k ≡ None → is_insertion_kind (plain_kind held k) ≡ false
-no_insertion held (kinds.Hbox what h d) e = refl
-no_insertion held (kinds.Rule name h d) e = refl
-no_insertion held (kinds.Skip g) e = refl
-no_insertion held (kinds.Kern w) e = refl
-no_insertion held (kinds.Pen p) e = refl
-no_insertion held (kinds.Mark name) e = refl
-no_insertion held (kinds.Note name) e = refl
-no_insertion held kinds.Whatsit e = refl
 no_insertion held (kinds.Ins i) e = cc
-no_insertion held (kinds.Act a) e = refl
+no_insertion held k e = refl
 
 pub penalty_is : (held : ℕ → List Node) (lasting g : Bool) (n : Node) → act_of_kind n.kind ≡ None → node_penalty lasting g (plain_of held n) ≡ penalty_by lasting g (shape_of n)
 penalty_is held lasting g n e = by_kind n.kind e
   where
     by_kind : (k : Kind) → act_of_kind k ≡ None → (let x : Node = record { line = n.line; kind = k } in node_penalty lasting g (plain_of held x) ≡ penalty_by lasting g (shape_of x))
-    by_kind (kinds.Hbox what h d) e = refl
-    by_kind (kinds.Rule name h d) e = refl
-    by_kind (kinds.Skip g) e = refl
-    by_kind (kinds.Kern w) e = refl
-    by_kind (kinds.Pen p) e = refl
-    by_kind (kinds.Mark name) e = refl
-    by_kind (kinds.Note name) e = refl
-    by_kind kinds.Whatsit e = refl
-    by_kind (kinds.Ins i) e = refl
     by_kind (kinds.Act a) e = cc
+    by_kind k e = refl
 
 pub first_glue_is : (held : ℕ → List Node) (ns : List Node) → nodes_glue_first ns ≡ glue_first (map (plain_of held) ns)
 first_glue_is held [] = refl
 first_glue_is held (n ∷ ns) = by_kind n.kind (first_glue_is held ns)
   where
     by_kind : (k : Kind) → nodes_glue_first ns ≡ glue_first (map (plain_of held) ns) → (let x : Node = record { line = n.line; kind = k } in nodes_glue_first (x ∷ ns) ≡ glue_first (plain_of held x ∷ map (plain_of held) ns))
-    by_kind (kinds.Hbox what h d) ih = refl
-    by_kind (kinds.Rule name h d) ih = refl
-    by_kind (kinds.Skip g) ih = refl
-    by_kind (kinds.Kern w) ih = refl
-    by_kind (kinds.Pen p) ih = refl
-    by_kind (kinds.Mark name) ih = refl
-    by_kind (kinds.Note name) ih = refl
-    by_kind kinds.Whatsit ih = refl
-    by_kind (kinds.Ins i) ih = refl
     by_kind (kinds.Act a) ih = ih
+    by_kind k ih = refl
 
 -- ---- acts on a page
 
@@ -262,16 +222,12 @@ loose_plain (ins i) e = absurd (true≢false (sym e))
 loose_plain (act a) e = absurd (true≢false (sym e))
 
 pub loose_shape : (line : ℕ) (k : PlainKind) → is_loose k ≡ true → (let n : PlainNode = record { line = line; kind = k } in node_shape n ≡ other)
-loose_shape line (plain (hbox w h d)) e = absurd (true≢false (sym e))
-loose_shape line (plain (rule w h d)) e = absurd (true≢false (sym e))
-loose_shape line (plain (skip g)) e = absurd (true≢false (sym e))
-loose_shape line (plain (kerned w)) e = absurd (true≢false (sym e))
-loose_shape line (plain (pen p)) e = absurd (true≢false (sym e))
 loose_shape line (plain (mark m)) e = refl
 loose_shape line (plain (note m)) e = refl
 loose_shape line (plain whatsit) e = refl
 loose_shape line (ins i) e = refl
 loose_shape line (act a) e = refl
+loose_shape line k e = absurd (true≢false (sym e))
 
 loose_scan : (z : Frozen) (s : Scanned) (before page : List PlainNode) → AllLoose page → IsScanOfPage s z before → IsScanOfPage s z (before ++ page)
 loose_scan z s before [] h scan = subst (IsScanOfPage s z) (sym (append-nil before)) scan

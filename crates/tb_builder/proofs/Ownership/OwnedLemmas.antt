@@ -129,28 +129,12 @@ view_same s t [] same = refl
 view_same s t (n ∷ ns) same = λ i. by_kind n.kind same i ∷ view_same s t ns (rest n.kind same) i
   where
     by_kind : (k : Kind) → AllSame s t (option_to_list (inner_of k) ++ inner_ids ns) → (let x : Node = record { line = n.line; kind = k } in plain_of (list_at t) x ≡ plain_of (list_at s) x)
-    by_kind (kinds.Hbox what h d) same = refl
-    by_kind (kinds.Rule name h d) same = refl
-    by_kind (kinds.Skip g) same = refl
-    by_kind (kinds.Kern w) same = refl
-    by_kind (kinds.Pen p) same = refl
-    by_kind (kinds.Mark name) same = refl
-    by_kind (kinds.Note name) same = refl
-    by_kind kinds.Whatsit same = refl
     by_kind (kinds.Ins j) same = ap (λ ys. with_inner n.line j ys) (lists_same s t j.list same.0)
-    by_kind (kinds.Act a) same = refl
+    by_kind k same = refl
 
     rest : (k : Kind) → AllSame s t (option_to_list (inner_of k) ++ inner_ids ns) → AllSame s t (inner_ids ns)
-    rest (kinds.Hbox what h d) same = same
-    rest (kinds.Rule name h d) same = same
-    rest (kinds.Skip g) same = same
-    rest (kinds.Kern w) same = same
-    rest (kinds.Pen p) same = same
-    rest (kinds.Mark name) same = same
-    rest (kinds.Note name) same = same
-    rest kinds.Whatsit same = same
     rest (kinds.Ins j) same = same.1
-    rest (kinds.Act a) same = same
+    rest k same = same
 
 pub inner-append : (ms ns : List Node) → inner_ids (ms ++ ns) ≡ inner_ids ms ++ inner_ids ns
 inner-append [] ns = refl

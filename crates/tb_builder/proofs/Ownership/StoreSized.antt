@@ -20,15 +20,7 @@ use Rattle.tb_builder.proofs.Events.WholeLemmas.{IsMatterKind, AreMatter}
 
 leaf_sized : (k : Kind) → IsSized (shape_of_kind k) → IsSized (matter_shape (matter_of k))
 leaf_sized (kinds.Hbox what h d) s = s
-leaf_sized (kinds.Rule name h d) s = s
-leaf_sized (kinds.Skip g) s = s
-leaf_sized (kinds.Kern w) s = s
-leaf_sized (kinds.Pen p) s = s
-leaf_sized (kinds.Mark name) s = s
-leaf_sized (kinds.Note name) s = s
-leaf_sized kinds.Whatsit s = s
-leaf_sized (kinds.Ins i) s = s
-leaf_sized (kinds.Act a) s = s
+leaf_sized k s = s
 
 leaves_by : (ns : List Node) → AllByRecursion IsSizedNode ns → AllByRecursion IsSizedLeaf (map leaf_of ns)
 leaves_by [] h = tt
@@ -40,15 +32,7 @@ leaves-sized ns h = All-from_recursion IsSizedLeaf (map leaf_of ns) (leaves_by n
 
 sized_leaf : (k : Kind) → IsSized (matter_shape (matter_of k)) → IsSized (shape_of_kind k)
 sized_leaf (kinds.Hbox what h d) s = s
-sized_leaf (kinds.Rule name h d) s = s
-sized_leaf (kinds.Skip g) s = s
-sized_leaf (kinds.Kern w) s = s
-sized_leaf (kinds.Pen p) s = s
-sized_leaf (kinds.Mark name) s = s
-sized_leaf (kinds.Note name) s = s
-sized_leaf kinds.Whatsit s = s
-sized_leaf (kinds.Ins i) s = s
-sized_leaf (kinds.Act a) s = s
+sized_leaf k s = s
 
 leaves_back : (ns : List Node) → AllByRecursion IsSizedLeaf (map leaf_of ns) → AllByRecursion IsSizedNode ns
 leaves_back [] h = tt
@@ -62,16 +46,9 @@ leaves-back ns h = All-from_recursion IsSizedNode ns (leaves_back ns (recursion_
 
 module _ (held : ℕ → List Node) where
   kind_back : (k : Kind) → IsSized (kind_shape (plain_kind held k)) → IsSized (shape_of_kind k)
-  kind_back (kinds.Hbox what h d) s = s
-  kind_back (kinds.Rule name h d) s = s
-  kind_back (kinds.Skip g) s = s
-  kind_back (kinds.Kern w) s = s
-  kind_back (kinds.Pen q) s = s
-  kind_back (kinds.Mark name) s = s
-  kind_back (kinds.Note name) s = s
-  kind_back kinds.Whatsit s = s
   kind_back (kinds.Ins i) s = tt
   kind_back (kinds.Act a) s = tt
+  kind_back k s = s
 
   nodes_back : (ns : List Node) → AllByRecursion IsSizedOnPage (map (plain_of held) ns) → AllByRecursion IsSizedNode ns
   nodes_back [] h = tt
@@ -79,15 +56,7 @@ module _ (held : ℕ → List Node) where
 
   counted : (k : Kind) → 1 ≤ kind_count (plain_kind held k)
   counted (kinds.Hbox what h d) = omega arith
-  counted (kinds.Rule name h d) = omega arith
-  counted (kinds.Skip g) = omega arith
-  counted (kinds.Kern w) = omega arith
-  counted (kinds.Pen q) = omega arith
-  counted (kinds.Mark name) = omega arith
-  counted (kinds.Note name) = omega arith
-  counted kinds.Whatsit = omega arith
-  counted (kinds.Ins i) = omega arith
-  counted (kinds.Act a) = omega arith
+  counted k = omega arith
 
   length_by : (ns : List Node) → length ns ≤ node_count (map (plain_of held) ns)
   length_by [] = omega arith
@@ -104,16 +73,9 @@ list-length store l = length_by (list_at store) (list_at store l)
 -- if the definitions see neither insertions nor acts, the store's nodes are neither
 module _ (held : ℕ → List Node) where
   kind_plain : (k : Kind) → IsMatterKind (plain_kind held k) → is_plain k ≡ true
-  kind_plain (kinds.Hbox what h d) m = refl
-  kind_plain (kinds.Rule name h d) m = refl
-  kind_plain (kinds.Skip g) m = refl
-  kind_plain (kinds.Kern w) m = refl
-  kind_plain (kinds.Pen q) m = refl
-  kind_plain (kinds.Mark name) m = refl
-  kind_plain (kinds.Note name) m = refl
-  kind_plain kinds.Whatsit m = refl
   kind_plain (kinds.Ins i) m = absurd m
   kind_plain (kinds.Act a) m = absurd m
+  kind_plain k m = refl
 
   pub matter-plain : (ns : List Node) → AreMatter (map (plain_of held) ns) → AllPlain ns
   matter-plain [] m = tt

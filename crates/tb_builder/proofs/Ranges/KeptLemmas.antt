@@ -6,7 +6,7 @@ use Rattle.std.proofs.lemmas.List.{length-map}
 use Rattle.std.proofs.lemmas.List.Elements.{All-append, All-tail}
 use Rattle.tb_node.specs.declared.Act.{Act}
 use Rattle.tb_node.specs.Fit.{IsExtent}
-use Rattle.tb_node.specs.PlainNodes.{hbox, rule, skip, kerned, pen, mark, note, whatsit, PlainKind, plain, ins, act, PlainNode, node_shape}
+use Rattle.tb_node.specs.PlainNodes.{pen, PlainKind, plain, act, PlainNode, node_shape}
 use Rattle.tb_break.specs.Best.{Breakpoint, is_stop}
 use Rattle.tb_break.specs.PageTop.{pruned_nodes}
 use Rattle.tb_insert.specs.declared.Class.{Class}
@@ -187,16 +187,8 @@ spent_vanishes [] h = tt
 spent_vanishes (n ∷ ns) h = by_kind n.kind h
   where
     by_kind : (k : PlainKind) → BeginsVanishing (map node_shape (record { line = n.line; kind = k } ∷ ns)) → BeginsVanishing (map node_shape (record { line = n.line; kind = spent_kind k } ∷ ns))
-    by_kind (plain (hbox w a b)) h = h
-    by_kind (plain (rule w a b)) h = h
-    by_kind (plain (skip g)) h = h
-    by_kind (plain (kerned w)) h = h
     by_kind (plain (pen p)) h = refl
-    by_kind (plain (mark w)) h = h
-    by_kind (plain (note w)) h = h
-    by_kind (plain whatsit) h = h
-    by_kind (ins i) h = h
-    by_kind (act a) h = h
+    by_kind k h = h
 
 module _ (c : Contents) (ask : Ask) (r : IsSizedContents c) (stopped : c.stopped ≡ true) where
   stands : All IsSizedOnPage (c.page ++ c.waiting)

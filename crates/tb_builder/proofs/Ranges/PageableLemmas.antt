@@ -47,8 +47,7 @@ count-append (m ∷ ms) ns = let e = count-append ms ns in omega arith
 
 one_at_least : (k : PlainKind) → 1 ≤ kind_count k
 one_at_least (plain m) = omega arith
-one_at_least (ins i) = omega arith
-one_at_least (act a) = omega arith
+one_at_least k = omega arith
 
 pub length_counted : (ns : List PlainNode) → length ns ≤ node_count ns
 length_counted [] = omega arith
@@ -379,10 +378,8 @@ glue_sized t h a b = (record { low = grind (arith, ints, a, b); high = grind (ar
 
 at_sized : (t : ℤ) (s : Shape) (n : PlainNode) (ns pruned : List PlainNode) → IsExtent t → IsSized s → IsSizedOnPage n → All IsSizedOnPage ns → All IsSizedOnPage pruned → All IsSizedOnPage (pruned_at (λ m g. record { line = m.line; kind = plain (skip g) }) t s n ns pruned)
 at_sized t (box h d) n ns pruned a s here rest later = All-cons IsSizedOnPage (record { line = n.line; kind = plain (skip (top_glue t h)) }) (n ∷ ns) (record { shape = glue_sized t h a s.0; kind = tt }) (All-cons IsSizedOnPage n ns here rest)
-at_sized t (glue g) n ns pruned a s here rest later = later
-at_sized t (kern w) n ns pruned a s here rest later = later
-at_sized t (penalty p) n ns pruned a s here rest later = later
 at_sized t other n ns pruned a s here rest later = All-cons IsSizedOnPage n pruned here later
+at_sized t k n ns pruned a s here rest later = later
 
 pub pruned_sized : (t : ℤ) (ns : List PlainNode) → IsExtent t → All IsSizedOnPage ns → All IsSizedOnPage (pruned_nodes t ns)
 pruned_sized t [] a h = All-nil IsSizedOnPage
@@ -393,10 +390,7 @@ pruned_sized t (n ∷ ns) a h =
 
 at_count : (t : ℤ) (s : Shape) (n : PlainNode) (ns pruned : List PlainNode) → node_count pruned ≤ node_count ns + 1 → node_count (pruned_at (λ m g. record { line = m.line; kind = plain (skip g) }) t s n ns pruned) ≤ node_count (n ∷ ns) + 1
 at_count t (box h d) n ns pruned le = omega arith
-at_count t (glue g) n ns pruned le = omega arith
-at_count t (kern w) n ns pruned le = omega arith
-at_count t (penalty p) n ns pruned le = omega arith
-at_count t other n ns pruned le = omega arith
+at_count t s n ns pruned le = omega arith
 
 pub pruned_nodes_longer : (t : ℤ) (ns : List PlainNode) → node_count (pruned_nodes t ns) ≤ node_count ns + 1
 pruned_nodes_longer t [] = omega arith

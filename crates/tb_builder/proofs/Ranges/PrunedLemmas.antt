@@ -5,7 +5,7 @@ use Rattle.std.specs.List.{AllByRecursion}
 use Rattle.std.proofs.lemmas.Int.{ints}
 use Rattle.std.proofs.lemmas.List.Elements.{All-from_recursion, recursion_from_All}
 use Rattle.tb_node.specs.Fit.{IsExtent}
-use Rattle.tb_node.specs.PlainNodes.{Matter, hbox, rule, skip, kerned, pen, mark, note, whatsit, matter_shape, Leaf, leaf_shape, PlainKind, plain, ins, act, PlainNode, kind_shape, node_shape}
+use Rattle.tb_node.specs.PlainNodes.{Matter, hbox, rule, skip, kerned, pen, matter_shape, Leaf, leaf_shape, PlainKind, plain, ins, PlainNode, kind_shape, node_shape}
 use Rattle.tb_break.specs.PageTop.{pruned_leaves, pruned_nodes}
 use Rattle.tb_builder.specs.Reach.{holds_box}
 use Rattle.tb_builder.specs.Contents.{kind_count, node_count}
@@ -22,26 +22,17 @@ no_skip = record { low = omega (arith, ints); high = omega (arith, ints) }
 leaf_longer : (t : ℤ) (n : ℕ) (m : Matter) (ls : List Leaf) → length (pruned_leaves t ls) ≤ length ls + 1 → length (pruned_leaves t (record { line = n; matter = m } ∷ ls)) ≤ length ls + 2
 leaf_longer t n (hbox w a b) ls h = omega arith
 leaf_longer t n (rule w a b) ls h = omega arith
-leaf_longer t n (skip g) ls h = omega (arith, h)
-leaf_longer t n (kerned w) ls h = omega (arith, h)
-leaf_longer t n (pen p) ls h = omega (arith, h)
-leaf_longer t n (mark w) ls h = omega (arith, h)
-leaf_longer t n (note w) ls h = omega (arith, h)
-leaf_longer t n whatsit ls h = omega (arith, h)
+leaf_longer t n m ls h = omega (arith, h)
 
 pub pruned_leaves_longer : (t : ℤ) (ls : List Leaf) → length (pruned_leaves t ls) ≤ length ls + 1
 pruned_leaves_longer t [] = omega arith
 pruned_leaves_longer t (l ∷ ls) = let h = leaf_longer t l.line l.matter ls (pruned_leaves_longer t ls) in omega (arith, h)
 
 vanished : (t : ℤ) (n : ℕ) (m : Matter) (ls : List Leaf) → BeginsVanishing (matter_shape m ∷ map leaf_shape ls) → length (pruned_leaves t (record { line = n; matter = m } ∷ ls)) ≤ suc (length ls)
-vanished t n (hbox w a b) ls v = let no : ⊥ = grind (arith, v) in absurd no
-vanished t n (rule w a b) ls v = let no : ⊥ = grind (arith, v) in absurd no
 vanished t n (skip g) ls v = let h = pruned_leaves_longer t ls in omega (arith, h)
 vanished t n (kerned w) ls v = let h = pruned_leaves_longer t ls in omega (arith, h)
 vanished t n (pen p) ls v = let h = pruned_leaves_longer t ls in omega (arith, h)
-vanished t n (mark w) ls v = let no : ⊥ = grind (arith, v) in absurd no
-vanished t n (note w) ls v = let no : ⊥ = grind (arith, v) in absurd no
-vanished t n whatsit ls v = let no : ⊥ = grind (arith, v) in absurd no
+vanished t n m ls v = let no : ⊥ = grind (arith, v) in absurd no
 
 -- if the first node vanishes, the glue at the top takes its place
 pub pruned_no_longer : (t : ℤ) (ls : List Leaf) → BeginsVanishing (map leaf_shape ls) → length (pruned_leaves t ls) ≤ length ls
@@ -67,11 +58,7 @@ module _ (t u : ℤ) (d : IsExtent u) where
   node_again n (plain (skip g)) ns later h = later h
   node_again n (plain (kerned w)) ns later h = later h
   node_again n (plain (pen p)) ns later h = later h
-  node_again n (plain (mark w)) ns later h = (h.0, later h.1)
-  node_again n (plain (note w)) ns later h = (h.0, later h.1)
-  node_again n (plain whatsit) ns later h = (h.0, later h.1)
-  node_again n (ins i) ns later h = (h.0, later h.1)
-  node_again n (act a) ns later h = (h.0, later h.1)
+  node_again n k ns later h = (h.0, later h.1)
 
   again_by : (ns : List PlainNode) → AreSized (pruned_nodes t ns) → AreSized (pruned_nodes u ns)
   again_by [] h = tt
@@ -87,11 +74,8 @@ module _ (t u : ℤ) where
   node_same n (plain (skip g)) ns h = h
   node_same n (plain (kerned w)) ns h = h
   node_same n (plain (pen p)) ns h = h
-  node_same n (plain (mark w)) ns h = ap (λ m. 1 + m) h
-  node_same n (plain (note w)) ns h = ap (λ m. 1 + m) h
-  node_same n (plain whatsit) ns h = ap (λ m. 1 + m) h
   node_same n (ins i) ns h = ap (λ m. (1 + length i.inner) + m) h
-  node_same n (act a) ns h = ap (λ m. 1 + m) h
+  node_same n k ns h = ap (λ m. 1 + m) h
 
   pub pruned_same : (ns : List PlainNode) → node_count (pruned_nodes t ns) ≡ node_count (pruned_nodes u ns)
   pruned_same [] = refl
@@ -100,16 +84,10 @@ module _ (t u : ℤ) where
 -- ---- if the first node vanishes
 
 node_vanished : (t : ℤ) (n : ℕ) (k : PlainKind) (ns : List PlainNode) → BeginsVanishing (kind_shape k ∷ map node_shape ns) → node_count (pruned_nodes t (record { line = n; kind = k } ∷ ns)) ≤ kind_count k + node_count ns
-node_vanished t n (plain (hbox w a b)) ns v = let no : ⊥ = grind (arith, v) in absurd no
-node_vanished t n (plain (rule w a b)) ns v = let no : ⊥ = grind (arith, v) in absurd no
 node_vanished t n (plain (skip g)) ns v = let h = pruned_nodes_longer t ns in omega (arith, h)
 node_vanished t n (plain (kerned w)) ns v = let h = pruned_nodes_longer t ns in omega (arith, h)
 node_vanished t n (plain (pen p)) ns v = let h = pruned_nodes_longer t ns in omega (arith, h)
-node_vanished t n (plain (mark w)) ns v = let no : ⊥ = grind (arith, v) in absurd no
-node_vanished t n (plain (note w)) ns v = let no : ⊥ = grind (arith, v) in absurd no
-node_vanished t n (plain whatsit) ns v = let no : ⊥ = grind (arith, v) in absurd no
-node_vanished t n (ins i) ns v = let no : ⊥ = grind (arith, v) in absurd no
-node_vanished t n (act a) ns v = let no : ⊥ = grind (arith, v) in absurd no
+node_vanished t n k ns v = let no : ⊥ = grind (arith, v) in absurd no
 
 pub nodes_no_longer : (t : ℤ) (ns : List PlainNode) → BeginsVanishing (map node_shape ns) → node_count (pruned_nodes t ns) ≤ node_count ns
 nodes_no_longer t [] v = omega arith
@@ -124,11 +102,7 @@ module _ (t : ℤ) (d : IsExtent t) (ms : List PlainNode) (r : All IsSizedOnPage
   more_ranged n (plain (skip g)) ns later h = later h
   more_ranged n (plain (kerned w)) ns later h = later h
   more_ranged n (plain (pen p)) ns later h = later h
-  more_ranged n (plain (mark w)) ns later h = (h.0, later h.1)
-  more_ranged n (plain (note w)) ns later h = (h.0, later h.1)
-  more_ranged n (plain whatsit) ns later h = (h.0, later h.1)
-  more_ranged n (ins i) ns later h = (h.0, later h.1)
-  more_ranged n (act a) ns later h = (h.0, later h.1)
+  more_ranged n k ns later h = (h.0, later h.1)
 
   more_by : (ns : List PlainNode) → AreSized (pruned_nodes t ns) → AreSized (pruned_nodes t (ns ++ ms))
   more_by [] h = recursion_from_All IsSizedOnPage (pruned_nodes t ms) (pruned_sized t ms d r)
@@ -144,11 +118,7 @@ module _ (t : ℤ) (ms : List PlainNode) where
   more_count n (plain (skip g)) ns h = h
   more_count n (plain (kerned w)) ns h = h
   more_count n (plain (pen p)) ns h = h
-  more_count n (plain (mark w)) ns h = omega (arith, h)
-  more_count n (plain (note w)) ns h = omega (arith, h)
-  more_count n (plain whatsit) ns h = omega (arith, h)
-  more_count n (ins i) ns h = omega (arith, h)
-  more_count n (act a) ns h = omega (arith, h)
+  more_count n k ns h = omega (arith, h)
 
   pub pruned_more : (ns : List PlainNode) → node_count (pruned_nodes t (ns ++ ms)) ≤ node_count (pruned_nodes t ns) + node_count ms + 1
   pruned_more [] = let h = pruned_nodes_longer t ms in omega (arith, h)

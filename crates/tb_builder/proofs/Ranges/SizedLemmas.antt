@@ -4,8 +4,8 @@ use Rattle.std.specs.Prelude.{map, All, ◌==◌, not, if◌then◌else◌}
 use Rattle.std.proofs.lemmas.Int.{ints}
 use Rattle.std.proofs.lemmas.List.Elements.{All-nil, All-cons, All-head, All-tail, All-append, All-push, All-filter, All-take, All-drop}
 use Rattle.tb_node.specs.Fit.{IsExtent, IsSized, IsSizedLeaf}
-use Rattle.tb_node.specs.Shape.{Shape, box, glue, kern, penalty, other}
-use Rattle.tb_node.specs.PlainNodes.{hbox, rule, skip, kerned, pen, mark, note, whatsit, Leaf, leaf_shape, Inserted, PlainKind, plain, ins, act, PlainNode, without_acts, is_act_kind, is_insertion_kind, on_line}
+use Rattle.tb_node.specs.Shape.{Shape, box, other}
+use Rattle.tb_node.specs.PlainNodes.{skip, pen, Leaf, leaf_shape, Inserted, PlainKind, plain, ins, act, PlainNode, without_acts, is_act_kind, is_insertion_kind, on_line}
 use Rattle.tb_break.specs.Best.{Breakpoint, is_stop}
 use Rattle.tb_break.specs.PageTop.{pruned_leaves, pruned_at, top_glue}
 use Rattle.tb_insert.specs.Terms.{Terms}
@@ -85,10 +85,8 @@ boxes_sized ls (b ∷ bs) h s = All-cons IsSizedBox (box_after ls b) (map (box_a
 
 leaf_at : (t : ℤ) (s : Shape) (n : Leaf) (ns pruned : List Leaf) → IsExtent t → IsSized s → IsSizedLeaf n → All IsSizedLeaf ns → All IsSizedLeaf pruned → All IsSizedLeaf (pruned_at (λ m g. record { line = m.line; matter = skip g }) t s n ns pruned)
 leaf_at t (box h d) n ns pruned a s here rest later = All-cons IsSizedLeaf (record { line = n.line; matter = skip (top_glue t h) }) (n ∷ ns) (glue_sized t h a s.0) (All-cons IsSizedLeaf n ns here rest)
-leaf_at t (glue g) n ns pruned a s here rest later = later
-leaf_at t (kern w) n ns pruned a s here rest later = later
-leaf_at t (penalty p) n ns pruned a s here rest later = later
 leaf_at t other n ns pruned a s here rest later = All-cons IsSizedLeaf n pruned here later
+leaf_at t k n ns pruned a s here rest later = later
 
 leaves_pruned : (t : ℤ) (ns : List Leaf) → IsExtent t → All IsSizedLeaf ns → All IsSizedLeaf (pruned_leaves t ns)
 leaves_pruned t [] a h = All-nil IsSizedLeaf
@@ -115,16 +113,8 @@ held_all (l ∷ ls) h =
 -- ---- the break node
 
 spent_sized : (line : ℕ) (k : PlainKind) → (let n : PlainNode = record { line = line; kind = k } in let m : PlainNode = record { line = line; kind = spent_kind k } in IsSizedOnPage n → IsSizedOnPage m)
-spent_sized line (plain (hbox w h d)) s = s
-spent_sized line (plain (rule w h d)) s = s
-spent_sized line (plain (skip g)) s = s
-spent_sized line (plain (kerned w)) s = s
 spent_sized line (plain (pen p)) s = record { shape = record { low = omega (arith, ints); high = omega (arith, ints) }; kind = tt }
-spent_sized line (plain (mark m)) s = s
-spent_sized line (plain (note m)) s = s
-spent_sized line (plain whatsit) s = s
-spent_sized line (ins i) s = s
-spent_sized line (act a) s = s
+spent_sized line k s = s
 
 rest_sized : (ns : List PlainNode) → All IsSizedOnPage ns → All IsSizedOnPage (with_spent_break ns)
 rest_sized [] h = h

@@ -92,15 +92,7 @@ module _ (s t : Lists Node) (a b : ℕ) (xs ys : List Node) (g : Got s t a b xs 
 
 pub insertion_is : (k : Kind) (i : Insertion) → insertion_of_kind k ≡ Some i → k ≡ kinds.Ins i
 insertion_is (kinds.Hbox what h d) i e = cc
-insertion_is (kinds.Rule name h d) i e = cc
-insertion_is (kinds.Skip g) i e = cc
-insertion_is (kinds.Kern w) i e = cc
-insertion_is (kinds.Pen p) i e = cc
-insertion_is (kinds.Mark name) i e = cc
-insertion_is (kinds.Note name) i e = cc
-insertion_is kinds.Whatsit i e = cc
-insertion_is (kinds.Ins j) i e = cc
-insertion_is (kinds.Act a) i e = cc
+insertion_is k i e = cc
 
 module _ (b : Ids) (s : Lists Node) (n : Node) (ns : List Node) (i : Insertion) (own : IsOwned b s) (first : list_at s b.page ≡ n ∷ ns) (is : insertion_of_kind n.kind ≡ Some i) where
   abbrev ahead : List ℕ

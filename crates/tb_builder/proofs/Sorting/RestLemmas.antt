@@ -105,10 +105,8 @@ nodes_room ns fit before n rest e = room-one (room_of n) (fit before (n ∷ []) 
 room-pruned_at : (t : ℤ) (s : Shape) (n : Node) (ns : List Node) → shape_of n ≡ s → IsAmount t → PartsFit (map shape_of (n ∷ ns)) → IsSmallShape s → RoomFits (map shape_of (pruned_list t ns))
     → RoomFits (map shape_of (pruned_at glue_before t s n ns (pruned_list t ns)))
 room-pruned_at t (box h d) n ns e p parts small later = room-topped (top_glue t h) (map shape_of (n ∷ ns)) (width_room t h p small.0) parts (nodes_room (map shape_of (n ∷ ns)) parts)
-room-pruned_at t (glue g) n ns e p parts small later = later
-room-pruned_at t (kern w) n ns e p parts small later = later
-room-pruned_at t (penalty q) n ns e p parts small later = later
 room-pruned_at t other n ns e p parts small later = subst (λ s. RoomFits (s ∷ map shape_of (pruned_list t ns))) (sym e) (room-lasting (map shape_of (pruned_list t ns)) later)
+room-pruned_at t s n ns e p parts small later = later
 
 -- the room of a pruned list
 pub room-pruned : (t : ℤ) (ns : List Node) → IsAmount t → PartsFit (map shape_of ns) → NodesFit (map shape_of ns) → RoomFits (map shape_of (pruned_list t ns))
@@ -139,10 +137,8 @@ plain-drop (suc k) (n ∷ ns) h = plain-drop k ns h.1
 
 plain-pruned_at : (t : ℤ) (s : Shape) (n : Node) (ns : List Node) → is_plain n.kind ≡ true → AllPlain ns → AllPlain (pruned_list t ns) → AllPlain (pruned_at glue_before t s n ns (pruned_list t ns))
 plain-pruned_at t (box h d) n ns p a later = (refl, (p, a))
-plain-pruned_at t (glue g) n ns p a later = later
-plain-pruned_at t (kern w) n ns p a later = later
-plain-pruned_at t (penalty q) n ns p a later = later
 plain-pruned_at t other n ns p a later = (p, later)
+plain-pruned_at t s n ns p a later = later
 
 pub plain-pruned : (t : ℤ) (ns : List Node) → AllPlain ns → AllPlain (pruned_list t ns)
 plain-pruned t [] h = tt
@@ -171,10 +167,8 @@ room-rest t k ns p nodes sizes =
 
 pruned_at-fewer : (t : ℤ) (s : Shape) (n : Node) (ns : List Node) → is_discardable s ≡ true → length (pruned_at glue_before t s n ns (pruned_list t ns)) ≤ suc (length ns)
 pruned_at-fewer t (box h d) n ns e = absurd (true≢false (sym e))
-pruned_at-fewer t (glue g) n ns e = omega (arith, length-pruned_list t ns)
-pruned_at-fewer t (kern w) n ns e = omega (arith, length-pruned_list t ns)
-pruned_at-fewer t (penalty p) n ns e = omega (arith, length-pruned_list t ns)
 pruned_at-fewer t other n ns e = absurd (true≢false (sym e))
+pruned_at-fewer t s n ns e = omega (arith, length-pruned_list t ns)
 
 pub pruned-fewer : (t : ℤ) (ns : List Node) → BeginsVanishing (map shape_of ns) → length (pruned_list t ns) ≤ length ns
 pruned-fewer t [] e = omega arith

@@ -6,7 +6,7 @@ use Rattle.tb_pool.specs.Lists.{Lists, list_at}
 use Rattle.tb_node.specs.declared.Node.{Node}
 use Rattle.tb_node.specs.declared.Kind.{Kind}
 use Rattle.tb_node.specs.declared.Kind.TheVariants as kinds
-use Rattle.tb_node.specs.Shape.{Shape, box, glue, kern, penalty, other, is_box, is_discardable, height_of}
+use Rattle.tb_node.specs.Shape.{Shape, box, other, is_box, is_discardable, height_of}
 use Rattle.tb_node.specs.SmallAmounts.{IsSmall}
 use Rattle.tb_node.specs.PlainNodes.{PlainNode, plain_of, node_shape, shape_of, shape_of_kind}
 use Rattle.tb_node.specs.NodeSums.{added_node}
@@ -46,35 +46,17 @@ moves_after b d e s t r m n = record {
 
 -- a box is no act and no insertion, and does not vanish
 pub boxed_act : (k : Kind) → is_box (shape_of_kind k) ≡ true → act_of_kind k ≡ None
-boxed_act (kinds.Hbox what h d) e = refl
-boxed_act (kinds.Rule name h d) e = refl
-boxed_act (kinds.Skip g) e = refl
-boxed_act (kinds.Kern w) e = refl
-boxed_act (kinds.Pen p) e = refl
-boxed_act (kinds.Mark name) e = refl
-boxed_act (kinds.Note name) e = refl
-boxed_act kinds.Whatsit e = refl
-boxed_act (kinds.Ins i) e = refl
 boxed_act (kinds.Act a) e = absurd (true≢false (sym e))
+boxed_act k e = refl
 
 pub boxed_insertion : (k : Kind) → is_box (shape_of_kind k) ≡ true → insertion_of_kind k ≡ None
-boxed_insertion (kinds.Hbox what h d) e = refl
-boxed_insertion (kinds.Rule name h d) e = refl
-boxed_insertion (kinds.Skip g) e = refl
-boxed_insertion (kinds.Kern w) e = refl
-boxed_insertion (kinds.Pen p) e = refl
-boxed_insertion (kinds.Mark name) e = refl
-boxed_insertion (kinds.Note name) e = refl
-boxed_insertion kinds.Whatsit e = refl
 boxed_insertion (kinds.Ins i) e = absurd (true≢false (sym e))
-boxed_insertion (kinds.Act a) e = refl
+boxed_insertion k e = refl
 
 boxed_stays : (s : Shape) → is_box s ≡ true → is_discardable s ≡ false
 boxed_stays (box h d) e = refl
-boxed_stays (glue g) e = absurd (true≢false (sym e))
-boxed_stays (kern w) e = absurd (true≢false (sym e))
-boxed_stays (penalty p) e = absurd (true≢false (sym e))
 boxed_stays other e = refl
+boxed_stays s e = absurd (true≢false (sym e))
 
 -- ---- what a step leaves
 
@@ -87,9 +69,7 @@ module _ (z : Frozen) (k : Course) (m d : Contents) (on : m.stopped ≡ false) w
       by_stop : (b : Bool) → is_stop st.place ≡ b → (d.page ≡ m.page) × (d.waiting ≡ m.waiting)
       by_stop true h = ((st.stops h).page, (st.stops h).waiting)
       by_stop false h = absurd (true≢false (sym e ∙ (st.goes h).0.stopped))
-  stop_contents (Some (events.Act a)) st e = absurd st
-  stop_contents (Some (events.Fired p)) st e = absurd st
-  stop_contents (Some events.Empty) st e = absurd st
+  stop_contents o st e = absurd st
 
   pub stop_tried : (o : Option Event) → StepIs o z k m d → d.stopped ≡ true → o ≡ None → ⊥
   stop_tried None st e n = true≢false (sym e ∙ st.2 ∙ on)
@@ -107,9 +87,7 @@ module _ (z : Frozen) (k : Course) (m d : Contents) (on : m.stopped ≡ false) w
       by_stop : (b : Bool) → is_stop st.place ≡ b → Underway z k d.page d.waiting × (d.page ++ d.waiting ≡ m.page ++ m.waiting)
       by_stop true h = absurd (true≢false (sym (st.stops h).stopped ∙ e))
       by_stop false h = ((st.goes h).1, (st.goes h).0.whole)
-  step_going (Some (events.Act a)) st e = absurd st
-  step_going (Some (events.Fired p)) st e = absurd st
-  step_going (Some events.Empty) st e = absurd st
+  step_going o st e = absurd st
 
   -- a node goes on the page after the step
   pub step_after : (o : Option Event) (l : Course) (e : Contents) → StepIs o z k m d → d.stopped ≡ false → GoesUntried z d e → Underway z l e.page e.waiting → e.stopped ≡ false → StepIs o z l m e
@@ -134,8 +112,7 @@ module _ (z : Frozen) (k : Course) (m d : Contents) (on : m.stopped ≡ false) w
     stops = λ h. absurd (true≢false (sym (st.stops h).stopped ∙ go));
   }
   step_after (Some (events.Act a)) l e st go p u stay = absurd st
-  step_after (Some (events.Fired x)) l e st go p u stay = absurd st
-  step_after (Some events.Empty) l e st go p u stay = absurd st
+  step_after o l e st go p u stay = absurd st
 
 -- ---- a box comes after what went on the page
 

@@ -38,14 +38,7 @@ top_at held t n ns e = by_kind n.kind e
         → (let x : Node = record { line = n.line; kind = k } in pruned_nodes t (plain_of held x ∷ ns) ≡ plain_of held (glue_before x (top_glue t (height_of (shape_of x)))) ∷ plain_of held x ∷ ns)
     by_kind (kinds.Hbox what h d) e = refl
     by_kind (kinds.Rule name h d) e = refl
-    by_kind (kinds.Skip g) e = absurd (true≢false (sym e))
-    by_kind (kinds.Kern w) e = absurd (true≢false (sym e))
-    by_kind (kinds.Pen p) e = absurd (true≢false (sym e))
-    by_kind (kinds.Mark name) e = absurd (true≢false (sym e))
-    by_kind (kinds.Note name) e = absurd (true≢false (sym e))
-    by_kind kinds.Whatsit e = absurd (true≢false (sym e))
-    by_kind (kinds.Ins i) e = absurd (true≢false (sym e))
-    by_kind (kinds.Act a) e = absurd (true≢false (sym e))
+    by_kind k e = absurd (true≢false (sym e))
 
 -- ---- what is laid out fits
 

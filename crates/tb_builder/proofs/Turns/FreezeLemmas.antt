@@ -69,51 +69,27 @@ first_inner b s n ns i own first e =
     by_kind n.kind e wait
   where
     by_kind : (k : Kind) → insertion_of_kind k ≡ Some i → AllLive s (option_to_list (inner_of k) ++ inner_ids ns) → IsLive s i.list
-    by_kind (kinds.Hbox what h d) e l = cc
-    by_kind (kinds.Rule name h d) e l = cc
-    by_kind (kinds.Skip g) e l = cc
-    by_kind (kinds.Kern w) e l = cc
-    by_kind (kinds.Pen p) e l = cc
-    by_kind (kinds.Mark name) e l = cc
-    by_kind (kinds.Note name) e l = cc
-    by_kind kinds.Whatsit e l = cc
     by_kind (kinds.Ins j) e l = let same : j ≡ i = cc in subst (λ (x : Insertion). IsLive s x.list) same l.0
-    by_kind (kinds.Act a) e l = cc
+    by_kind k e l = cc
 
 pub first_known : (b : Ids) (s : Lists Node) (cs : List Class) (n : Node) (ns : List Node) (i : Insertion) → AllKnown cs (nodes_of b s) → list_at s b.waiting ≡ n ∷ ns → insertion_of_kind n.kind ≡ Some i → has_class cs i.class ≡ true
 first_known b s cs n ns i known first e =
     by_kind n.kind e (subst (AllKnown cs) first (known-right cs (list_at s b.page) (list_at s b.waiting) (known-right cs (list_at s b.held) (list_at s b.page ++ list_at s b.waiting) known))).0
   where
     by_kind : (k : Kind) → insertion_of_kind k ≡ Some i → is_known cs k ≡ true → has_class cs i.class ≡ true
-    by_kind (kinds.Hbox what h d) e l = cc
-    by_kind (kinds.Rule name h d) e l = cc
-    by_kind (kinds.Skip g) e l = cc
-    by_kind (kinds.Kern w) e l = cc
-    by_kind (kinds.Pen p) e l = cc
-    by_kind (kinds.Mark name) e l = cc
-    by_kind (kinds.Note name) e l = cc
-    by_kind kinds.Whatsit e l = cc
     by_kind (kinds.Ins j) e l = let same : j ≡ i = cc in subst (λ (x : Insertion). has_class cs x.class ≡ true) same l
-    by_kind (kinds.Act a) e l = cc
+    by_kind k e l = cc
 
 -- the insertion as the definitions see it
 pub plain_insertion : (held : ℕ → List Node) (n : Node) (i : Insertion) → insertion_of_kind n.kind ≡ Some i → (let m : PlainNode = record { line = n.line; kind = ins (inserted_of held i) } in plain_of held n ≡ m)
 plain_insertion held n i e = by_kind n.kind e
   where
     by_kind : (k : Kind) → insertion_of_kind k ≡ Some i → (let x : Node = record { line = n.line; kind = k } in (let m : PlainNode = record { line = n.line; kind = ins (inserted_of held i) } in plain_of held x ≡ m))
-    by_kind (kinds.Hbox what h d) e = cc
-    by_kind (kinds.Rule name h d) e = cc
-    by_kind (kinds.Skip g) e = cc
-    by_kind (kinds.Kern w) e = cc
-    by_kind (kinds.Pen p) e = cc
-    by_kind (kinds.Mark name) e = cc
-    by_kind (kinds.Note name) e = cc
-    by_kind kinds.Whatsit e = cc
     by_kind (kinds.Ins j) e = let same : j ≡ i = cc in ap (λ x. with_insertion n.line x) same
       where
         with_insertion : ℕ → Insertion → PlainNode
         with_insertion line x = record { line = line; kind = ins (inserted_of held x) }
-    by_kind (kinds.Act a) e = cc
+    by_kind k e = cc
 
 -- what is ahead begins with a node that lasts and is no box
 pub ahead_first : (c : Contents) (ask : Ask) (n : PlainNode) (ns : List PlainNode) → c.waiting ≡ n ∷ ns → node_shape n ≡ other → (rest : List PlainNode) × (ahead_of c ask ≡ n ∷ rest)
@@ -220,56 +196,32 @@ lasts_loose page n e = ap ends_lasting (map-append node_shape page (n ∷ [])) �
 pub loose_node : (held : ℕ → List Node) (k : Kind) → act_of_kind k ≡ None → insertion_of_kind k ≡ None → is_box (shape_of_kind k) ≡ false → not (is_discardable (shape_of_kind k)) ≡ true → is_loose (plain_kind held k) ≡ true
 loose_node held (kinds.Hbox what h d) a i b l = absurd (true≢false b)
 loose_node held (kinds.Rule name h d) a i b l = absurd (true≢false b)
-loose_node held (kinds.Skip g) a i b l = absurd (true≢false (sym l))
-loose_node held (kinds.Kern w) a i b l = absurd (true≢false (sym l))
-loose_node held (kinds.Pen p) a i b l = absurd (true≢false (sym l))
 loose_node held (kinds.Mark name) a i b l = refl
 loose_node held (kinds.Note name) a i b l = refl
 loose_node held kinds.Whatsit a i b l = refl
 loose_node held (kinds.Ins j) a i b l = cc
 loose_node held (kinds.Act x) a i b l = cc
+loose_node held k a i b l = absurd (true≢false (sym l))
 
 pub no_inner : (k : Kind) → insertion_of_kind k ≡ None → inner_of k ≡ None
-no_inner (kinds.Hbox what h d) e = refl
-no_inner (kinds.Rule name h d) e = refl
-no_inner (kinds.Skip g) e = refl
-no_inner (kinds.Kern w) e = refl
-no_inner (kinds.Pen p) e = refl
-no_inner (kinds.Mark name) e = refl
-no_inner (kinds.Note name) e = refl
-no_inner kinds.Whatsit e = refl
 no_inner (kinds.Ins i) e = cc
-no_inner (kinds.Act a) e = refl
+no_inner k e = refl
 
 -- glue, a kern or a penalty vanishes before the first box
 pub gone_at : (held : ℕ → List Node) (t : ℤ) (line : ℕ) (k : Kind) (ns : List PlainNode) → not (is_discardable (shape_of_kind k)) ≡ false
     → (let x : Node = record { line = line; kind = k } in pruned_nodes t (plain_of held x ∷ ns) ≡ pruned_nodes t ns)
-gone_at held t line (kinds.Hbox what h d) ns e = absurd (true≢false e)
-gone_at held t line (kinds.Rule name h d) ns e = absurd (true≢false e)
 gone_at held t line (kinds.Skip g) ns e = refl
 gone_at held t line (kinds.Kern w) ns e = refl
 gone_at held t line (kinds.Pen p) ns e = refl
-gone_at held t line (kinds.Mark name) ns e = absurd (true≢false e)
-gone_at held t line (kinds.Note name) ns e = absurd (true≢false e)
-gone_at held t line kinds.Whatsit ns e = absurd (true≢false e)
-gone_at held t line (kinds.Ins i) ns e = absurd (true≢false e)
-gone_at held t line (kinds.Act a) ns e = absurd (true≢false e)
+gone_at held t line k ns e = absurd (true≢false e)
 
 -- an insertion takes no room and is no act
 pub insertion_shape : (n : Node) (i : Insertion) → insertion_of_kind n.kind ≡ Some i → shape_of n ≡ other
 insertion_shape n i e = by_kind n.kind e
   where
     by_kind : (k : Kind) → insertion_of_kind k ≡ Some i → shape_of_kind k ≡ other
-    by_kind (kinds.Hbox what h d) e = cc
-    by_kind (kinds.Rule name h d) e = cc
-    by_kind (kinds.Skip g) e = cc
-    by_kind (kinds.Kern w) e = cc
-    by_kind (kinds.Pen p) e = cc
-    by_kind (kinds.Mark name) e = cc
-    by_kind (kinds.Note name) e = cc
-    by_kind kinds.Whatsit e = cc
     by_kind (kinds.Ins j) e = refl
-    by_kind (kinds.Act a) e = cc
+    by_kind k e = cc
 
 pub insertion_plain : (held : ℕ → List Node) (n : Node) (i : Insertion) → insertion_of_kind n.kind ≡ Some i → is_insertion_kind (plain_of held n).kind ≡ true
 insertion_plain held n i e = ap (λ (m : PlainNode). is_insertion_kind m.kind) (plain_insertion held n i e)
@@ -278,16 +230,8 @@ pub insertion_act : (n : Node) (i : Insertion) → insertion_of_kind n.kind ≡ 
 insertion_act n i e = by_kind n.kind e
   where
     by_kind : (k : Kind) → insertion_of_kind k ≡ Some i → act_of_kind k ≡ None
-    by_kind (kinds.Hbox what h d) e = cc
-    by_kind (kinds.Rule name h d) e = cc
-    by_kind (kinds.Skip g) e = cc
-    by_kind (kinds.Kern w) e = cc
-    by_kind (kinds.Pen p) e = cc
-    by_kind (kinds.Mark name) e = cc
-    by_kind (kinds.Note name) e = cc
-    by_kind kinds.Whatsit e = cc
     by_kind (kinds.Ins j) e = refl
-    by_kind (kinds.Act a) e = cc
+    by_kind k e = cc
 
 -- a node that lasts and is no box takes no room
 pub loose_kind_shape : (k : Kind) → is_box (shape_of_kind k) ≡ false → not (is_discardable (shape_of_kind k)) ≡ true → shape_of_kind k ≡ other
@@ -296,8 +240,4 @@ loose_kind_shape (kinds.Rule name h d) b l = absurd (true≢false b)
 loose_kind_shape (kinds.Skip g) b l = absurd (true≢false (sym l))
 loose_kind_shape (kinds.Kern w) b l = absurd (true≢false (sym l))
 loose_kind_shape (kinds.Pen p) b l = absurd (true≢false (sym l))
-loose_kind_shape (kinds.Mark name) b l = refl
-loose_kind_shape (kinds.Note name) b l = refl
-loose_kind_shape kinds.Whatsit b l = refl
-loose_kind_shape (kinds.Ins j) b l = refl
-loose_kind_shape (kinds.Act x) b l = refl
+loose_kind_shape k b l = refl

@@ -7,7 +7,7 @@ use Rattle.tb_node.specs.declared.Node.{Node}
 use Rattle.tb_node.specs.declared.Kind.{Kind}
 use Rattle.tb_node.specs.declared.Kind.TheVariants as kinds
 use Rattle.tb_node.specs.Shape.{other, is_box, is_discardable}
-use Rattle.tb_node.specs.PlainNodes.{hbox, rule, skip, kerned, pen, mark, note, whatsit, PlainKind, plain, ins, act, PlainNode, plain_of, node_shape, shape_of_kind, is_act_kind}
+use Rattle.tb_node.specs.PlainNodes.{hbox, rule, mark, note, whatsit, PlainKind, plain, ins, act, PlainNode, plain_of, node_shape, shape_of_kind, is_act_kind}
 use Rattle.tb_break.specs.PageTop.{pruned_nodes}
 use Rattle.tb_insert.specs.Account.{Frozen}
 use Rattle.tb_builder.specs.declared.Ask.{Ask}
@@ -32,14 +32,12 @@ pruned-kind : (t : ℤ) (xs ys : List PlainNode) → pruned_nodes t (xs ++ ys) �
     → (let n : PlainNode = record { line = l; kind = k } in pruned_nodes t (n ∷ xs ++ ys) ≡ pruned_nodes t (n ∷ xs) ++ (if holds_box (n ∷ xs) then ys else pruned_nodes t ys))
 pruned-kind t xs ys e l (plain (hbox w h d)) = refl
 pruned-kind t xs ys e l (plain (rule name h d)) = refl
-pruned-kind t xs ys e l (plain (skip g)) = e
-pruned-kind t xs ys e l (plain (kerned w)) = e
-pruned-kind t xs ys e l (plain (pen p)) = e
 pruned-kind t xs ys e l (plain (mark name)) = ap (λ ns. record { line = l; kind = plain (mark name) } ∷ ns) e
 pruned-kind t xs ys e l (plain (note name)) = ap (λ ns. record { line = l; kind = plain (note name) } ∷ ns) e
 pruned-kind t xs ys e l (plain whatsit) = ap (λ ns. record { line = l; kind = plain whatsit } ∷ ns) e
 pruned-kind t xs ys e l (ins i) = ap (λ ns. record { line = l; kind = ins i } ∷ ns) e
 pruned-kind t xs ys e l (act a) = ap (λ ns. record { line = l; kind = act a } ∷ ns) e
+pruned-kind t xs ys e l k = e
 
 pruned-both : (t : ℤ) (xs ys : List PlainNode) → pruned_nodes t (xs ++ ys) ≡ pruned_nodes t xs ++ (if holds_box xs then ys else pruned_nodes t ys)
 pruned-both t [] ys = refl
@@ -48,14 +46,7 @@ pruned-both t (x ∷ xs) ys = pruned-kind t xs ys (pruned-both t xs ys) x.line x
 holds-kind : (t : ℤ) (xs : List PlainNode) → holds_box (pruned_nodes t xs) ≡ holds_box xs → (l : ℕ) (k : PlainKind) → (let n : PlainNode = record { line = l; kind = k } in holds_box (pruned_nodes t (n ∷ xs)) ≡ holds_box (n ∷ xs))
 holds-kind t xs e l (plain (hbox w h d)) = refl
 holds-kind t xs e l (plain (rule name h d)) = refl
-holds-kind t xs e l (plain (skip g)) = e
-holds-kind t xs e l (plain (kerned w)) = e
-holds-kind t xs e l (plain (pen p)) = e
-holds-kind t xs e l (plain (mark name)) = e
-holds-kind t xs e l (plain (note name)) = e
-holds-kind t xs e l (plain whatsit) = e
-holds-kind t xs e l (ins i) = e
-holds-kind t xs e l (act a) = e
+holds-kind t xs e l k = e
 
 holds-pruned : (t : ℤ) (xs : List PlainNode) → holds_box (pruned_nodes t xs) ≡ holds_box xs
 holds-pruned t [] = refl
@@ -124,16 +115,12 @@ lasts-kind t page l k = by_test (holds_box page) k
   where
     by_test : (b : Bool) (k : PlainKind) → (let n : PlainNode = record { line = l; kind = k } in node_shape n ≡ other → page ++ n ∷ [] ≡ page ++ (if b then n ∷ [] else pruned_nodes t (n ∷ [])))
     by_test true k e = refl
-    by_test false (plain (hbox w h d)) e = cc
-    by_test false (plain (rule name h d)) e = cc
-    by_test false (plain (skip g)) e = cc
-    by_test false (plain (kerned w)) e = cc
-    by_test false (plain (pen p)) e = cc
     by_test false (plain (mark name)) e = refl
     by_test false (plain (note name)) e = refl
     by_test false (plain whatsit) e = refl
     by_test false (ins i) e = refl
     by_test false (act a) e = refl
+    by_test false k e = cc
 
 pub past-lasting : (n : PlainNode) (c d : Contents) (ask : Ask) → c.waiting ≡ n ∷ d.waiting → d.page ≡ c.page ++ n ∷ [] → node_shape n ≡ other → is_act_kind n.kind ≡ false → ComesPast d.waiting c d ask
 past-lasting n c d ask w p s a = past-one n c d ask w a (p ∙ lasts-kind ask.top_skip c.page n.line n.kind s)
@@ -171,21 +158,13 @@ past-first n g rest c d ask w whole l closed top a =
 
 -- glue, kerns and penalties are no acts
 pub gone_act : (held : ℕ → List Node) (line : ℕ) (k : Kind) → not (is_discardable (shape_of_kind k)) ≡ false → (let x : Node = record { line = line; kind = k } in is_act_kind (plain_of held x).kind ≡ false)
-gone_act held line (kinds.Hbox what h d) e = absurd (true≢false e)
-gone_act held line (kinds.Rule name h d) e = absurd (true≢false e)
 gone_act held line (kinds.Skip g) e = refl
 gone_act held line (kinds.Kern w) e = refl
 gone_act held line (kinds.Pen p) e = refl
-gone_act held line (kinds.Mark name) e = absurd (true≢false e)
-gone_act held line (kinds.Note name) e = absurd (true≢false e)
-gone_act held line kinds.Whatsit e = absurd (true≢false e)
-gone_act held line (kinds.Ins i) e = absurd (true≢false e)
-gone_act held line (kinds.Act a) e = absurd (true≢false e)
+gone_act held line k e = absurd (true≢false e)
 
 -- in a step of a page that is laid out
 pub past-stepped : (o : Option Event) (z : Frozen) (k : Course) (ask : Ask) (c m d : Contents) → m.stopped ≡ false → StepIs o z k m d → (d.stopped ≡ false → TriesPast c d ask) → TurnPast o c d ask
 past-stepped None z k ask c m d on st f = (f (st.2 ∙ on)).comes
 past-stepped (Some (events.Try t)) z k ask c m d on st f = f
-past-stepped (Some (events.Act a)) z k ask c m d on st f = absurd st
-past-stepped (Some (events.Fired p)) z k ask c m d on st f = absurd st
-past-stepped (Some events.Empty) z k ask c m d on st f = absurd st
+past-stepped o z k ask c m d on st f = absurd st

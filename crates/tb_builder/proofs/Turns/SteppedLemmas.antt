@@ -30,8 +30,7 @@ stepped_turn (Some (events.Try t)) z k ask c m d lays on f later still st = reco
   stops = λ stop. stops_there z ask c m lays st.line st.place k d (st.stops stop) f (still (st.stops stop).stopped);
 }
 stepped_turn (Some (events.Act a)) z k ask c m d lays on f later still st = absurd st
-stepped_turn (Some (events.Fired p)) z k ask c m d lays on f later still st = absurd st
-stepped_turn (Some events.Empty) z k ask c m d lays on f later still st = absurd st
+stepped_turn o z k ask c m d lays on f later still st = absurd st
 
 module _ (z : Frozen) (k : Course) (m d : Contents) (f : ℤ × ℤ) (same : page_frozen f d.classes d.boxes ≡ z) where
   going_page : (s : Bool) → d.stopped ≡ s → d.stopped ≡ false → Underway z k d.page d.waiting → IsPageSoFar (Some f) s k d
@@ -59,9 +58,7 @@ module _ (z : Frozen) (k : Course) (m d : Contents) (f : ℤ × ℤ) (same : pag
       by_stop : (b : Bool) → is_stop st.place ≡ b → IsPageSoFar (Some f) s k d
       by_stop true h = stopped_page st.line st.place s e (st.stops h)
       by_stop false h = going_page s e (st.goes h).0.stopped (st.goes h).1
-  stepped_page (Some (events.Act a)) s e on st = absurd st
-  stepped_page (Some (events.Fired p)) s e on st = absurd st
-  stepped_page (Some events.Empty) s e on st = absurd st
+  stepped_page o s e on st = absurd st
 
 -- the turn, from a step of the contents m, which are those before, laid out
 module _ (b d : Builder) (s t : Lists Node) (ask : Ask) (o : Option Event) (m : Contents) (moves : ChangesPage b s d t) (frozen : d.frozen ≡ Some (frozen_with b.frozen ask)) (opened : d.opened ≡ holds_box (contents_of d t).page)

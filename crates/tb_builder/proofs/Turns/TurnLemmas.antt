@@ -5,7 +5,7 @@ use Rattle.std.proofs.lemmas.Bool.{true≢false}
 use Rattle.std.proofs.Math.Bool.{or-false, or-true, or_assoc}
 use Rattle.tb_node.specs.declared.Act.{Act}
 use Rattle.tb_node.specs.Shape.{other, is_box, is_discardable}
-use Rattle.tb_node.specs.PlainNodes.{hbox, rule, skip, kerned, pen, mark, note, whatsit, PlainKind, plain, ins, act, PlainNode, node_shape, is_act_kind}
+use Rattle.tb_node.specs.PlainNodes.{skip, kerned, pen, PlainKind, plain, act, PlainNode, node_shape, is_act_kind}
 use Rattle.tb_break.specs.Places.{ends_lasting}
 use Rattle.tb_break.specs.Best.{Breakpoint, least_cost}
 use Rattle.tb_break.specs.Split.{with_place}
@@ -46,16 +46,10 @@ lasting-append [] n h e = (e, tt)
 lasting-append (m ∷ ms) n h e = (h.0, lasting-append ms n h.1 e)
 
 no_penalty : (lasting g : Bool) (line : ℕ) (k : PlainKind) → (let n : PlainNode = record { line = line; kind = k } in is_discardable (node_shape n) ≡ false → node_penalty lasting g n ≡ None)
-no_penalty lasting g line (plain (hbox w h d)) e = refl
-no_penalty lasting g line (plain (rule w h d)) e = refl
 no_penalty lasting g line (plain (skip x)) e = absurd (true≢false e)
 no_penalty lasting g line (plain (kerned w)) e = absurd (true≢false e)
 no_penalty lasting g line (plain (pen p)) e = absurd (true≢false e)
-no_penalty lasting g line (plain (mark m)) e = refl
-no_penalty lasting g line (plain (note m)) e = refl
-no_penalty lasting g line (plain whatsit) e = refl
-no_penalty lasting g line (ins i) e = refl
-no_penalty lasting g line (act a) e = refl
+no_penalty lasting g line k e = refl
 
 pub lasting_penalty : (lasting g : Bool) (n : PlainNode) → is_discardable (node_shape n) ≡ false → node_penalty lasting g n ≡ None
 lasting_penalty lasting g n e = no_penalty lasting g n.line n.kind e

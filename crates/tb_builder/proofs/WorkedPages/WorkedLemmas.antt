@@ -46,55 +46,27 @@ use Rattle.tb_builder.proofs.Handover.CallLemmas.{list-sized, list-count}
 
 module _ (held : ℕ → List Node) where
   matter_shape_is : (line : ℕ) (k : Kind) → is_plain k ≡ true → (let n : Node = record { line = line; kind = k } in IsSizedNode n → IsSizedOnPage (plain_of held n))
-  matter_shape_is line (kinds.Hbox what h d) p s = record { shape = s; kind = tt }
-  matter_shape_is line (kinds.Rule name h d) p s = record { shape = s; kind = tt }
-  matter_shape_is line (kinds.Skip g) p s = record { shape = s; kind = tt }
-  matter_shape_is line (kinds.Kern w) p s = record { shape = s; kind = tt }
-  matter_shape_is line (kinds.Pen q) p s = record { shape = s; kind = tt }
   matter_shape_is line (kinds.Mark name) p s = record { shape = tt; kind = tt }
   matter_shape_is line (kinds.Note name) p s = record { shape = tt; kind = tt }
   matter_shape_is line kinds.Whatsit p s = record { shape = tt; kind = tt }
   matter_shape_is line (kinds.Ins i) p s = absurd (true≢false (sym p))
   matter_shape_is line (kinds.Act a) p s = absurd (true≢false (sym p))
+  matter_shape_is line k p s = record { shape = s; kind = tt }
 
   pub matter_on_page : (n : Node) → IsMatter n → IsSizedOnPage (plain_of held n)
   matter_on_page n m = matter_shape_is n.line n.kind m.plain m.sized
 
   pub matter_counts : (k : Kind) → is_plain k ≡ true → kind_count (plain_kind held k) ≡ 1
-  matter_counts (kinds.Hbox what h d) p = refl
-  matter_counts (kinds.Rule name h d) p = refl
-  matter_counts (kinds.Skip g) p = refl
-  matter_counts (kinds.Kern w) p = refl
-  matter_counts (kinds.Pen q) p = refl
-  matter_counts (kinds.Mark name) p = refl
-  matter_counts (kinds.Note name) p = refl
-  matter_counts kinds.Whatsit p = refl
   matter_counts (kinds.Ins i) p = absurd (true≢false (sym p))
-  matter_counts (kinds.Act a) p = refl
+  matter_counts k p = refl
 
 pub matter_inner : (k : Kind) → is_plain k ≡ true → inner_of k ≡ None
-matter_inner (kinds.Hbox what h d) p = refl
-matter_inner (kinds.Rule name h d) p = refl
-matter_inner (kinds.Skip g) p = refl
-matter_inner (kinds.Kern w) p = refl
-matter_inner (kinds.Pen q) p = refl
-matter_inner (kinds.Mark name) p = refl
-matter_inner (kinds.Note name) p = refl
-matter_inner kinds.Whatsit p = refl
 matter_inner (kinds.Ins i) p = absurd (true≢false (sym p))
-matter_inner (kinds.Act a) p = refl
+matter_inner k p = refl
 
 pub matter_known : (cs : List Class) (k : Kind) → is_plain k ≡ true → is_known cs k ≡ true
-matter_known cs (kinds.Hbox what h d) p = refl
-matter_known cs (kinds.Rule name h d) p = refl
-matter_known cs (kinds.Skip g) p = refl
-matter_known cs (kinds.Kern w) p = refl
-matter_known cs (kinds.Pen q) p = refl
-matter_known cs (kinds.Mark name) p = refl
-matter_known cs (kinds.Note name) p = refl
-matter_known cs kinds.Whatsit p = refl
 matter_known cs (kinds.Ins i) p = absurd (true≢false (sym p))
-matter_known cs (kinds.Act a) p = refl
+matter_known cs k p = refl
 
 pub matter_plain : (ns : List Node) → All IsMatter ns → AllPlain ns
 matter_plain [] h = tt
@@ -128,16 +100,12 @@ pub matter_sized : (ns : List Node) → All IsMatter ns → All IsSizedNode ns
 matter_sized ns h = All-weaker IsMatter IsSizedNode (λ n m. m.sized) ns h
 
 leaf_sized : (line : ℕ) (k : Kind) → is_plain k ≡ true → (let n : Node = record { line = line; kind = k } in IsSizedNode n → IsSizedLeaf (leaf_of n))
-leaf_sized line (kinds.Hbox what h d) p s = s
-leaf_sized line (kinds.Rule name h d) p s = s
-leaf_sized line (kinds.Skip g) p s = s
-leaf_sized line (kinds.Kern w) p s = s
-leaf_sized line (kinds.Pen q) p s = s
 leaf_sized line (kinds.Mark name) p s = tt
 leaf_sized line (kinds.Note name) p s = tt
 leaf_sized line kinds.Whatsit p s = tt
 leaf_sized line (kinds.Ins i) p s = absurd (true≢false (sym p))
 leaf_sized line (kinds.Act a) p s = absurd (true≢false (sym p))
+leaf_sized line k p s = s
 
 pub matter_leaves : (ns : List Node) → All IsMatter ns → All IsSizedLeaf (map leaf_of ns)
 matter_leaves ns h = All-map IsSizedLeaf leaf_of ns (All-weaker IsMatter (λ n. IsSizedLeaf (leaf_of n)) (λ n m. leaf_sized n.line n.kind m.plain m.sized) ns h)
@@ -238,24 +206,18 @@ note_on_page held line i matter height depth top floating = record {
 
 -- what `next` requires holds again, unless the page fired
 pub fits_again : (stopped : Bool) (v : Event) (c d : Contents) (ask : Ask) (s : Lists Node) → ((p : Page) → v ≡ events.Fired p → ⊥) → NextFits c ask → NextIs stopped v c ask d s → NextFits d ask
-fits_again true (events.Try t) c d ask s on fits h = absurd h
-fits_again true (events.Act a) c d ask s on fits h = absurd h
 fits_again true (events.Fired p) c d ask s on fits h = absurd (on p refl)
-fits_again true events.Empty c d ask s on fits h = absurd h
+fits_again true v c d ask s on fits h = absurd h
 fits_again false v c d ask s on fits h = fits_next false v c d ask s refl fits h
 
 pub held_again : (stopped : Bool) (v : Event) (c d : Contents) (ask : Ask) (s : Lists Node) → ((p : Page) → v ≡ events.Fired p → ⊥) → c.held ≡ [] → NextIs stopped v c ask d s → d.held ≡ []
-held_again true (events.Try t) c d ask s on none h = absurd h
-held_again true (events.Act a) c d ask s on none h = absurd h
 held_again true (events.Fired p) c d ask s on none h = absurd (on p refl)
-held_again true events.Empty c d ask s on none h = absurd h
+held_again true v c d ask s on none h = absurd h
 held_again false v c d ask s on none h = h.1.held ∙ none
 
 pub known_again : (stopped : Bool) (v : Event) (c d : Contents) (ask : Ask) (s : Lists Node) → has_class c.classes 254 ≡ true → NextIs stopped v c ask d s → has_class d.classes 254 ≡ true
-known_again true (events.Try t) c d ask s known h = absurd h
-known_again true (events.Act a) c d ask s known h = absurd h
 known_again true (events.Fired p) c d ask s known h = subst (λ (x : Contents). has_class x.classes 254 ≡ true) (sym h.after) known
-known_again true events.Empty c d ask s known h = absurd h
+known_again true v c d ask s known h = absurd h
 known_again false v c d ask s known h = subst (λ cs. has_class cs 254 ≡ true) (sym h.1.classes) known
 
 -- a page fired
@@ -285,10 +247,8 @@ fired_box false p c d ask s e r few boxed h = absurd h.0
 -- what is sized stays so up to the page, and no node comes
 pub sized_again : (stopped : Bool) (v : Event) (c d : Contents) (ask : Ask) (s : Lists Node) → ((p : Page) → v ≡ events.Fired p → ⊥) → IsSizedAsk ask → c.stopped ≡ stopped → IsSizedContents c → NextIs stopped v c ask d s
     → IsSizedContents d × (whole_count d ≤ whole_count c)
-sized_again true (events.Try t) c d ask s on asked e r h = absurd h
-sized_again true (events.Act a) c d ask s on asked e r h = absurd h
 sized_again true (events.Fired p) c d ask s on asked e r h = absurd (on p refl)
-sized_again true events.Empty c d ask s on asked e r h = absurd h
+sized_again true v c d ask s on asked e r h = absurd h
 sized_again false v c d ask s on asked e r h = (event-sized c d ask v asked r e h.0 h.1, event-fewer c d ask v asked r e h.0 h.1)
 
 module _ (b : Builder) (s : Lists Node) (ask : Ask) (r : IsReady b s ask) where

@@ -213,5 +213,4 @@ cleared k Known takes before rs l two first column h = record {
   where
     cleared-parted : (d : Side) → PartedBy d k l → PartedBy d k (Clear.deferred_again l)
     cleared-parted alike x = x
-    cleared-parted narrow x = x
-    cleared-parted wider x = x
+    cleared-parted d x = x

@@ -26,12 +26,10 @@ LabelsFloatless k = AllByRecursion (λ l. AreFloatless k l.inserted.inner)
 leaf-pruned : (k : FloatKind) (t : ℤ) (ls : List Leaf) → AreFloatless k ls → AreFloatless k (pruned_leaves t ls) → (n : ℕ) (m : Matter) → kind_lines k (plain m) ≡ [] → AreFloatless k (pruned_leaves t (record { line = n; matter = m } ∷ ls))
 leaf-pruned k t ls h i n (hbox w a d) e = (refl, (e, h))
 leaf-pruned k t ls h i n (rule name a d) e = (refl, (e, h))
-leaf-pruned k t ls h i n (skip g) e = i
-leaf-pruned k t ls h i n (kerned w) e = i
-leaf-pruned k t ls h i n (pen p) e = i
 leaf-pruned k t ls h i n (mark name) e = (e, i)
 leaf-pruned k t ls h i n (note name) e = (e, i)
 leaf-pruned k t ls h i n whatsit e = (e, i)
+leaf-pruned k t ls h i n m e = i
 
 leaves-pruned : (k : FloatKind) (t : ℤ) (ls : List Leaf) → AreFloatless k ls → AreFloatless k (pruned_leaves t ls)
 leaves-pruned k t [] h = tt
@@ -89,11 +87,8 @@ prune-floatless-more k l t (plain (rule w a d)) ns c g h = (tt, (tt, g))
 prune-floatless-more k l t (plain (skip g)) ns c i h = h
 prune-floatless-more k l t (plain (kerned g)) ns c i h = h
 prune-floatless-more k l t (plain (pen g)) ns c i h = h
-prune-floatless-more k l t (plain (mark g)) ns c i h = (tt, h)
-prune-floatless-more k l t (plain (note g)) ns c i h = (tt, h)
-prune-floatless-more k l t (plain whatsit) ns c i h = (tt, h)
 prune-floatless-more k l t (ins x) ns c i h = (c, h)
-prune-floatless-more k l t (act a) ns c i h = (tt, h)
+prune-floatless-more k l t d ns c g h = (tt, h)
 
 pub pruned-floatless : (k : FloatKind) (t : ℤ) (ns : List PlainNode) → HoldFloatless k ns → HoldFloatless k (pruned_nodes t ns)
 pruned-floatless k t [] h = tt
@@ -114,15 +109,8 @@ spent-floatless k (n ∷ ns) h = (by_kind n.kind h.0, h.1)
   where
     by_kind : (d : PlainKind) → HoldsFloatless k d → HoldsFloatless k (spent_kind d)
     by_kind (plain (hbox w a d)) h = tt
-    by_kind (plain (rule w a d)) h = tt
-    by_kind (plain (skip g)) h = tt
-    by_kind (plain (kerned g)) h = tt
-    by_kind (plain (pen g)) h = tt
-    by_kind (plain (mark g)) h = tt
-    by_kind (plain (note g)) h = tt
-    by_kind (plain whatsit) h = tt
     by_kind (ins i) h = h
-    by_kind (act a) h = tt
+    by_kind d h = tt
 
 no-insertions-more : (k : FloatKind) (ns : List PlainNode) → HoldFloatless k (without_insertions ns) → (l : ℕ) (d : PlainKind) → HoldFloatless k (without_insertions (record { line = l; kind = d } ∷ ns))
 no-insertions-more k ns h l (plain m) = (tt, h)

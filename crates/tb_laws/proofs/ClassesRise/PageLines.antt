@@ -8,7 +8,7 @@ use Rattle.tb_break.proofs.EachLemmas.{all-join}
 use Rattle.tb_scaled.specs.Scaled.{eject_penalty}
 use Rattle.tb_node.specs.declared.Act.{Act}
 use Rattle.tb_node.specs.declared.Act.TheVariants as acts
-use Rattle.tb_node.specs.PlainNodes.{hbox, rule, skip, kerned, pen, mark, note, whatsit, PlainKind, plain, ins, act, PlainNode, without_acts, without_insertions}
+use Rattle.tb_node.specs.PlainNodes.{hbox, rule, skip, kerned, pen, PlainKind, plain, ins, act, PlainNode, without_acts, without_insertions}
 use Rattle.tb_break.specs.PageTop.{pruned_nodes}
 use Rattle.tb_builder.specs.FiredPages.{penalty_at, spent_kind, with_spent_break}
 use Rattle.tb_builder.proofs.Cutting.CutLemmas.{Calm, AllCalm, acts_of, IsIns, AllIns}
@@ -57,14 +57,7 @@ deeds-append (x ∷ xs) ys = ap (λ l. kind_deeds x.kind ++ l) (deeds-append xs 
 node-pruned : (k : FloatKind) (t : ℤ) (ns : List PlainNode) → class_lines k (pruned_nodes t ns) ≡ class_lines k ns → (n : ℕ) (d : PlainKind) → class_lines k (pruned_nodes t (record { line = n; kind = d } ∷ ns)) ≡ kind_lines k d ++ class_lines k ns
 node-pruned k t ns h n (plain (hbox w a d)) = refl
 node-pruned k t ns h n (plain (rule name a d)) = refl
-node-pruned k t ns h n (plain (skip g)) = h
-node-pruned k t ns h n (plain (kerned w)) = h
-node-pruned k t ns h n (plain (pen p)) = h
-node-pruned k t ns h n (plain (mark name)) = h
-node-pruned k t ns h n (plain (note name)) = h
-node-pruned k t ns h n (plain whatsit) = h
-node-pruned k t ns h n (ins i) = h
-node-pruned k t ns h n (act a) = h
+node-pruned k t ns h n d = h
 
 pub pruned-lines : (k : FloatKind) (t : ℤ) (ns : List PlainNode) → class_lines k (pruned_nodes t ns) ≡ class_lines k ns
 pruned-lines k t [] = refl
@@ -73,26 +66,14 @@ pruned-lines k t (n ∷ ns) = node-pruned k t ns (pruned-lines k t ns) n.line n.
 take-pruned : (k : FloatKind) (t : ℤ) (ns : List PlainNode) → take_lines k (pruned_nodes t ns) ≡ take_lines k ns → (n : ℕ) (d : PlainKind) → take_lines k (pruned_nodes t (record { line = n; kind = d } ∷ ns)) ≡ kind_takes k d ++ take_lines k ns
 take-pruned k t ns h n (plain (hbox w a d)) = refl
 take-pruned k t ns h n (plain (rule name a d)) = refl
-take-pruned k t ns h n (plain (skip g)) = h
-take-pruned k t ns h n (plain (kerned w)) = h
-take-pruned k t ns h n (plain (pen p)) = h
-take-pruned k t ns h n (plain (mark name)) = h
-take-pruned k t ns h n (plain (note name)) = h
-take-pruned k t ns h n (plain whatsit) = h
-take-pruned k t ns h n (ins i) = h
 take-pruned k t ns h n (act a) = ap (λ l. act_lines k a ++ l) h
+take-pruned k t ns h n d = h
 
 deed-pruned : (t : ℤ) (ns : List PlainNode) → deeds (pruned_nodes t ns) ≡ deeds ns → (n : ℕ) (d : PlainKind) → deeds (pruned_nodes t (record { line = n; kind = d } ∷ ns)) ≡ kind_deeds d ++ deeds ns
 deed-pruned t ns h n (plain (hbox w a d)) = refl
 deed-pruned t ns h n (plain (rule name a d)) = refl
-deed-pruned t ns h n (plain (skip g)) = h
-deed-pruned t ns h n (plain (kerned w)) = h
-deed-pruned t ns h n (plain (pen p)) = h
-deed-pruned t ns h n (plain (mark name)) = h
-deed-pruned t ns h n (plain (note name)) = h
-deed-pruned t ns h n (plain whatsit) = h
-deed-pruned t ns h n (ins i) = h
 deed-pruned t ns h n (act a) = ap (λ l. (a ∷ []) ++ l) h
+deed-pruned t ns h n d = h
 
 pub pruned-takes : (k : FloatKind) (t : ℤ) (ns : List PlainNode) → take_lines k (pruned_nodes t ns) ≡ take_lines k ns
 pruned-takes k t [] = refl
@@ -104,16 +85,8 @@ pruned-deeds t (n ∷ ns) = deed-pruned t ns (pruned-deeds t ns) n.line n.kind
 
 -- a break that is spent changes a penalty alone
 spent-cases : (P : PlainKind → PlainKind → Type 0) → ((p : ℤ) → P (spent_kind (plain (pen p))) (plain (pen p))) → ((d : PlainKind) → P d d) → (d : PlainKind) → P (spent_kind d) d
-spent-cases P spent same (plain (hbox w a d)) = same (plain (hbox w a d))
-spent-cases P spent same (plain (rule name a d)) = same (plain (rule name a d))
-spent-cases P spent same (plain (skip g)) = same (plain (skip g))
-spent-cases P spent same (plain (kerned w)) = same (plain (kerned w))
 spent-cases P spent same (plain (pen p)) = spent p
-spent-cases P spent same (plain (mark name)) = same (plain (mark name))
-spent-cases P spent same (plain (note name)) = same (plain (note name))
-spent-cases P spent same (plain whatsit) = same (plain whatsit)
-spent-cases P spent same (ins i) = same (ins i)
-spent-cases P spent same (act a) = same (act a)
+spent-cases P spent same d = same d
 
 -- so a list by kinds is the same, if it is the same for all penalties
 spent-same : {X : Type 0} (f : PlainKind → List X) → ((p : ℤ) → f (spent_kind (plain (pen p))) ≡ f (plain (pen p))) → (ls : List X) (d : PlainKind) → f (spent_kind d) ++ ls ≡ f d ++ ls
@@ -159,13 +132,11 @@ without-acts-lines k (n ∷ ns) = acts-lines-more k ns (without-acts-lines k ns)
 
 acts-takes-more : (k : FloatKind) (ns : List PlainNode) → take_lines k (without_acts ns) ≡ [] → (l : ℕ) (d : PlainKind) → take_lines k (without_acts (record { line = l; kind = d } ∷ ns)) ≡ []
 acts-takes-more k ns h l (plain m) = h
-acts-takes-more k ns h l (ins i) = h
-acts-takes-more k ns h l (act a) = h
+acts-takes-more k ns h l d = h
 
 acts-deeds-more : (ns : List PlainNode) → deeds (without_acts ns) ≡ [] → (l : ℕ) (d : PlainKind) → deeds (without_acts (record { line = l; kind = d } ∷ ns)) ≡ []
 acts-deeds-more ns h l (plain m) = h
-acts-deeds-more ns h l (ins i) = h
-acts-deeds-more ns h l (act a) = h
+acts-deeds-more ns h l d = h
 
 pub without-acts-takes : (k : FloatKind) (ns : List PlainNode) → take_lines k (without_acts ns) ≡ []
 without-acts-takes k [] = refl
@@ -290,11 +261,7 @@ early-pruned-more k t ns e h l (plain (rule w a d)) i = (λ x. absurd (both_ways
 early-pruned-more k t ns e h l (plain (skip g)) i = h
 early-pruned-more k t ns e h l (plain (kerned g)) i = h
 early-pruned-more k t ns e h l (plain (pen g)) i = h
-early-pruned-more k t ns e h l (plain (mark g)) i = (λ x. absurd (both_ways false refl x), h)
-early-pruned-more k t ns e h l (plain (note g)) i = (λ x. absurd (both_ways false refl x), h)
-early-pruned-more k t ns e h l (plain whatsit) i = (λ x. absurd (both_ways false refl x), h)
-early-pruned-more k t ns e h l (ins y) i = (λ x. absurd (both_ways false refl x), h)
-early-pruned-more k t ns e h l (act a) i = (λ x. absurd (both_ways false refl x), h)
+early-pruned-more k t ns e h l d i = (λ x. absurd (both_ways false refl x), h)
 
 pub early-pruned : (k : FloatKind) (t : ℤ) (ns : List PlainNode) → AreEarly k ns → AreEarly k (pruned_nodes t ns)
 early-pruned k t [] h = tt
@@ -306,32 +273,17 @@ ended-lines k [] h e = refl
 ended-lines k (n ∷ ns) h e = by_kind n.line n.kind h.0 e
   where
     by_kind : (l : ℕ) (d : PlainKind) → (is_ending d ≡ true → class_lines k ns ≡ []) → int_lt (penalty_at (record { line = l; kind = d } ∷ ns)) eject_penalty ≡ true → class_lines k (with_spent_break (record { line = l; kind = d } ∷ ns)) ≡ []
-    by_kind l (plain (hbox w a d)) h e = absurd (both_ways false refl e)
-    by_kind l (plain (rule name a d)) h e = absurd (both_ways false refl e)
-    by_kind l (plain (skip g)) h e = absurd (both_ways false refl e)
-    by_kind l (plain (kerned w)) h e = absurd (both_ways false refl e)
     by_kind l (plain (pen p)) h e = h e
-    by_kind l (plain (mark name)) h e = absurd (both_ways false refl e)
-    by_kind l (plain (note name)) h e = absurd (both_ways false refl e)
-    by_kind l (plain whatsit) h e = absurd (both_ways false refl e)
-    by_kind l (ins i) h e = absurd (both_ways false refl e)
-    by_kind l (act a) h e = absurd (both_ways false refl e)
+    by_kind l d h e = absurd (both_ways false refl e)
 
 pub early-spent : (k : FloatKind) (ns : List PlainNode) → AreEarly k ns → AreEarly k (with_spent_break ns)
 early-spent k [] h = tt
 early-spent k (n ∷ ns) h = (spent-cases (λ a b. (is_ending b ≡ true → class_lines k ns ≡ []) → is_ending a ≡ true → class_lines k ns ≡ []) (λ p g e. absurd (both_ways false refl e)) (λ d g. g) n.kind h.0, h.1)
 
 acts-endless-more : (ns : List PlainNode) → AreEndless (without_acts ns) → (l : ℕ) (d : PlainKind) → Calm d → AreEndless (without_acts (record { line = l; kind = d } ∷ ns))
-acts-endless-more ns h l (plain (hbox w a d)) c = (refl, h)
-acts-endless-more ns h l (plain (rule name a d)) c = (refl, h)
-acts-endless-more ns h l (plain (skip g)) c = (refl, h)
-acts-endless-more ns h l (plain (kerned w)) c = (refl, h)
 acts-endless-more ns h l (plain (pen p)) c = (grind (arith, ints, c), h)
-acts-endless-more ns h l (plain (mark name)) c = (refl, h)
-acts-endless-more ns h l (plain (note name)) c = (refl, h)
-acts-endless-more ns h l (plain whatsit) c = (refl, h)
-acts-endless-more ns h l (ins i) c = (refl, h)
 acts-endless-more ns h l (act a) c = h
+acts-endless-more ns h l d c = (refl, h)
 
 -- a calm list has no such penalty
 pub calm-endless : (ns : List PlainNode) → AllCalm ns → AreEndless (without_acts ns)

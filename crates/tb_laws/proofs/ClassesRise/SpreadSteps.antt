@@ -144,13 +144,9 @@ module _ (k : FloatKind) (Known : ℕ → Type 0) (text takes : List ℕ) where
   -- one of the list from which wide floats go
   pub chosen_wide : (from : Part) → IsWaiting from → WideFrom k.side from → (before : List ℕ) (rs : List Recorded) (z : Wanted) (cs : List Choice) (l : FloatLists) (two first : Bool) (o : Option PlainColumn) → company z (floats_of from l) ≡ Some cs
       → Spread k Known text takes before rs [] l two first o → Spread k Known text takes before rs (float_lines k (chosen_floats cs)) (with_floats_of from (left_floats cs) l) two first o
-  chosen_wide parts.Current i w before rs z cs l two first o is h = absurd i
-  chosen_wide parts.Here i w before rs z cs l two first o is h = absurd i
-  chosen_wide parts.Top i w before rs z cs l two first o is h = absurd i
-  chosen_wide parts.Bottom i w before rs z cs l two first o is h = absurd i
-  chosen_wide parts.Double i w before rs z cs l two first o is h = absurd i
   chosen_wide parts.Deferred i w before rs z cs l two first o is h = chosen before rs z cs l two first o is h
   chosen_wide parts.Second i w before rs z cs l two first o is h = chosen_second before rs z cs l two first o w is h
+  chosen_wide from i w before rs z cs l two first o is h = absurd i
 
   -- without a left column and a column in hand, the double floats and those that wait are side by side
   joined_double : (before : List ℕ) (l : FloatLists) (o : Option PlainColumn) → left_lines k o ≡ [] → spread_lines k takes before [] l o ≡ before ++ (float_lines k (l.double ++ waits l) ++ later_lines k takes l)
@@ -193,11 +189,6 @@ module _ (k : FloatKind) (Known : ℕ → Type 0) (text takes : List ℕ) where
 
   pub filled_double : (from : Part) → IsWaiting from → WideFrom k.side from → (before : List ℕ) (rs more : List Recorded) (p : Params) (s : Suppress) (l : FloatLists) (two first : Bool) (o : Option PlainColumn) → two ≡ true → left_lines k o ≡ [] → AreQuiet more
       → Spread k Known text takes before rs [] l two first o → Spread k Known text takes before (rs ++ more) [] (doubled from p s [] (floats_of from l) l) two first o
-  filled_double parts.Current i w before rs more p s l two first o t e q h = absurd i
-  filled_double parts.Here i w before rs more p s l two first o t e q h = absurd i
-  filled_double parts.Top i w before rs more p s l two first o t e q h = absurd i
-  filled_double parts.Bottom i w before rs more p s l two first o t e q h = absurd i
-  filled_double parts.Double i w before rs more p s l two first o t e q h = absurd i
   filled_double parts.Deferred i w before rs more p s l two first o t e q h =
       let m = doubled parts.Deferred p s [] l.deferred l in
       let n = double-second p s l in
@@ -212,6 +203,7 @@ module _ (k : FloatKind) (Known : ℕ → Type 0) (text takes : List ℕ) where
       doubled_to before rs more l m two first o t e q same (second-doubled k l m n lines k.side w h.parted)
       (all-join (IsBehind k text) m.deferred m.second (subst (AllByRecursion (IsBehind k text)) (sym n) (all-front (IsBehind k text) l.deferred l.second h.behind)) (double-all (IsBehind k text) parts.Second tt p s l (all-back (IsBehind k text) l.deferred l.second h.behind)))
       (parted_second l m same n lines k.side w h.parted) h
+  filled_double from i w before rs more p s l two first o t e q h = absurd i
 
   -- the floats above the two columns go before those of the list where wide ones wait, if no left column is kept
   again_to : (before : List ℕ) (rs : List Recorded) (l m : FloatLists) (two first : Bool) (o : Option PlainColumn) → left_lines k o ≡ [] → float_lines k (waits m) ≡ float_lines k (l.double ++ waits l) → m.double ≡ [] → m.current ≡ l.current → m.top ≡ l.top → m.bottom ≡ l.bottom → AllByRecursion (IsBehind k text) (waits m) → Parted k m
@@ -254,11 +246,6 @@ module _ (k : FloatKind) (Known : ℕ → Type 0) (text takes : List ℕ) where
 
   pub double_again : (from : Part) → IsWaiting from → WideFrom k.side from → (before : List ℕ) (rs : List Recorded) (l : FloatLists) (two first : Bool) (o : Option PlainColumn) → left_lines k o ≡ []
       → Spread k Known text takes before rs [] l two first o → AllByRecursion (IsBehind k text) l.double → Spread k Known text takes before rs [] (with_floats_of from (l.double ++ floats_of from l) (record l { double = [] })) two first o
-  double_again parts.Current i w before rs l two first o e h b = absurd i
-  double_again parts.Here i w before rs l two first o e h b = absurd i
-  double_again parts.Top i w before rs l two first o e h b = absurd i
-  double_again parts.Bottom i w before rs l two first o e h b = absurd i
-  double_again parts.Double i w before rs l two first o e h b = absurd i
   double_again parts.Deferred i w before rs l two first o e h b =
       let m : FloatLists = record l { double = []; deferred = l.double ++ l.deferred } in
       again_to before rs l m two first o e (ap (float_lines k) (append_assoc l.double l.deferred l.second)) refl refl refl refl
@@ -267,3 +254,4 @@ module _ (k : FloatKind) (Known : ℕ → Type 0) (text takes : List ℕ) where
       let m : FloatLists = record l { double = []; second = l.double ++ l.second } in
       again_to before rs l m two first o e (lines_again l k.side w h.parted) refl refl refl refl
       (all-join (IsBehind k text) l.deferred (l.double ++ l.second) (all-front (IsBehind k text) l.deferred l.second h.behind) (all-join (IsBehind k text) l.double l.second b (all-back (IsBehind k text) l.deferred l.second h.behind))) (parted_again l k.side w h.parted) h
+  double_again from i w before rs l two first o e h b = absurd i

@@ -68,16 +68,8 @@ clear-ended b [] h e = let no : false ≡ true = h in cc
 clear-ended b (n ∷ ns) h e = at n.kind h e.0
   where
     at : (k : PlainKind) → Output.is_int (penalty_at (record { line = n.line; kind = k } ∷ ns)) Output.clear_penalty ≡ true → EndsAt b k → b ≡ true
-    at (plain (hbox w x d)) h e = let no : false ≡ true = h in cc
-    at (plain (rule name x d)) h e = let no : false ≡ true = h in cc
-    at (plain (skip g)) h e = let no : false ≡ true = h in cc
-    at (plain (kerned w)) h e = let no : false ≡ true = h in cc
     at (plain (pen p)) h e = e h
-    at (plain (mark name)) h e = let no : false ≡ true = h in cc
-    at (plain (note name)) h e = let no : false ≡ true = h in cc
-    at (plain whatsit) h e = let no : false ≡ true = h in cc
-    at (ins i) h e = let no : false ≡ true = h in cc
-    at (act a) h e = let no : false ≡ true = h in cc
+    at k h e = let no : false ≡ true = h in cc
 
 -- ---- the front of such a page
 
@@ -100,14 +92,10 @@ take-last (suc i) (x ∷ xs) n = more (take-last i xs n)
 kind-idle : (k : PlainKind) → Topmost k → Calm k → Idle (kind_sort k) × (kind_cost k ≡ 0)
 kind-idle (plain (hbox w h d)) t c = absurd t
 kind-idle (plain (rule name h d)) t c = absurd t
-kind-idle (plain (skip g)) t c = (tt, refl)
-kind-idle (plain (kerned w)) t c = (tt, refl)
 kind-idle (plain (pen p)) t c = (rw c tt, rw c refl)
-kind-idle (plain (mark name)) t c = (tt, refl)
-kind-idle (plain (note name)) t c = (tt, refl)
-kind-idle (plain whatsit) t c = (tt, refl)
 kind-idle (ins i) t c = absurd t
 kind-idle (act a) t c = absurd t
+kind-idle k t c = (tt, refl)
 
 all-idle : (ns : List PlainNode) → AllTopmost ns → AllCalm ns → AllByRecursion Idle (sorts ns) × (wait_cost ns ≡ 0)
 all-idle [] t c = (tt, refl)

@@ -4,7 +4,7 @@ use Rattle.std.specs.List.{AllByRecursion}
 use Rattle.tb_scaled.specs.Scaled.{inf_penalty}
 use Rattle.tb_node.specs.declared.Act.{Act}
 use Rattle.tb_node.specs.declared.Act.TheVariants as acts
-use Rattle.tb_node.specs.PlainNodes.{hbox, rule, skip, kerned, pen, mark, note, whatsit, PlainKind, plain, ins, act, PlainNode, without_acts}
+use Rattle.tb_node.specs.PlainNodes.{hbox, rule, pen, PlainKind, plain, ins, act, PlainNode, without_acts}
 use Rattle.tb_break.specs.PageTop.{pruned_nodes}
 use Rattle.tb_builder.specs.Reach.{Reach}
 use Rattle.tb_builder.specs.FiredPages.{with_spent_break, penalty_at}
@@ -37,12 +37,8 @@ pen-pruned ns zs h p = pen-sorts (λ x. (b : Bool) (z : Ways) (n : ℕ) (o : Boo
 node-pruned : (t : ℤ) (ns : List PlainNode) → ((b : Bool) (z : Ways) (n : ℕ) (o : Bool) → Stands none b (sorts ns) → Closes z n o (tokens ns) → Closes z n o (tokens (pruned_nodes t ns))) → (l : ℕ) (k : PlainKind) (b : Bool) (z : Ways) (n : ℕ) (o : Bool) → Stands none b (kind_sort k ∷ sorts ns) → Closes z n o (kind_token k ∷ tokens ns) → Closes z n o (tokens (pruned_nodes t (record { line = l; kind = k } ∷ ns)))
 node-pruned t ns h l (plain (hbox w a d)) b z n o s c = c
 node-pruned t ns h l (plain (rule w a d)) b z n o s c = c
-node-pruned t ns h l (plain (skip g)) b z n o s c = h b z n o s.1 c
-node-pruned t ns h l (plain (kerned g)) b z n o s c = h b z n o s.1 c
 node-pruned t ns h l (plain (pen p)) b z n o s c = pen-pruned ns (tokens (pruned_nodes t ns)) h p b z n o s c
-node-pruned t ns h l (plain (mark name)) b z n o s c = h b z n o s.1 c
-node-pruned t ns h l (plain (note name)) b z n o s c = h b z n o s.1 c
-node-pruned t ns h l (plain whatsit) b z n o s c = h b z n o s.1 c
+node-pruned t ns h l (plain k) b z n o s c = h b z n o s.1 c
 node-pruned t ns h l (ins i) b z n o s c = h b z n false s.1 c
 node-pruned t ns h l (act a) true z n o s c = absurd s.0
 node-pruned t ns h l (act a) false z n o s c = behind (act_token a) (tokens ns) (tokens (pruned_nodes t ns)) (λ z n o k. h false z n o s.1 k) z n o c
@@ -82,14 +78,7 @@ AllStill = AllByRecursion (λ a. Still (act_token a))
 
 sort-owed : (s : Sort) (z : Ways) (n : ℕ) (xs : List Token) → owed_all z n (sort_token s ∷ xs) ≡ owed_all z n xs
 sort-owed light z n xs = refl
-sort-owed blank z n xs = refl
-sort-owed real z n xs = refl
-sort-owed silent z n xs = refl
-sort-owed pause z n xs = refl
-sort-owed hold z n xs = refl
-sort-owed serve z n xs = refl
-sort-owed clear z n xs = refl
-sort-owed odd z n xs = refl
+sort-owed s z n xs = refl
 
 node-owed : (z : Ways) (n : ℕ) (k : PlainKind) (ns : List PlainNode) → ((z : Ways) (n : ℕ) → owed_all z n (tokens ns) ≡ owed_acts z n (acts_of ns)) → (l : ℕ) → owed_all z n (kind_token k ∷ tokens ns) ≡ owed_acts z n (acts_of (record { line = l; kind = k } ∷ ns))
 node-owed z n (plain m) ns h l = sort-owed (kind_sort (plain m)) z n (tokens ns) ∙ h z n
@@ -105,22 +94,12 @@ all-owed z n (x ∷ ns) = node-owed z n x.kind ns (λ z n. all-owed z n ns) x.li
 
 sort-ways : (s : Sort) (z : Ways) (xs : List Token) → ways_all z (sort_token s ∷ xs) ≡ ways_all z xs
 sort-ways light z xs = refl
-sort-ways blank z xs = refl
-sort-ways real z xs = refl
-sort-ways silent z xs = refl
-sort-ways pause z xs = refl
-sort-ways hold z xs = refl
-sort-ways serve z xs = refl
-sort-ways clear z xs = refl
-sort-ways odd z xs = refl
+sort-ways s z xs = refl
 
 node-ways : (z : Ways) (k : PlainKind) (ns : List PlainNode) → ((z : Ways) → ways_all z (tokens ns) ≡ ways_acts z (acts_of ns)) → (l : ℕ) → ways_all z (kind_token k ∷ tokens ns) ≡ ways_acts z (acts_of (record { line = l; kind = k } ∷ ns))
 node-ways z (plain m) ns h l = sort-ways (kind_sort (plain m)) z (tokens ns) ∙ h z
-node-ways z (ins i) ns h l = h z
-node-ways z (act (acts.Take f)) ns h l = h z
-node-ways z (act (acts.TakeMargin m)) ns h l = h z
-node-ways z (act (acts.Suppress area)) ns h l = h z
 node-ways z (act (acts.Columns two)) ns h l = h (turned z two)
+node-ways z k ns h l = h z
 
 all-ways : (z : Ways) (ns : List PlainNode) → ways_all z (tokens ns) ≡ ways_acts z (acts_of ns)
 all-ways z [] = refl
@@ -138,15 +117,12 @@ acts-any true ds h = weaker ds h
 acts-any false ds h = h
 
 sort-acts : (s : Sort) (xs : List Token) (ds : List Act) → ((z : Ways) (n : ℕ) (o : Bool) → Closes z n o xs → ActsClose o ds) → (z : Ways) (n : ℕ) (o : Bool) → Passed (sort_token s) → Closes z n o (sort_token s ∷ xs) → ActsClose o ds
-sort-acts light xs ds h z n o p c = h z n o c
-sort-acts blank xs ds h z n o p c = h z n o c
 sort-acts real xs ds h z n o p c = acts-any o ds (h z n false c)
-sort-acts silent xs ds h z n o p c = h z n o c
-sort-acts pause xs ds h z n o p c = h z n o c
 sort-acts hold xs ds h z n o p c = acts-any o ds (h z n false c)
 sort-acts serve xs ds h z n o p c = absurd p
 sort-acts clear xs ds h z n o p c = absurd p
 sort-acts odd xs ds h z n o p c = acts-any o ds (h z n false c)
+sort-acts s xs ds h z n o p c = h z n o c
 
 node-acts : (k : PlainKind) (l : ℕ) (ns : List PlainNode) (xs : List Token) → ((z : Ways) (n : ℕ) (o : Bool) → Closes z n o xs → ActsClose o (acts_of ns)) → (z : Ways) (n : ℕ) (o : Bool) → Passed (kind_token k) → Closes z n o (kind_token k ∷ xs) → ActsClose o (acts_of (record { line = l; kind = k } ∷ ns))
 node-acts (plain m) l ns xs h z n o p c = sort-acts (kind_sort (plain m)) xs (acts_of ns) h z n o p c
@@ -245,16 +221,9 @@ pen-closes ns l z m d p = pen-sorts (λ x. Closes z m d (sort_token x ∷ tokens
     at_clear (suc j) d c = absurd c
 
 node-closes : (ns : List PlainNode) (l : ℕ) (k : PlainKind) (z : Ways) (m : ℕ) (d : Bool) → ActFree k → Closes z m d (kind_token k ∷ tokens ns) → BreakCloses z m d (with_spent_break (record { line = l; kind = k } ∷ ns)) (pen_sort (penalty_at (record { line = l; kind = k } ∷ ns)))
-node-closes ns l (plain (hbox w a b)) z m d f c = c
-node-closes ns l (plain (rule w a b)) z m d f c = c
-node-closes ns l (plain (skip g)) z m d f c = c
-node-closes ns l (plain (kerned g)) z m d f c = c
 node-closes ns l (plain (pen p)) z m d f c = pen-closes ns l z m d p c
-node-closes ns l (plain (mark name)) z m d f c = c
-node-closes ns l (plain (note name)) z m d f c = c
-node-closes ns l (plain whatsit) z m d f c = c
-node-closes ns l (ins i) z m d f c = c
 node-closes ns l (act a) z m d f c = absurd f
+node-closes ns l k z m d f c = c
 
 pub break-closes : (ns : List PlainNode) (z : Ways) (m : ℕ) (d : Bool) → FirstFree ns → Closes z m d (tokens ns) → BreakCloses z m d (with_spent_break ns) (pen_sort (penalty_at ns))
 break-closes [] z m d f c = c

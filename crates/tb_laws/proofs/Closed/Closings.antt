@@ -211,17 +211,11 @@ sort-passed light c = tt
 sort-passed blank c = tt
 sort-passed real c = tt
 sort-passed silent c = tt
-sort-passed pause c = absurd c
-sort-passed hold c = absurd c
-sort-passed serve c = absurd c
-sort-passed clear c = absurd c
-sort-passed odd c = absurd c
+sort-passed s c = absurd c
 
 act-passed : (a : Act) → Passed (act_token a)
 act-passed (acts.Take f) = tt
-act-passed (acts.TakeMargin m) = tt
-act-passed (acts.Suppress area) = tt
-act-passed (acts.Columns two) = tt
+act-passed a = tt
 
 kind-passed : (k : PlainKind) → Calm k → Passed (kind_token k)
 kind-passed (plain m) c = sort-passed (kind_sort (plain m)) (kind-calm (plain m) c)
@@ -237,11 +231,7 @@ sort-harmless light c = tt
 sort-harmless blank c = tt
 sort-harmless real c = tt
 sort-harmless silent c = tt
-sort-harmless pause c = absurd c
-sort-harmless hold c = absurd c
-sort-harmless serve c = absurd c
-sort-harmless clear c = absurd c
-sort-harmless odd c = absurd c
+sort-harmless s c = absurd c
 
 kind-harmless : (k : PlainKind) → Steady (kind_sort k) → Harmless (kind_token k)
 kind-harmless (plain m) c = sort-harmless (kind_sort (plain m)) c
@@ -260,13 +250,9 @@ free-harmless (n ∷ ns) c f = (kind-harmless n.kind (kind-steady n.kind c.0 f.0
 sort-quiet : (s : Sort) → Still (sort_token s) → Quiet (sort_token s)
 sort-quiet light c = tt
 sort-quiet blank c = tt
-sort-quiet real c = absurd c
 sort-quiet silent c = tt
 sort-quiet pause c = tt
-sort-quiet hold c = absurd c
-sort-quiet serve c = absurd c
-sort-quiet clear c = absurd c
-sort-quiet odd c = absurd c
+sort-quiet s c = absurd c
 
 still-more : (l : ℕ) (k : PlainKind) (ns : List PlainNode) → Still (kind_token k) → AllByRecursion Quiet (tokens (without_acts ns)) → AllByRecursion Quiet (tokens (without_acts (record { line = l; kind = k } ∷ ns)))
 still-more l (plain m) ns c h = (sort-quiet (kind_sort (plain m)) c, h)

@@ -34,7 +34,7 @@ use Rattle.tb_output.specs.Output
 use Rattle.tb_output.proofs.StepLaws.ColumnSteps.{RecordLaw, no_law, ColumnStep, in_turn, Stays, sends-stays, place_float-step, place_next-step, all_wide_pages-step, put_out-step, float_columns-step, stays}
 use Rattle.tb_output.proofs.StepLaws.FiringSteps.{defer-stays}
 use Rattle.tb_output.proofs.StepLaws.WorkSteps.{continues-sends, column-continues, continues-defer}
-use Rattle.tb_laws.proofs.Closed.SortLemmas.{Sort, light, blank, real, silent, pause, hold, serve, clear, odd, Seen, none, one, many, Stands, sorts, sorts-append, fewer, Steady}
+use Rattle.tb_laws.proofs.Closed.SortLemmas.{Sort, light, blank, real, Seen, none, one, many, Stands, sorts, sorts-append, fewer, Steady}
 
 -- the number of each class is one of these
 abbrev pub AreAmong : List ℕ → List Class → Type 0
@@ -131,12 +131,7 @@ steady-stands [] ys c h = h
 steady-stands (light ∷ xs) ys c h = (tt, steady-stands xs ys c.1 h)
 steady-stands (blank ∷ xs) ys c h = (tt, steady-stands xs ys c.1 h)
 steady-stands (real ∷ xs) ys c h = (tt, steady-stands xs ys c.1 h)
-steady-stands (silent ∷ xs) ys c h = absurd c.0
-steady-stands (pause ∷ xs) ys c h = absurd c.0
-steady-stands (hold ∷ xs) ys c h = absurd c.0
-steady-stands (serve ∷ xs) ys c h = absurd c.0
-steady-stands (clear ∷ xs) ys c h = absurd c.0
-steady-stands (odd ∷ xs) ys c h = absurd c.0
+steady-stands (k ∷ xs) ys c h = absurd c.0
 
 pub steady-extends : (ks : List ℕ) (ns : List PlainNode) → AllByRecursion Steady (sorts ns) → AllOfClass ks ns → Extends ks many false ns
 steady-extends ks ns c g = record { by = λ ys h. steady-stands (sorts ns) ys c h; feet = g }
@@ -173,9 +168,7 @@ module _ (ks : List ℕ) (p : Params) (calm : int_le p.interlinepenalty eject_pe
       joined ks many false p w b (Text.float_goes p vert f left w places.Here) (interline-puts w a (column-puts ks many false (place_float-step p (no_law p) places.Here f left w tt))) (extended ks many false (Text.here_nodes p vert f) b (steady-extends ks (Text.here_nodes p vert f) (here-steady vert f) (here-class vert f)))
   goes-puts vert f left w places.Top = interline-puts w _ (column-puts ks many false (place_float-step p (no_law p) places.Top f left w tt))
   goes-puts vert f left w places.Bottom = interline-puts w _ (column-puts ks many false (place_float-step p (no_law p) places.Bottom f left w tt))
-  goes-puts vert f left w places.Page = interline-puts w _ (stays-put ks many false (defer-stays p f left w) (continues-defer p f left w))
-  goes-puts vert f left w places.Double = interline-puts w _ (stays-put ks many false (defer-stays p f left w) (continues-defer p f left w))
-  goes-puts vert f left w places.Deferred = interline-puts w _ (stays-put ks many false (defer-stays p f left w) (continues-defer p f left w))
+  goes-puts vert f left w place = interline-puts w _ (stays-put ks many false (defer-stays p f left w) (continues-defer p f left w))
 
   note-puts : (depth : ℤ) (m : Margin) (left : FloatLists) (w : Work) (at : Placed) → Puts ks many false w (Text.note_goes p depth m left w at)
   note-puts depth m left w at =

@@ -142,9 +142,7 @@ module _ (p : Params) (calm : int_le p.interlinepenalty eject_penalty ≡ false)
   goes-serves vert f es w places.Here = here-now vert f es w w.refused
   goes-serves vert f es w places.Top = then_interline es w _ (top-serves p f es w w.refused)
   goes-serves vert f es w places.Bottom = then_interline es w _ (bottom-serves p f es w w.refused)
-  goes-serves vert f es w places.Page = then_interline es w _ (defer-serves p f es w)
-  goes-serves vert f es w places.Double = then_interline es w _ (defer-serves p f es w)
-  goes-serves vert f es w places.Deferred = then_interline es w _ (defer-serves p f es w)
+  goes-serves vert f es w place = then_interline es w _ (defer-serves p f es w)
 
   -- a note goes into the text
   note-serves : (depth : ℤ) (m : Margin) (es : List Entry) (w : Work) (at : Placed) → Served es w (Text.note_goes p depth m (left_of es w) w at)
@@ -183,8 +181,7 @@ module _ (p : Params) (calm : int_le p.interlinepenalty eject_penalty ≡ false)
     where
       no-more : (x : Entry) (es : List Entry) → entry_items es ≤ entry_items (x ∷ es)
       no-more (entries.Float f) es = omega arith
-      no-more (entries.Left m) es = omega arith
-      no-more (entries.Right m) es = omega arith
+      no-more x es = omega arith
   first-serves vert height depth page_height (entries.Right m ∷ es) w q e = absurd q
   first-serves vert height depth page_height [] w q e = kept-fewer w _ (interline-writes w) e
 

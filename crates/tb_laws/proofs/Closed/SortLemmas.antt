@@ -7,7 +7,7 @@ use Rattle.std.proofs.lemmas.Int.{ints}
 use Rattle.tb_break.proofs.EachLemmas.{all-take}
 use Rattle.tb_scaled.specs.Scaled.{eject_penalty, inf_penalty}
 use Rattle.tb_node.specs.declared.What.TheVariants as what
-use Rattle.tb_node.specs.PlainNodes.{hbox, rule, skip, kerned, pen, mark, note, whatsit, PlainKind, plain, ins, act, PlainNode, without_acts, without_insertions}
+use Rattle.tb_node.specs.PlainNodes.{hbox, rule, pen, PlainKind, plain, ins, act, PlainNode, without_acts, without_insertions}
 use Rattle.tb_node.proofs.Weights.{Weight, nodes_weight}
 use Rattle.tb_insert.specs.Account.{Labelled}
 use Rattle.tb_builder.specs.FiredPages.{Boxed, page_break, from_break, fired_by, with_spent_break, penalty_at}
@@ -55,14 +55,9 @@ forced-stands ns l s p = pen-sorts (λ x. (b : Bool) → Stands s b (x ∷ sorts
 node-stands : (ns : List PlainNode) (l : ℕ) (k : PlainKind) (s : Seen) (b : Bool) → ActFree k → Stands s b (kind_sort k ∷ sorts ns) → BreakStands b s (with_spent_break (record { line = l; kind = k } ∷ ns)) (pen_sort (penalty_at (record { line = l; kind = k } ∷ ns)))
 node-stands ns l (plain (hbox w a d)) s b f h = from-none (box_sort w) (sorts ns) s b (box-steady w) h
 node-stands ns l (plain (rule name a d)) s b f h = from-none real (sorts ns) s b tt h
-node-stands ns l (plain (skip g)) s b f h = from-none light (sorts ns) s b tt h
-node-stands ns l (plain (kerned w)) s b f h = from-none light (sorts ns) s b tt h
 node-stands ns l (plain (pen p)) s b f h = forced-stands ns l s p b h
-node-stands ns l (plain (mark name)) s b f h = from-none light (sorts ns) s b tt h
-node-stands ns l (plain (note name)) s b f h = from-none light (sorts ns) s b tt h
-node-stands ns l (plain whatsit) s b f h = from-none light (sorts ns) s b tt h
-node-stands ns l (ins i) s b f h = from-none light (sorts ns) s b tt h
 node-stands ns l (act a) s b f h = absurd f
+node-stands ns l k s b f h = from-none light (sorts ns) s b tt h
 
 pub break-stands : (ns : List PlainNode) (s : Seen) (b : Bool) → FirstFree ns → Stands s b (sorts ns) → BreakStands b s (with_spent_break ns) (pen_sort (penalty_at ns))
 break-stands [] s b f h = tt
@@ -81,11 +76,7 @@ never-one (light ∷ xs) c e = never-one xs c.1 e
 never-one (blank ∷ xs) c e = never-one xs c.1 e
 never-one (real ∷ xs) c e = never-one xs c.1 e
 never-one (silent ∷ xs) c e = never-one xs c.1 e
-never-one (pause ∷ xs) c e = absurd c.0
-never-one (hold ∷ xs) c e = absurd c.0
-never-one (serve ∷ xs) c e = absurd c.0
-never-one (clear ∷ xs) c e = absurd c.0
-never-one (odd ∷ xs) c e = absurd c.0
+never-one (k ∷ xs) c e = absurd c.0
 
 -- after a blank box nothing comes
 pub behind-one : (ns : List PlainNode) → AllCalm ns → AllFree ns → seen_all one (sorts ns) ≡ one → ns ≡ []
@@ -94,18 +85,9 @@ behind-one (n ∷ ns) c f e = absurd (behind n.kind c.0 f.0 e)
   where
     behind : (k : PlainKind) → Calm k → ActFree k → seen_all one (kind_sort k ∷ sorts ns) ≡ one → ⊥
     behind (plain (hbox (what.Text name) h d)) a g e = never-one (sorts ns) (sorts-calm ns c.1) e
-    behind (plain (hbox what.Blank h d)) a g e = never-one (sorts ns) (sorts-calm ns c.1) e
-    behind (plain (hbox (what.Float name class place item) h d)) a g e = never-one (sorts ns) (sorts-calm ns c.1) e
-    behind (plain (hbox (what.Margin name side shift height depth item) h d)) a g e = never-one (sorts ns) (sorts-calm ns c.1) e
-    behind (plain (rule name h d)) a g e = never-one (sorts ns) (sorts-calm ns c.1) e
-    behind (plain (skip w)) a g e = never-one (sorts ns) (sorts-calm ns c.1) e
-    behind (plain (kerned w)) a g e = never-one (sorts ns) (sorts-calm ns c.1) e
     behind (plain (pen p)) a g e = never-one (sorts ns) (sorts-calm ns c.1) (rw a at e)
-    behind (plain (mark name)) a g e = never-one (sorts ns) (sorts-calm ns c.1) e
-    behind (plain (note name)) a g e = never-one (sorts ns) (sorts-calm ns c.1) e
-    behind (plain whatsit) a g e = never-one (sorts ns) (sorts-calm ns c.1) e
-    behind (ins i) a g e = never-one (sorts ns) (sorts-calm ns c.1) e
     behind (act x) a g e = g
+    behind k a g e = never-one (sorts ns) (sorts-calm ns c.1) e
 
 one-rest : (v : Weight) (ns : List PlainNode) → AllCalm ns → AllFree ns → seen_all one (sorts ns) ≡ one → nodes_weight v (without_insertions ns) ≡ 0
 one-rest v ns c f e = ap (λ xs. nodes_weight v (without_insertions xs)) (behind-one ns c f e)
@@ -116,14 +98,10 @@ one-more v ns c f h l (plain (hbox what.Blank x d)) a g e = let k : nodes_weight
 one-more v ns c f h l (plain (hbox (what.Float name class place item) x d)) a g e = absurd (never-one (sorts ns) (sorts-calm ns c) e)
 one-more v ns c f h l (plain (hbox (what.Margin name side shift height depth item) x d)) a g e = absurd (never-one (sorts ns) (sorts-calm ns c) e)
 one-more v ns c f h l (plain (rule name x d)) a g e = absurd (never-one (sorts ns) (sorts-calm ns c) e)
-one-more v ns c f h l (plain (skip w)) a g e = let k : nodes_weight v (without_insertions ns) ≡ 0 = h e in omega arith
-one-more v ns c f h l (plain (kerned w)) a g e = let k : nodes_weight v (without_insertions ns) ≡ 0 = h e in omega arith
 one-more v ns c f h l (plain (pen p)) a g e = let k : nodes_weight v (without_insertions ns) ≡ 0 = h (rw a at e) in omega arith
-one-more v ns c f h l (plain (mark name)) a g e = let k : nodes_weight v (without_insertions ns) ≡ 0 = h e in omega arith
-one-more v ns c f h l (plain (note name)) a g e = let k : nodes_weight v (without_insertions ns) ≡ 0 = h e in omega arith
-one-more v ns c f h l (plain whatsit) a g e = let k : nodes_weight v (without_insertions ns) ≡ 0 = h e in omega arith
 one-more v ns c f h l (ins i) a g e = h e
 one-more v ns c f h l (act x) a g e = absurd g
+one-more v ns c f h l x a g e = let k : nodes_weight v (without_insertions ns) ≡ 0 = h e in omega arith
 
 -- a list whose boxes are one blank box weighs nothing without its insertions
 pub one-weight : (v : Weight) (ns : List PlainNode) → AllCalm ns → AllFree ns → seen_all none (sorts ns) ≡ one → nodes_weight v (without_insertions ns) ≡ 0

@@ -127,25 +127,20 @@ fewer s false (silent ∷ xs) h = (tt, fewer s false xs h.1)
 fewer s b (pause ∷ xs) h = h
 fewer s true (hold ∷ xs) h = h
 fewer s false (hold ∷ xs) h = h
-fewer s b (serve ∷ xs) h = absurd h.0
-fewer s b (clear ∷ xs) h = absurd h.0
-fewer s b (odd ∷ xs) h = absurd h.0
+fewer s b (k ∷ xs) h = absurd h.0
 
 unheld : (s : Seen) (xs : List Sort) → Stands s true xs → Stands s false xs
 unheld s [] h = tt
 unheld s (light ∷ xs) h = (tt, unheld (seen_after s light) xs h.1)
 unheld s (blank ∷ xs) h = (tt, unheld (seen_after s blank) xs h.1)
-unheld s (real ∷ xs) h = absurd h.0
-unheld s (silent ∷ xs) h = absurd h.0
 unheld s (pause ∷ xs) h = (tt, unheld none xs h.1)
-unheld s (hold ∷ xs) h = absurd h.0
 unheld none (serve ∷ xs) h = absurd h.0
 unheld one (serve ∷ xs) h = h
 unheld many (serve ∷ xs) h = absurd h.0
 unheld none (clear ∷ xs) h = absurd h.0
 unheld one (clear ∷ xs) h = absurd h.0
 unheld many (clear ∷ xs) h = absurd h.0
-unheld s (odd ∷ xs) h = absurd h.0
+unheld s (k ∷ xs) h = absurd h.0
 
 -- ---- the sort of a penalty
 
@@ -175,21 +170,12 @@ CalmSort odd = ⊥
 
 box-calm : (w : What) → CalmSort (box_sort w)
 box-calm (what.Text name) = tt
-box-calm what.Blank = tt
-box-calm (what.Float name class place item) = tt
-box-calm (what.Margin name side shift height depth item) = tt
+box-calm w = tt
 
 pub kind-calm : (k : PlainKind) → Calm k → CalmSort (kind_sort k)
 kind-calm (plain (hbox w h d)) c = box-calm w
-kind-calm (plain (rule name h d)) c = tt
-kind-calm (plain (skip g)) c = tt
-kind-calm (plain (kerned w)) c = tt
 kind-calm (plain (pen p)) c = rw c tt
-kind-calm (plain (mark name)) c = tt
-kind-calm (plain (note name)) c = tt
-kind-calm (plain whatsit) c = tt
-kind-calm (ins i) c = tt
-kind-calm (act a) c = tt
+kind-calm k c = tt
 
 pub sorts-calm : (ns : List PlainNode) → AllCalm ns → AllByRecursion CalmSort (sorts ns)
 sorts-calm [] h = tt
@@ -210,12 +196,9 @@ node-pruned t ns h l (plain (rule name a d)) b s = (tt, s)
 node-pruned t ns h l (plain (skip g)) b s = h b s.1
 node-pruned t ns h l (plain (kerned w)) b s = h b s.1
 node-pruned t ns h l (plain (pen p)) b s = h b (pen-pruned (sorts ns) p b s)
-node-pruned t ns h l (plain (mark name)) b s = (tt, h b s.1)
-node-pruned t ns h l (plain (note name)) b s = (tt, h b s.1)
-node-pruned t ns h l (plain whatsit) b s = (tt, h b s.1)
-node-pruned t ns h l (ins i) b s = (tt, h b s.1)
 node-pruned t ns h l (act a) true s = absurd s.0
 node-pruned t ns h l (act a) false s = (tt, h false s.1)
+node-pruned t ns h l k b s = (tt, h b s.1)
 
 pub pruned-stands : (t : ℤ) (ns : List PlainNode) (b : Bool) → Stands none b (sorts ns) → Stands none b (sorts (pruned_nodes t ns))
 pruned-stands t [] b h = tt
@@ -235,11 +218,7 @@ stands-after (real ∷ xs) ys s true c h = absurd h.0
 stands-after (real ∷ xs) ys s false c h = stands-after xs ys many false c.1 h.1
 stands-after (silent ∷ xs) ys s true c h = absurd h.0
 stands-after (silent ∷ xs) ys s false c h = stands-after xs ys s false c.1 h.1
-stands-after (pause ∷ xs) ys s b c h = absurd c.0
-stands-after (hold ∷ xs) ys s b c h = absurd c.0
-stands-after (serve ∷ xs) ys s b c h = absurd c.0
-stands-after (clear ∷ xs) ys s b c h = absurd c.0
-stands-after (odd ∷ xs) ys s b c h = absurd c.0
+stands-after (k ∷ xs) ys s b c h = absurd c.0
 
 -- without its acts a front leaves the same after it
 kept-silent : (l : ℕ) (k : PlainKind) (ns : List PlainNode) (ys : List Sort) → ((s : Seen) (b : Bool) → Stands s b (sorts ns ++ ys) → Stands s b (sorts (without_acts ns) ++ ys)) → (s : Seen) (b : Bool) → Stands s b (kind_sort k ∷ sorts ns ++ ys) → Stands s b (sorts (without_acts (record { line = l; kind = k } ∷ ns)) ++ ys)
@@ -275,26 +254,14 @@ from-none blank xs many b c h = (tt, fewer one b xs h.1)
 from-none real xs s true c h = absurd h.0
 from-none real xs s false c h = h
 from-none silent xs s b c h = absurd c
-from-none pause xs s b c h = absurd c
-from-none hold xs s b c h = absurd c
-from-none serve xs s b c h = absurd c
-from-none clear xs s b c h = absurd c
-from-none odd xs s b c h = absurd c
+from-none x xs s b c h = absurd c
 
 pub box-steady : (w : What) → Steady (box_sort w)
 box-steady (what.Text name) = tt
-box-steady what.Blank = tt
-box-steady (what.Float name class place item) = tt
-box-steady (what.Margin name side shift height depth item) = tt
+box-steady w = tt
 
 pub kind-steady : (k : PlainKind) → Calm k → ActFree k → Steady (kind_sort k)
 kind-steady (plain (hbox w h d)) c f = box-steady w
-kind-steady (plain (rule name h d)) c f = tt
-kind-steady (plain (skip g)) c f = tt
-kind-steady (plain (kerned w)) c f = tt
 kind-steady (plain (pen p)) c f = rw c tt
-kind-steady (plain (mark name)) c f = tt
-kind-steady (plain (note name)) c f = tt
-kind-steady (plain whatsit) c f = tt
-kind-steady (ins i) c f = tt
 kind-steady (act a) c f = absurd f
+kind-steady k c f = tt

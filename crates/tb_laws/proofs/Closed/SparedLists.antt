@@ -78,13 +78,9 @@ with_deferred-spares fs w = record { current = refl; here = refl; top = refl; bo
 
 -- so when other floats wait in a list
 pub waiting-spares : (from : Part) → IsWaiting from → (fs : List Float) (w : Work) → Spares w (with_floats (with_floats_of from fs w.state.floats) w)
-waiting-spares parts.Current i fs w = absurd i
-waiting-spares parts.Here i fs w = absurd i
-waiting-spares parts.Top i fs w = absurd i
-waiting-spares parts.Bottom i fs w = absurd i
 waiting-spares parts.Deferred i fs w = record { current = refl; here = refl; top = refl; bottom = refl; boxes = refl; page = refl; columns = refl; put_back = refl; fit = λ h. h; single = λ h. h }
-waiting-spares parts.Double i fs w = absurd i
 waiting-spares parts.Second i fs w = record { current = refl; here = refl; top = refl; bottom = refl; boxes = refl; page = refl; columns = refl; put_back = refl; fit = λ h. h; single = λ h. h }
+waiting-spares from i fs w = absurd i
 
 -- ---- wide pages
 
@@ -112,13 +108,9 @@ ship-double p sheet w = (ap (λ l. l.double) (ship-keeps p sheet w).0, (ship-kee
 
 -- so do other floats that wait
 pub waiting-double : (from : Part) → IsWaiting from → (fs : List Float) (l : FloatLists) → (with_floats_of from fs l).double ≡ l.double
-waiting-double parts.Current i fs l = absurd i
-waiting-double parts.Here i fs l = absurd i
-waiting-double parts.Top i fs l = absurd i
-waiting-double parts.Bottom i fs l = absurd i
 waiting-double parts.Deferred i fs l = refl
-waiting-double parts.Double i fs l = absurd i
 waiting-double parts.Second i fs l = refl
+waiting-double from i fs l = absurd i
 
 wide_by-double : (p : Params) (again : Work → Work) → ((w : Work) → SameDouble w (again w)) → (w : Work) (o : Option (List Choice)) → SameDouble w (Pages.wide_pages_by again p w o)
 unfolding SameDouble
@@ -155,15 +147,11 @@ staying from fs w = with_floats_of from fs w.state.floats
 
 -- a float that goes above two columns
 double-spares : (from : Part) → IsWaiting from → (p : Params) (f : Float) (fs : List Float) (w : Work) → w.state.two_columns ≡ true → (t : Bool) → Spares w (moved p places.Double f (staying from fs w) w t)
-double-spares parts.Current i p f fs w t u = absurd i
-double-spares parts.Here i p f fs w t u = absurd i
-double-spares parts.Top i p f fs w t u = absurd i
-double-spares parts.Bottom i p f fs w t u = absurd i
-double-spares parts.Double i p f fs w t u = absurd i
 double-spares parts.Deferred i p f fs w t true = record { current = refl; here = refl; top = refl; bottom = refl; boxes = refl; page = refl; columns = refl; put_back = refl; fit = λ h. h; single = λ h. yes-no (moved p places.Double f (staying parts.Deferred fs w) w true).state t }
 double-spares parts.Deferred i p f fs w t false = record { current = refl; here = refl; top = refl; bottom = refl; boxes = refl; page = refl; columns = refl; put_back = refl; fit = λ h. h; single = λ h. yes-no (moved p places.Double f (staying parts.Deferred fs w) w false).state t }
 double-spares parts.Second i p f fs w t true = record { current = refl; here = refl; top = refl; bottom = refl; boxes = refl; page = refl; columns = refl; put_back = refl; fit = λ h. h; single = λ h. yes-no (moved p places.Double f (staying parts.Second fs w) w true).state t }
 double-spares parts.Second i p f fs w t false = record { current = refl; here = refl; top = refl; bottom = refl; boxes = refl; page = refl; columns = refl; put_back = refl; fit = λ h. h; single = λ h. yes-no (moved p places.Double f (staying parts.Second fs w) w false).state t }
+double-spares from i p f fs w t u = absurd i
 
 place_double-spares : (from : Part) → IsWaiting from → (p : Params) (before fs : List Float) (w : Work) → w.state.two_columns ≡ true → Spares w (FloatMoves.place_double from p before fs w)
 place_double-spares from i p before [] w t = unchanged w

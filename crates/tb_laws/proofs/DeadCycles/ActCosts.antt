@@ -11,7 +11,7 @@ use Rattle.tb_node.specs.declared.Act.TheVariants as acts
 use Rattle.tb_node.specs.declared.Float.{Float}
 use Rattle.tb_node.specs.declared.What.{What}
 use Rattle.tb_node.specs.declared.What.TheVariants as what
-use Rattle.tb_node.specs.PlainNodes.{hbox, rule, skip, kerned, pen, mark, note, whatsit, PlainKind, plain, ins, act, PlainNode}
+use Rattle.tb_node.specs.PlainNodes.{hbox, rule, pen, PlainKind, plain, act, PlainNode}
 use Rattle.tb_param.specs.declared.Params.{Params}
 use Rattle.tb_float.specs.declared.Entry.{Entry}
 use Rattle.tb_float.specs.declared.Entry.TheVariants as entries
@@ -24,7 +24,7 @@ use Rattle.tb_column.specs.declared.Warn.{Warn}
 use Rattle.tb_column.specs.Column.{PlainColumn}
 use Rattle.tb_output.specs.State.{State, Recorded}
 use Rattle.tb_output.specs.Act.{Acted, went, full, act_on, taken_float}
-use Rattle.tb_laws.proofs.Closed.Sorts.{Sort, light, blank, real, silent, pause, hold, serve, clear, odd, pen_sort, box_sort, kind_sort, sorts}
+use Rattle.tb_laws.proofs.Closed.Sorts.{Sort, light, blank, pause, clear, pen_sort, box_sort, kind_sort, sorts}
 use Rattle.tb_laws.proofs.DeadCycles.AgainLemmas.{Again}
 use Rattle.tb_laws.proofs.DeadCycles.WaitCosts.{sort_cost, kind_cost, wait_cost, act_cost}
 use Rattle.tb_output.proofs.StepLaws.FollowLemmas.{waiting_floats}
@@ -36,13 +36,9 @@ use Rattle.tb_laws.proofs.DeadCycles.CycleBreaks.{none-left}
 
 -- the entries of the current list change
 current-sides : (from : Part) (es : List Entry) (l : FloatLists) → Sides from l → Sides from (record l { current = es })
-current-sides parts.Current es l h = tt
-current-sides parts.Here es l h = tt
-current-sides parts.Top es l h = tt
-current-sides parts.Bottom es l h = tt
-current-sides parts.Double es l h = tt
 current-sides parts.Deferred es l h = h
 current-sides parts.Second es l h = (record { top = h.0.top; bottom = h.0.bottom; deferred = h.0.deferred }, h.1)
+current-sides from es l h = tt
 
 -- ---- an act
 
@@ -221,28 +217,17 @@ again-cost (suc n) (m ∷ ns) a = at m.kind a (λ k h. again-cost k ns h)
     kind-at : (x : Sort) → Again (suc n) (x ∷ sorts ns) → ((k : ℕ) → Again k (sorts ns) → 3 * k ≤ wait_cost ns) → 3 * suc n ≤ sort_cost x + wait_cost ns
     kind-at light a h = let k : 3 * suc n ≤ wait_cost ns = h (suc n) a.1 in omega arith
     kind-at blank a h = let k : 3 * suc n ≤ wait_cost ns = h (suc n) a.1 in omega arith
-    kind-at real a h = absurd a.0
-    kind-at silent a h = absurd a.0
     kind-at pause a h = let k : 3 * suc n ≤ wait_cost ns = h (suc n) a.1 in omega arith
-    kind-at hold a h = absurd a.0
-    kind-at serve a h = absurd a.0
     kind-at clear a h = let k : 3 * n ≤ wait_cost ns = h n a.1 in omega arith
-    kind-at odd a h = absurd a.0
+    kind-at x a h = absurd a.0
 
     box-at : (w : What) → Again (suc n) (box_sort w ∷ sorts ns) → ((k : ℕ) → Again k (sorts ns) → 3 * k ≤ wait_cost ns) → 3 * suc n ≤ 0 + wait_cost ns
-    box-at (what.Text name) a h = absurd a.0
     box-at what.Blank a h = kind-at blank a h
-    box-at (what.Float name class place item) a h = absurd a.0
-    box-at (what.Margin name side shift height depth item) a h = absurd a.0
+    box-at w a h = absurd a.0
 
     at : (k : PlainKind) → Again (suc n) (kind_sort k ∷ sorts ns) → ((k : ℕ) → Again k (sorts ns) → 3 * k ≤ wait_cost ns) → 3 * suc n ≤ kind_cost k + wait_cost ns
     at (plain (hbox w x d)) a h = box-at w a h
     at (plain (rule name x d)) a h = absurd a.0
-    at (plain (skip g)) a h = kind-at light a h
-    at (plain (kerned w)) a h = kind-at light a h
     at (plain (pen p)) a h = kind-at (pen_sort p) a h
-    at (plain (mark name)) a h = kind-at light a h
-    at (plain (note name)) a h = kind-at light a h
-    at (plain whatsit) a h = kind-at light a h
-    at (ins i) a h = kind-at light a h
     at (act x) a h = absurd a.0
+    at k a h = kind-at light a h

@@ -5,7 +5,7 @@ use Rattle.std.specs.List.{AllByRecursion}
 use Rattle.tb_scaled.specs.Scaled.{eject_penalty, inf_penalty}
 use Rattle.tb_node.specs.declared.What.{What}
 use Rattle.tb_node.specs.declared.What.TheVariants as what
-use Rattle.tb_node.specs.PlainNodes.{hbox, rule, skip, kerned, pen, mark, note, whatsit, PlainKind, plain, ins, act, PlainNode, without_acts}
+use Rattle.tb_node.specs.PlainNodes.{hbox, rule, skip, kerned, pen, PlainKind, plain, ins, act, PlainNode, without_acts}
 use Rattle.tb_break.specs.PageTop.{pruned_nodes}
 use Rattle.tb_builder.specs.FiredPages.{with_spent_break, penalty_at}
 use Rattle.tb_builder.proofs.Cutting.CutLemmas.{Calm, AllCalm, acts_of, kind_acts}
@@ -82,12 +82,9 @@ again-node n t ns h l (plain (rule name x d)) b s a = light-again n (real ∷ so
 again-node n t ns h l (plain (skip g)) b s a = h b s.1 (again-light n (sorts ns) a)
 again-node n t ns h l (plain (kerned w)) b s a = h b s.1 (again-light n (sorts ns) a)
 again-node n t ns h l (plain (pen p)) b s a = again-pen n ns (pruned_nodes t ns) p h b s a
-again-node n t ns h l (plain (mark name)) b s a = light-again n (sorts (pruned_nodes t ns)) (h b s.1 (again-light n (sorts ns) a))
-again-node n t ns h l (plain (note name)) b s a = light-again n (sorts (pruned_nodes t ns)) (h b s.1 (again-light n (sorts ns) a))
-again-node n t ns h l (plain whatsit) b s a = light-again n (sorts (pruned_nodes t ns)) (h b s.1 (again-light n (sorts ns) a))
-again-node n t ns h l (ins i) b s a = light-again n (sorts (pruned_nodes t ns)) (h b s.1 (again-light n (sorts ns) a))
 again-node n t ns h l (act x) true s a = absurd s.0
 again-node n t ns h l (act x) false s a = again-act n (sorts ns) (sorts (pruned_nodes t ns)) (h false s.1) a
+again-node n t ns h l k b s a = light-again n (sorts (pruned_nodes t ns)) (h b s.1 (again-light n (sorts ns) a))
 
 -- what vanishes at the top of a page is no clear
 pub again-pruned : (n : ℕ) (t : ℤ) (ns : List PlainNode) (b : Bool) → Stands none b (sorts ns) → Again n (sorts ns) → Again n (sorts (pruned_nodes t ns))
@@ -103,11 +100,7 @@ again-behind (suc n) (light ∷ xs) ys c a = again-behind (suc n) xs ys c.1 a.1
 again-behind (suc n) (blank ∷ xs) ys c a = again-behind (suc n) xs ys c.1 a.1
 again-behind (suc n) (real ∷ xs) ys c a = absurd a.0
 again-behind (suc n) (silent ∷ xs) ys c a = absurd a.0
-again-behind (suc n) (pause ∷ xs) ys c a = absurd c.0
-again-behind (suc n) (hold ∷ xs) ys c a = absurd c.0
-again-behind (suc n) (serve ∷ xs) ys c a = absurd c.0
-again-behind (suc n) (clear ∷ xs) ys c a = absurd c.0
-again-behind (suc n) (odd ∷ xs) ys c a = absurd c.0
+again-behind (suc n) (k ∷ xs) ys c a = absurd c.0
 
 -- while clears of the routine are to come, no act is reached
 pub no-acts : (n : ℕ) (ns : List PlainNode) (ys : List Sort) → AllCalm ns → Again (suc n) (sorts ns ++ ys) → acts_of ns ≡ []
@@ -118,22 +111,15 @@ no-acts n (m ∷ ns) ys c a = at_kind m.kind c.0 a (λ b. no-acts n ns ys c.1 b)
     at_pen q e a = let h : Again (suc n) (light ∷ sorts ns ++ ys) = rw e at a in h.1
 
     at_box : (w : What) → Again (suc n) (box_sort w ∷ sorts ns ++ ys) → Again (suc n) (sorts ns ++ ys)
-    at_box (what.Text name) a = absurd a.0
     at_box what.Blank a = a.1
-    at_box (what.Float name class place item) a = absurd a.0
-    at_box (what.Margin name side shift height depth item) a = absurd a.0
+    at_box w a = absurd a.0
 
     at_kind : (k : PlainKind) → Calm k → Again (suc n) (kind_sort k ∷ sorts ns ++ ys) → (Again (suc n) (sorts ns ++ ys) → acts_of ns ≡ []) → kind_acts k ++ acts_of ns ≡ []
     at_kind (plain (hbox w x d)) c a h = h (at_box w a)
     at_kind (plain (rule name x d)) c a h = absurd a.0
-    at_kind (plain (skip g)) c a h = h a.1
-    at_kind (plain (kerned w)) c a h = h a.1
     at_kind (plain (pen q)) c a h = h (at_pen q c a)
-    at_kind (plain (mark name)) c a h = h a.1
-    at_kind (plain (note name)) c a h = h a.1
-    at_kind (plain whatsit) c a h = h a.1
-    at_kind (ins i) c a h = h a.1
     at_kind (act x) c a h = absurd a.0
+    at_kind k c a h = h a.1
 
 -- ---- the break
 
@@ -169,16 +155,8 @@ spent-again n l ns p = pen-sorts (λ x. Again n (x ∷ sorts ns) → BreakAgain 
     at_clear (suc n) a = light-again n (sorts ns) a.1
 
 node-again : (n : ℕ) (l : ℕ) (k : PlainKind) (ns : List PlainNode) → Again n (kind_sort k ∷ sorts ns) → BreakAgain n (with_spent_break (record { line = l; kind = k } ∷ ns)) (pen_sort (penalty_at (record { line = l; kind = k } ∷ ns)))
-node-again n l (plain (hbox w x d)) ns a = a
-node-again n l (plain (rule name x d)) ns a = a
-node-again n l (plain (skip g)) ns a = a
-node-again n l (plain (kerned w)) ns a = a
 node-again n l (plain (pen p)) ns a = spent-again n l ns p a
-node-again n l (plain (mark name)) ns a = a
-node-again n l (plain (note name)) ns a = a
-node-again n l (plain whatsit) ns a = a
-node-again n l (ins i) ns a = a
-node-again n l (act x) ns a = a
+node-again n l k ns a = a
 
 pub break-again : (n : ℕ) (ns : List PlainNode) → Again n (sorts ns) → BreakAgain n (with_spent_break ns) (pen_sort (penalty_at ns))
 break-again n [] a = a
@@ -203,13 +181,8 @@ again-idle zero xs ys i a = tt
 again-idle (suc n) [] ys i a = a
 again-idle (suc n) (light ∷ xs) ys i a = (tt, again-idle (suc n) xs ys i.1 a)
 again-idle (suc n) (blank ∷ xs) ys i a = (tt, again-idle (suc n) xs ys i.1 a)
-again-idle (suc n) (real ∷ xs) ys i a = absurd i.0
-again-idle (suc n) (silent ∷ xs) ys i a = absurd i.0
 again-idle (suc n) (pause ∷ xs) ys i a = (tt, again-idle (suc n) xs ys i.1 a)
-again-idle (suc n) (hold ∷ xs) ys i a = absurd i.0
-again-idle (suc n) (serve ∷ xs) ys i a = absurd i.0
-again-idle (suc n) (clear ∷ xs) ys i a = absurd i.0
-again-idle (suc n) (odd ∷ xs) ys i a = absurd i.0
+again-idle (suc n) (k ∷ xs) ys i a = absurd i.0
 
 -- a clear that is put back is one more
 pub again-clear : (n : ℕ) (ys : List Sort) → Again n ys → Again (suc n) (sorts Clear.clear_again ++ ys)

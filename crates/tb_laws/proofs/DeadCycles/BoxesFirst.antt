@@ -1,7 +1,7 @@
 -- A box of the galley comes before the next forced break: so it is on the page that breaks there.
 use Rattle.std.proofs.Common.{◌≡◌, ℕ, ℤ, List, [], ◌∷◌, ◌++◌}
 use Rattle.std.specs.List.{AllByRecursion}
-use Rattle.tb_node.specs.PlainNodes.{hbox, rule, skip, kerned, pen, mark, note, whatsit, PlainKind, plain, ins, act, PlainNode, without_acts, without_insertions}
+use Rattle.tb_node.specs.PlainNodes.{hbox, rule, pen, PlainKind, plain, ins, act, PlainNode, without_acts, without_insertions}
 use Rattle.tb_break.specs.PageTop.{pruned_nodes}
 use Rattle.tb_builder.specs.FiredPages.{penalty_at}
 use Rattle.tb_builder.proofs.Cutting.CutLemmas.{ActFree, AllFree}
@@ -42,48 +42,24 @@ steady-first [] ys s h = absurd h
 steady-first (light ∷ xs) ys s h = steady-first xs ys s.1 h
 steady-first (blank ∷ xs) ys s h = steady-first xs ys s.1 h
 steady-first (real ∷ xs) ys s h = tt
-steady-first (silent ∷ xs) ys s h = absurd s.0
-steady-first (pause ∷ xs) ys s h = absurd s.0
-steady-first (hold ∷ xs) ys s h = absurd s.0
-steady-first (serve ∷ xs) ys s h = absurd s.0
-steady-first (clear ∷ xs) ys s h = absurd s.0
-steady-first (odd ∷ xs) ys s h = absurd s.0
+steady-first (k ∷ xs) ys s h = absurd s.0
 
 pub steady-then : (xs ys : List Sort) → AllByRecursion Steady xs → RealFirst ys → RealFirst (xs ++ ys)
 steady-then [] ys s h = h
 steady-then (light ∷ xs) ys s h = steady-then xs ys s.1 h
 steady-then (blank ∷ xs) ys s h = steady-then xs ys s.1 h
 steady-then (real ∷ xs) ys s h = tt
-steady-then (silent ∷ xs) ys s h = absurd s.0
-steady-then (pause ∷ xs) ys s h = absurd s.0
-steady-then (hold ∷ xs) ys s h = absurd s.0
-steady-then (serve ∷ xs) ys s h = absurd s.0
-steady-then (clear ∷ xs) ys s h = absurd s.0
-steady-then (odd ∷ xs) ys s h = absurd s.0
+steady-then (k ∷ xs) ys s h = absurd s.0
 
 pub real-left : (xs ys : List Sort) → HasReal xs → HasReal (xs ++ ys)
 real-left [] ys h = absurd h
-real-left (light ∷ xs) ys h = real-left xs ys h
-real-left (blank ∷ xs) ys h = real-left xs ys h
 real-left (real ∷ xs) ys h = tt
-real-left (silent ∷ xs) ys h = real-left xs ys h
-real-left (pause ∷ xs) ys h = real-left xs ys h
-real-left (hold ∷ xs) ys h = real-left xs ys h
-real-left (serve ∷ xs) ys h = real-left xs ys h
-real-left (clear ∷ xs) ys h = real-left xs ys h
-real-left (odd ∷ xs) ys h = real-left xs ys h
+real-left (k ∷ xs) ys h = real-left xs ys h
 
 pub real-right : (xs ys : List Sort) → HasReal ys → HasReal (xs ++ ys)
 real-right [] ys h = h
-real-right (light ∷ xs) ys h = real-right xs ys h
-real-right (blank ∷ xs) ys h = real-right xs ys h
 real-right (real ∷ xs) ys h = tt
-real-right (silent ∷ xs) ys h = real-right xs ys h
-real-right (pause ∷ xs) ys h = real-right xs ys h
-real-right (hold ∷ xs) ys h = real-right xs ys h
-real-right (serve ∷ xs) ys h = real-right xs ys h
-real-right (clear ∷ xs) ys h = real-right xs ys h
-real-right (odd ∷ xs) ys h = real-right xs ys h
+real-right (k ∷ xs) ys h = real-right xs ys h
 
 -- ---- a page
 
@@ -95,23 +71,13 @@ light-first light xs ys f h = f h
 light-first blank xs ys f h = f h
 light-first real xs ys f h = tt
 light-first silent xs ys f h = f h
-light-first pause xs ys f h = absurd h
-light-first hold xs ys f h = absurd h
-light-first serve xs ys f h = absurd h
-light-first clear xs ys f h = absurd h
-light-first odd xs ys f h = absurd h
+light-first s xs ys f h = absurd h
 
 node-first : (t : ℤ) (ns : List PlainNode) → (RealFirst (sorts ns) → RealFirst (sorts (pruned_nodes t ns))) → (l : ℕ) (k : PlainKind) → RealFirst (kind_sort k ∷ sorts ns) → RealFirst (sorts (pruned_nodes t (record { line = l; kind = k } ∷ ns)))
 node-first t ns f l (plain (hbox w a d)) h = h
 node-first t ns f l (plain (rule w a d)) h = h
-node-first t ns f l (plain (skip g)) h = f h
-node-first t ns f l (plain (kerned g)) h = f h
 node-first t ns f l (plain (pen p)) h = f (pen-first (sorts ns) p h)
-node-first t ns f l (plain (mark name)) h = f h
-node-first t ns f l (plain (note name)) h = f h
-node-first t ns f l (plain whatsit) h = f h
-node-first t ns f l (ins i) h = f h
-node-first t ns f l (act a) h = f h
+node-first t ns f l k h = f h
 
 pub pruned-first : (t : ℤ) (ns : List PlainNode) → RealFirst (sorts ns) → RealFirst (sorts (pruned_nodes t ns))
 pruned-first t [] h = h
@@ -144,26 +110,14 @@ before-forced (light ∷ xs) ys n h = before-forced xs ys n h
 before-forced (blank ∷ xs) ys n h = before-forced xs ys n h
 before-forced (real ∷ xs) ys n h = tt
 before-forced (silent ∷ xs) ys n h = before-forced xs ys n h
-before-forced (pause ∷ xs) ys n h = absurd h
-before-forced (hold ∷ xs) ys n h = absurd h
-before-forced (serve ∷ xs) ys n h = absurd h
-before-forced (clear ∷ xs) ys n h = absurd h
-before-forced (odd ∷ xs) ys n h = absurd h
+before-forced (k ∷ xs) ys n h = absurd h
 
 pen-real : (xs ys : List Sort) (p : ℤ) → RealFirst (xs ++ pen_sort p ∷ ys) → BreakReal xs (pen_sort p)
 pen-real xs ys p = pen-sorts (λ x. RealFirst (xs ++ x ∷ ys) → BreakReal xs x) (λ h. tt) (before-forced xs (pause ∷ ys) (λ k. k)) (before-forced xs (hold ∷ ys) (λ k. k)) (before-forced xs (serve ∷ ys) (λ k. k)) (before-forced xs (clear ∷ ys) (λ k. k)) (before-forced xs (odd ∷ ys) (λ k. k)) p
 
 node-real : (xs : List Sort) (ns : List PlainNode) (l : ℕ) (k : PlainKind) → RealFirst (xs ++ kind_sort k ∷ sorts ns) → BreakReal xs (pen_sort (penalty_at (record { line = l; kind = k } ∷ ns)))
-node-real xs ns l (plain (hbox w a b)) h = tt
-node-real xs ns l (plain (rule w a b)) h = tt
-node-real xs ns l (plain (skip g)) h = tt
-node-real xs ns l (plain (kerned g)) h = tt
 node-real xs ns l (plain (pen p)) h = pen-real xs (sorts ns) p h
-node-real xs ns l (plain (mark name)) h = tt
-node-real xs ns l (plain (note name)) h = tt
-node-real xs ns l (plain whatsit) h = tt
-node-real xs ns l (ins i) h = tt
-node-real xs ns l (act a) h = tt
+node-real xs ns l k h = tt
 
 pub break-real : (xs : List Sort) (ns : List PlainNode) → RealFirst (xs ++ sorts ns) → BreakReal xs (pen_sort (penalty_at ns))
 break-real xs [] h = tt
@@ -172,15 +126,8 @@ break-real xs (n ∷ ns) h = node-real xs ns n.line n.kind h
 -- ---- the page's list
 
 real-more : (s : Sort) (xs ys : List Sort) → (HasReal xs → HasReal ys) → HasReal (s ∷ xs) → HasReal (s ∷ ys)
-real-more light xs ys f h = f h
-real-more blank xs ys f h = f h
 real-more real xs ys f h = tt
-real-more silent xs ys f h = f h
-real-more pause xs ys f h = f h
-real-more hold xs ys f h = f h
-real-more serve xs ys f h = f h
-real-more clear xs ys f h = f h
-real-more odd xs ys f h = f h
+real-more s xs ys f h = f h
 
 body-more : (l : ℕ) (k : PlainKind) (ns : List PlainNode) → (HasReal (sorts ns) → HasReal (sorts (without_insertions ns))) → HasReal (kind_sort k ∷ sorts ns) → HasReal (sorts (without_insertions (record { line = l; kind = k } ∷ ns)))
 body-more l (plain m) ns f h = real-more (kind_sort (plain m)) (sorts ns) (sorts (without_insertions ns)) f h
@@ -202,22 +149,14 @@ one-unreal (blank ∷ xs) one c e h = never-one xs c.1 e
 one-unreal (blank ∷ xs) many c e h = never-one xs c.1 e
 one-unreal (real ∷ xs) s c e h = never-one xs c.1 e
 one-unreal (silent ∷ xs) s c e h = one-unreal xs s c.1 e h
-one-unreal (pause ∷ xs) s c e h = absurd c.0
-one-unreal (hold ∷ xs) s c e h = absurd c.0
-one-unreal (serve ∷ xs) s c e h = absurd c.0
-one-unreal (clear ∷ xs) s c e h = absurd c.0
-one-unreal (odd ∷ xs) s c e h = absurd c.0
+one-unreal (k ∷ xs) s c e h = absurd c.0
 
 sort-unreal : (s : Sort) (xs : List Sort) → CalmSort s → (HasReal (s ∷ xs) → ⊥) → Quiet (sort_token s) × (HasReal xs → ⊥)
 sort-unreal light xs c n = (tt, n)
 sort-unreal blank xs c n = (tt, n)
 sort-unreal real xs c n = absurd (n tt)
 sort-unreal silent xs c n = (tt, n)
-sort-unreal pause xs c n = absurd c
-sort-unreal hold xs c n = absurd c
-sort-unreal serve xs c n = absurd c
-sort-unreal clear xs c n = absurd c
-sort-unreal odd xs c n = absurd c
+sort-unreal s xs c n = absurd c
 
 quiet-more : (l : ℕ) (k : PlainKind) (ns : List PlainNode) → CalmSort (kind_sort k) → ActFree k → ((HasReal (sorts ns) → ⊥) → AllByRecursion Quiet (tokens (without_insertions ns))) → (HasReal (kind_sort k ∷ sorts ns) → ⊥) → AllByRecursion Quiet (tokens (without_insertions (record { line = l; kind = k } ∷ ns)))
 quiet-more l (plain m) ns c f h n = let x = sort-unreal (kind_sort (plain m)) (sorts ns) c n in (x.0, h x.1)

@@ -154,13 +154,9 @@ no-floats p l a b h i j none narrow e k = by_release (has_second p) refl k
 
 -- the double floats are in no list of those that wait
 undoubled : (from : Part) → IsWaiting from → (l : FloatLists) → floats_of from (record l { double = [] }) ≡ floats_of from l
-undoubled parts.Current q l = absurd q
-undoubled parts.Here q l = absurd q
-undoubled parts.Top q l = absurd q
-undoubled parts.Bottom q l = absurd q
 undoubled parts.Deferred q l = refl
-undoubled parts.Double q l = absurd q
 undoubled parts.Second q l = refl
+undoubled from q l = absurd q
 
 -- ---- steps that put something back
 

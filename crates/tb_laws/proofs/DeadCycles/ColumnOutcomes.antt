@@ -121,12 +121,8 @@ area-single Area.at_bottom = tt
 area-single Area.deferred = tt
 
 pub joined-single : (place : Where) (f : Float) (l : FloatLists) → NotDouble place → (FloatMoves.joined_to place f l).double ≡ l.double
-joined-single places.Here f l h = refl
-joined-single places.Top f l h = refl
-joined-single places.Bottom f l h = refl
-joined-single places.Page f l h = refl
 joined-single places.Double f l h = absurd h
-joined-single places.Deferred f l h = refl
+joined-single place f l h = refl
 
 deferred-single : (p : Params) (place : Where) (f : Float) (before rest : List Float) (w : Work) → NotDouble place → (FloatMoves.place_waiting parts.Deferred p place f before rest w).state.floats.double ≡ w.state.floats.double
 deferred-single p place f before rest w h = by_place (FloatMoves.is_placed place)

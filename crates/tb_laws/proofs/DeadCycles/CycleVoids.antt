@@ -327,8 +327,7 @@ module _ (p : Params) (m : ℕ) (s : State) (total a : ℕ) (kind : Kind) (phase
 
     left-most : (l : Left) → credit (kind_left l) + bit c.rest ≤ 2
     left-most (above h) = let k : bit c.rest ≤ 1 = bit-most c.rest in omega arith
-    left-most (nothing e r) = let k : bit c.rest ≤ 1 = bit-most c.rest in omega arith
-    left-most (deferred e r) = let k : bit c.rest ≤ 1 = bit-most c.rest in omega arith
+    left-most l = let k : bit c.rest ≤ 1 = bit-most c.rest in omega arith
 
     not-above : {X : Type 0} → 1 ≤ length v.state.floats.double → s.floats.double ≡ [] → X
     not-above h e = let k : length v.state.floats.double ≡ 0 = ap length (double ∙ e) in absurd (no (length v.state.floats.double) h k)

@@ -46,16 +46,8 @@ Ended b [] = Unit {0}
 Ended b (n ∷ ns) = EndsAt b n.kind × Ended (is_flat n.kind) ns
 
 pub ends-looser : (b : Bool) (k : PlainKind) → EndsAt false k → EndsAt b k
-ends-looser b (plain (hbox w h d)) e = tt
-ends-looser b (plain (rule name h d)) e = tt
-ends-looser b (plain (skip g)) e = tt
-ends-looser b (plain (kerned w)) e = tt
 ends-looser b (plain (pen p)) e = λ h. let no : false ≡ true = e h in cc
-ends-looser b (plain (mark name)) e = tt
-ends-looser b (plain (note name)) e = tt
-ends-looser b (plain whatsit) e = tt
-ends-looser b (ins i) e = tt
-ends-looser b (act a) e = tt
+ends-looser b k e = tt
 
 pub looser : (b : Bool) (ns : List PlainNode) → Ended false ns → Ended b ns
 looser b [] e = tt
@@ -73,11 +65,7 @@ tight-kind t ns h l (plain (rule name x d)) e g = (tt, (tt, g))
 tight-kind t ns h l (plain (skip y)) e g = h false refl g
 tight-kind t ns h l (plain (kerned w)) e g = h false refl g
 tight-kind t ns h l (plain (pen p)) e g = h false refl g
-tight-kind t ns h l (plain (mark name)) e g = (tt, h false refl g)
-tight-kind t ns h l (plain (note name)) e g = (tt, h false refl g)
-tight-kind t ns h l (plain whatsit) e g = (tt, h false refl g)
-tight-kind t ns h l (ins i) e g = (tt, h false refl g)
-tight-kind t ns h l (act a) e g = (tt, h false refl g)
+tight-kind t ns h l k e g = (tt, h false refl g)
 
 pub ended-pruned : (t : ℤ) (ns : List PlainNode) → Ended false ns → Ended false (pruned_nodes t ns)
 ended-pruned t [] e = tt
@@ -106,16 +94,8 @@ ended-behind b (x ∷ xs) ys e = ended-behind (is_flat x.kind) xs ys e.1
 -- ---- the break node is no clear any more
 
 spent-kind : (l : ℕ) (k : PlainKind) (b : Bool) (ns : List PlainNode) → Ended (is_flat k) ns → Ended false (with_spent_break (record { line = l; kind = k } ∷ ns))
-spent-kind l (plain (hbox w h d)) b ns e = (tt, e)
-spent-kind l (plain (rule name h d)) b ns e = (tt, e)
-spent-kind l (plain (skip g)) b ns e = (tt, e)
-spent-kind l (plain (kerned w)) b ns e = (tt, e)
 spent-kind l (plain (pen p)) b ns e = (λ h. cc, e)
-spent-kind l (plain (mark name)) b ns e = (tt, e)
-spent-kind l (plain (note name)) b ns e = (tt, e)
-spent-kind l (plain whatsit) b ns e = (tt, e)
-spent-kind l (ins i) b ns e = (tt, e)
-spent-kind l (act a) b ns e = (tt, e)
+spent-kind l k b ns e = (tt, e)
 
 pub ended-spent : (b : Bool) (ns : List PlainNode) → Ended b ns → Ended false (with_spent_break ns)
 ended-spent b [] e = tt
@@ -133,16 +113,8 @@ pen-no-clear p h k = by_tests (int_le p eject_penalty) (is_int p eject_penalty) 
     by_tests false e c x z u v w h = let no : ⊥ = grind (arith, u) in absurd no
 
 pub free-kind : (k : PlainKind) → kind_cost k ≡ 0 → EndsAt false k
-free-kind (plain (hbox w h d)) e = tt
-free-kind (plain (rule name h d)) e = tt
-free-kind (plain (skip g)) e = tt
-free-kind (plain (kerned w)) e = tt
 free-kind (plain (pen p)) e = λ k. pen-no-clear p e k
-free-kind (plain (mark name)) e = tt
-free-kind (plain (note name)) e = tt
-free-kind (plain whatsit) e = tt
-free-kind (ins i) e = tt
-free-kind (act a) e = tt
+free-kind k e = tt
 
 pub free-ended : (b : Bool) (ns : List PlainNode) → wait_cost ns ≡ 0 → Ended b ns
 free-ended b [] e = tt

@@ -53,13 +53,11 @@ abbrev IsFirst : State → Type 0
 IsFirst s = (s.two_columns ≡ false) ⊎ (s.first_column ≡ true)
 
 first-cost : (p : Params) (s : State) (n : ℕ) (x : Stage) → StageHolds p s n x → IsFirst s → 2 ≤ stage_cost x
-first-cost p s n loose h i = omega arith
-first-cost p s n guarded h i = omega arith
-first-cost p s n cleared h i = omega arith
 first-cost p s n right h (inl t) = true-false s.two_columns h.columns t
 first-cost p s n right h (inr t) = true-false s.first_column t h.first
 first-cost p s n last h (inl t) = true-false s.two_columns h.0.columns t
 first-cost p s n last h (inr t) = true-false s.first_column t h.0.first
+first-cost p s n x h i = omega arith
 
 module _ (p : Params) (m : ℕ) (s : State) (total a : ℕ) (stage : Stage) (f : Fired) (calm : int_le p.interlinepenalty eject_penalty ≡ false)
     (holds : StageHolds p s a stage) (floats : FloatsFit p s)
@@ -91,10 +89,7 @@ module _ (p : Params) (m : ℕ) (s : State) (total a : ℕ) (stage : Stage) (f :
     where
       most : (x : Stage) → phase_cost (phase_of x) ≤ 2
       most loose = omega arith
-      most guarded = omega arith
-      most cleared = omega arith
-      most right = omega arith
-      most last = omega arith
+      most x = omega arith
 
       sums : (d t y h : ℕ) → h ≤ 2 → d + t + 2 * y + 2 + h ≤ d + t + 2 * y + 4 + 2 + 2 * a
       sums d t y h i = omega arith
@@ -376,11 +371,8 @@ module _ (p : Params) (m : ℕ) (s : State) (total a : ℕ) (stage : Stage) (f :
         stage-paid = by_stage stage refl
           where
             by_stage : (t : Stage) → t ≡ stage → 1 ≤ stage_cost t
-            by_stage loose g = omega arith
-            by_stage guarded g = omega arith
-            by_stage cleared g = omega arith
-            by_stage right g = omega arith
             by_stage last g = true-false (int_le eject_penalty f.penalty) (well.ending (ap phase_of (sym g))) special
+            by_stage t g = omega arith
 
         blanked : v.refused ≡ false → BoundedHigh p m v-done
         blanked r = by_cycles (cycles r)

@@ -51,11 +51,9 @@ phase_of right = second
 phase_of last = ending
 
 pub phase-holds : (p : Params) (s : State) (n : ℕ) (x : Stage) → StageHolds p s n x → PhaseHolds s (phase_of x)
-phase-holds p s n loose h = tt
-phase-holds p s n guarded h = tt
-phase-holds p s n cleared h = tt
 phase-holds p s n right h = h
 phase-holds p s n last h = h
+phase-holds p s n x h = tt
 
 -- the potential: what waits and the floats, less all that clears of the routine cost, are bounded; and so are these with the dead cycles and the stage
 pub record BoundedHigh (p : Params) (m : ℕ) (s : State) : Type 0 where

@@ -109,11 +109,7 @@ module _ (P : Float → Type 0) (topped : (f : Float) → P f → P (Text.with_t
 
   joined-second : (place : Where) (f : Float) (l : FloatLists) → (FloatMoves.joined_to place f l).second ≡ l.second
   joined-second places.Here f l = refl
-  joined-second places.Top f l = refl
-  joined-second places.Bottom f l = refl
-  joined-second places.Page f l = refl
-  joined-second places.Double f l = refl
-  joined-second places.Deferred f l = refl
+  joined-second place f l = refl
 
   joined-narrow : (place : Where) (f : Float) (l : FloatLists) → P f → NarrowWait P l → NarrowWait P (FloatMoves.joined_to place f l)
   joined-narrow places.Here f l k h = record { top = h.top; bottom = h.bottom; deferred = h.deferred }
@@ -247,8 +243,7 @@ module _ (P : Float → Type 0) (topped : (f : Float) → P f → P (Text.with_t
 
   rest-count : (e : Entry) (es : List Entry) → current_floats es ≤ current_floats (e ∷ es)
   rest-count (entries.Float f) es = omega arith
-  rest-count (entries.Left m) es = omega arith
-  rest-count (entries.Right m) es = omega arith
+  rest-count e es = omega arith
 
   rest-all : (e : Entry) (es : List Entry) → AllCurrent P (e ∷ es) → AllCurrent P es
   rest-all (entries.Float f) es h = h.1

@@ -33,32 +33,19 @@ abbrev Under : Bool → Bool → Type 0
 Under b c = b ≡ true → c ≡ true
 
 ends-under : (b c : Bool) (k : PlainKind) → Under b c → EndsAt b k → EndsAt c k
-ends-under b c (plain (hbox w h d)) u e = tt
-ends-under b c (plain (rule name h d)) u e = tt
-ends-under b c (plain (skip g)) u e = tt
-ends-under b c (plain (kerned w)) u e = tt
 ends-under b c (plain (pen p)) u e = λ h. u (e h)
-ends-under b c (plain (mark name)) u e = tt
-ends-under b c (plain (note name)) u e = tt
-ends-under b c (plain whatsit) u e = tt
-ends-under b c (ins i) u e = tt
-ends-under b c (act a) u e = tt
+ends-under b c k u e = tt
 
 pen-under : (t b c : Bool) → Under b c → Under (if t then false else b) (if t then false else c)
 pen-under true b c u h = h
 pen-under false b c u h = u h
 
 seen-under : (b c : Bool) (k : PlainKind) → Under b c → Under (seen_lasting b k) (seen_lasting c k)
-seen-under b c (plain (hbox w h d)) u = u
-seen-under b c (plain (rule name h d)) u = u
-seen-under b c (plain (skip g)) u = u
-seen-under b c (plain (kerned w)) u = u
 seen-under b c (plain (pen p)) u = pen-under (is_int p clear_penalty) b c u
 seen-under b c (plain (mark name)) u = λ h. refl
 seen-under b c (plain (note name)) u = λ h. refl
 seen-under b c (plain whatsit) u = λ h. refl
-seen-under b c (ins i) u = u
-seen-under b c (act a) u = u
+seen-under b c k u = u
 
 spaced-under : (b c : Bool) (ns : List PlainNode) → Under b c → Spaced b ns → Spaced c ns
 spaced-under b c [] u s = tt
@@ -89,11 +76,9 @@ pruned-kind t ns h b l (plain (rule name x d)) e g = (tt, (tt, g))
 pruned-kind t ns h b l (plain (skip y)) e g = h b g
 pruned-kind t ns h b l (plain (kerned w)) e g = h b g
 pruned-kind t ns h b l (plain (pen p)) e g = spaced-under (if is_int p clear_penalty then false else b) b (pruned_nodes t ns) (pen-less (is_int p clear_penalty) b) (h (if is_int p clear_penalty then false else b) g)
-pruned-kind t ns h b l (plain (mark name)) e g = (tt, h true g)
-pruned-kind t ns h b l (plain (note name)) e g = (tt, h true g)
-pruned-kind t ns h b l (plain whatsit) e g = (tt, h true g)
 pruned-kind t ns h b l (ins i) e g = (tt, h b g)
 pruned-kind t ns h b l (act a) e g = (tt, h b g)
+pruned-kind t ns h b l k e g = (tt, h true g)
 
 pub spaced-pruned : (t : ℤ) (b : Bool) (ns : List PlainNode) → Spaced b ns → Spaced b (pruned_nodes t ns)
 spaced-pruned t b [] s = tt
@@ -107,16 +92,11 @@ spaced-behind b (x ∷ xs) ys s = spaced-behind (seen_lasting b x.kind) xs ys s.
 
 -- the break node is no clear any more; after a clear the flag is down
 spent-kind : (l : ℕ) (k : PlainKind) (b : Bool) (ns : List PlainNode) → Spaced (seen_lasting b k) ns → Spaced true (with_spent_break (record { line = l; kind = k } ∷ ns))
-spent-kind l (plain (hbox w h d)) b ns e = (tt, spaced-true b ns e)
-spent-kind l (plain (rule name h d)) b ns e = (tt, spaced-true b ns e)
-spent-kind l (plain (skip g)) b ns e = (tt, spaced-true b ns e)
-spent-kind l (plain (kerned w)) b ns e = (tt, spaced-true b ns e)
 spent-kind l (plain (pen p)) b ns e = (λ h. cc, spaced-true (if is_int p clear_penalty then false else b) ns e)
 spent-kind l (plain (mark name)) b ns e = (tt, e)
 spent-kind l (plain (note name)) b ns e = (tt, e)
 spent-kind l (plain whatsit) b ns e = (tt, e)
-spent-kind l (ins i) b ns e = (tt, spaced-true b ns e)
-spent-kind l (act a) b ns e = (tt, spaced-true b ns e)
+spent-kind l k b ns e = (tt, spaced-true b ns e)
 
 pub spaced-spent : (b : Bool) (ns : List PlainNode) → Spaced b ns → Spaced true (with_spent_break ns)
 spaced-spent b [] s = tt
@@ -127,16 +107,8 @@ clear-pen true b l ns e s = s
 clear-pen false b l ns e s = let no : ⊥ = grind (arith, e) in absurd no
 
 clear-kind : (l : ℕ) (k : PlainKind) (b : Bool) (ns : List PlainNode) → is_int (penalty_at (record { line = l; kind = k } ∷ ns)) clear_penalty ≡ true → Spaced (seen_lasting b k) ns → Spaced false (with_spent_break (record { line = l; kind = k } ∷ ns))
-clear-kind l (plain (hbox w h d)) b ns c e = let no : false ≡ true = c in cc
-clear-kind l (plain (rule name h d)) b ns c e = let no : false ≡ true = c in cc
-clear-kind l (plain (skip g)) b ns c e = let no : false ≡ true = c in cc
-clear-kind l (plain (kerned w)) b ns c e = let no : false ≡ true = c in cc
 clear-kind l (plain (pen p)) b ns c e = (λ h. cc, clear-pen (is_int p clear_penalty) b l ns c e)
-clear-kind l (plain (mark name)) b ns c e = let no : false ≡ true = c in cc
-clear-kind l (plain (note name)) b ns c e = let no : false ≡ true = c in cc
-clear-kind l (plain whatsit) b ns c e = let no : false ≡ true = c in cc
-clear-kind l (ins i) b ns c e = let no : false ≡ true = c in cc
-clear-kind l (act a) b ns c e = let no : false ≡ true = c in cc
+clear-kind l k b ns c e = let no : false ≡ true = c in cc
 
 pub spaced-clear : (b : Bool) (ns : List PlainNode) → is_int (penalty_at ns) clear_penalty ≡ true → Spaced b ns → Spaced false (with_spent_break ns)
 spaced-clear b [] c s = tt
@@ -147,8 +119,6 @@ spaced-clear b (n ∷ ns) c s = clear-kind n.line n.kind b ns c s.1
 free-seen : (b : Bool) (k : PlainKind) → kind_cost k ≡ 0 → Under b (seen_lasting b k)
 free-seen b (plain (hbox w h d)) e = λ h. h
 free-seen b (plain (rule name h d)) e = λ h. h
-free-seen b (plain (skip g)) e = λ h. h
-free-seen b (plain (kerned w)) e = λ h. h
 free-seen b (plain (pen p)) e = by_clear (is_int p clear_penalty) (free-kind (plain (pen p)) e)
   where
     by_clear : (t : Bool) → (t ≡ true → false ≡ true) → Under b (if t then false else b)
@@ -157,8 +127,7 @@ free-seen b (plain (pen p)) e = by_clear (is_int p clear_penalty) (free-kind (pl
 free-seen b (plain (mark name)) e = λ h. refl
 free-seen b (plain (note name)) e = λ h. refl
 free-seen b (plain whatsit) e = λ h. refl
-free-seen b (ins i) e = λ h. h
-free-seen b (act a) e = λ h. h
+free-seen b k e = λ h. h
 
 pub free-spaced : (b : Bool) (xs ys : List PlainNode) → wait_cost xs ≡ 0 → Spaced b ys → Spaced b (xs ++ ys)
 free-spaced b [] ys e s = s

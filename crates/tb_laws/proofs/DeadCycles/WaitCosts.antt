@@ -57,16 +57,9 @@ pen-free : (p : ℤ) → Steady (pen_sort p) → sort_cost (pen_sort p) ≡ 0
 pen-free p = pen-sorts (λ x. Steady x → sort_cost x ≡ 0) (λ s. refl) (λ s. refl) (λ s. absurd s) (λ s. absurd s) (λ s. absurd s) (λ s. refl) p
 
 kind-free : (k : PlainKind) → Steady (kind_sort k) → kind_cost k ≡ 0
-kind-free (plain (hbox w h d)) s = refl
-kind-free (plain (rule name h d)) s = refl
-kind-free (plain (skip g)) s = refl
-kind-free (plain (kerned w)) s = refl
 kind-free (plain (pen p)) s = pen-free p s
-kind-free (plain (mark name)) s = refl
-kind-free (plain (note name)) s = refl
-kind-free (plain whatsit) s = refl
-kind-free (ins i) s = refl
 kind-free (act a) s = absurd s
+kind-free k s = refl
 
 pub steady-free : (ns : List PlainNode) → AllByRecursion Steady (sorts ns) → wait_cost ns ≡ 0
 steady-free [] s = refl
@@ -109,15 +102,7 @@ ins-free (n ∷ ns) i =
 
 prune-kind : (t : ℤ) (ns : List PlainNode) → wait_cost (pruned_nodes t ns) ≤ wait_cost ns → (l : ℕ) (k : PlainKind) → wait_cost (pruned_nodes t (record { line = l; kind = k } ∷ ns)) ≤ kind_cost k + wait_cost ns
 prune-kind t ns h l (plain (hbox w a d)) = omega arith
-prune-kind t ns h l (plain (rule name a d)) = omega arith
-prune-kind t ns h l (plain (skip g)) = omega arith
-prune-kind t ns h l (plain (kerned w)) = omega arith
-prune-kind t ns h l (plain (pen p)) = omega arith
-prune-kind t ns h l (plain (mark name)) = omega arith
-prune-kind t ns h l (plain (note name)) = omega arith
-prune-kind t ns h l (plain whatsit) = omega arith
-prune-kind t ns h l (ins i) = omega arith
-prune-kind t ns h l (act a) = omega arith
+prune-kind t ns h l k = omega arith
 
 pub prune-cost : (t : ℤ) (ns : List PlainNode) → wait_cost (pruned_nodes t ns) ≤ wait_cost ns
 prune-cost t [] = omega arith
@@ -125,8 +110,7 @@ prune-cost t (n ∷ ns) = prune-kind t ns (prune-cost t ns) n.line n.kind
 
 acts-kind : (ns : List PlainNode) → wait_cost (without_acts ns) + acts_cost (acts_of ns) ≡ wait_cost ns → (l : ℕ) (k : PlainKind) → wait_cost (without_acts (record { line = l; kind = k } ∷ ns)) + acts_cost (acts_of (record { line = l; kind = k } ∷ ns)) ≡ kind_cost k + wait_cost ns
 acts-kind ns h l (plain m) = omega arith
-acts-kind ns h l (ins i) = omega arith
-acts-kind ns h l (act a) = omega arith
+acts-kind ns h l k = omega arith
 
 front-cost : (ns : List PlainNode) → wait_cost (without_acts ns) + acts_cost (acts_of ns) ≡ wait_cost ns
 front-cost [] = refl
@@ -139,15 +123,7 @@ drop-cost (suc k) (n ∷ ns) = let h : wait_cost (drop k ns) ≤ wait_cost ns = 
 
 spent-kind : (l : ℕ) (k : PlainKind) (ns : List PlainNode) → wait_cost (with_spent_break (record { line = l; kind = k } ∷ ns)) + sort_cost (pen_sort (penalty_at (record { line = l; kind = k } ∷ ns))) ≡ kind_cost k + wait_cost ns
 spent-kind l (plain (hbox w h d)) ns = omega arith
-spent-kind l (plain (rule name h d)) ns = omega arith
-spent-kind l (plain (skip g)) ns = omega arith
-spent-kind l (plain (kerned w)) ns = omega arith
-spent-kind l (plain (pen p)) ns = omega arith
-spent-kind l (plain (mark name)) ns = omega arith
-spent-kind l (plain (note name)) ns = omega arith
-spent-kind l (plain whatsit) ns = omega arith
-spent-kind l (ins i) ns = omega arith
-spent-kind l (act a) ns = omega arith
+spent-kind l k ns = omega arith
 
 spent-cost : (ns : List PlainNode) → wait_cost (with_spent_break ns) + sort_cost (pen_sort (penalty_at ns)) ≡ wait_cost ns
 spent-cost [] = refl

@@ -327,9 +327,7 @@ goes-prints p vert f left w places.Here =
     then_kept [] w b (Text.float_goes p vert f left w places.Here) (interline-prints p w a (placed-prints p places.Here f left w)) (same b (Text.float_goes p vert f left w places.Here) refl refl refl (λ h. h))
 goes-prints p vert f left w places.Top = interline-prints p w _ (placed-prints p places.Top f left w)
 goes-prints p vert f left w places.Bottom = interline-prints p w _ (placed-prints p places.Bottom f left w)
-goes-prints p vert f left w places.Page = interline-prints p w _ (defer-prints p f left w)
-goes-prints p vert f left w places.Double = interline-prints p w _ (defer-prints p f left w)
-goes-prints p vert f left w places.Deferred = interline-prints p w _ (defer-prints p f left w)
+goes-prints p vert f left w place = interline-prints p w _ (defer-prints p f left w)
 
 note-prints : (p : Params) (depth : ℤ) (m : Margin) (left : FloatLists) (w : Work) (at : Placed) → Prints [] w (Text.note_goes p depth m left w at)
 note-prints p depth m left w at =

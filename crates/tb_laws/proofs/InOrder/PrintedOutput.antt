@@ -5,7 +5,7 @@ use Rattle.std.specs.List.{AllByRecursion}
 use Rattle.tb_scaled.specs.Scaled.{eject_penalty, max_dimen}
 use Rattle.tb_scaled.specs.Glue.{filling_glue}
 use Rattle.tb_node.specs.declared.What.TheVariants as what
-use Rattle.tb_node.specs.PlainNodes.{hbox, rule, pen, skip, kerned, mark, note, whatsit, PlainKind, plain, ins, act, PlainNode, made, blank_box, without_insertions}
+use Rattle.tb_node.specs.PlainNodes.{hbox, rule, skip, PlainKind, plain, PlainNode, made, blank_box, without_insertions}
 use Rattle.tb_param.specs.declared.Params.{Params}
 use Rattle.tb_break.specs.PageTop.{pruned_nodes}
 use Rattle.tb_builder.specs.FiredPages.{Fired, spent_kind, with_spent_break}
@@ -35,18 +35,8 @@ use Rattle.tb_laws.proofs.InOrder.PrintedFirings.{shown, Fits, WorkPlain, Prints
 
 what-prints : (l : ℕ) (k : PlainKind) → Quiet (kind_token k) → printed l k ≡ []
 what-prints l (plain (hbox (what.Text name) h d)) q = absurd q
-what-prints l (plain (hbox what.Blank h d)) q = refl
-what-prints l (plain (hbox (what.Float name class place item) h d)) q = refl
-what-prints l (plain (hbox (what.Margin name side shift height depth item) h d)) q = refl
 what-prints l (plain (rule name h d)) q = absurd q
-what-prints l (plain (skip g)) q = refl
-what-prints l (plain (kerned g)) q = refl
-what-prints l (plain (pen p)) q = refl
-what-prints l (plain (mark name)) q = refl
-what-prints l (plain (note name)) q = refl
-what-prints l (plain whatsit) q = refl
-what-prints l (ins i) q = refl
-what-prints l (act a) q = refl
+what-prints l k q = refl
 
 -- quiet nodes show nothing
 pub quiet-prints : (ns : List PlainNode) → AllByRecursion Quiet (tokens ns) → prints ns ≡ []
@@ -57,14 +47,7 @@ quiet-prints (n ∷ ns) q = λ i. what-prints n.line n.kind q.0 i ++ quiet-print
 node-pruned : (t : ℤ) (ns : List PlainNode) → prints (pruned_nodes t ns) ≡ prints ns → (l : ℕ) (k : PlainKind) → prints (pruned_nodes t (record { line = l; kind = k } ∷ ns)) ≡ printed l k ++ prints ns
 node-pruned t ns h l (plain (hbox w a d)) = refl
 node-pruned t ns h l (plain (rule name a d)) = refl
-node-pruned t ns h l (plain (skip g)) = h
-node-pruned t ns h l (plain (kerned g)) = h
-node-pruned t ns h l (plain (pen p)) = h
-node-pruned t ns h l (plain (mark name)) = h
-node-pruned t ns h l (plain (note name)) = h
-node-pruned t ns h l (plain whatsit) = h
-node-pruned t ns h l (ins i) = h
-node-pruned t ns h l (act a) = h
+node-pruned t ns h l k = h
 
 pub pruned-prints : (t : ℤ) (ns : List PlainNode) → prints (pruned_nodes t ns) ≡ prints ns
 pruned-prints t [] = refl
@@ -72,15 +55,7 @@ pruned-prints t (n ∷ ns) = node-pruned t ns (pruned-prints t ns) n.line n.kind
 
 spent-kind : (l : ℕ) (k : PlainKind) → printed l (spent_kind k) ≡ printed l k
 spent-kind l (plain (hbox w a d)) = refl
-spent-kind l (plain (rule name a d)) = refl
-spent-kind l (plain (skip g)) = refl
-spent-kind l (plain (kerned g)) = refl
-spent-kind l (plain (pen p)) = refl
-spent-kind l (plain (mark name)) = refl
-spent-kind l (plain (note name)) = refl
-spent-kind l (plain whatsit) = refl
-spent-kind l (ins i) = refl
-spent-kind l (act a) = refl
+spent-kind l k = refl
 
 pub spent-prints : (ns : List PlainNode) → prints (with_spent_break ns) ≡ prints ns
 spent-prints [] = refl

@@ -101,13 +101,9 @@ paired-with from h fs l x = subst Paired (sym (part-current from h fs l)) x
 
 -- the lists with other floats in one of them
 pub lists-with : (v : Weight) (from : Part) → IsWaiting from → (fs : List Float) (l : FloatLists) → lists_weight v (with_floats_of from fs l) + floats_weight v (floats_of from l) ≡ lists_weight v l + floats_weight v fs
-lists-with v parts.Current h fs l = absurd h
-lists-with v parts.Here h fs l = absurd h
-lists-with v parts.Top h fs l = absurd h
-lists-with v parts.Bottom h fs l = absurd h
-lists-with v parts.Double h fs l = absurd h
 lists-with v parts.Deferred h fs l = omega arith
 lists-with v parts.Second h fs l = omega arith
+lists-with v from h fs l = absurd h
 
 -- the floats that wait in a list before and after the next one
 abbrev pub Waits : Part → Weight → List Float → List Float → Work → Type 0
@@ -148,11 +144,9 @@ waiting-adds from q v p place f before rest w j h = by_place place j
 
     by_place : (place : Where) → StaysOrJoins place → Adds v 0 w (FloatMoves.place_waiting from p place f before rest w) × Waits from v (FloatMoves.still_deferred place f before) rest (FloatMoves.place_waiting from p place f before rest w)
     by_place places.Here j = absurd j.by
-    by_place places.Top j = joins places.Top tt tt
-    by_place places.Bottom j = joins places.Bottom tt tt
     by_place places.Page j = waits
-    by_place places.Double j = joins places.Double tt tt
     by_place places.Deferred j = waits
+    by_place place j = joins place tt tt
 
 pub next-adds : (v : Weight) (p : Params) (before fs : List Float) (w : Work) → Waits parts.Deferred v before fs w → Adds v 0 w (FloatMoves.place_next p before fs w)
 next-adds v p before [] w h = unchanged v w

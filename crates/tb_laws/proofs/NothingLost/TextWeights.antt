@@ -91,9 +91,7 @@ goes-adds : (v : Weight) (p : Params) (vert : Bool) (f : Float) (left : FloatLis
 goes-adds v p vert f left w places.Here h = here-adds v p vert f left w h
 goes-adds v p vert f left w places.Top h = then_interline v p 0 w (FloatMoves.place_float p places.Top f left w) (placed-adds v p places.Top f left w tt h.0 h.1)
 goes-adds v p vert f left w places.Bottom h = then_interline v p 0 w (FloatMoves.place_float p places.Bottom f left w) (placed-adds v p places.Bottom f left w tt h.0 h.1)
-goes-adds v p vert f left w places.Page h = then_interline v p 0 w (Text.defer p f left w) (defer-adds v p f left w h)
-goes-adds v p vert f left w places.Double h = then_interline v p 0 w (Text.defer p f left w) (defer-adds v p f left w h)
-goes-adds v p vert f left w places.Deferred h = then_interline v p 0 w (Text.defer p f left w) (defer-adds v p f left w h)
+goes-adds v p vert f left w place h = then_interline v p 0 w (Text.defer p f left w) (defer-adds v p f left w h)
 
 -- the note leaves the lists and goes into the text as a box
 note-adds : (v : Weight) (p : Params) (depth : ℤ) (m : Margin) (left : FloatLists) (w : Work) (at : Placed) → (Paired w.state.floats.current → Paired left.current) → lists_weight v w.state.floats ≡ lists_weight v left + v.margin m.line → Adds v 0 w (Text.note_goes p depth m left w at)

@@ -57,13 +57,9 @@ double_again-adds v p w =
     lighter = omega arith
 
     waiting-without : (from : Part) → IsWaiting from → floats_of from bare ≡ floats_of from l
-    waiting-without parts.Current h = absurd h
-    waiting-without parts.Here h = absurd h
-    waiting-without parts.Top h = absurd h
-    waiting-without parts.Bottom h = absurd h
-    waiting-without parts.Double h = absurd h
     waiting-without parts.Deferred h = refl
     waiting-without parts.Second h = refl
+    waiting-without from h = absurd h
 
     sums : (a y b d x z c : ℕ) → a + y ≡ b + d → y ≡ z → d ≡ x + z → b + x ≡ c → a ≡ c
     sums a y b d x z c e g i j = omega arith

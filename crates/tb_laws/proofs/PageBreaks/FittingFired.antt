@@ -55,32 +55,26 @@ pub record Fitted (q : ℤ) (tail ns : List PlainNode) : Type 0 where
 -- ---- the top of the page
 
 top-kind : (t : ℤ) (l : ℕ) (k : PlainKind) (ns ys : List PlainNode) → Topmost k → pruned_nodes t (ns ++ ys) ≡ pruned_nodes t ns ++ pruned_nodes t ys → pruned_nodes t (record { line = l; kind = k } ∷ ns ++ ys) ≡ pruned_nodes t (record { line = l; kind = k } ∷ ns) ++ pruned_nodes t ys
-top-kind t l (plain (hbox w h d)) ns ys k e = absurd k
-top-kind t l (plain (rule name h d)) ns ys k e = absurd k
 top-kind t l (plain (skip g)) ns ys k e = e
 top-kind t l (plain (kerned w)) ns ys k e = e
 top-kind t l (plain (pen p)) ns ys k e = e
 top-kind t l (plain (mark name)) ns ys k e = ap (λ xs. record { line = l; kind = plain (mark name) } ∷ xs) e
 top-kind t l (plain (note name)) ns ys k e = ap (λ xs. record { line = l; kind = plain (note name) } ∷ xs) e
 top-kind t l (plain whatsit) ns ys k e = ap (λ xs. record { line = l; kind = plain whatsit } ∷ xs) e
-top-kind t l (ins i) ns ys k e = absurd k
-top-kind t l (act a) ns ys k e = absurd k
+top-kind t l x ns ys k e = absurd k
 
 top-pruned : (t : ℤ) (ns ys : List PlainNode) → AllTopmost ns → pruned_nodes t (ns ++ ys) ≡ pruned_nodes t ns ++ pruned_nodes t ys
 top-pruned t [] ys h = refl
 top-pruned t (n ∷ ns) ys h = top-kind t n.line n.kind ns ys h.0 (top-pruned t ns ys h.1)
 
 slim-kind : (t : ℤ) (l : ℕ) (k : PlainKind) (ns : List PlainNode) → Topmost k → AllSlim (pruned_nodes t ns) × (size_of (map node_shape (pruned_nodes t ns)) ≡ pos 0) → AllSlim (pruned_nodes t (record { line = l; kind = k } ∷ ns)) × (size_of (map node_shape (pruned_nodes t (record { line = l; kind = k } ∷ ns))) ≡ pos 0)
-slim-kind t l (plain (hbox w h d)) ns k e = absurd k
-slim-kind t l (plain (rule name h d)) ns k e = absurd k
 slim-kind t l (plain (skip g)) ns k e = e
 slim-kind t l (plain (kerned w)) ns k e = e
 slim-kind t l (plain (pen p)) ns k e = e
 slim-kind t l (plain (mark name)) ns k e = ((tt, e.0), grind (arith, ints, e.1))
 slim-kind t l (plain (note name)) ns k e = ((tt, e.0), grind (arith, ints, e.1))
 slim-kind t l (plain whatsit) ns k e = ((tt, e.0), grind (arith, ints, e.1))
-slim-kind t l (ins i) ns k e = absurd k
-slim-kind t l (act a) ns k e = absurd k
+slim-kind t l x ns k e = absurd k
 
 top-slim : (t : ℤ) (ns : List PlainNode) → AllTopmost ns → AllSlim (pruned_nodes t ns) × (size_of (map node_shape (pruned_nodes t ns)) ≡ pos 0)
 top-slim t [] h = (tt, refl)

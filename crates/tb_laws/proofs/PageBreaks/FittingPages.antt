@@ -46,15 +46,11 @@ slim-both (x ∷ xs) ys a b = (a.0, slim-both xs ys a.1 b)
 
 slim-kind : (l : ℕ) (k : PlainKind) (ns : List PlainNode) → Slim k → list_stretch Normal (shapes ns) ≡ pos 0 → list_shrink (shapes ns) ≡ pos 0 → (list_stretch Normal (shapes (record { line = l; kind = k } ∷ ns)) ≡ pos 0) × (list_shrink (shapes (record { line = l; kind = k } ∷ ns)) ≡ pos 0)
 slim-kind l (plain (hbox w h d)) ns s a b = (grind (arith, ints, a), grind (arith, ints, b))
-slim-kind l (plain (rule name h d)) ns s a b = absurd s
 slim-kind l (plain (skip g)) ns s a b = (grind (arith, ints, a, s.2), grind (arith, ints, b, s.1))
-slim-kind l (plain (kerned w)) ns s a b = absurd s
-slim-kind l (plain (pen p)) ns s a b = absurd s
 slim-kind l (plain (mark name)) ns s a b = (grind (arith, ints, a), grind (arith, ints, b))
 slim-kind l (plain (note name)) ns s a b = (grind (arith, ints, a), grind (arith, ints, b))
 slim-kind l (plain whatsit) ns s a b = (grind (arith, ints, a), grind (arith, ints, b))
-slim-kind l (ins i) ns s a b = absurd s
-slim-kind l (act x) ns s a b = absurd s
+slim-kind l k ns s a b = absurd s
 
 pub slim-sums : (ns : List PlainNode) → AllSlim ns → (list_stretch Normal (shapes ns) ≡ pos 0) × (list_shrink (shapes ns) ≡ pos 0)
 slim-sums [] s = (refl, refl)
@@ -62,15 +58,11 @@ slim-sums (n ∷ ns) s = let h = slim-sums ns s.1 in slim-kind n.line n.kind ns 
 
 depth-kind : (l : ℕ) (k : PlainKind) (ns : List PlainNode) → Slim k → ((d : ℤ) → d ≡ pos 0 → depth_from d (shapes ns) ≡ pos 0) → (d : ℤ) → d ≡ pos 0 → depth_from d (shapes (record { line = l; kind = k } ∷ ns)) ≡ pos 0
 depth-kind l (plain (hbox w x y)) ns s h d e = h y s.1
-depth-kind l (plain (rule name x y)) ns s h d e = absurd s
 depth-kind l (plain (skip g)) ns s h d e = h (pos 0) refl
-depth-kind l (plain (kerned w)) ns s h d e = absurd s
-depth-kind l (plain (pen p)) ns s h d e = absurd s
 depth-kind l (plain (mark name)) ns s h d e = h d e
 depth-kind l (plain (note name)) ns s h d e = h d e
 depth-kind l (plain whatsit) ns s h d e = h d e
-depth-kind l (ins i) ns s h d e = absurd s
-depth-kind l (act x) ns s h d e = absurd s
+depth-kind l k ns s h d e = absurd s
 
 pub slim-depth : (ns : List PlainNode) → AllSlim ns → (d : ℤ) → d ≡ pos 0 → depth_from d (shapes ns) ≡ pos 0
 slim-depth [] s d e = e
@@ -78,15 +70,11 @@ slim-depth (n ∷ ns) s d e = depth-kind n.line n.kind ns s.0 (λ d e. slim-dept
 
 size-kind : (l : ℕ) (k : PlainKind) (ns : List PlainNode) → Slim k → size_of (shapes ns) ≤ℤ size_of (shapes (record { line = l; kind = k } ∷ ns))
 size-kind l (plain (hbox w h d)) ns s = grind (arith, ints, s.0, s.1)
-size-kind l (plain (rule name h d)) ns s = absurd s
 size-kind l (plain (skip g)) ns s = grind (arith, ints, s.0)
-size-kind l (plain (kerned w)) ns s = absurd s
-size-kind l (plain (pen p)) ns s = absurd s
 size-kind l (plain (mark name)) ns s = grind (arith, ints)
 size-kind l (plain (note name)) ns s = grind (arith, ints)
 size-kind l (plain whatsit) ns s = grind (arith, ints)
-size-kind l (ins i) ns s = absurd s
-size-kind l (act x) ns s = absurd s
+size-kind l k ns s = absurd s
 
 pub size-both : (xs ys : List PlainNode) → size_of (shapes (xs ++ ys)) ≡ size_of (shapes xs) +ℤ size_of (shapes ys)
 size-both [] ys = grind (arith, ints)
@@ -230,15 +218,11 @@ module _ (limit goal : ℤ) (deep : pos 0 ≤ℤ limit) (terms : List PlainNode 
   -- a slim node is passed
   slim-step : (before : List PlainNode) (l : ℕ) (k : PlainKind) (rest behind beyond : List PlainNode) (later : Reach) → Slim k → AllSlim before → size_of (shapes before) ≤ℤ goal → BreaksAt q behind beyond later → BreaksAt q behind beyond (reach_node limit terms before (record { line = l; kind = k }) rest later k)
   slim-step before l (plain (hbox w x d)) rest behind beyond later k s h r = r
-  slim-step before l (plain (rule name x d)) rest behind beyond later k s h r = absurd k
   slim-step before l (plain (skip g)) rest behind beyond later k s h r = place-step before (record { line = l; kind = plain (skip g) }) rest behind beyond later s h r (if ends_lasting (shapes before) then Some (pos 0) else None) (maybe (ends_lasting (shapes before)))
-  slim-step before l (plain (kerned w)) rest behind beyond later k s h r = absurd k
-  slim-step before l (plain (pen p)) rest behind beyond later k s h r = absurd k
   slim-step before l (plain (mark name)) rest behind beyond later k s h r = r
   slim-step before l (plain (note name)) rest behind beyond later k s h r = r
   slim-step before l (plain whatsit) rest behind beyond later k s h r = r
-  slim-step before l (ins i) rest behind beyond later k s h r = absurd k
-  slim-step before l (act a) rest behind beyond later k s h r = absurd k
+  slim-step before l x rest behind beyond later k s h r = absurd k
 
   kept-slim : (n : PlainNode) → Slim n.kind → without_acts (n ∷ []) ≡ n ∷ []
   kept-slim n s = at n.kind s

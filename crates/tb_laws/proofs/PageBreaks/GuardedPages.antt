@@ -81,16 +81,10 @@ abbrev shapes : List PlainNode → List Shape
 shapes ns = map node_shape ns
 
 lasting-kind : (l : ℕ) (k : PlainKind) (ns : List PlainNode) → Lasting k → AllSlim ns × (size_of (shapes ns) ≡ pos 0) → AllSlim (record { line = l; kind = k } ∷ ns) × (size_of (shapes (record { line = l; kind = k } ∷ ns)) ≡ pos 0)
-lasting-kind l (plain (hbox w h d)) ns k e = absurd k
-lasting-kind l (plain (rule name h d)) ns k e = absurd k
-lasting-kind l (plain (skip g)) ns k e = absurd k
-lasting-kind l (plain (kerned w)) ns k e = absurd k
-lasting-kind l (plain (pen p)) ns k e = absurd k
 lasting-kind l (plain (mark name)) ns k e = ((tt, e.0), grind (arith, ints, e.1))
 lasting-kind l (plain (note name)) ns k e = ((tt, e.0), grind (arith, ints, e.1))
 lasting-kind l (plain whatsit) ns k e = ((tt, e.0), grind (arith, ints, e.1))
-lasting-kind l (ins i) ns k e = absurd k
-lasting-kind l (act a) ns k e = absurd k
+lasting-kind l x ns k e = absurd k
 
 lasting-slim : (ns : List PlainNode) → AllLasting ns → AllSlim ns × (size_of (shapes ns) ≡ pos 0)
 lasting-slim [] h = (tt, refl)
@@ -101,16 +95,10 @@ lasting-both [] ys a b = b
 lasting-both (x ∷ xs) ys a b = (a.0, lasting-both xs ys a.1 b)
 
 kind-lasts : (l : ℕ) (k : PlainKind) → Lasting k → not (is_discardable (node_shape (record { line = l; kind = k }))) ≡ true
-kind-lasts l (plain (hbox w h d)) k = absurd k
-kind-lasts l (plain (rule name h d)) k = absurd k
-kind-lasts l (plain (skip g)) k = absurd k
-kind-lasts l (plain (kerned w)) k = absurd k
-kind-lasts l (plain (pen p)) k = absurd k
 kind-lasts l (plain (mark name)) k = refl
 kind-lasts l (plain (note name)) k = refl
 kind-lasts l (plain whatsit) k = refl
-kind-lasts l (ins i) k = absurd k
-kind-lasts l (act a) k = absurd k
+kind-lasts l x k = absurd k
 
 last-lasts : (d : Bool) (ns : List PlainNode) → d ≡ true → AllLasting ns → last_or d (map (λ n. not (is_discardable n)) (shapes ns)) ≡ true
 last-lasts d [] e h = e
@@ -223,16 +211,10 @@ module _ (limit goal : ℤ) (deep : pos 0 ≤ℤ limit) (terms : List PlainNode 
       by_lasting false i = let no : ⊥ = grind (arith, i) in absurd no
 
   lasting-step : (P : Reach → Type 0) (before : List PlainNode) (l : ℕ) (k : PlainKind) (rest : List PlainNode) → Lasting k → P (reach_from limit terms (before ++ record { line = l; kind = k } ∷ []) rest) → P (reach_from limit terms before (record { line = l; kind = k } ∷ rest))
-  lasting-step P before l (plain (hbox w h d)) rest k r = absurd k
-  lasting-step P before l (plain (rule name h d)) rest k r = absurd k
-  lasting-step P before l (plain (skip g)) rest k r = absurd k
-  lasting-step P before l (plain (kerned w)) rest k r = absurd k
-  lasting-step P before l (plain (pen p)) rest k r = absurd k
   lasting-step P before l (plain (mark name)) rest k r = r
   lasting-step P before l (plain (note name)) rest k r = r
   lasting-step P before l (plain whatsit) rest k r = r
-  lasting-step P before l (ins i) rest k r = absurd k
-  lasting-step P before l (act a) rest k r = absurd k
+  lasting-step P before l x rest k r = absurd k
 
   -- so the page breaks before its top glue
   pub breaks-before : (before xs : List PlainNode) (l b : ℕ) (c : What) (k : ℕ) (tail : List PlainNode) → AllLasting before → AllLasting xs → HasFirst (before ++ xs) → (page_break (reach_from limit terms before (xs ++ glue_at l ∷ flat_box b c ∷ break_at k q ∷ tail))).place ≡ length (before ++ xs)
@@ -288,14 +270,12 @@ module _ (t : ℤ) (b : ℕ) (c : What) (rest : List PlainNode) where
   shape-kind : (l : ℕ) (k : PlainKind) (ns xs : List PlainNode) → ((ys : List PlainNode) → Splits (pruned_nodes t ns) ys) → Splits (pruned_nodes t (record { line = l; kind = k } ∷ ns)) xs
   shape-kind l (plain (hbox w x d)) ns xs h v e = shape-box l x (record { line = l; kind = plain (hbox w x d) }) ns xs (λ i. cc) (λ i. i) v e
   shape-kind l (plain (rule name x d)) ns xs h v e = shape-box l x (record { line = l; kind = plain (rule name x d) }) ns xs (λ i. cc) (λ i. i) v e
-  shape-kind l (plain (skip g)) ns xs h v e = h xs v e
-  shape-kind l (plain (kerned w)) ns xs h v e = h xs v e
-  shape-kind l (plain (pen p)) ns xs h v e = h xs v e
   shape-kind l (plain (mark name)) ns xs h v e = shape-more (record { line = l; kind = plain (mark name) }) (pruned_nodes t ns) xs tt (λ i. cc) h v e
   shape-kind l (plain (note name)) ns xs h v e = shape-more (record { line = l; kind = plain (note name) }) (pruned_nodes t ns) xs tt (λ i. cc) h v e
   shape-kind l (plain whatsit) ns xs h v e = shape-more (record { line = l; kind = plain whatsit }) (pruned_nodes t ns) xs tt (λ i. cc) h v e
   shape-kind l (ins i) ns xs h v e = shape-not (record { line = l; kind = ins i }) (pruned_nodes t ns) xs (λ i. i) (λ i. cc) v e
   shape-kind l (act a) ns xs h v e = shape-not (record { line = l; kind = act a }) (pruned_nodes t ns) xs (λ i. i) (λ i. cc) v e
+  shape-kind l k ns xs h v e = h xs v e
 
   pub pruned-shape : (ns xs : List PlainNode) → Splits (pruned_nodes t ns) xs
   pruned-shape [] [] v e = cc

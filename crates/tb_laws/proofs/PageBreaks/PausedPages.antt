@@ -5,7 +5,7 @@ use Rattle.std.proofs.lemmas.Int.{ints}
 use Rattle.std.proofs.lemmas.List.{append_assoc}
 use Rattle.tb_scaled.specs.Scaled.{eject_penalty}
 use Rattle.tb_node.specs.declared.What.{What}
-use Rattle.tb_node.specs.PlainNodes.{hbox, rule, skip, kerned, pen, mark, note, whatsit, PlainKind, plain, ins, act, PlainNode, without_acts}
+use Rattle.tb_node.specs.PlainNodes.{hbox, rule, skip, pen, mark, note, whatsit, PlainKind, plain, ins, act, PlainNode, without_acts}
 use Rattle.tb_break.specs.PageTop.{pruned_nodes, top_glue}
 use Rattle.tb_builder.specs.Reach.{Reach}
 use Rattle.tb_builder.specs.FiredPages.{penalty_at}
@@ -39,14 +39,12 @@ calm-more rest ns n c h = record { before = n ∷ h.before; whole = ap (λ xs. n
 pruned-kind : (t : ℤ) (rest ns : List PlainNode) → CalmUpTo rest ns → CalmUpTo rest (pruned_nodes t ns) → (l : ℕ) (k : PlainKind) → Calm k → CalmUpTo rest (pruned_nodes t (record { line = l; kind = k } ∷ ns))
 pruned-kind t rest ns u h l (plain (hbox w x d)) c = calm-more rest (record { line = l; kind = plain (hbox w x d) } ∷ ns) (record { line = l; kind = plain (skip (top_glue t x)) }) tt (calm-more rest ns (record { line = l; kind = plain (hbox w x d) }) tt u)
 pruned-kind t rest ns u h l (plain (rule name x d)) c = calm-more rest (record { line = l; kind = plain (rule name x d) } ∷ ns) (record { line = l; kind = plain (skip (top_glue t x)) }) tt (calm-more rest ns (record { line = l; kind = plain (rule name x d) }) tt u)
-pruned-kind t rest ns u h l (plain (skip g)) c = h
-pruned-kind t rest ns u h l (plain (kerned w)) c = h
-pruned-kind t rest ns u h l (plain (pen p)) c = h
 pruned-kind t rest ns u h l (plain (mark name)) c = calm-more rest (pruned_nodes t ns) (record { line = l; kind = plain (mark name) }) tt h
 pruned-kind t rest ns u h l (plain (note name)) c = calm-more rest (pruned_nodes t ns) (record { line = l; kind = plain (note name) }) tt h
 pruned-kind t rest ns u h l (plain whatsit) c = calm-more rest (pruned_nodes t ns) (record { line = l; kind = plain whatsit }) tt h
 pruned-kind t rest ns u h l (ins i) c = calm-more rest (pruned_nodes t ns) (record { line = l; kind = ins i }) tt h
 pruned-kind t rest ns u h l (act a) c = calm-more rest (pruned_nodes t ns) (record { line = l; kind = act a }) tt h
+pruned-kind t rest ns u h l k c = h
 
 calm-whole : (xs rest : List PlainNode) → AllCalm xs → CalmUpTo rest (xs ++ rest)
 calm-whole xs rest c = record { before = xs; whole = refl; calm = c }
@@ -73,16 +71,8 @@ calm-begins : (n : PlainNode) (ns : List PlainNode) → Calm n.kind → Begins (
 calm-begins n ns c = at n.kind c
   where
     at : (k : PlainKind) → Calm k → Begins (record { line = n.line; kind = k } ∷ ns)
-    at (plain (hbox w h d)) c = refl
-    at (plain (rule name h d)) c = refl
-    at (plain (skip g)) c = refl
-    at (plain (kerned w)) c = refl
     at (plain (pen p)) c = calm-pen p c
-    at (plain (mark name)) c = refl
-    at (plain (note name)) c = refl
-    at (plain whatsit) c = refl
-    at (ins i) c = refl
-    at (act a) c = refl
+    at k c = refl
 
 abbrev head-of : PlainNode → List PlainNode → PlainNode
 head-of d [] = d

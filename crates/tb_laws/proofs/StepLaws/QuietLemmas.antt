@@ -52,13 +52,7 @@ quiet-lines k rs more h = records-append k rs more ∙ ap (λ l. record_lines k 
 
 quiet-placing : (k : FloatKind) (n : ℕ) (r : Recorded) → IsQuiet r → IsPlacing k n r → ⊥
 quiet-placing k n (placed f places.Here l height) h i = h
-quiet-placing k n (placed f places.Top l height) h i = i
-quiet-placing k n (placed f places.Bottom l height) h i = i
-quiet-placing k n (placed f places.Page l height) h i = i
-quiet-placing k n (placed f places.Double l height) h i = i
-quiet-placing k n (placed f places.Deferred l height) h i = i
-quiet-placing k n (output c) h i = i
-quiet-placing k n (emptied l) h i = i
+quiet-placing k n r h i = i
 
 quiet-none : (k : FloatKind) (n : ℕ) (rs : List Recorded) → AreQuiet rs → WasPlaced k n rs → ⊥
 quiet-none k n [] h i = i
@@ -133,13 +127,9 @@ pub record SameAreas (l m : FloatLists) : Type 0 where
 
 -- if other floats wait in a list that is none of these areas
 waiting-same : (from : Part) → IsWaiting from → (fs : List Float) (l : FloatLists) → SameAreas l (with_floats_of from fs l)
-waiting-same parts.Current i fs l = absurd i
-waiting-same parts.Here i fs l = absurd i
-waiting-same parts.Top i fs l = absurd i
-waiting-same parts.Bottom i fs l = absurd i
-waiting-same parts.Double i fs l = absurd i
 waiting-same parts.Deferred i fs l = record { current = refl; top = refl; bottom = refl }
 waiting-same parts.Second i fs l = record { current = refl; top = refl; bottom = refl }
+waiting-same from i fs l = absurd i
 
 doubled-same : (from : Part) → IsWaiting from → (p : Params) (s : Suppress) (before fs : List Float) (l : FloatLists) → SameAreas l (doubled from p s before fs l)
 doubled-same from i p s before [] l = record { current = refl; top = refl; bottom = refl }
@@ -189,8 +179,7 @@ filled-same p s before (f ∷ rest) l =
   where
     by_place : (a : AreaPlace) (m : FloatLists) → m ≡ gone_to a f before rest l → {n : FloatLists} → SameApart m n → SameApart l n
     by_place at_top m e x = record { current = x.current ∙ ap (λ (y : FloatLists). y.current) e; double = x.double ∙ ap (λ (y : FloatLists). y.double) e; second = x.second ∙ ap (λ (y : FloatLists). y.second) e }
-    by_place at_bottom m e x = record { current = x.current ∙ ap (λ (y : FloatLists). y.current) e; double = x.double ∙ ap (λ (y : FloatLists). y.double) e; second = x.second ∙ ap (λ (y : FloatLists). y.second) e }
-    by_place deferred m e x = record { current = x.current ∙ ap (λ (y : FloatLists). y.current) e; double = x.double ∙ ap (λ (y : FloatLists). y.double) e; second = x.second ∙ ap (λ (y : FloatLists). y.second) e }
+    by_place a m e x = record { current = x.current ∙ ap (λ (y : FloatLists). y.current) e; double = x.double ∙ ap (λ (y : FloatLists). y.double) e; second = x.second ∙ ap (λ (y : FloatLists). y.second) e }
 
 pub fill-same : (p : Params) (s : Suppress) (l : FloatLists) → SameApart l (filled p s [] l.deferred l)
 fill-same p s l = filled-same p s [] l.deferred l

@@ -60,93 +60,57 @@ narrow-lists p l h r = by_release (has_second p) r h
 
 -- if there is no float, it holds
 pub no-sides : (from : Part) → Sides from no_floats
-no-sides parts.Current = tt
-no-sides parts.Here = tt
-no-sides parts.Top = tt
-no-sides parts.Bottom = tt
 no-sides parts.Deferred = refl
-no-sides parts.Double = tt
 no-sides parts.Second = (record { top = tt; bottom = tt; deferred = tt }, tt)
+no-sides from = tt
 
 -- ---- a float goes to a place
 
 pub joined-sides : (from : Part) (place : Where) (f : Float) (l : FloatLists) → NotDouble place → Fitting from f → Sides from l → Sides from (FloatMoves.joined_to place f l)
-joined-sides parts.Current place f l n k h = tt
-joined-sides parts.Here place f l n k h = tt
-joined-sides parts.Top place f l n k h = tt
-joined-sides parts.Bottom place f l n k h = tt
-joined-sides parts.Double place f l n k h = tt
-joined-sides parts.Deferred places.Here f l n k h = h
-joined-sides parts.Deferred places.Top f l n k h = h
-joined-sides parts.Deferred places.Bottom f l n k h = h
-joined-sides parts.Deferred places.Page f l n k h = h
 joined-sides parts.Deferred places.Double f l n k h = absurd n
-joined-sides parts.Deferred places.Deferred f l n k h = h
+joined-sides parts.Deferred place f l n k h = h
 joined-sides parts.Second places.Here f l n k h = (record { top = h.0.top; bottom = h.0.bottom; deferred = h.0.deferred }, h.1)
 joined-sides parts.Second places.Top f l n k h = (record { top = all-join Single l.top (f ∷ []) h.0.top (k, tt); bottom = h.0.bottom; deferred = h.0.deferred }, h.1)
 joined-sides parts.Second places.Bottom f l n k h = (record { top = h.0.top; bottom = all-join Single l.bottom (f ∷ []) h.0.bottom (k, tt); deferred = h.0.deferred }, h.1)
 joined-sides parts.Second places.Page f l n k h = h
 joined-sides parts.Second places.Double f l n k h = absurd n
 joined-sides parts.Second places.Deferred f l n k h = (record { top = h.0.top; bottom = h.0.bottom; deferred = all-join Single l.deferred (f ∷ []) h.0.deferred (k, tt) }, h.1)
+joined-sides from place f l n k h = tt
 
 -- a float goes to the double list
 pub doubled-sides : (from : Part) (f : Float) (l : FloatLists) → Sides from l → Sides from (FloatMoves.joined_to places.Double f l)
-doubled-sides parts.Current f l h = tt
-doubled-sides parts.Here f l h = tt
-doubled-sides parts.Top f l h = tt
-doubled-sides parts.Bottom f l h = tt
-doubled-sides parts.Double f l h = tt
 doubled-sides parts.Deferred f l h = h
 doubled-sides parts.Second f l h = (record { top = h.0.top; bottom = h.0.bottom; deferred = h.0.deferred }, h.1)
+doubled-sides from f l h = tt
 
 -- ---- other floats are among those that wait
 
 -- among those that wait for a page: in the second list they are wide
 pub waiting-sides : (from : Part) → IsWaiting from → (gs : List Float) (l : FloatLists) → (AllByRecursion Wide l.second → from ≡ parts.Second → AllByRecursion Wide gs) → Sides from l → Sides from (with_floats_of from gs l)
-waiting-sides parts.Current q gs l k h = absurd q
-waiting-sides parts.Here q gs l k h = absurd q
-waiting-sides parts.Top q gs l k h = absurd q
-waiting-sides parts.Bottom q gs l k h = absurd q
-waiting-sides parts.Double q gs l k h = absurd q
 waiting-sides parts.Deferred q gs l k h = h
 waiting-sides parts.Second q gs l k h = (record { top = h.0.top; bottom = h.0.bottom; deferred = h.0.deferred }, k h.1 refl)
+waiting-sides from q gs l k h = absurd q
 
 -- among the deferred ones: in release 2014 they are single
 pub deferred-sides : (from : Part) → (gs : List Float) (l : FloatLists) → (AllByRecursion Single l.deferred → AllByRecursion Single gs) → Sides from l → Sides from (record l { deferred = gs })
-deferred-sides parts.Current gs l k h = tt
-deferred-sides parts.Here gs l k h = tt
-deferred-sides parts.Top gs l k h = tt
-deferred-sides parts.Bottom gs l k h = tt
-deferred-sides parts.Double gs l k h = tt
 deferred-sides parts.Deferred gs l k h = h
 deferred-sides parts.Second gs l k h = (record { top = h.0.top; bottom = h.0.bottom; deferred = k h.0.deferred }, h.1)
+deferred-sides from gs l k h = tt
 
 -- the floats of the areas wait again
 pub gathered-sides : (from : Part) (l : FloatLists) → Sides from l → Sides from (Clear.deferred_again l)
-gathered-sides parts.Current l h = tt
-gathered-sides parts.Here l h = tt
-gathered-sides parts.Top l h = tt
-gathered-sides parts.Bottom l h = tt
-gathered-sides parts.Double l h = tt
 gathered-sides parts.Deferred l h = h
 gathered-sides parts.Second l h = (record { top = tt; bottom = tt; deferred = all-join Single (l.top ++ l.bottom) l.deferred (all-join Single l.top l.bottom h.0.top h.0.bottom) h.0.deferred }, h.1)
+gathered-sides from l h = tt
 
 -- the floats of the areas are gone
 pub text-sides : (from : Part) (l : FloatLists) → Sides from l → Sides from (record l { here = []; top = []; bottom = [] })
-text-sides parts.Current l h = tt
-text-sides parts.Here l h = tt
-text-sides parts.Top l h = tt
-text-sides parts.Bottom l h = tt
-text-sides parts.Double l h = tt
 text-sides parts.Deferred l h = h
 text-sides parts.Second l h = (record { top = tt; bottom = tt; deferred = h.0.deferred }, h.1)
+text-sides from l h = tt
 
 -- the double floats are gone
 pub undoubled-sides : (from : Part) (l : FloatLists) → Sides from l → Sides from (record l { double = [] })
-undoubled-sides parts.Current l h = tt
-undoubled-sides parts.Here l h = tt
-undoubled-sides parts.Top l h = tt
-undoubled-sides parts.Bottom l h = tt
-undoubled-sides parts.Double l h = tt
 undoubled-sides parts.Deferred l h = h
 undoubled-sides parts.Second l h = (record { top = h.0.top; bottom = h.0.bottom; deferred = h.0.deferred }, h.1)
+undoubled-sides from l h = tt

@@ -42,13 +42,8 @@ middle P [] f rest h = h.0
 middle P (g ∷ before) f rest h = middle P before f rest h.1
 
 deferred-fits : (from : Part) (l : FloatLists) (before : List Float) (f : Float) (rest : List Float) → l.deferred ≡ before ++ f ∷ rest → Sides from l → Fitting from f
-deferred-fits parts.Current l before f rest e h = tt
-deferred-fits parts.Here l before f rest e h = tt
-deferred-fits parts.Top l before f rest e h = tt
-deferred-fits parts.Bottom l before f rest e h = tt
-deferred-fits parts.Double l before f rest e h = tt
-deferred-fits parts.Deferred l before f rest e h = tt
 deferred-fits parts.Second l before f rest e h = middle Single before f rest (subst (AllByRecursion Single) e h.0.deferred)
+deferred-fits from l before f rest e h = tt
 
 -- ---- floats go to their places
 

@@ -9,7 +9,7 @@ use Rattle.tb_node.specs.declared.Act.{Act}
 use Rattle.tb_node.specs.declared.Act.TheVariants as acts
 use Rattle.tb_node.specs.declared.Float.{Float}
 use Rattle.tb_node.specs.Fit.{IsDimension, IsExtent, IsPenalty, IsSizedLeaf}
-use Rattle.tb_node.specs.PlainNodes.{hbox, rule, skip, kerned, pen, mark, note, whatsit, Leaf, PlainKind, plain, ins, act, PlainNode, is_act_kind}
+use Rattle.tb_node.specs.PlainNodes.{hbox, rule, skip, kerned, pen, Leaf, PlainKind, plain, act, PlainNode, is_act_kind}
 use Rattle.tb_param.specs.declared.Params.{Params}
 use Rattle.tb_break.specs.PageTop.{pruned_nodes}
 use Rattle.tb_builder.specs.Reach.{holds_box, laid_out}
@@ -55,11 +55,8 @@ none-kind t ns a h l (plain (rule name x d)) e = (refl, (refl, a))
 none-kind t ns a h l (plain (skip g)) e = h
 none-kind t ns a h l (plain (kerned w)) e = h
 none-kind t ns a h l (plain (pen p)) e = h
-none-kind t ns a h l (plain (mark name)) e = (refl, h)
-none-kind t ns a h l (plain (note name)) e = (refl, h)
-none-kind t ns a h l (plain whatsit) e = (refl, h)
-none-kind t ns a h l (ins i) e = (refl, h)
 none-kind t ns a h l (act x) e = absurd (true≢false e)
+none-kind t ns a h l k e = (refl, h)
 
 none-pruned : (t : ℤ) (ns : List PlainNode) → NoActs ns → NoActs (pruned_nodes t ns)
 none-pruned t [] h = tt
@@ -168,15 +165,11 @@ taken-few p s f = by_places f.places.h (int_lt s.goal (with_float p s f)) (f.pla
 
 pub put-few : (p : Params) (s : PageSums) (a : Act) → IsTake a → IsFewPut (act_nodes p s a)
 put-few p s (acts.Take f) h = taken-few p s f
-put-few p s (acts.TakeMargin m) h = absurd h
-put-few p s (acts.Suppress area) h = absurd h
-put-few p s (acts.Columns two) h = absurd h
+put-few p s a h = absurd h
 
 pub put-sized : (p : Params) (s : PageSums) (a : Act) → AreMakeupParams p → IsTake a → All IsSizedOnPage (act_nodes p s a)
 put-sized p s (acts.Take f) m h = taken-sized p m f h s
-put-sized p s (acts.TakeMargin n) m h = absurd h
-put-sized p s (acts.Suppress area) m h = absurd h
-put-sized p s (acts.Columns two) m h = absurd h
+put-sized p s a m h = absurd h
 
 -- ---- the state after an act
 

@@ -5,7 +5,7 @@ use Rattle.std.proofs.lemmas.Bool.{true≢false}
 use Rattle.tb_pool.specs.Lists.{Lists}
 use Rattle.tb_node.specs.declared.Node.{Node}
 use Rattle.tb_node.specs.Shape.{is_box}
-use Rattle.tb_node.specs.PlainNodes.{hbox, rule, skip, kerned, pen, mark, note, whatsit, PlainKind, plain, ins, act, PlainNode, node_shape, is_insertion_kind}
+use Rattle.tb_node.specs.PlainNodes.{mark, note, whatsit, PlainKind, plain, PlainNode, node_shape, is_insertion_kind}
 use Rattle.tb_param.specs.declared.Params.{Params}
 use Rattle.tb_insert.specs.declared.Class.{Class}
 use Rattle.tb_insert.specs.Account.{Frozen}
@@ -18,16 +18,10 @@ use Rattle.tb_builder.specs.Courses.{IsSound, IsPageSoFar, AllLoose, is_loose, f
 use Rattle.tb_plain.specs.Run.{MakeupState, makeup_ask, makeup_classes, void_boxes, builder_holds}
 
 loose-kind : (l : ℕ) (k : PlainKind) → is_loose k ≡ true → (let n : PlainNode = record { line = l; kind = k } in (is_box (node_shape n) || is_insertion_kind k) ≡ false)
-loose-kind l (plain (hbox w h d)) e = absurd (true≢false (sym e))
-loose-kind l (plain (rule name h d)) e = absurd (true≢false (sym e))
-loose-kind l (plain (skip g)) e = absurd (true≢false (sym e))
-loose-kind l (plain (kerned w)) e = absurd (true≢false (sym e))
-loose-kind l (plain (pen p)) e = absurd (true≢false (sym e))
 loose-kind l (plain (mark name)) e = refl
 loose-kind l (plain (note name)) e = refl
 loose-kind l (plain whatsit) e = refl
-loose-kind l (ins i) e = absurd (true≢false (sym e))
-loose-kind l (act a) e = absurd (true≢false (sym e))
+loose-kind l k e = absurd (true≢false (sym e))
 
 loose-free : (ns : List PlainNode) → AllLoose ns → freezes ns ≡ false
 loose-free [] h = refl

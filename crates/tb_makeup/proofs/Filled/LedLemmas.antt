@@ -3,7 +3,7 @@ use Rattle.std.proofs.Common.{◌≡◌, refl, sym, ◌∙◌, ap, subst, ℕ, �
 use Rattle.std.specs.Prelude.{if◌then◌else◌}
 use Rattle.std.proofs.lemmas.Bool.{true≢false}
 use Rattle.tb_node.specs.declared.Act.{Act}
-use Rattle.tb_node.specs.PlainNodes.{hbox, rule, skip, kerned, pen, mark, note, whatsit, PlainKind, plain, ins, act, PlainNode, node_shape, is_act_kind}
+use Rattle.tb_node.specs.PlainNodes.{hbox, rule, mark, note, whatsit, PlainKind, plain, ins, act, PlainNode, node_shape, is_act_kind}
 use Rattle.tb_break.specs.PageTop.{pruned_nodes}
 use Rattle.tb_break.specs.Places.{last_or}
 use Rattle.tb_builder.specs.Reach.{holds_box, laid_out}
@@ -58,14 +58,12 @@ led-none b (n ∷ ns) h = (by-none b n.kind h.0, led-none (is_whatsit n.kind) ns
 pruned-kind : (t : ℤ) (ns : List PlainNode) → ((b : Bool) → ActsAreLed b ns → ActsAreLed b (pruned_nodes t ns)) → (b : Bool) (l : ℕ) (k : PlainKind) → LedBy b k → ActsAreLed (is_whatsit k) ns → (let n : PlainNode = record { line = l; kind = k } in ActsAreLed b (pruned_nodes t (n ∷ ns)))
 pruned-kind t ns later b l (plain (hbox w h d)) x y = (tt, (tt, y))
 pruned-kind t ns later b l (plain (rule name h d)) x y = (tt, (tt, y))
-pruned-kind t ns later b l (plain (skip g)) x y = led-weaken b (pruned_nodes t ns) (later false y)
-pruned-kind t ns later b l (plain (kerned w)) x y = led-weaken b (pruned_nodes t ns) (later false y)
-pruned-kind t ns later b l (plain (pen p)) x y = led-weaken b (pruned_nodes t ns) (later false y)
 pruned-kind t ns later b l (plain (mark name)) x y = (tt, later false y)
 pruned-kind t ns later b l (plain (note name)) x y = (tt, later false y)
 pruned-kind t ns later b l (plain whatsit) x y = (tt, later true y)
 pruned-kind t ns later b l (ins i) x y = (tt, later false y)
 pruned-kind t ns later b l (act a) x y = (x, later false y)
+pruned-kind t ns later b l k x y = led-weaken b (pruned_nodes t ns) (later false y)
 
 pub led-pruned : (t : ℤ) (b : Bool) (ns : List PlainNode) → ActsAreLed b ns → ActsAreLed b (pruned_nodes t ns)
 led-pruned t b [] h = tt
@@ -80,27 +78,12 @@ led-laid t page waiting none h = by_box (holds_box page)
 
 spent-whatsit : (k : PlainKind) → is_whatsit (spent_kind k) ≡ is_whatsit k
 spent-whatsit (plain (hbox w h d)) = refl
-spent-whatsit (plain (rule name h d)) = refl
-spent-whatsit (plain (skip g)) = refl
-spent-whatsit (plain (kerned w)) = refl
-spent-whatsit (plain (pen p)) = refl
-spent-whatsit (plain (mark name)) = refl
-spent-whatsit (plain (note name)) = refl
-spent-whatsit (plain whatsit) = refl
-spent-whatsit (ins i) = refl
-spent-whatsit (act a) = refl
+spent-whatsit k = refl
 
 spent-by : (b : Bool) (k : PlainKind) → LedBy b k → LedBy b (spent_kind k)
 spent-by b (plain (hbox w h d)) x = tt
-spent-by b (plain (rule name h d)) x = tt
-spent-by b (plain (skip g)) x = tt
-spent-by b (plain (kerned w)) x = tt
-spent-by b (plain (pen p)) x = tt
-spent-by b (plain (mark name)) x = tt
-spent-by b (plain (note name)) x = tt
-spent-by b (plain whatsit) x = tt
-spent-by b (ins i) x = tt
 spent-by b (act a) x = x
+spent-by b k x = tt
 
 pub led-spent : (b : Bool) (ns : List PlainNode) → ActsAreLed b ns → ActsAreLed b (with_spent_break ns)
 led-spent b [] h = tt
@@ -115,16 +98,8 @@ pub record EndsLed (ns : List PlainNode) : Type 0 where
   pub whole : ns ≡ front ++ record { line = line; kind = plain whatsit } ∷ []
 
 whatsit-is : (k : PlainKind) → is_whatsit k ≡ true → k ≡ plain whatsit
-whatsit-is (plain (hbox w h d)) e = absurd (true≢false (sym e))
-whatsit-is (plain (rule name h d)) e = absurd (true≢false (sym e))
-whatsit-is (plain (skip g)) e = absurd (true≢false (sym e))
-whatsit-is (plain (kerned w)) e = absurd (true≢false (sym e))
-whatsit-is (plain (pen p)) e = absurd (true≢false (sym e))
-whatsit-is (plain (mark name)) e = absurd (true≢false (sym e))
-whatsit-is (plain (note name)) e = absurd (true≢false (sym e))
 whatsit-is (plain whatsit) e = refl
-whatsit-is (ins i) e = absurd (true≢false (sym e))
-whatsit-is (act a) e = absurd (true≢false (sym e))
+whatsit-is k e = absurd (true≢false (sym e))
 
 first-whatsit : (x : PlainNode) (l : ℕ) (a : Act) (ys : List PlainNode) → ActsAreLed (is_whatsit x.kind) (record { line = l; kind = act a } ∷ ys) → EndsLed (x ∷ [])
 first-whatsit x l a ys h = record { front = []; line = x.line; whole = ap (λ k. with_kind k) (whatsit-is x.kind h.0.0) }

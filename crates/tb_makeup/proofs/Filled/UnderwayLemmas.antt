@@ -81,16 +81,9 @@ underway-start r h = record {
 -- ---- nodes of a page
 
 matter-leaf : (held : ℕ → List Node) (k : Kind) → IsMatterKind (plain_kind held k) → is_leaf_kind k
-matter-leaf held (kinds.Hbox what h d) t = tt
-matter-leaf held (kinds.Rule name h d) t = tt
-matter-leaf held (kinds.Skip g) t = tt
-matter-leaf held (kinds.Kern w) t = tt
-matter-leaf held (kinds.Pen q) t = tt
-matter-leaf held (kinds.Mark name) t = tt
-matter-leaf held (kinds.Note name) t = tt
-matter-leaf held kinds.Whatsit t = tt
 matter-leaf held (kinds.Ins i) t = absurd t
 matter-leaf held (kinds.Act a) t = absurd t
+matter-leaf held k t = tt
 
 matter-leaves : (held : ℕ → List Node) (ns : List Node) → AreMatter (map (plain_of held) ns) → AreLeaves ns
 matter-leaves held [] h = tt

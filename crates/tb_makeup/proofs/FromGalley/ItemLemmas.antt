@@ -20,23 +20,9 @@ use Rattle.tb_plain.proofs.StepLemmas.{acts-append}
 
 -- an item that is no float and no clear has the nodes that it has in the output routine
 pub kinds-same : (p : Params) (k : ItemKind) → ((f : Float) (vert : Bool) → k ≢ items.Float f vert) → k ≢ items.ClearPage → item_kinds p false k ≡ makeup_kinds p k
-kinds-same p (items.Hbox name h d) float clear = refl
-kinds-same p (items.Rule name h d) float clear = refl
-kinds-same p (items.Skip g) float clear = refl
-kinds-same p (items.Kern w) float clear = refl
-kinds-same p (items.Penalty q) float clear = refl
-kinds-same p (items.Mark name) float clear = refl
-kinds-same p (items.Note name) float clear = refl
-kinds-same p (items.Foot class ls) float clear = refl
 kinds-same p (items.Float f vert) float clear = absurd (float f vert refl)
-kinds-same p (items.Margin m vert) float clear = refl
-kinds-same p items.NewPage float clear = refl
 kinds-same p items.ClearPage float clear = absurd (clear refl)
-kinds-same p (items.PageBreak n) float clear = refl
-kinds-same p (items.NoPageBreak n) float clear = refl
-kinds-same p items.OneColumn float clear = refl
-kinds-same p items.TwoColumn float clear = refl
-kinds-same p (items.Suppress area) float clear = refl
+kinds-same p k float clear = refl
 
 makeup_nodes-append : (p : Params) (xs ys : List Item) → makeup_nodes p (xs ++ ys) ≡ makeup_nodes p xs ++ makeup_nodes p ys
 makeup_nodes-append p [] ys = refl

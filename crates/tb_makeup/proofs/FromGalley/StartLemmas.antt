@@ -89,24 +89,16 @@ module _ (cs : List Class) (p : Params) where
   not-served e = absurd (true≢false (sym e))
 
   fits : (l : ℕ) (k : ItemKind) → is_suited k ≡ true → IsItem cs k → All (IsGalleyNode cs) (on_line l (item_kinds p false k)) → Fits l k
-  fits l (items.Hbox name h d) s i a = record { one_column = refl; nodes = sized l (items.Hbox name h d) a; led = (tt, tt); item = tt }
-  fits l (items.Rule name h d) s i a = record { one_column = refl; nodes = sized l (items.Rule name h d) a; led = (tt, tt); item = tt }
-  fits l (items.Skip g) s i a = record { one_column = refl; nodes = sized l (items.Skip g) a; led = (tt, tt); item = tt }
-  fits l (items.Kern w) s i a = record { one_column = refl; nodes = sized l (items.Kern w) a; led = (tt, tt); item = tt }
-  fits l (items.Penalty q) s i a = record { one_column = refl; nodes = sized l (items.Penalty q) a; led = (tt, tt); item = tt }
-  fits l (items.Mark name) s i a = record { one_column = refl; nodes = sized l (items.Mark name) a; led = (tt, tt); item = tt }
-  fits l (items.Note name) s i a = record { one_column = refl; nodes = sized l (items.Note name) a; led = (tt, tt); item = tt }
   fits l (items.Foot class ls) s i a = record { one_column = refl; nodes = sized l (items.Foot class ls) a; led = (tt, tt); item = (foot-known p class s, i.1, i.2) }
   fits l (items.Float f vert) s i a =
       record { one_column = refl; nodes = taking-sized p l f vert; led = (tt, ((refl, float-height l f vert (has_second p && false && f.wide) a), tt)); item = tt }
   fits l (items.Margin m vert) s i a = not-served s
   fits l items.NewPage s i a = record { one_column = refl; nodes = sized l items.NewPage a; led = (tt, (tt, tt)); item = tt }
   fits l items.ClearPage s i a = record { one_column = refl; nodes = clearing-sized l; led = (tt, (tt, tt)); item = tt }
-  fits l (items.PageBreak n) s i a = record { one_column = refl; nodes = sized l (items.PageBreak n) a; led = (tt, tt); item = tt }
-  fits l (items.NoPageBreak n) s i a = record { one_column = refl; nodes = sized l (items.NoPageBreak n) a; led = (tt, tt); item = tt }
   fits l items.OneColumn s i a = not-served s
   fits l items.TwoColumn s i a = not-served s
   fits l (items.Suppress area) s i a = not-served s
+  fits l k s i a = record { one_column = refl; nodes = sized l k a; led = (tt, tt); item = tt }
 
   -- ---- of all items
 
@@ -143,23 +135,8 @@ weigh-append xs ys = let a = count-append xs ys in let b = acts-append xs ys in 
 module _ (p : Params) where
   -- twenty for each line of items at most
   item-few : (l : ℕ) (k : ItemKind) → weigh (on_line l (makeup_kinds p k)) ≤ 20 * weight_of k
-  item-few l (items.Hbox name h d) = omega arith
-  item-few l (items.Rule name h d) = omega arith
-  item-few l (items.Skip g) = omega arith
-  item-few l (items.Kern w) = omega arith
-  item-few l (items.Penalty q) = omega arith
-  item-few l (items.Mark name) = omega arith
-  item-few l (items.Note name) = omega arith
   item-few l (items.Foot class ls) = let e = length-map {B = PlainLeaf} ls plain_leaf in omega (arith, e)
-  item-few l (items.Float f vert) = omega arith
-  item-few l (items.Margin m vert) = omega arith
-  item-few l items.NewPage = omega arith
-  item-few l items.ClearPage = omega arith
-  item-few l (items.PageBreak n) = omega arith
-  item-few l (items.NoPageBreak n) = omega arith
-  item-few l items.OneColumn = omega arith
-  item-few l items.TwoColumn = omega arith
-  item-few l (items.Suppress area) = omega arith
+  item-few l k = omega arith
 
   items-few : (ns : List Item) → weigh (makeup_nodes p ns) ≤ 20 * weight ns
   items-few [] = omega arith

@@ -23,16 +23,8 @@ use Rattle.tb_plain.specs.Firing.{holds_any, page_for_held, put_back_after}
 -- ---- no insertions
 
 kind-inner : (held : ℕ → List Node) (k : Kind) → is_insertion_kind (plain_kind held k) ≡ false → inner_of k ≡ None
-kind-inner held (kinds.Hbox what h d) e = refl
-kind-inner held (kinds.Rule name h d) e = refl
-kind-inner held (kinds.Skip g) e = refl
-kind-inner held (kinds.Kern w) e = refl
-kind-inner held (kinds.Pen q) e = refl
-kind-inner held (kinds.Mark name) e = refl
-kind-inner held (kinds.Note name) e = refl
-kind-inner held kinds.Whatsit e = refl
 kind-inner held (kinds.Ins i) e = absurd (true≢false e)
-kind-inner held (kinds.Act a) e = refl
+kind-inner held k e = refl
 
 -- no insertion stands among these nodes
 abbrev AreNoInsertions : List PlainNode → Type 0

@@ -32,22 +32,14 @@ use Rattle.tb_output.proofs.ColumnPages.FloatMoves.{floats-do, room-stays}
 module _ (z : Wanted) (v w : FloatPool) where
   -- the floats that were not chosen stay
   pub left-lists : (from : Part) → IsWaiting from → (h : IsChosen z from v w) → (without_marked from w).lists ≡ with_floats_of from (left_floats h.choices) v.lists
-  left-lists parts.Current q h = absurd q
-  left-lists parts.Here q h = absurd q
-  left-lists parts.Top q h = absurd q
-  left-lists parts.Bottom q h = absurd q
   left-lists parts.Deferred q h = λ i. record (h.lists i) { deferred = h.unmarked i }
-  left-lists parts.Double q h = absurd q
   left-lists parts.Second q h = λ i. record (h.lists i) { second = h.unmarked i }
+  left-lists from q h = absurd q
 
   pub left-size : (from : Part) → IsWaiting from → IsChosen z from v w → (without_marked from w).size ≡ v.size
-  left-size parts.Current q h = absurd q
-  left-size parts.Here q h = absurd q
-  left-size parts.Top q h = absurd q
-  left-size parts.Bottom q h = absurd q
   left-size parts.Deferred q h = h.size
-  left-size parts.Double q h = absurd q
   left-size parts.Second q h = h.size
+  left-size from q h = absurd q
 
   -- the marks of the other list
   second-free : IsChosen z parts.Deferred v w → HasNoMarks v → marked_among w.second_marks w.lists.second ≡ []
@@ -57,31 +49,19 @@ module _ (z : Wanted) (v w : FloatPool) where
   deferred-free h none = (λ i. marked_among (h.other_marks parts.Deferred (λ e. cc) i) (h.lists i).deferred) ∙ none.deferred
 
   pub left-unmarked : (from : Part) → IsWaiting from → IsChosen z from v w → HasNoMarks v → HasNoMarks (without_marked from w)
-  left-unmarked parts.Current q h none = absurd q
-  left-unmarked parts.Here q h none = absurd q
-  left-unmarked parts.Top q h none = absurd q
-  left-unmarked parts.Bottom q h none = absurd q
   left-unmarked parts.Deferred q h none = record { deferred = marked-false (length (unmarked_floats parts.Deferred w)) (unmarked_floats parts.Deferred w); second = second-free h none }
-  left-unmarked parts.Double q h none = absurd q
   left-unmarked parts.Second q h none = record { deferred = deferred-free h none; second = marked-false (length (unmarked_floats parts.Second w)) (unmarked_floats parts.Second w) }
+  left-unmarked from q h none = absurd q
 
   pub back-size : (from : Part) → IsWaiting from → IsChosen z from v w → (without_marks from w).size ≡ v.size
-  back-size parts.Current q h = absurd q
-  back-size parts.Here q h = absurd q
-  back-size parts.Top q h = absurd q
-  back-size parts.Bottom q h = absurd q
   back-size parts.Deferred q h = h.size
-  back-size parts.Double q h = absurd q
   back-size parts.Second q h = h.size
+  back-size from q h = absurd q
 
   pub back-unmarked : (from : Part) → IsWaiting from → IsChosen z from v w → HasNoMarks v → HasNoMarks (without_marks from w)
-  back-unmarked parts.Current q h none = absurd q
-  back-unmarked parts.Here q h none = absurd q
-  back-unmarked parts.Top q h none = absurd q
-  back-unmarked parts.Bottom q h none = absurd q
   back-unmarked parts.Deferred q h none = record { deferred = marked-false (length w.marks) w.lists.deferred; second = second-free h none }
-  back-unmarked parts.Double q h none = absurd q
   back-unmarked parts.Second q h none = record { deferred = deferred-free h none; second = marked-false (length w.second_marks) w.lists.second }
+  back-unmarked from q h none = absurd q
 
 -- whether there is a company or not, as many boxes are live as before
 pub chosen-room : (b : Bool) (z : Wanted) (from : Part) (v w : FloatPool) (room : ℕ) → (IsTrue b → IsChosen z from v w) → (b ≡ false → w ≡ v) → HasRoomFor v room → HasRoomFor w room

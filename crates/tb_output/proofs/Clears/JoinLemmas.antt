@@ -41,26 +41,18 @@ areas-has m w x one two first second = record {
 -- ---- the wide floats
 
 pub double-apart : (to : Part) → IsWaiting to → parts.Double ≡ to → ⊥
-double-apart parts.Current q e = absurd q
-double-apart parts.Here q e = absurd q
-double-apart parts.Top q e = absurd q
-double-apart parts.Bottom q e = absurd q
 double-apart parts.Deferred q e = cc
-double-apart parts.Double q e = absurd q
 double-apart parts.Second q e = cc
+double-apart to q e = absurd q
 
 -- the lists, the size, and how many boxes are live
 joined-double : (to : Part) → IsWaiting to → (v : FloatPool) →
     ((joined_before parts.Double to v).lists ≡ with_floats_of to (v.lists.double ++ floats_of to v.lists) (record v.lists { double = [] }))
     × ((joined_before parts.Double to v).size ≡ v.size)
     × (live_count (joined_before parts.Double to v).lists ≡ live_count v.lists)
-joined-double parts.Current q v = absurd q
-joined-double parts.Here q v = absurd q
-joined-double parts.Top q v = absurd q
-joined-double parts.Bottom q v = absurd q
 joined-double parts.Deferred q v = (refl, refl, omega (arith, length-append v.lists.double v.lists.deferred))
-joined-double parts.Double q v = absurd q
 joined-double parts.Second q v = (refl, refl, omega (arith, length-append v.lists.double v.lists.second))
+joined-double to q v = absurd q
 
 module _ (to : Part) (waits : IsWaiting to) (v w : FloatPool) (e : w ≡ joined_before parts.Double to v) where
   double-size : w.size ≡ v.size

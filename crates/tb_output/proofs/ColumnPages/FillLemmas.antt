@@ -38,8 +38,7 @@ gone p deferred f before rest w = record { state = refl; put_back = refl; sent =
 
 stays : (a : AreaPlace) (f : Float) (before : List Float) → FloatMoves.still_deferred (where_of a) f before ≡ still_before a f before
 stays at_top f before = refl
-stays at_bottom f before = refl
-stays deferred f before = refl
+stays a f before = refl
 
 chained : (w v u : Work) (l : FloatLists) (walk : State → FloatLists) → HasLists w v l → HasLists v u (walk v.state) → HasLists w u (walk (record w.state { floats = l }))
 chained w v u l walk g t = record {
@@ -63,15 +62,11 @@ next-lists p before (f ∷ rest) w =
 -- ---- the same above both columns
 
 gone-double : (from : Part) → IsWaiting from → (p : Params) (b : Bool) (f : Float) (before rest : List Float) (w : Work) → HasLists w (FloatMoves.place_waiting from p (if b then places.Double else places.Deferred) f before rest w) (gone_double from b f before rest w.state.floats)
-gone-double parts.Current q p b f before rest w = absurd q
-gone-double parts.Here q p b f before rest w = absurd q
-gone-double parts.Top q p b f before rest w = absurd q
-gone-double parts.Bottom q p b f before rest w = absurd q
-gone-double parts.Double q p b f before rest w = absurd q
 gone-double parts.Deferred q p true f before rest w = recorded (placed f places.Double w.state.floats (column_height_of p w.state.floats)) w _
 gone-double parts.Second q p true f before rest w = recorded (placed f places.Double w.state.floats (column_height_of p w.state.floats)) w _
 gone-double parts.Deferred q p false f before rest w = record { state = refl; put_back = refl; sent = refl; refused = refl }
 gone-double parts.Second q p false f before rest w = record { state = refl; put_back = refl; sent = refl; refused = refl }
+gone-double from q p b f before rest w = absurd q
 
 stays-double : (b : Bool) (f : Float) (before : List Float) → FloatMoves.still_deferred (if b then places.Double else places.Deferred) f before ≡ still_single b f before
 stays-double true f before = refl

@@ -51,17 +51,13 @@ filled-count p s before (f ∷ rest) l e =
 
 doubled-one : (from : Part) → IsWaiting from → (t : Bool) (f : Float) (before rest : List Float) (l : FloatLists) → floats_of from l ≡ before ++ f ∷ rest
     → (live_count (gone_double from t f before rest l) ≡ live_count l) × (floats_of from (gone_double from t f before rest l) ≡ still_single t f before ++ rest)
-doubled-one parts.Current q t f before rest l e = absurd q
-doubled-one parts.Here q t f before rest l e = absurd q
-doubled-one parts.Top q t f before rest l e = absurd q
-doubled-one parts.Bottom q t f before rest l e = absurd q
-doubled-one parts.Double q t f before rest l e = absurd q
 doubled-one parts.Deferred q true f before rest l e =
     (omega (arith, length-append l.double (f ∷ []), length-append before rest, ap length e, length-append before (f ∷ rest)), refl)
 doubled-one parts.Second q true f before rest l e =
     (omega (arith, length-append l.double (f ∷ []), length-append before rest, ap length e, length-append before (f ∷ rest)), refl)
 doubled-one parts.Deferred q false f before rest l e = (refl, e ∙ sym (append_assoc before (f ∷ []) rest))
 doubled-one parts.Second q false f before rest l e = (refl, e ∙ sym (append_assoc before (f ∷ []) rest))
+doubled-one from q t f before rest l e = absurd q
 
 pub doubled-count : (from : Part) → IsWaiting from → (p : Params) (s : Suppress) (before fs : List Float) (l : FloatLists) → floats_of from l ≡ before ++ fs → live_count (doubled from p s before fs l) ≡ live_count l
 doubled-count from q p s before [] l e = refl
@@ -77,12 +73,7 @@ room-stays v w room size count h = omega (arith, size, count, h)
 -- what is chosen takes no room
 pub marks-room : (from : Part) (v : FloatPool) (room : ℕ) → HasRoomFor v room → HasRoomFor (without_marks from v) room
 marks-room parts.Current v room h = h
-marks-room parts.Here v room h = h
-marks-room parts.Top v room h = h
-marks-room parts.Bottom v room h = h
-marks-room parts.Deferred v room h = h
-marks-room parts.Double v room h = h
-marks-room parts.Second v room h = h
+marks-room from v room h = h
 
 -- the machine's events are the same, and its pool another
 pub pool-moved : (f : FloatPool → FloatPool) (inside m : MachineView) (v : FloatPool) (es : List Sent) → inside ≡ m → v ≡ f inside.pool → es ≡ inside.events → record inside { pool = v; events = es } ≡ record m { pool = f m.pool }

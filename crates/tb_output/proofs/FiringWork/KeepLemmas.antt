@@ -166,32 +166,18 @@ pub record MayGoBack (ns : List Node) : Type 0 where
   pub sized : All IsSizedNode ns
 
 leaf-inner : (k : Kind) → is_leaf_kind k → inner_of k ≡ None
-leaf-inner (kinds.Hbox what h d) s = refl
-leaf-inner (kinds.Rule name h d) s = refl
-leaf-inner (kinds.Skip w) s = refl
-leaf-inner (kinds.Kern w) s = refl
-leaf-inner (kinds.Pen q) s = refl
-leaf-inner (kinds.Mark name) s = refl
-leaf-inner (kinds.Note name) s = refl
-leaf-inner kinds.Whatsit s = refl
 leaf-inner (kinds.Ins i) s = absurd s
 leaf-inner (kinds.Act a) s = absurd s
+leaf-inner k s = refl
 
 pub leaves-inner : (ns : List Node) → AreLeaves ns → inner_ids ns ≡ []
 leaves-inner [] h = refl
 leaves-inner (n ∷ ns) h = ap (λ o. option_to_list o ++ inner_ids ns) (leaf-inner n.kind h.0) ∙ leaves-inner ns h.1
 
 leaf-known : (cs : List Class) (k : Kind) → is_leaf_kind k → is_known cs k ≡ true
-leaf-known cs (kinds.Hbox what h d) s = refl
-leaf-known cs (kinds.Rule name h d) s = refl
-leaf-known cs (kinds.Skip w) s = refl
-leaf-known cs (kinds.Kern w) s = refl
-leaf-known cs (kinds.Pen q) s = refl
-leaf-known cs (kinds.Mark name) s = refl
-leaf-known cs (kinds.Note name) s = refl
-leaf-known cs kinds.Whatsit s = refl
 leaf-known cs (kinds.Ins i) s = absurd s
 leaf-known cs (kinds.Act a) s = absurd s
+leaf-known cs k s = refl
 
 pub leaves-known : (cs : List Class) (ns : List Node) → AreLeaves ns → AllKnown cs ns
 leaves-known cs [] h = tt

@@ -28,16 +28,9 @@ use Rattle.tb_output.specs.MachineFrame.{AreNoneOf}
 -- ---- leaves
 
 kind-held : (f g : ℕ → List Node) (k : Kind) → is_leaf_kind k → plain_kind f k ≡ plain_kind g k
-kind-held f g (kinds.Hbox what h d) s = refl
-kind-held f g (kinds.Rule name h d) s = refl
-kind-held f g (kinds.Skip w) s = refl
-kind-held f g (kinds.Kern w) s = refl
-kind-held f g (kinds.Pen q) s = refl
-kind-held f g (kinds.Mark name) s = refl
-kind-held f g (kinds.Note name) s = refl
-kind-held f g kinds.Whatsit s = refl
 kind-held f g (kinds.Ins i) s = absurd s
 kind-held f g (kinds.Act a) s = absurd s
+kind-held f g k s = refl
 
 -- a list without insertions shows nothing of other lists
 pub leaves-shown : (f g : ℕ → List Node) (ns : List Node) → AreLeaves ns → map (plain_of f) ns ≡ map (plain_of g) ns

@@ -186,16 +186,9 @@ module _ (store opened : Lists Node) (l : ℕ) (fresh : get store.lists l ≡ No
 -- ---- what goes back can be handed to the builder
 
 leaf-plain : (k : Kind) → is_leaf_kind k → is_plain k ≡ true
-leaf-plain (kinds.Hbox what h d) s = refl
-leaf-plain (kinds.Rule name h d) s = refl
-leaf-plain (kinds.Skip w) s = refl
-leaf-plain (kinds.Kern w) s = refl
-leaf-plain (kinds.Pen q) s = refl
-leaf-plain (kinds.Mark name) s = refl
-leaf-plain (kinds.Note name) s = refl
-leaf-plain kinds.Whatsit s = refl
 leaf-plain (kinds.Ins i) s = absurd s
 leaf-plain (kinds.Act a) s = absurd s
+leaf-plain k s = refl
 
 leaves-plain : (ns : List Node) → AreLeaves ns → AllPlain ns
 leaves-plain [] h = tt

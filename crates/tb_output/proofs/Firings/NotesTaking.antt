@@ -64,16 +64,9 @@ full-is (Some xs) ls h e = ap (λ x. Some x) e
 -- ---- the box of a class is taken into a list that was opened for it
 
 plain-leaf : (k : Kind) → is_plain k ≡ true → is_leaf_kind k
-plain-leaf (kinds.Hbox what h d) p = tt
-plain-leaf (kinds.Rule name h d) p = tt
-plain-leaf (kinds.Skip g) p = tt
-plain-leaf (kinds.Kern w) p = tt
-plain-leaf (kinds.Pen q) p = tt
-plain-leaf (kinds.Mark name) p = tt
-plain-leaf (kinds.Note name) p = tt
-plain-leaf kinds.Whatsit p = tt
 plain-leaf (kinds.Ins i) p = absurd (true≢false (sym p))
 plain-leaf (kinds.Act a) p = absurd (true≢false (sym p))
+plain-leaf k p = tt
 
 plain-leaves : (ns : List Node) → AllPlain ns → AreLeaves ns
 plain-leaves [] h = tt

@@ -81,27 +81,14 @@ module _ (a b : Lists Node) (l k : ℕ) (cut : b.lists ≡ with_list a l (take k
 
 told-after : (d e : ℤ) (k : Kind) → kind_depth k ≡ Some e → depth_after d (shape_of_kind k) ≡ e
 told-after d e (kinds.Hbox what h x) is = cc
-told-after d e (kinds.Rule name h x) is = cc
-told-after d e (kinds.Skip g) is = cc
-told-after d e (kinds.Kern w) is = cc
-told-after d e (kinds.Pen p) is = cc
-told-after d e (kinds.Mark name) is = cc
-told-after d e (kinds.Note name) is = cc
-told-after d e kinds.Whatsit is = cc
-told-after d e (kinds.Ins i) is = cc
-told-after d e (kinds.Act a) is = cc
+told-after d e k is = cc
 
 untold-after : (d : ℤ) (k : Kind) → kind_depth k ≡ None → depth_after d (shape_of_kind k) ≡ d
 untold-after d (kinds.Hbox what h x) is = cc
 untold-after d (kinds.Rule name h x) is = cc
 untold-after d (kinds.Skip g) is = cc
 untold-after d (kinds.Kern w) is = cc
-untold-after d (kinds.Pen p) is = refl
-untold-after d (kinds.Mark name) is = refl
-untold-after d (kinds.Note name) is = refl
-untold-after d kinds.Whatsit is = refl
-untold-after d (kinds.Ins i) is = refl
-untold-after d (kinds.Act a) is = refl
+untold-after d k is = refl
 
 depth-then : (d : ℤ) (ns : List Node) (n : Node) → depth_from d (map shape_of (ns ++ n ∷ [])) ≡ depth_after (depth_from d (map shape_of ns)) (shape_of n)
 depth-then d [] n = refl

@@ -75,20 +75,12 @@ last-there (x ∷ xs) some e =
 
 -- the glue of a sized node is small
 glue-small : (k : Kind) (g : Glue) → IsSized (shape_of_kind k) → glue_of_kind k ≡ Some g → IsSizedGlue g
-glue-small (kinds.Hbox what h d) g sized e = cc
-glue-small (kinds.Rule name h d) g sized e = cc
 glue-small (kinds.Skip x) g sized e = by_width (is_zero x.width) e
   where
     by_width : (t : Bool) → (if t then None else Some x) ≡ Some g → IsSizedGlue g
     by_width true e = let none : None ≡ Some g = e in cc
     by_width false e = let some : Some x ≡ Some g = e in let same : x ≡ g = cc in subst IsSizedGlue same (record { width = sized.0; stretch = sized.1; shrink = sized.2 })
-glue-small (kinds.Kern w) g sized e = cc
-glue-small (kinds.Pen w) g sized e = cc
-glue-small (kinds.Mark name) g sized e = cc
-glue-small (kinds.Note name) g sized e = cc
-glue-small kinds.Whatsit g sized e = cc
-glue-small (kinds.Ins i) g sized e = cc
-glue-small (kinds.Act a) g sized e = cc
+glue-small k g sized e = cc
 
 last-small : (o : Option Glue) (ns : List Node) (g : Glue) → (o ≡ Some g → IsSizedGlue g) → All IsSizedNode ns → last_or o (map (λ (x : Node). glue_of_kind x.kind) ns) ≡ Some g → IsSizedGlue g
 last-small o [] g first sized e = first e

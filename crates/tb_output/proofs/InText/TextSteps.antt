@@ -60,15 +60,7 @@ use Rattle.tb_output.proofs.FiringWork.StepLemmas.{Done, Cut, keeps-on, done-the
 module _ (held : ListId → List Node) where
   glue-kind : (k : Kind) → glue_at_end (plain_kind held k) ≡ glue_of_kind k
   glue-kind (kinds.Hbox what h d) = refl
-  glue-kind (kinds.Rule name h d) = refl
-  glue-kind (kinds.Skip w) = refl
-  glue-kind (kinds.Kern w) = refl
-  glue-kind (kinds.Pen q) = refl
-  glue-kind (kinds.Mark name) = refl
-  glue-kind (kinds.Note name) = refl
-  glue-kind kinds.Whatsit = refl
-  glue-kind (kinds.Ins i) = refl
-  glue-kind (kinds.Act a) = refl
+  glue-kind k = refl
 
   glue-after : (d : PlainKind) (o : Option Glue) (ns : List Node) → glue_at_end d ≡ o → glue_at_end (last_or d (map (λ (m : PlainNode). m.kind) (map (plain_of held) ns))) ≡ last_or o (map (λ (n : Node). glue_of_kind n.kind) ns)
   glue-after d o [] e = e
@@ -206,32 +198,25 @@ first-length (d ∷ es) e h = refl
 
 -- how the lists are after it
 moved-lists : (to : Part) (f : Float) (v : FloatPool) → IsColumnPart to → (moved_float parts.Current 0 to f v).lists ≡ joined_to (place_of to) f (without_first v.lists)
-moved-lists parts.Current f v c = absurd c
 moved-lists parts.Here f v c = λ i. record v.lists { current = without-first_place v.lists.current i; here = v.lists.here ++ f ∷ [] }
 moved-lists parts.Top f v c = λ i. record v.lists { current = without-first_place v.lists.current i; top = v.lists.top ++ f ∷ [] }
 moved-lists parts.Bottom f v c = λ i. record v.lists { current = without-first_place v.lists.current i; bottom = v.lists.bottom ++ f ∷ [] }
 moved-lists parts.Deferred f v c = λ i. record v.lists { current = without-first_place v.lists.current i; deferred = v.lists.deferred ++ f ∷ [] }
-moved-lists parts.Double f v c = absurd c
-moved-lists parts.Second f v c = absurd c
+moved-lists to f v c = absurd c
 
 moved-size : (to : Part) (f : Float) (v : FloatPool) → IsColumnPart to → (moved_float parts.Current 0 to f v).size ≡ v.size
 moved-size parts.Current f v c = absurd c
-moved-size parts.Here f v c = refl
-moved-size parts.Top f v c = refl
-moved-size parts.Bottom f v c = refl
-moved-size parts.Deferred f v c = refl
 moved-size parts.Double f v c = absurd c
 moved-size parts.Second f v c = absurd c
+moved-size to f v c = refl
 
 -- as many boxes are live
 joined-count : (to : Part) (f : Float) (l : FloatLists) (e : Entry) → IsColumnPart to → slice_get l.current 0 ≡ Some e → live_count (joined_to (place_of to) f (without_first l)) ≡ live_count l
-joined-count parts.Current f l e c h = absurd c
 joined-count parts.Here f l e c h = omega (arith, first-length l.current e h, length-append l.here (f ∷ []))
 joined-count parts.Top f l e c h = omega (arith, first-length l.current e h, length-append l.top (f ∷ []))
 joined-count parts.Bottom f l e c h = omega (arith, first-length l.current e h, length-append l.bottom (f ∷ []))
 joined-count parts.Deferred f l e c h = omega (arith, first-length l.current e h, length-append l.deferred (f ∷ []))
-joined-count parts.Double f l e c h = absurd c
-joined-count parts.Second f l e c h = absurd c
+joined-count to f l e c h = absurd c
 
 pub moved-has : (to : Part) (f : Float) (m : MachineView) (v : FloatPool) → IsColumnPart to → v ≡ moved_float parts.Current 0 to f m.pool → (HasNoMarks m.pool → HasNoMarks v) → HasFloats (joined_to (place_of to) f (without_first m.pool.lists)) m (record m { pool = v })
 moved-has to f m v c e unmarked = record {
@@ -281,31 +266,20 @@ retired-has m v w one two first second = record {
 
 pub column-apart : (to : Part) → IsColumnPart to → parts.Current ≡ to → ⊥
 column-apart parts.Current c e = absurd c
-column-apart parts.Here c e = cc
-column-apart parts.Top c e = cc
-column-apart parts.Bottom c e = cc
-column-apart parts.Deferred c e = cc
 column-apart parts.Double c e = absurd c
 column-apart parts.Second c e = absurd c
+column-apart to c e = cc
 
 pub area-column : (to : Part) → IsAreaPart to → IsColumnPart to
-area-column parts.Current c = absurd c
-area-column parts.Here c = absurd c
 area-column parts.Top c = tt
 area-column parts.Bottom c = tt
-area-column parts.Deferred c = absurd c
-area-column parts.Double c = absurd c
-area-column parts.Second c = absurd c
+area-column to c = absurd c
 
 -- the float goes to its area, and the penalty comes after it
 pub area-places : (to : Part) (p : Params) (vert : Bool) (f : Float) (w : Work) → IsAreaPart to → puts_interline p (place_float p (place_of to) f (without_first w.state.floats) w) ≡ float_placed p vert f (place_of to) w
-area-places parts.Current p vert f w c = absurd c
-area-places parts.Here p vert f w c = absurd c
 area-places parts.Top p vert f w c = refl
 area-places parts.Bottom p vert f w c = refl
-area-places parts.Deferred p vert f w c = absurd c
-area-places parts.Double p vert f w c = absurd c
-area-places parts.Second p vert f w c = absurd c
+area-places to p vert f w c = absurd c
 
 set-first : (es : List Entry) (e d : Entry) → slice_get es 0 ≡ Some d → (slice_get (slice_set es 0 e) 0 ≡ Some e) × (drop 1 (slice_set es 0 e) ≡ drop 1 es)
 set-first [] e d h = let none : None ≡ Some d = h in absurd cc

@@ -82,12 +82,10 @@ module _ (p : Params) where
   place_float-boxes place f left w = (stays (place_float-step p (no_law p) place f left w tt)).boxes
 
   float_goes-boxes : (vert : Bool) (f : Float) (left : FloatLists) (w : Work) (place : Where) → (Text.float_goes p vert f left w place).state.boxes ≡ w.state.boxes
-  float_goes-boxes vert f left w places.Here = place_float-boxes places.Here f left w
-  float_goes-boxes vert f left w places.Top = place_float-boxes places.Top f left w
-  float_goes-boxes vert f left w places.Bottom = place_float-boxes places.Bottom f left w
   float_goes-boxes vert f left w places.Page = (defer-stays p f left w).boxes
   float_goes-boxes vert f left w places.Double = (defer-stays p f left w).boxes
   float_goes-boxes vert f left w places.Deferred = (defer-stays p f left w).boxes
+  float_goes-boxes vert f left w place = place_float-boxes place f left w
 
   note_goes-boxes : (depth : ℤ) (m : Margin) (left : FloatLists) (w : Work) (at : Placed) → (Text.note_goes p depth m left w at).state.boxes ≡ w.state.boxes
   note_goes-boxes depth m left w at =

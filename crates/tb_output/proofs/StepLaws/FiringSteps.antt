@@ -95,9 +95,7 @@ module _ (p : Params) (law : RecordLaw p) where
       afterwards {j = 1} {k = 0} {b = Text.puts_interline p a} (interline-step w a (quiet (by_columns (place_float-step p law places.Here f left w h)))) (changes refl)
   float_goes-step vert f left w places.Top h = interline-step w _ (quiet (by_columns (place_float-step p law places.Top f left w h)))
   float_goes-step vert f left w places.Bottom h = interline-step w _ (quiet (by_columns (place_float-step p law places.Bottom f left w h)))
-  float_goes-step vert f left w places.Page h = interline-step w _ (defer-step f left w)
-  float_goes-step vert f left w places.Double h = interline-step w _ (defer-step f left w)
-  float_goes-step vert f left w places.Deferred h = interline-step w _ (defer-step f left w)
+  float_goes-step vert f left w place h = interline-step w _ (defer-step f left w)
 
   pub note_goes-step : (depth : ℤ) (m : Margin) (left : FloatLists) (w : Work) (at : Placed) → Step 1 w (Text.note_goes p depth m left w at)
   note_goes-step depth m left w at =

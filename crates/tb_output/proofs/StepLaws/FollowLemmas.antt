@@ -56,23 +56,11 @@ LeavesList places.Double = Unit {0}
 LeavesList places.Deferred = ⊥
 
 pub part-joined : (from : Part) → IsWaiting from → (place : Where) (f : Float) (gs : List Float) (l : FloatLists) → LeavesList place → floats_of from (FloatMoves.joined_to place f (with_floats_of from gs l)) ≡ gs
-part-joined parts.Current q place f gs l v = absurd q
-part-joined parts.Here q place f gs l v = absurd q
-part-joined parts.Top q place f gs l v = absurd q
-part-joined parts.Bottom q place f gs l v = absurd q
-part-joined parts.Double q place f gs l v = absurd q
-part-joined parts.Deferred q places.Here f gs l v = refl
-part-joined parts.Deferred q places.Top f gs l v = refl
-part-joined parts.Deferred q places.Bottom f gs l v = refl
-part-joined parts.Deferred q places.Page f gs l v = refl
-part-joined parts.Deferred q places.Double f gs l v = refl
 part-joined parts.Deferred q places.Deferred f gs l v = absurd v
-part-joined parts.Second q places.Here f gs l v = refl
-part-joined parts.Second q places.Top f gs l v = refl
-part-joined parts.Second q places.Bottom f gs l v = refl
-part-joined parts.Second q places.Page f gs l v = refl
-part-joined parts.Second q places.Double f gs l v = refl
+part-joined parts.Deferred q place f gs l v = refl
 part-joined parts.Second q places.Deferred f gs l v = absurd v
+part-joined parts.Second q place f gs l v = refl
+part-joined from q place f gs l v = absurd q
 
 -- what is recorded leaves the state as it is
 pub records-state : (r : Recorded) (w : Work) → (records_also r w).state ≡ w.state
@@ -85,21 +73,13 @@ records-state r w = by_refused w.refused
 -- the current list stays when a float joins a list
 pub joined-current : (place : Where) (f : Float) (l : FloatLists) → (FloatMoves.joined_to place f l).current ≡ l.current
 joined-current places.Here f l = refl
-joined-current places.Top f l = refl
-joined-current places.Bottom f l = refl
-joined-current places.Page f l = refl
-joined-current places.Double f l = refl
-joined-current places.Deferred f l = refl
+joined-current place f l = refl
 
 -- the current list stays when other floats wait
 pub part-current : (from : Part) → IsWaiting from → (gs : List Float) (l : FloatLists) → (with_floats_of from gs l).current ≡ l.current
-part-current parts.Current q gs l = absurd q
-part-current parts.Here q gs l = absurd q
-part-current parts.Top q gs l = absurd q
-part-current parts.Bottom q gs l = absurd q
 part-current parts.Deferred q gs l = refl
-part-current parts.Double q gs l = absurd q
 part-current parts.Second q gs l = refl
+part-current from q gs l = absurd q
 
 module _ (P : Float → Type 0) where
   pub follows-same : (a : Work) → Follows P a a
@@ -195,31 +175,19 @@ module _ (P : Float → Type 0) where
 
   -- other floats are in it
   pub part-count : (from : Part) → IsWaiting from → (gs : List Float) (l : FloatLists) → waiting_floats (with_floats_of from gs l) + length (floats_of from l) ≡ waiting_floats l + length gs
-  part-count parts.Current q gs l = absurd q
-  part-count parts.Here q gs l = absurd q
-  part-count parts.Top q gs l = absurd q
-  part-count parts.Bottom q gs l = absurd q
   part-count parts.Deferred q gs l = omega arith
-  part-count parts.Double q gs l = absurd q
   part-count parts.Second q gs l = omega arith
+  part-count from q gs l = absurd q
 
   pub part-all : (from : Part) → IsWaiting from → (l : FloatLists) → AllWait P l → AllByRecursion P (floats_of from l)
-  part-all parts.Current q l h = absurd q
-  part-all parts.Here q l h = absurd q
-  part-all parts.Top q l h = absurd q
-  part-all parts.Bottom q l h = absurd q
   part-all parts.Deferred q l h = h.deferred
-  part-all parts.Double q l h = absurd q
   part-all parts.Second q l h = h.second
+  part-all from q l h = absurd q
 
   pub all-part : (from : Part) → IsWaiting from → (gs : List Float) (l : FloatLists) → AllWait P l → AllByRecursion P gs → AllWait P (with_floats_of from gs l)
-  all-part parts.Current q gs l h k = absurd q
-  all-part parts.Here q gs l h k = absurd q
-  all-part parts.Top q gs l h k = absurd q
-  all-part parts.Bottom q gs l h k = absurd q
   all-part parts.Deferred q gs l h k = record { top = h.top; bottom = h.bottom; deferred = k; double = h.double; second = h.second }
-  all-part parts.Double q gs l h k = absurd q
   all-part parts.Second q gs l h k = record { top = h.top; bottom = h.bottom; deferred = h.deferred; double = h.double; second = k }
+  all-part from q gs l h k = absurd q
 
   -- a float of it goes to its place, or stays
   pub waiting-step : (from : Part) → IsWaiting from → (p : Params) (place : Where) (f : Float) (before rest : List Float) (w : Work) → floats_of from w.state.floats ≡ before ++ f ∷ rest → Follows P w (FloatMoves.place_waiting from p place f before rest w) × (floats_of from (FloatMoves.place_waiting from p place f before rest w).state.floats ≡ FloatMoves.still_deferred place f before ++ rest)
@@ -255,12 +223,9 @@ module _ (P : Float → Type 0) where
           recorded t = part-joined from q place f (before ++ rest) w.state.floats v
 
       by_place : (place : Where) → Follows P w (FloatMoves.place_waiting from p place f before rest w) × (floats_of from (FloatMoves.place_waiting from p place f before rest w).state.floats ≡ FloatMoves.still_deferred place f before ++ rest)
-      by_place places.Here = goes places.Here tt
-      by_place places.Top = goes places.Top tt
-      by_place places.Bottom = goes places.Bottom tt
       by_place places.Page = (follows-same w, e ∙ assoc before)
-      by_place places.Double = goes places.Double tt
       by_place places.Deferred = (follows-same w, e ∙ assoc before)
+      by_place place = goes place tt
 
   pub follows-next : (p : Params) (before fs : List Float) (w : Work) → w.state.floats.deferred ≡ before ++ fs → Follows P w (FloatMoves.place_next p before fs w)
   follows-next p before [] w e = follows-same w

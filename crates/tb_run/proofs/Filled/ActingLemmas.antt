@@ -24,10 +24,8 @@ use Rattle.tb_run.proofs.Turns.WholeLemmas.{closed-owned, closed-contents, close
 
 -- what holds of the machine's lists holds of the one that is dropped
 pub dropped-all : (P : ℕ → Type 0) (a : Act) (m : MachineView) → AllByRecursion P (machine_lists m) → AllByRecursion P (dropped_lists a m.left_column)
-dropped-all P (acts.Take f) m h = tt
-dropped-all P (acts.TakeMargin n) m h = tt
-dropped-all P (acts.Suppress area) m h = tt
 dropped-all P (acts.Columns two) m h = all-front P (left_lists m.left_column) (event_lists m.events) h.1
+dropped-all P a m h = tt
 
 module _ (r : Routine) (m : MachineView) (a : Act) (whole : IsConsistent r) (machine : (store : Lists Node) → IsMachine r.machine store → IsMachine m store) (fault : m.fault ≡ r.machine.fault) (params : m.params ≡ r.machine.params) (takes : TakesNoList r.machine m)
     (dropped : (store : Lists Node) → IsMachine r.machine store → AreNoneOf (dropped_lists a r.machine.left_column) (machine_lists m))

@@ -53,16 +53,9 @@ use Rattle.tb_run.proofs.Filled.FillingLemmas.{state_now, IsUnderway, next-is, n
 -- ---- nodes of a page
 
 text-leaf : (held : ℕ → List Node) (k : Kind) → IsTextKind (plain_kind held k) → is_leaf_kind k
-text-leaf held (kinds.Hbox what h d) t = tt
-text-leaf held (kinds.Rule name h d) t = tt
-text-leaf held (kinds.Skip g) t = tt
-text-leaf held (kinds.Kern w) t = tt
-text-leaf held (kinds.Pen q) t = tt
-text-leaf held (kinds.Mark name) t = tt
-text-leaf held (kinds.Note name) t = tt
-text-leaf held kinds.Whatsit t = tt
 text-leaf held (kinds.Ins i) t = absurd t
 text-leaf held (kinds.Act a) t = absurd t
+text-leaf held k t = tt
 
 text-leaves : (held : ℕ → List Node) (ns : List Node) → AllByRecursion (λ n. IsTextKind n.kind) (map (plain_of held) ns) → AreLeaves ns
 text-leaves held [] h = tt

@@ -48,24 +48,15 @@ room-small ns can = size_amount (length ns) (size_of ns) can.few (size_within ns
 
 kind-plain : (k : LeafKind) → is_plain (leaf_kind k) ≡ true
 kind-plain (leaves.Hbox name h d) = refl
-kind-plain (leaves.Rule name h d) = refl
-kind-plain (leaves.Skip g) = refl
-kind-plain (leaves.Kern w) = refl
-kind-plain (leaves.Penalty q) = refl
+kind-plain k = refl
 
 kind-matter : (k : LeafKind) → matter_of (leaf_kind k) ≡ leaf_matter k
 kind-matter (leaves.Hbox name h d) = refl
-kind-matter (leaves.Rule name h d) = refl
-kind-matter (leaves.Skip g) = refl
-kind-matter (leaves.Kern w) = refl
-kind-matter (leaves.Penalty q) = refl
+kind-matter k = refl
 
 kind-shape : (k : LeafKind) → shape_of_kind (leaf_kind k) ≡ matter_shape (leaf_matter k)
 kind-shape (leaves.Hbox name h d) = refl
-kind-shape (leaves.Rule name h d) = refl
-kind-shape (leaves.Skip g) = refl
-kind-shape (leaves.Kern w) = refl
-kind-shape (leaves.Penalty q) = refl
+kind-shape k = refl
 
 list-plain : (ls : List Leaf) → AllPlain (leaf_list ls)
 list-plain [] = tt

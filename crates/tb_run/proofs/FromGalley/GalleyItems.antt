@@ -69,23 +69,8 @@ most n h = grind (arith, nat_tests, h)
 
 module _ (g : Galley) where
   one-item : (l : ℕ) (k : ItemKind) → IsTrue (is_item l k) → IsTrue (has_known_class (numbers g.classes) k) → weight_of k ≤ 100000 → IsItem (classes_of g) k
-  one-item l (items.Hbox name h d) v known w = tt
-  one-item l (items.Rule name h d) v known w = tt
-  one-item l (items.Skip glue) v known w = tt
-  one-item l (items.Kern width) v known w = tt
-  one-item l (items.Penalty q) v known w = tt
-  one-item l (items.Mark name) v known w = tt
-  one-item l (items.Note name) v known w = tt
   one-item l (items.Foot class ls) v known w = (class-known g.params g.classes class known, nodes-sized ls v, let e = length-map {B = Node} ls (λ (x : Leaf). record { line = x.line; kind = leaf_kind x.kind }) in omega (arith, e, w))
-  one-item l (items.Float f vert) v known w = tt
-  one-item l (items.Margin m vert) v known w = tt
-  one-item l items.NewPage v known w = tt
-  one-item l items.ClearPage v known w = tt
-  one-item l (items.PageBreak n) v known w = tt
-  one-item l (items.NoPageBreak n) v known w = tt
-  one-item l items.OneColumn v known w = tt
-  one-item l items.TwoColumn v known w = tt
-  one-item l (items.Suppress area) v known w = tt
+  one-item l k v known w = tt
 
   abbrev known_item : Item → Bool
   known_item n = has_known_class (numbers g.classes) n.kind

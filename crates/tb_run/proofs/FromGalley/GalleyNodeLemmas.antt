@@ -89,8 +89,6 @@ module _ (cs : List Class) where
     item-are two l (items.Skip g) v i = ((glue-sized g v, tt, tt), tt)
     item-are two l (items.Kern w) v i = ((dimension w v, tt, tt), tt)
     item-are two l (items.Penalty q) v i = let s = penalty-served q v in ((s.sized, tt, s.high), tt)
-    item-are two l (items.Mark name) v i = ((tt, tt, tt), tt)
-    item-are two l (items.Note name) v i = ((tt, tt, tt), tt)
     item-are two l (items.Foot class ls) v i =
         ((tt, record { inner = leaves-sized ls v; height = refl; split_depth = foot.split_depth; split_top = foot.split_top; floating = foot.floating }, i.0), tt)
     item-are two l (items.Float f vert) v i = float-are (has_second p && two && f.wide) f vert (float-extent f (second_so (f.line == l) (is_float f) v))
@@ -104,7 +102,7 @@ module _ (cs : List Class) where
     item-are two l (items.NoPageBreak n) v i = let s = strength-served n in ((s.sized, tt, s.high), tt)
     item-are two l items.OneColumn v i = clear-then (act (acts.Columns false) ∷ []) ((tt, tt, tt), tt)
     item-are two l items.TwoColumn v i = clear-then (act (acts.Columns true) ∷ []) ((tt, tt, tt), tt)
-    item-are two l (items.Suppress area) v i = ((tt, tt, tt), tt)
+    item-are two l k v i = ((tt, tt, tt), tt)
 
     items-are : (two : Bool) (ns : List Item) → IsTrue (list_all (λ (n : Item). is_item n.line n.kind) ns) → AreItems cs ns → All (IsGalleyNode cs) (item_nodes p two ns)
     items-are two [] v i = All-nil (IsGalleyNode cs)
@@ -124,23 +122,9 @@ module _ (p : Params) where
 
   -- six for each line of items at most
   item-few : (two : Bool) (l : ℕ) (k : ItemKind) → node_count (on_line l (item_kinds p two k)) ≤ 6 * weight_of k
-  item-few two l (items.Hbox name h d) = omega arith
-  item-few two l (items.Rule name h d) = omega arith
-  item-few two l (items.Skip g) = omega arith
-  item-few two l (items.Kern w) = omega arith
-  item-few two l (items.Penalty q) = omega arith
-  item-few two l (items.Mark name) = omega arith
-  item-few two l (items.Note name) = omega arith
   item-few two l (items.Foot class ls) = let e = length-map {B = PlainLeaf} ls plain_leaf in omega (arith, e)
   item-few two l (items.Float f vert) = let few = float-few (has_second p && two && f.wide) l f vert in omega (arith, few)
-  item-few two l (items.Margin m vert) = omega arith
-  item-few two l items.NewPage = omega arith
-  item-few two l items.ClearPage = omega arith
-  item-few two l (items.PageBreak n) = omega arith
-  item-few two l (items.NoPageBreak n) = omega arith
-  item-few two l items.OneColumn = omega arith
-  item-few two l items.TwoColumn = omega arith
-  item-few two l (items.Suppress area) = omega arith
+  item-few two l k = omega arith
 
   items-few : (two : Bool) (ns : List Item) → node_count (item_nodes p two ns) ≤ 6 * weight ns
   items-few two [] = omega arith

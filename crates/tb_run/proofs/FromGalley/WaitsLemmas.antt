@@ -42,28 +42,12 @@ waits-nothing b s t same h = record {
 -- ---- one node
 
 lone-known : (cs : List Class) (k : Kind) → inner_of k ≡ None → is_known cs k ≡ true
-lone-known cs (kinds.Hbox what h d) e = refl
-lone-known cs (kinds.Rule name h d) e = refl
-lone-known cs (kinds.Skip g) e = refl
-lone-known cs (kinds.Kern w) e = refl
-lone-known cs (kinds.Pen p) e = refl
-lone-known cs (kinds.Mark name) e = refl
-lone-known cs (kinds.Note name) e = refl
-lone-known cs kinds.Whatsit e = refl
 lone-known cs (kinds.Ins i) e = absurd (true≢false (ap is_some e))
-lone-known cs (kinds.Act a) e = refl
+lone-known cs k e = refl
 
 lone-alone : (held : ℕ → List Node) (k : Kind) → inner_of k ≡ None → plain_kind held k ≡ plain_kind (λ l. []) k
-lone-alone held (kinds.Hbox what h d) e = refl
-lone-alone held (kinds.Rule name h d) e = refl
-lone-alone held (kinds.Skip g) e = refl
-lone-alone held (kinds.Kern w) e = refl
-lone-alone held (kinds.Pen p) e = refl
-lone-alone held (kinds.Mark name) e = refl
-lone-alone held (kinds.Note name) e = refl
-lone-alone held kinds.Whatsit e = refl
 lone-alone held (kinds.Ins i) e = absurd (true≢false (ap is_some e))
-lone-alone held (kinds.Act a) e = refl
+lone-alone held k e = refl
 
 module _ (b : Builder) (s : Lists Node) (line : ℕ) (k : Kind) (h : CanTake b s) (e : inner_of k ≡ None) where
   abbrev n : Node

@@ -6,7 +6,7 @@ use Rattle.std.proofs.lemmas.Int.{ints}
 use Rattle.std.proofs.lemmas.Bool.{true≢false}
 use Rattle.std.proofs.lemmas.List.Elements.{All-from_recursion, recursion_from_All}
 use Rattle.tb_break.proofs.EachLemmas.{all-join, all-map}
-use Rattle.tb_node.specs.PlainNodes.{hbox, rule, skip, kerned, pen, mark, note, whatsit, Leaf, Inserted, PlainKind, plain, ins, act, PlainNode, is_act_kind, without_insertions, on_line}
+use Rattle.tb_node.specs.PlainNodes.{hbox, rule, pen, mark, note, whatsit, Leaf, Inserted, PlainKind, plain, ins, act, PlainNode, is_act_kind, without_insertions, on_line}
 use Rattle.tb_break.specs.PageTop.{pruned_nodes}
 use Rattle.tb_insert.specs.declared.Class.{Class}
 use Rattle.tb_insert.specs.Account.{Frozen, Label, whole, split, late, Labelled, labelled_with, labelled_from, labelled}
@@ -38,15 +38,7 @@ notes-drop (suc k) (n ∷ ns) = let h = notes-drop k ns in omega (arith, h)
 
 notes-spent_kind : (k : PlainKind) → kind_notes (spent_kind k) ≡ kind_notes k
 notes-spent_kind (plain (hbox w a d)) = refl
-notes-spent_kind (plain (rule name a d)) = refl
-notes-spent_kind (plain (skip g)) = refl
-notes-spent_kind (plain (kerned w)) = refl
-notes-spent_kind (plain (pen q)) = refl
-notes-spent_kind (plain (mark name)) = refl
-notes-spent_kind (plain (note name)) = refl
-notes-spent_kind (plain whatsit) = refl
-notes-spent_kind (ins i) = refl
-notes-spent_kind (act a) = refl
+notes-spent_kind k = refl
 
 pub notes-spent : (ns : List PlainNode) → notes_waiting (with_spent_break ns) ≡ notes_waiting ns
 notes-spent [] = refl
@@ -76,14 +68,7 @@ notes-pruned t (n ∷ ns) = by_kind n.line n.kind (notes-pruned t ns)
     by_kind : (l : ℕ) (k : PlainKind) → notes_waiting (pruned_nodes t ns) ≡ notes_waiting ns → notes_waiting (pruned_nodes t (record { line = l; kind = k } ∷ ns)) ≡ kind_notes k + notes_waiting ns
     by_kind l (plain (hbox w a d)) h = omega arith
     by_kind l (plain (rule name a d)) h = omega arith
-    by_kind l (plain (skip g)) h = omega (arith, h)
-    by_kind l (plain (kerned w)) h = omega (arith, h)
-    by_kind l (plain (pen q)) h = omega (arith, h)
-    by_kind l (plain (mark name)) h = omega (arith, h)
-    by_kind l (plain (note name)) h = omega (arith, h)
-    by_kind l (plain whatsit) h = omega (arith, h)
-    by_kind l (ins i) h = omega (arith, h)
-    by_kind l (act a) h = omega (arith, h)
+    by_kind l k h = omega (arith, h)
 
 -- ---- nodes that can be served
 
@@ -98,14 +83,12 @@ module _ (cs : List Class) where
       by_kind : (l : ℕ) (k : PlainKind) → IsServable cs k → AllByRecursion Serves (pruned_nodes t ns) → AllByRecursion Serves (pruned_nodes t (record { line = l; kind = k } ∷ ns))
       by_kind l (plain (hbox w a d)) s r = (tt, (tt, h.1))
       by_kind l (plain (rule name a d)) s r = (tt, (tt, h.1))
-      by_kind l (plain (skip g)) s r = r
-      by_kind l (plain (kerned w)) s r = r
-      by_kind l (plain (pen q)) s r = r
       by_kind l (plain (mark name)) s r = (tt, r)
       by_kind l (plain (note name)) s r = (tt, r)
       by_kind l (plain whatsit) s r = (tt, r)
       by_kind l (ins i) s r = (s, r)
       by_kind l (act a) s r = (s, r)
+      by_kind l k s r = r
 
   -- neither insertions nor acts are left of a page
   pub text-body : (ns : List PlainNode) → NoActs ns → AllByRecursion Serves ns → AllByRecursion (λ n. IsTextKind n.kind) (without_insertions ns)
@@ -122,16 +105,10 @@ module _ (cs : List Class) where
   served-spent (n ∷ ns) h = (by_kind n.kind h.0, h.1)
     where
       by_kind : (k : PlainKind) → IsServable cs k → IsServable cs (spent_kind k)
-      by_kind (plain (hbox w a d)) s = tt
-      by_kind (plain (rule name a d)) s = tt
-      by_kind (plain (skip g)) s = tt
-      by_kind (plain (kerned w)) s = tt
       by_kind (plain (pen q)) s = omega (arith, ints)
-      by_kind (plain (mark name)) s = tt
-      by_kind (plain (note name)) s = tt
-      by_kind (plain whatsit) s = tt
       by_kind (ins i) s = s
       by_kind (act a) s = s
+      by_kind k s = tt
 
   -- the penalty of the break
   pub mild-break : (ns : List PlainNode) → AllByRecursion Serves ns → hold_penalty ≤ℤ penalty_at ns
@@ -139,16 +116,8 @@ module _ (cs : List Class) where
   mild-break (n ∷ ns) h = by_kind n.kind h.0
     where
       by_kind : (k : PlainKind) → IsServable cs k → hold_penalty ≤ℤ penalty_at (record { line = n.line; kind = k } ∷ ns)
-      by_kind (plain (hbox w a d)) s = omega (arith, ints)
-      by_kind (plain (rule name a d)) s = omega (arith, ints)
-      by_kind (plain (skip g)) s = omega (arith, ints)
-      by_kind (plain (kerned w)) s = omega (arith, ints)
       by_kind (plain (pen q)) s = s
-      by_kind (plain (mark name)) s = omega (arith, ints)
-      by_kind (plain (note name)) s = omega (arith, ints)
-      by_kind (plain whatsit) s = omega (arith, ints)
-      by_kind (ins i) s = omega (arith, ints)
-      by_kind (act a) s = omega (arith, ints)
+      by_kind k s = omega (arith, ints)
 
   -- ---- insertions
 

@@ -146,9 +146,7 @@ module _ (cs : List Class) (left : ℕ) where
         (kept-puts_few cs left (n + 3) 5 (Text.here_nodes p vert f) (Text.puts_interline p c) (here-back cs p runs vert f) (here-few cs p runs vert f) (kept-interline n c (kept-placed n p places.Here f f es w e k)))
     kept-float n vert f es w places.Top e k = kept-then n (FloatMoves.place_float p places.Top f (record w.state.floats { current = es }) w) (kept-placed n p places.Top f f es w e k)
     kept-float n vert f es w places.Bottom e k = kept-then n (FloatMoves.place_float p places.Bottom f (record w.state.floats { current = es }) w) (kept-placed n p places.Bottom f f es w e k)
-    kept-float n vert f es w places.Page e k = kept-then n (Text.defer p f (record w.state.floats { current = es }) w) (kept-defer n f es w e k)
-    kept-float n vert f es w places.Double e k = kept-then n (Text.defer p f (record w.state.floats { current = es }) w) (kept-defer n f es w e k)
-    kept-float n vert f es w places.Deferred e k = kept-then n (Text.defer p f (record w.state.floats { current = es }) w) (kept-defer n f es w e k)
+    kept-float n vert f es w place e k = kept-then n (Text.defer p f (record w.state.floats { current = es }) w) (kept-defer n f es w e k)
 
     -- ---- a note is placed
 

@@ -1,10 +1,10 @@
 -- The routine before the first page.
-use Rattle.std.proofs.Common.{◌≡◌, refl, sym, subst, ◌∙◌, ap, ℕ, ◌≤◌, List, [], ◌∷◌, ◌++◌, None, IsSome, arith}
+use Rattle.std.proofs.Common.{◌≡◌, refl, sym, subst, ◌∙◌, ap, ℕ, ◌≤◌, List, [], ◌∷◌, ◌++◌, Option, None, Some, arith}
 use Rattle.std.specs.List.{AllByRecursion}
 use Rattle.std.specs.FinMap.{get}
 use Rattle.std.proofs.lemmas.Int.{ints}
 use Rattle.std.proofs.lemmas.List.Elements.{All-from_recursion}
-use Rattle.tb_pool.specs.Lists.{Lists, IsLive}
+use Rattle.tb_pool.specs.Lists.{Lists, with_list}
 use Rattle.tb_node.specs.declared.Act.{Act}
 use Rattle.tb_node.specs.declared.Act.TheVariants as acts
 use Rattle.tb_node.specs.declared.Node.{Node}
@@ -14,28 +14,28 @@ use Rattle.tb_param.specs.declared.Params.{Params}
 use Rattle.tb_insert.specs.declared.Class.{Class}
 use Rattle.tb_builder.specs.declared.Builder.{Builder}
 use Rattle.tb_builder.specs.Contents.{Contents, contents_of, nothing_yet, kind_count, node_count, box_count}
-use Rattle.tb_builder.specs.Ownership.{Lacks, ids_of, owned}
+use Rattle.tb_builder.specs.Ownership.{ids_of, owned}
+use Rattle.tb_builder.specs.Courses.{IsSound}
+use Rattle.tb_builder.proofs.Ownership.OwnedLemmas.{AllSame}
+use Rattle.tb_builder.proofs.Ownership.FrameLemmas.{opened_same, opened_apart, frame_contents, frame_sound}
+use Rattle.tb_column.specs.declared.Column.{Column}
 use Rattle.tb_builder.specs.Pageable.{IsSizedBox}
 use Rattle.tb_output.specs.State.{State, void_boxes, first_state}
-use Rattle.tb_output.specs.Machine.{MachineView, state_shown, machine_lists, IsMachine}
+use Rattle.tb_output.specs.Machine.{MachineView, left_shown, left_lists, state_shown, event_lists, machine_lists, IsMachine}
 use Rattle.tb_output.specs.Firing.{builder_lists}
 use Rattle.tb_output.specs.MachineFrame.{AreNoneOf}
 use Rattle.tb_output.proofs.FiringWork.ApartLemmas.{lacks-none}
-use Rattle.tb_output.proofs.FiringWork.StandLemmas.{Stands, machine-live, IsShownBy, stands-shown}
 use Rattle.tb_run.specs.declared.routine.Routine.{Routine}
 use Rattle.tb_run.specs.GalleyNodes.{AreGalleyNodes}
 use Rattle.tb_run.specs.Run.{held_count}
 use Rattle.tb_run.specs.ServedStates.{AreRunnable, AreRunClasses, kind_notes, notes_waiting, IsServed}
-use Rattle.tb_run.specs.WaitingNodes.{Waits}
 use Rattle.tb_run.specs.Routine.{held_in, state_of, between_pages, IsReady}
 
 -- ---- the first state
 
 act-few : (a : Act) → kind_notes (act a) ≤ 1
 act-few (acts.Take f) = omega arith
-act-few (acts.TakeMargin m) = omega arith
-act-few (acts.Suppress area) = omega arith
-act-few (acts.Columns two) = omega arith
+act-few a = omega arith
 
 kind-few : (k : PlainKind) → kind_notes k ≤ kind_count k
 kind-few (plain m) = omega arith
@@ -69,37 +69,36 @@ first-count p cs ns h = let a = h.few in let b = void-count cs in omega (arith, 
 
 -- ---- the routine
 
-module _ (p : Params) (m : MachineView) (t u v : Lists Node) (b d : Builder) (cs : List Class) (ns : List PlainNode) (begins : (waiting : List PlainNode) → state_shown t (void_boxes cs) waiting m ≡ first_state p cs waiting) (machine : IsMachine m t) (params : m.params ≡ p) (classes : m.classes ≡ cs)
-    (fault : m.fault ≡ None) (taken : m.events ≡ []) (holds : contents_of b u ≡ nothing_yet cs) (fresh : (q : ℕ) → IsLive t q → Lacks q (owned (ids_of b) u)) (others : (q : ℕ) → IsLive t q → get u.lists q ≡ get t.lists q) (waits : Waits ns b u d v) where
+no-left : (store : Lists Node) (o : Option Column) → left_shown store o ≡ None → left_lists o ≡ []
+no-left store None is = refl
+no-left store (Some c) is = cc
+
+-- a machine that opened a list for its held page, beside a builder for which these nodes wait
+module _ (p : Params) (m : MachineView) (v w : Lists Node) (d : Builder) (cs : List Class) (ns : List PlainNode) (begins : (waiting : List PlainNode) → state_shown w (void_boxes cs) waiting m ≡ first_state p cs waiting) (machine : IsMachine m w) (params : m.params ≡ p) (classes : m.classes ≡ cs)
+    (fault : m.fault ≡ None) (taken : m.events ≡ []) (fresh : get v.lists m.held_page ≡ None) (opened : w.lists ≡ with_list v m.held_page []) (sound : IsSound d v) (holds : contents_of d v ≡ record (nothing_yet cs) { waiting = ns }) where
   abbrev begun : Routine
-  begun = record { store = v; builder = d; machine = m; most = 600005 }
+  begun = record { store = w; builder = d; machine = m; most = 600005 }
 
-  lists-stand : (ls : List ℕ) → AllByRecursion (IsLive t) ls → AllByRecursion (Stands t v) ls × AreNoneOf ls (builder_lists d v)
-  lists-stand [] live = (tt, tt)
-  lists-stand (l ∷ ls) live =
-      let rest = lists-stand ls live.1 in
-      let here = subst IsSome (sym (others l live.0)) live.0 in
-      ((waits.others l here (fresh l live.0) ∙ others l live.0, rest.0), (lacks-none l (builder_lists d v) (waits.apart l here (fresh l live.0)), rest.1))
-
-  stand : AllByRecursion (Stands t v) (machine_lists m) × AreNoneOf (machine_lists m) (builder_lists d v)
-  stand = lists-stand (machine_lists m) (machine-live m t machine)
-
-  shown : IsShownBy m t v
-  shown = stands-shown m t v machine stand.0
+  same : AllSame v w (owned (ids_of d) v)
+  same = opened_same d v w m.held_page sound fresh opened
 
   begun-holds : held_in begun ≡ record (nothing_yet cs) { waiting = ns }
-  begun-holds = waits.contents ∙ ap (λ (c : Contents). record c { waiting = c.waiting ++ ns }) holds
+  begun-holds = frame_contents d v w sound same ∙ holds
 
   pub begin-state : state_of begun ≡ first_state p cs ns
-  begin-state =
-      (λ i. state_shown v (begun-holds i).boxes (begun-holds i).waiting m)
-      ∙ shown.state (void_boxes cs) ns
-      ∙ begins ns
+  begin-state = (λ i. state_shown w (begun-holds i).boxes (begun-holds i).waiting m) ∙ begins ns
+
+  -- the held page is the machine's one list
+  one-list : left_lists m.left_column ++ event_lists m.events ≡ []
+  one-list = (λ i. no-left w m.left_column (ap (λ (s : State). s.left_column) (begins [])) i ++ event_lists (taken i))
+
+  apart : AreNoneOf (machine_lists m) (builder_lists d w)
+  apart = (lacks-none m.held_page (builder_lists d w) (opened_apart d v w m.held_page sound fresh opened), subst (λ ls. AreNoneOf ls (builder_lists d w)) (sym one-list) tt)
 
   pub begin-ready : AreRunnable p → AreRunClasses cs → AreGalleyNodes cs ns → IsReady begun
   begin-ready runs known nodes = record {
     settled = record {
-      whole = record { builder = waits.sound; machine = shown.machine; fault = fault; apart = stand.1 };
+      whole = record { builder = frame_sound d v w sound same; machine = machine; fault = fault; apart = apart };
       params = subst AreRunnable (sym params) runs;
       classes = subst AreRunClasses (sym classes) known;
       between = begun-holds ∙ ap between_pages (sym begin-state);

@@ -21,16 +21,9 @@ use Rattle.tb_run.specs.Routine.{held_in, state_of, IsConsistent, IsBounded, ove
 -- ---- a list of a page
 
 leaf-one : (held : ℕ → List Node) (k : Kind) → is_leaf_kind k → kind_count (plain_kind held k) ≡ 1
-leaf-one held (kinds.Hbox what h d) l = refl
-leaf-one held (kinds.Rule name h d) l = refl
-leaf-one held (kinds.Skip g) l = refl
-leaf-one held (kinds.Kern w) l = refl
-leaf-one held (kinds.Pen q) l = refl
-leaf-one held (kinds.Mark name) l = refl
-leaf-one held (kinds.Note name) l = refl
-leaf-one held kinds.Whatsit l = refl
 leaf-one held (kinds.Ins i) l = absurd l
 leaf-one held (kinds.Act a) l = absurd l
+leaf-one held k l = refl
 
 -- its nodes count as one each
 pub leaves-count : (held : ℕ → List Node) (ns : List Node) → AreLeaves ns → node_count (map (plain_of held) ns) ≡ length ns
@@ -39,15 +32,7 @@ leaves-count held (n ∷ ns) h = let a = leaf-one held n.kind h.0 in let b = lea
 
 kind-sized : (held : ℕ → List Node) (l : ℕ) (k : Kind) → IsSizedNode (record { line = l; kind = k }) → IsSizedPlain (plain_of held (record { line = l; kind = k }))
 kind-sized held l (kinds.Hbox what h d) s = s
-kind-sized held l (kinds.Rule name h d) s = s
-kind-sized held l (kinds.Skip g) s = s
-kind-sized held l (kinds.Kern w) s = s
-kind-sized held l (kinds.Pen q) s = s
-kind-sized held l (kinds.Mark name) s = s
-kind-sized held l (kinds.Note name) s = s
-kind-sized held l kinds.Whatsit s = s
-kind-sized held l (kinds.Ins i) s = s
-kind-sized held l (kinds.Act a) s = s
+kind-sized held l k s = s
 
 shown-by : (held : ℕ → List Node) (ns : List Node) → AllByRecursion IsSizedNode ns → AllByRecursion IsSizedPlain (map (plain_of held) ns)
 shown-by held [] h = tt

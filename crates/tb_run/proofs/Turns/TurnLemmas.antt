@@ -37,8 +37,7 @@ use Rattle.tb_run.proofs.Filled.FillingLemmas.{taken-whole}
 
 sheet-some : (s : Sheet) (xs : List ℕ) → sheet_lists s ++ xs ≡ [] → ⊥
 sheet-some (sheets.One c) xs e = cc
-sheet-some (sheets.Wide c) xs e = cc
-sheet-some (sheets.Two tops at left right) xs e = cc
+sheet-some s xs e = cc
 
 pub quiet-pages : (store : Lists Node) (hs : List Happening) → happened_lists hs ≡ [] → ArePages store hs
 quiet-pages store [] e = tt

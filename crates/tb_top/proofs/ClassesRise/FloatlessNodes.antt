@@ -3,7 +3,7 @@ use Rattle.std.proofs.Common.{◌≡◌, refl, sym, ◌∙◌, ap, ℕ, ◌+◌,
 use Rattle.tb_node.specs.declared.Act.{Act}
 use Rattle.tb_node.specs.declared.Act.TheVariants as acts
 use Rattle.tb_node.specs.declared.What.TheVariants as what
-use Rattle.tb_node.specs.PlainNodes.{Matter, hbox, rule, skip, kerned, pen, mark, note, whatsit, Leaf, PlainKind, plain, ins, act, PlainNode}
+use Rattle.tb_node.specs.PlainNodes.{Matter, hbox, rule, Leaf, PlainKind, plain, ins, act, PlainNode}
 use Rattle.tb_node.proofs.Weights.{Weight, matter_weight, leaves_weight, kind_weight, nodes_weight}
 use Rattle.tb_column.specs.declared.Warn.{Warn}
 use Rattle.tb_column.specs.Column.{PlainColumn, PlainSent, warned, shipped}
@@ -46,17 +46,8 @@ floats_count = record { box = λ n. 0; float = λ n. 1; margin = λ n. 0 }
 
 nothing-matter : (n : ℕ) (m : Matter) → matter_weight nothing_weighs n m ≡ 0
 nothing-matter n (hbox (what.Text name) h d) = refl
-nothing-matter n (hbox what.Blank h d) = refl
-nothing-matter n (hbox (what.Float name class place item) h d) = refl
-nothing-matter n (hbox (what.Margin name side shift height depth item) h d) = refl
 nothing-matter n (rule None h d) = refl
-nothing-matter n (rule (Some name) h d) = refl
-nothing-matter n (skip g) = refl
-nothing-matter n (kerned w) = refl
-nothing-matter n (pen p) = refl
-nothing-matter n (mark name) = refl
-nothing-matter n (note name) = refl
-nothing-matter n whatsit = refl
+nothing-matter n m = refl
 
 nothing-leaves : (ls : List Leaf) → leaves_weight nothing_weighs ls ≡ 0
 nothing-leaves [] = refl
@@ -69,9 +60,7 @@ nothing-kind : (n : ℕ) (d : PlainKind) → kind_weight nothing_weighs n d ≡ 
 nothing-kind n (plain m) = nothing-matter n m
 nothing-kind n (ins i) = nothing-leaves i.inner
 nothing-kind n (act (acts.Take f)) = refl
-nothing-kind n (act (acts.TakeMargin m)) = refl
-nothing-kind n (act (acts.Suppress area)) = refl
-nothing-kind n (act (acts.Columns two)) = refl
+nothing-kind n d = refl
 
 nothing-nodes : (ns : List PlainNode) → nodes_weight nothing_weighs ns ≡ 0
 nothing-nodes [] = refl
@@ -90,25 +79,12 @@ nothing-fits o [] = tt
 nothing-fits o (a ∷ ds) = (by_act a, nothing-fits o ds)
   where
     by_act : (a : Act) → ActFits nothing_weighs o a
-    by_act (acts.Take f) = tt
-    by_act (acts.TakeMargin m) = tt
-    by_act (acts.Suppress area) = tt
     by_act (acts.Columns two) = nothing-left o
+    by_act a = tt
 
 one-float : (k : FloatKind) (n l : ℕ) (d : PlainKind) → kind_weight floats_count l d + n ≡ 0 → kind_lines k d ≡ []
-one-float k n l (plain (hbox (what.Text name) h d)) e = refl
-one-float k n l (plain (hbox what.Blank h d)) e = refl
 one-float k n l (plain (hbox (what.Float name class place item) h d)) e = let never : ⊥ = omega arith in absurd never
-one-float k n l (plain (hbox (what.Margin name side shift height depth item) h d)) e = refl
-one-float k n l (plain (rule name h d)) e = refl
-one-float k n l (plain (skip g)) e = refl
-one-float k n l (plain (kerned w)) e = refl
-one-float k n l (plain (pen p)) e = refl
-one-float k n l (plain (mark name)) e = refl
-one-float k n l (plain (note name)) e = refl
-one-float k n l (plain whatsit) e = refl
-one-float k n l (ins i) e = refl
-one-float k n l (act a) e = refl
+one-float k n l d e = refl
 
 -- a list in which no float weighs has no float's box
 pub no-floats : (k : FloatKind) (ns : List PlainNode) → nodes_weight floats_count ns ≡ 0 → class_lines k ns ≡ []

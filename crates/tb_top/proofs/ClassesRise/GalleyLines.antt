@@ -37,70 +37,30 @@ use Rattle.tb_top.proofs.ClassesRise.NamedLines.{rise-first, rise-behind}
 
 -- items have no float's box, and take their floats
 item-lines : (k : FloatKind) (p : Params) (two : Bool) (n : ℕ) (d : ItemKind) → class_lines k (on_line n (item_kinds p two d)) ≡ []
-item-lines k p two n (items.Hbox name h d) = refl
-item-lines k p two n (items.Rule name h d) = refl
-item-lines k p two n (items.Skip g) = refl
-item-lines k p two n (items.Kern w) = refl
-item-lines k p two n (items.Penalty q) = refl
-item-lines k p two n (items.Mark name) = refl
-item-lines k p two n (items.Note name) = refl
-item-lines k p two n (items.Foot class ls) = refl
 item-lines k p two n (items.Float f vert) = by_taking (has_second p && two && f.wide)
   where
     by_taking : (t : Bool) → class_lines k (on_line n (if t then act (acts.Take f) ∷ [] else with_firings (acts.Take f) vert)) ≡ []
     by_taking true = refl
     by_taking false = refl
-item-lines k p two n (items.Margin m vert) = refl
-item-lines k p two n items.NewPage = refl
-item-lines k p two n items.ClearPage = refl
-item-lines k p two n (items.PageBreak q) = refl
-item-lines k p two n (items.NoPageBreak q) = refl
-item-lines k p two n items.OneColumn = refl
-item-lines k p two n items.TwoColumn = refl
-item-lines k p two n (items.Suppress area) = refl
+item-lines k p two n d = refl
 
 item-takes : (k : FloatKind) (p : Params) (two : Bool) (n : ℕ) (d : ItemKind) → take_lines k (on_line n (item_kinds p two d)) ≡ float_lines k (float_of d)
-item-takes k p two n (items.Hbox name h d) = refl
-item-takes k p two n (items.Rule name h d) = refl
-item-takes k p two n (items.Skip g) = refl
-item-takes k p two n (items.Kern w) = refl
-item-takes k p two n (items.Penalty q) = refl
-item-takes k p two n (items.Mark name) = refl
-item-takes k p two n (items.Note name) = refl
-item-takes k p two n (items.Foot class ls) = refl
 item-takes k p two n (items.Float f vert) = by_taking (has_second p && two && f.wide)
   where
     by_taking : (t : Bool) → take_lines k (on_line n (if t then act (acts.Take f) ∷ [] else with_firings (acts.Take f) vert)) ≡ line_if (is_of k f.class f.line) f.line ++ []
     by_taking true = refl
     by_taking false = refl
-item-takes k p two n (items.Margin m vert) = refl
-item-takes k p two n items.NewPage = refl
-item-takes k p two n items.ClearPage = refl
-item-takes k p two n (items.PageBreak q) = refl
-item-takes k p two n (items.NoPageBreak q) = refl
-item-takes k p two n items.OneColumn = refl
-item-takes k p two n items.TwoColumn = refl
-item-takes k p two n (items.Suppress area) = refl
+item-takes k p two n d = refl
 
 leaf-floatless : (k : FloatKind) (l : ℕ) (d : LeafKind) (ls : List Leaf) → AreFloatless k (map plain_leaf ls) → AreFloatless k (map plain_leaf (record { line = l; kind = d } ∷ ls))
 leaf-floatless k l (leaves.Hbox name h d) ls f = (refl, f)
-leaf-floatless k l (leaves.Rule name h d) ls f = (refl, f)
-leaf-floatless k l (leaves.Skip g) ls f = (refl, f)
-leaf-floatless k l (leaves.Kern w) ls f = (refl, f)
-leaf-floatless k l (leaves.Penalty q) ls f = (refl, f)
+leaf-floatless k l d ls f = (refl, f)
 
 leaves-floatless : (k : FloatKind) (ls : List Leaf) → AreFloatless k (map plain_leaf ls)
 leaves-floatless k [] = tt
 leaves-floatless k (l ∷ ls) = leaf-floatless k l.line l.kind ls (leaves-floatless k ls)
 
 item-feet : (k : FloatKind) (p : Params) (two : Bool) (n : ℕ) (d : ItemKind) → HoldFloatless k (on_line n (item_kinds p two d))
-item-feet k p two n (items.Hbox name h d) = (tt, tt)
-item-feet k p two n (items.Rule name h d) = (tt, tt)
-item-feet k p two n (items.Skip g) = (tt, tt)
-item-feet k p two n (items.Kern w) = (tt, tt)
-item-feet k p two n (items.Penalty q) = (tt, tt)
-item-feet k p two n (items.Mark name) = (tt, tt)
-item-feet k p two n (items.Note name) = (tt, tt)
 item-feet k p two n (items.Foot class ls) = (leaves-floatless k ls, tt)
 item-feet k p two n (items.Float f vert) = by_taking (has_second p && two && f.wide)
   where
@@ -110,11 +70,9 @@ item-feet k p two n (items.Float f vert) = by_taking (has_second p && two && f.w
 item-feet k p two n (items.Margin m vert) = (tt, (tt, (tt, (tt, tt))))
 item-feet k p two n items.NewPage = (tt, (tt, tt))
 item-feet k p two n items.ClearPage = (tt, (tt, (tt, (tt, (tt, tt)))))
-item-feet k p two n (items.PageBreak q) = (tt, tt)
-item-feet k p two n (items.NoPageBreak q) = (tt, tt)
 item-feet k p two n items.OneColumn = (tt, (tt, (tt, (tt, (tt, (tt, tt))))))
 item-feet k p two n items.TwoColumn = (tt, (tt, (tt, (tt, (tt, (tt, tt))))))
-item-feet k p two n (items.Suppress area) = (tt, tt)
+item-feet k p two n d = (tt, tt)
 
 items-lines : (k : FloatKind) (p : Params) (two : Bool) (ns : List Item) → class_lines k (item_nodes p two ns) ≡ []
 items-lines k p two [] = refl
@@ -158,11 +116,6 @@ weaker n m (f ∷ fs) l h = let a : m < f.line = h.0 in (omega arith, h.1)
 item-rise : (n l : ℕ) (d : ItemKind) (ns : List Item) (tail : List ℕ) → IsTrue (is_item l d) → ((m : ℕ) → IsTrue (rise_from m (named_lines ns ++ tail)) → LinesRise m (galley_floats ns)) → IsTrue (rise_from n (lines_of_item l d ++ (named_lines ns ++ tail))) → LinesRise n (float_of d ++ galley_floats ns)
 item-rise n l (items.Hbox name h d) ns tail v k r = let x = rise-behind n (l ∷ []) (named_lines ns ++ tail) r in weaker n x.0 (galley_floats ns) x.1.0 (k x.0 x.1.1)
 item-rise n l (items.Rule name h d) ns tail v k r = let x = rise-behind n (l ∷ []) (named_lines ns ++ tail) r in weaker n x.0 (galley_floats ns) x.1.0 (k x.0 x.1.1)
-item-rise n l (items.Skip g) ns tail v k r = k n r
-item-rise n l (items.Kern w) ns tail v k r = k n r
-item-rise n l (items.Penalty q) ns tail v k r = k n r
-item-rise n l (items.Mark name) ns tail v k r = k n r
-item-rise n l (items.Note name) ns tail v k r = k n r
 item-rise n l (items.Foot class ls) ns tail v k r = let x = rise-behind n (leaf_lines ls) (named_lines ns ++ tail) r in weaker n x.0 (galley_floats ns) x.1.0 (k x.0 x.1.1)
 item-rise n l (items.Float f vert) ns tail v k r =
     let same : f.line ≡ l = eqb-true f.line l (and_parts (f.line == l) _ v).0 in
@@ -170,13 +123,7 @@ item-rise n l (items.Float f vert) ns tail v k r =
     let a : n < l = first.0 in
     (omega arith, subst (λ m. LinesRise m (galley_floats ns)) (sym same) (k l first.1))
 item-rise n l (items.Margin m vert) ns tail v k r = let x = rise-behind n (l ∷ []) (named_lines ns ++ tail) r in weaker n x.0 (galley_floats ns) x.1.0 (k x.0 x.1.1)
-item-rise n l items.NewPage ns tail v k r = k n r
-item-rise n l items.ClearPage ns tail v k r = k n r
-item-rise n l (items.PageBreak q) ns tail v k r = k n r
-item-rise n l (items.NoPageBreak q) ns tail v k r = k n r
-item-rise n l items.OneColumn ns tail v k r = k n r
-item-rise n l items.TwoColumn ns tail v k r = k n r
-item-rise n l (items.Suppress area) ns tail v k r = k n r
+item-rise n l d ns tail v k r = k n r
 
 items-rise : (n : ℕ) (ns : List Item) (tail : List ℕ) → IsTrue (list_all (λ n. is_item n.line n.kind) ns) → IsTrue (rise_from n (named_lines ns ++ tail)) → LinesRise n (galley_floats ns)
 items-rise n [] tail v r = tt
@@ -301,27 +248,12 @@ floats-among has d (f ∷ fs) = (
 -- ---- what is taken suits a kind at the start
 
 item-suits : (k : FloatKind) (p : Params) (two : Bool) (n : ℕ) (d : ItemKind) (ys : List Act) → AllByRecursion (λ f. is_of k f.class f.line ≡ true → IsOnSide k.side f.wide) (map (as_taken two) (float_of d)) → Suits k (two_after two d) ys → Suits k two (deeds (on_line n (item_kinds p two d)) ++ ys)
-item-suits k p two n (items.Hbox name h d) ys f s = s
-item-suits k p two n (items.Rule name h d) ys f s = s
-item-suits k p two n (items.Skip g) ys f s = s
-item-suits k p two n (items.Kern w) ys f s = s
-item-suits k p two n (items.Penalty q) ys f s = s
-item-suits k p two n (items.Mark name) ys f s = s
-item-suits k p two n (items.Note name) ys f s = s
-item-suits k p two n (items.Foot class ls) ys f s = s
 item-suits k p two n (items.Float x vert) ys f s = by_taking (has_second p && two && x.wide)
   where
     by_taking : (t : Bool) → Suits k two (deeds (on_line n (if t then act (acts.Take x) ∷ [] else with_firings (acts.Take x) vert)) ++ ys)
     by_taking true = (f.0, s)
     by_taking false = (f.0, s)
-item-suits k p two n (items.Margin m vert) ys f s = s
-item-suits k p two n items.NewPage ys f s = s
-item-suits k p two n items.ClearPage ys f s = s
-item-suits k p two n (items.PageBreak q) ys f s = s
-item-suits k p two n (items.NoPageBreak q) ys f s = s
-item-suits k p two n items.OneColumn ys f s = s
-item-suits k p two n items.TwoColumn ys f s = s
-item-suits k p two n (items.Suppress area) ys f s = s
+item-suits k p two n d ys f s = s
 
 items-suit : (k : FloatKind) (p : Params) (two : Bool) (ns : List Item) → AllByRecursion (λ f. is_of k f.class f.line ≡ true → IsOnSide k.side f.wide) (taken_floats two ns) → Suits k two (deeds (item_nodes p two ns))
 items-suit k p two [] h = tt

@@ -6,7 +6,7 @@ use Rattle.std.proofs.lemmas.Bool.{eqb-true, or_left, or_right, and_from}
 use Rattle.tb_node.specs.declared.What.TheVariants as what
 use Rattle.tb_node.specs.declared.Where.{Where}
 use Rattle.tb_node.specs.declared.Where.TheVariants as places
-use Rattle.tb_node.specs.PlainNodes.{hbox, rule, skip, kerned, pen, mark, note, whatsit, PlainKind, plain, ins, act, PlainNode}
+use Rattle.tb_node.specs.PlainNodes.{hbox, PlainKind, plain, PlainNode}
 use Rattle.tb_column.specs.Column.{PlainColumn}
 use Rattle.tb_output.specs.State.{Recorded, placed, output, emptied}
 use Rattle.tb_laws.proofs.ClassesRise.RisingLists.{all-at, IsAmong, among-back, MayPrecede, Rises}
@@ -24,19 +24,9 @@ some-class has d n t (x ∷ xs) i = by_kind x.line x.kind i (λ j. some-class ha
   where
     by_kind : (l : ℕ) (x : PlainKind) → IsAmong n (float_lines_of l x ++ node_lines float_lines_of xs) → (IsAmong n (node_lines float_lines_of xs) → (c : ℕ) × IsAmong n (class_lines (of_kind has d c) xs)) → (c : ℕ) × IsAmong n (kind_lines (of_kind has d c) x ++ class_lines (of_kind has d c) xs)
     by_kind l (plain (hbox (what.Text name) h d)) i k = k i
-    by_kind l (plain (hbox what.Blank h d)) i k = k i
     by_kind l (plain (hbox (what.Float name class place item) h z)) (inl e) k = (class, subst (λ ys. IsAmong n (ys ++ class_lines (of_kind has d class) xs)) (sym (own-line has d class item (subst (λ m. has m ≡ true) (sym e) t))) (inl e))
     by_kind l (plain (hbox (what.Float name class place item) h z)) (inr i) k = let r = k i in (r.0, among-back n (line_if (is_of (of_kind has d r.0) class item) item) (class_lines (of_kind has d r.0) xs) r.1)
-    by_kind l (plain (hbox (what.Margin name side shift height depth item) h d)) i k = k i
-    by_kind l (plain (rule name h d)) i k = k i
-    by_kind l (plain (skip g)) i k = k i
-    by_kind l (plain (kerned w)) i k = k i
-    by_kind l (plain (pen p)) i k = k i
-    by_kind l (plain (mark name)) i k = k i
-    by_kind l (plain (note name)) i k = k i
-    by_kind l (plain whatsit) i k = k i
-    by_kind l (ins j) i k = k i
-    by_kind l (act a) i k = k i
+    by_kind l x i k = k i
 
 -- the line a is in the list, and b after it
 abbrev pub StandsBefore : ℕ → ℕ → List ℕ → Type 0
@@ -46,48 +36,26 @@ StandsBefore a b (x ∷ xs) = ((x ≡ a) × IsAmong b xs) ⊎ StandsBefore a b x
 -- what holds of the lines of a class holds of those of all floats
 module _ (c : FloatKind) where
   kind-among : (n l : ℕ) (d : PlainKind) (ys zs : List ℕ) → (IsAmong n ys → IsAmong n zs) → IsAmong n (kind_lines c d ++ ys) → IsAmong n (float_lines_of l d ++ zs)
-  kind-among n l (plain (hbox (what.Text name) h d)) ys zs k i = k i
-  kind-among n l (plain (hbox what.Blank h d)) ys zs k i = k i
   kind-among n l (plain (hbox (what.Float name class place item) h d)) ys zs k i = by_class (is_of c class item) i
     where
       by_class : (t : Bool) → IsAmong n (line_if t item ++ ys) → IsAmong n (item ∷ zs)
       by_class true (inl e) = inl e
       by_class true (inr i) = inr (k i)
       by_class false i = inr (k i)
-  kind-among n l (plain (hbox (what.Margin name side shift height depth item) h d)) ys zs k i = k i
-  kind-among n l (plain (rule name h d)) ys zs k i = k i
-  kind-among n l (plain (skip g)) ys zs k i = k i
-  kind-among n l (plain (kerned w)) ys zs k i = k i
-  kind-among n l (plain (pen p)) ys zs k i = k i
-  kind-among n l (plain (mark name)) ys zs k i = k i
-  kind-among n l (plain (note name)) ys zs k i = k i
-  kind-among n l (plain whatsit) ys zs k i = k i
-  kind-among n l (ins j) ys zs k i = k i
-  kind-among n l (act a) ys zs k i = k i
+  kind-among n l d ys zs k i = k i
 
   pub any-class : (n : ℕ) (ns : List PlainNode) → IsAmong n (class_lines c ns) → IsAmong n (node_lines float_lines_of ns)
   any-class n [] i = i
   any-class n (x ∷ xs) i = kind-among n x.line x.kind (class_lines c xs) (node_lines float_lines_of xs) (λ j. any-class n xs j) i
 
   kind-before : (a b l : ℕ) (d : PlainKind) (ys zs : List ℕ) → (IsAmong b ys → IsAmong b zs) → (StandsBefore a b ys → StandsBefore a b zs) → StandsBefore a b (kind_lines c d ++ ys) → StandsBefore a b (float_lines_of l d ++ zs)
-  kind-before a b l (plain (hbox (what.Text name) h d)) ys zs m k i = k i
-  kind-before a b l (plain (hbox what.Blank h d)) ys zs m k i = k i
   kind-before a b l (plain (hbox (what.Float name class place item) h d)) ys zs m k i = by_class (is_of c class item) i
     where
       by_class : (t : Bool) → StandsBefore a b (line_if t item ++ ys) → StandsBefore a b (item ∷ zs)
       by_class true (inl e) = inl (e.0, m e.1)
       by_class true (inr i) = inr (k i)
       by_class false i = inr (k i)
-  kind-before a b l (plain (hbox (what.Margin name side shift height depth item) h d)) ys zs m k i = k i
-  kind-before a b l (plain (rule name h d)) ys zs m k i = k i
-  kind-before a b l (plain (skip g)) ys zs m k i = k i
-  kind-before a b l (plain (kerned w)) ys zs m k i = k i
-  kind-before a b l (plain (pen p)) ys zs m k i = k i
-  kind-before a b l (plain (mark name)) ys zs m k i = k i
-  kind-before a b l (plain (note name)) ys zs m k i = k i
-  kind-before a b l (plain whatsit) ys zs m k i = k i
-  kind-before a b l (ins j) ys zs m k i = k i
-  kind-before a b l (act x) ys zs m k i = k i
+  kind-before a b l d ys zs m k i = k i
 
   pub class-before : (a b : ℕ) (ns : List PlainNode) → StandsBefore a b (class_lines c ns) → StandsBefore a b (node_lines float_lines_of ns)
   class-before a b [] i = i
@@ -176,8 +144,4 @@ late-carried k n j total all (placed f place l height ∷ rs) back e h (inl i) =
 
     by_place : (place : Where) → IsPlacing k n (placed f place l height) → IsTrue ((f.line == n) && is_here place && is_past n j 0 all)
     by_place places.Here p = and_from ((f.line == n) && true) (is_past n j 0 all) (and_from (f.line == n) true (is-same f.line n p.1) refl) (h j below)
-    by_place places.Top p = absurd p
-    by_place places.Bottom p = absurd p
-    by_place places.Page p = absurd p
-    by_place places.Double p = absurd p
-    by_place places.Deferred p = absurd p
+    by_place place p = absurd p

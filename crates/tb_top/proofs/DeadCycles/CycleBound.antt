@@ -22,7 +22,7 @@ use Rattle.tb_laws.proofs.DeadCycles.CycleStates.{Bounded}
 use Rattle.tb_laws.proofs.DeadCycles.HighStates.{BoundedHigh}
 use Rattle.tb_laws.proofs.Closed.ClosingPages.{ActsClose}
 use Rattle.tb_laws.proofs.Closed.ClosingStates.{Closing}
-use Rattle.tb_run.specs.Run.{Step, ends, goes_on, done, pool_full, dead_cycles, page_limit, node_limit, step, run_of}
+use Rattle.tb_run.specs.Run.{Step, ends, goes_on, done, step, run_of}
 use Rattle.tb_top.specs.DeadCycles.{HasRoomForCycles, EndsWithinCycles, DeadCyclesAreFew}
 use Rattle.tb_top.proofs.DeadCycles.ValidPenalties.{interline-calm}
 use Rattle.tb_top.proofs.Written.ClassLemmas.{valid-differ, valid-fit}
@@ -94,10 +94,7 @@ module _ (g : Galley) (valid : IsValid g) where
       at : (x : Step) → StepCloses g.params s x → StepStays (Closing g.params) x
       at (goes_on es rs t) h = h.1
       at (ends es rs (done left)) h = tt
-      at (ends es rs (pool_full line live)) h = tt
-      at (ends es rs (dead_cycles n)) h = tt
-      at (ends es rs (page_limit n)) h = tt
-      at (ends es rs (node_limit n)) h = tt
+      at x h = tt
 
   empties : (s : State) → Kept s → Closing g.params s → ChangesEmpty g.params s (acted_of (page_of g.params s).reached)
   empties s c k = closing-changes g.params k.done s (acted_of (page_of g.params s).reached) (empty g.params calm s c k) (page_closes g.params calm s c k).acts_close

@@ -27,7 +27,7 @@ use Rattle.tb_laws.proofs.DeadCycles.AgainLemmas.{Again, BreakAgain, again-prune
 use Rattle.tb_laws.proofs.DeadCycles.WaitCosts.{AllInserted, all-inserted, sort_cost, wait_cost, acts_cost, cost-append, steady-free, page-cost}
 use Rattle.tb_laws.proofs.DeadCycles.EndedLemmas.{Ended, flat_last, ended-pruned, ended-acts, ended-behind, ended-spent}
 use Rattle.tb_laws.proofs.Closed.ClearPages.{OneFlat, one-flat, clear-ended, FrontFits, front-fits}
-use Rattle.tb_laws.proofs.DeadCycles.CycleStates.{Kind, any, doubled, once, topped, ready, halted, clean, single, closed, Holds, Phase, starting, second, ending, PhaseHolds}
+use Rattle.tb_laws.proofs.DeadCycles.CycleStates.{Kind, any, once, ready, halted, closed, Holds, Phase, starting, second, ending, PhaseHolds}
 use Rattle.tb_laws.proofs.DeadCycles.CycleBreaks.{clear-sort, FiresWell}
 use Rattle.tb_top.proofs.NothingLost.RunWeights.{Kept, page_of}
 use Rattle.tb_top.proofs.NothingLost.ClosingRuns.{void-given}
@@ -199,34 +199,13 @@ module _ (p : Params) (s : State) (kept : Kept s) (ended : Ended false s.waiting
         z = frozen_for (ask_of p s) s.classes s.boxes
 
         by_halted : (x : Kind) → Holds p s a x → x ≡ halted → int_le eject_penalty fired.penalty ≡ true
-        by_halted any h e = cc
-        by_halted doubled h e = cc
-        by_halted once h e = cc
-        by_halted topped h e = cc
-        by_halted ready h e = cc
         by_halted halted h e = paused-ends h.1
-        by_halted clean h e = cc
-        by_halted single h e = cc
-        by_halted closed h e = cc
+        by_halted x h e = cc
 
         by_once : (x : Kind) → Holds p s a x → x ≡ once → (int_le eject_penalty fired.penalty ≡ true) × (fired.held ≡ []) × ((rest : List PlainNode) × Fitted Output.clear_penalty rest fired.rest)
-        by_once any h e = cc
-        by_once doubled h e = cc
         by_once once h e = known-once h
-        by_once topped h e = cc
-        by_once ready h e = cc
-        by_once halted h e = cc
-        by_once clean h e = cc
-        by_once single h e = cc
-        by_once closed h e = cc
+        by_once x h e = cc
 
         by_ready : (x : Kind) → Holds p s a x → x ≡ ready → (Output.is_int fired.penalty Output.clear_penalty ≡ true) × (footnotes (record s { boxes = fired.boxes }) ≡ [])
-        by_ready any h e = cc
-        by_ready doubled h e = cc
-        by_ready once h e = cc
-        by_ready topped h e = cc
         by_ready ready h e = known-ready h
-        by_ready halted h e = cc
-        by_ready clean h e = cc
-        by_ready single h e = cc
-        by_ready closed h e = cc
+        by_ready x h e = cc

@@ -5,7 +5,7 @@ use Rattle.tb_scaled.specs.Scaled.{awful_bad, min_ℤ, eject_penalty}
 use Rattle.tb_node.specs.declared.What.TheVariants as what
 use Rattle.tb_node.specs.declared.Act.{Act}
 use Rattle.tb_node.specs.declared.Act.TheVariants as acts
-use Rattle.tb_node.specs.PlainNodes.{Matter, hbox, rule, skip, kerned, pen, mark, note, whatsit, Leaf, PlainKind, plain, ins, act, PlainNode}
+use Rattle.tb_node.specs.PlainNodes.{Matter, hbox, rule, Leaf, PlainKind, plain, ins, act, PlainNode}
 use Rattle.tb_node.proofs.Weights.{Weight, leaves_weight, kind_weight, nodes_weight}
 use Rattle.tb_param.specs.declared.Params.{Params}
 use Rattle.tb_builder.specs.Reach.{Reached, acted, tried}
@@ -58,17 +58,8 @@ nothing = record { box = λ n. 0; float = λ n. 0; margin = λ n. 0 }
 
 leaf-nothing : (m : Matter) (l : ℕ) → kind_weight nothing l (plain m) ≡ 0
 leaf-nothing (hbox (what.Text name) h d) l = refl
-leaf-nothing (hbox what.Blank h d) l = refl
-leaf-nothing (hbox (what.Float name class place item) h d) l = refl
-leaf-nothing (hbox (what.Margin name side shift height depth item) h d) l = refl
 leaf-nothing (rule None h d) l = refl
-leaf-nothing (rule (Some name) h d) l = refl
-leaf-nothing (skip g) l = refl
-leaf-nothing (kerned w) l = refl
-leaf-nothing (pen q) l = refl
-leaf-nothing (mark name) l = refl
-leaf-nothing (note name) l = refl
-leaf-nothing whatsit l = refl
+leaf-nothing m l = refl
 
 leaves-nothing : (ls : List Leaf) → leaves_weight nothing ls ≡ 0
 leaves-nothing [] = refl
@@ -81,9 +72,7 @@ kind-nothing : (l : ℕ) (k : PlainKind) → kind_weight nothing l k ≡ 0
 kind-nothing l (plain m) = leaf-nothing m l
 kind-nothing l (ins i) = leaves-nothing i.inner
 kind-nothing l (act (acts.Take f)) = refl
-kind-nothing l (act (acts.TakeMargin m)) = refl
-kind-nothing l (act (acts.Suppress area)) = refl
-kind-nothing l (act (acts.Columns two)) = refl
+kind-nothing l k = refl
 
 nodes-nothing : (ns : List PlainNode) → nodes_weight nothing ns ≡ 0
 nodes-nothing [] = refl
@@ -101,10 +90,8 @@ fits-nothing o [] = tt
 fits-nothing o (a ∷ ds) = (by_act a, fits-nothing o ds)
   where
     by_act : (a : Act) → ActFits nothing o a
-    by_act (acts.Take f) = tt
-    by_act (acts.TakeMargin m) = tt
-    by_act (acts.Suppress area) = tt
     by_act (acts.Columns two) = left-nothing o
+    by_act a = tt
 
 -- ---- a step
 
@@ -189,11 +176,8 @@ module _ (p : Params) (calm : int_le p.interlinepenalty eject_penalty ≡ false)
 
   both : (s : State) (x : Step) → StepWeighs nothing s x → StepBound x → StepCycles x
   both s (goes_on es rs t) h k = record { kept = h.0; bounded = k.0; ended = k.1 }
-  both s (ends es rs (done left)) h k = tt
-  both s (ends es rs (pool_full line live)) h k = tt
   both s (ends es rs (dead_cycles n)) h k = k
-  both s (ends es rs (page_limit n)) h k = tt
-  both s (ends es rs (node_limit n)) h k = tt
+  both s x h k = tt
 
   pub step-cycles : (s : State) → Cycled s → ChangesEmpty p s (acted_of (page_of p s).reached) → StepCycles (step p s)
   step-cycles s c e = both s (step p s) (step-weighs nothing p calm s c.kept (fits-nothing s.left_column (acted_of (page_of p s).reached))) (step-bound s c e)
@@ -202,11 +186,8 @@ module _ (p : Params) (calm : int_le p.interlinepenalty eject_penalty ≡ false)
 
   by-step : (I : State → Type 0) (later : State → Run) → ((t : State) → Cycled t → I t → RunCycles top (later t).end) → (x : Step) → StepCycles x → StepStays I x → RunCycles top (run_by later x).end
   by-step I later h (goes_on es rs t) k i = h t k i
-  by-step I later h (ends es rs (done left)) k i = tt
-  by-step I later h (ends es rs (pool_full line live)) k i = tt
   by-step I later h (ends es rs (dead_cycles n)) k i = k
-  by-step I later h (ends es rs (page_limit n)) k i = tt
-  by-step I later h (ends es rs (node_limit n)) k i = tt
+  by-step I later h x k i = tt
 
   -- with an invariant under which the columns change only when no float is on the way
   pub run-cycles : (I : State → Type 0) → ((s : State) → Cycled s → I s → ChangesEmpty p s (acted_of (page_of p s).reached)) → ((s : State) → Cycled s → I s → StepStays I (step p s)) → (fuel : ℕ) (s : State) → Cycled s → I s → RunCycles top (run_from p fuel s).end

@@ -21,7 +21,7 @@ use Rattle.tb_laws.proofs.DeadCycles.EndedLemmas.{Ended, ended-both, free-ended}
 use Rattle.tb_float.specs.Lists.{wide_part}
 use Rattle.tb_laws.proofs.StepLaws.SideLemmas.{no-sides}
 use Rattle.tb_laws.proofs.DeadCycles.CycleStates.{closed, starting, FloatsFit, Bounded}
-use Rattle.tb_run.specs.Run.{End, done, pool_full, dead_cycles, page_limit, node_limit, run_from, run_of, firings_left, held_count, step, classes_of}
+use Rattle.tb_run.specs.Run.{End, dead_cycles, node_limit, run_from, run_of, firings_left, held_count, step, classes_of}
 use Rattle.tb_laws.proofs.DeadCycles.SpacedLemmas.{Spaced, spaced-any, spaced-both, free-alone}
 use Rattle.tb_laws.proofs.DeadCycles.HighStates.{cleared, BoundedHigh}
 use Rattle.tb_top.specs.Firings.{HasReason}
@@ -219,14 +219,11 @@ module _ (g : Galley) (calm : int_le g.params.interlinepenalty eject_penalty ≡
 
   -- a run that has a reason to end for its dead cycles had as many as there may be, and those were few
   no-reason : (e : End) → HasReason g.params e → RunCycles (most + 3) e → HasRoomForCycles g → EndsWithinCycles e
-  no-reason (done left) h k c = tt
-  no-reason (pool_full line live) h k c = tt
   no-reason (dead_cycles n) h k c = no-room (cycling_items g.items) n g.params.maxdeadcycles c h k
     where
       no-room : (i n : ℕ) (d : ℤ) → pos (4 * i + 16) ≤ℤ d → d ≤ℤ pos n → n ≤ 4 * i + 3 + 3 → ⊥
       no-room i n d a b e = let h : 4 * i + 16 ≤ n = grind (arith, ints, a, b) in omega arith
-  no-reason (page_limit n) h k c = tt
-  no-reason (node_limit n) h k c = tt
+  no-reason e h k c = tt
 
   -- with a bound that each firing keeps, and an invariant by which the columns change only when no float is on the way, the run does not end for its dead cycles
   module _ (B : State → Type 0) (few : (s : State) → B s → s.dead_cycles ≤ most + 3) (goes : Goes g.params B) (start : B first)

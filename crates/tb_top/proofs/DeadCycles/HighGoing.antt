@@ -15,7 +15,7 @@ use Rattle.tb_laws.proofs.DeadCycles.EndedLemmas.{Ended}
 use Rattle.tb_laws.proofs.DeadCycles.ServeOutcomes.{way_floats}
 use Rattle.tb_laws.proofs.DeadCycles.ActCosts.{Acts, again-cost}
 use Rattle.tb_laws.proofs.DeadCycles.CycleStates.{ending, IsSecond, any}
-use Rattle.tb_laws.proofs.DeadCycles.HighStates.{Stage, loose, guarded, cleared, right, last, stage_cost, StageHolds, phase_of, phase-holds, BoundedHigh}
+use Rattle.tb_laws.proofs.DeadCycles.HighStates.{Stage, guarded, cleared, right, last, stage_cost, StageHolds, phase_of, phase-holds, BoundedHigh}
 use Rattle.tb_laws.proofs.DeadCycles.HighFirings.{FiresHigh, out-high, high-ended}
 use Rattle.tb_top.proofs.NothingLost.RunWeights.{Kept, page_of}
 use Rattle.tb_top.proofs.DeadCycles.CyclePages.{rest-ended, none-reached, reached-cost, any-well, phase-well}
@@ -65,11 +65,8 @@ module _ (p : Params) (m : ℕ) (calm : int_le p.interlinepenalty eject_penalty 
         sums x y y' w n g h i j l = omega arith
 
         no-end : (x : Stage) → (x ≡ last → ⊥) → phase_of x ≡ ending → ⊥
-        no-end loose g e = cc
-        no-end guarded g e = cc
-        no-end cleared g e = cc
-        no-end right g e = cc
         no-end last g e = g refl
+        no-end x g e = cc
 
     none-goes : b.again ≡ 0 → Going t
     none-goes z = by_stage b.stage refl b.holds
@@ -90,15 +87,13 @@ module _ (p : Params) (m : ℕ) (calm : int_le p.interlinepenalty eject_penalty 
         no-end x h k = omega arith
 
         by_stage : (x : Stage) → b.stage ≡ x → StageHolds p s b.again x → Going t
-        by_stage loose e h = at-first (subst (λ (y : Stage). 2 ≤ stage_cost y) (sym e) (omega arith))
-        by_stage guarded e h = at-first (subst (λ (y : Stage). 2 ≤ stage_cost y) (sym e) (omega arith))
-        by_stage cleared e h = at-first (subst (λ (y : Stage). 2 ≤ stage_cost y) (sym e) (omega arith))
         by_stage right e h = by_second (a.second h)
           where
             by_second : IsSecond t ⊎ (2 * way_floats t.floats + 1 ≤ 2 * way_floats s.floats + acts_cost (acted_of (page_of p s).reached)) → Going t
             by_second (inl i) = closed-goes z right i (λ i. cc) (λ i. cc) (lower 1 (subst (λ (y : Stage). 1 ≤ stage_cost y) (sym e) (omega arith)))
             by_second (inr i) = closed-goes z cleared refl (λ i. cc) (λ i. cc) (later t.dead_cycles s.dead_cycles (total t) (way_floats t.floats) (way_floats s.floats) (wait_cost s.waiting) (acts_cost (acted_of (page_of p s).reached)) b.again a.cycles (reached-cost p s kept ended) i (subst (λ (y : Stage). s.dead_cycles + wait_cost s.waiting + 2 * way_floats s.floats + stage_cost y ≤ m + 3 + 3 * b.again) e b.bound) z)
         by_stage last e h = absurd (no-end b.again z (b.coming e))
+        by_stage x e h = at-first (subst (λ (y : Stage). 2 ≤ stage_cost y) (sym e) (omega arith))
 
     -- if clears of the routine are to come, no act was reached
     open-goes : (n : ℕ) → b.again ≡ suc n → Going s
@@ -120,11 +115,8 @@ module _ (p : Params) (m : ℕ) (calm : int_le p.interlinepenalty eject_penalty 
         sums-with d x y w n g q h i = omega arith
 
         by_guard : (x : Stage) → StageHolds p s b.again x → x ≡ guarded → Output.is_int (page s).penalty Output.clear_penalty ≡ true → footnotes (record s { boxes = (page s).boxes }) ≡ [] → ⊥
-        by_guard loose h i c v = cc
         by_guard guarded h i c v = no-clear p s kept ended deep base high n (subst (λ (x : ℕ). Again x (sorts s.waiting)) e b.region) h.goal h.spaced (frozen_for (ask_of p s) s.classes s.boxes) c v
-        by_guard cleared h i c v = cc
-        by_guard right h i c v = cc
-        by_guard last h i c v = cc
+        by_guard x h i c v = cc
 
     high-firing : Going t
     high-firing = by_again b.again refl

@@ -4,7 +4,7 @@ use Rattle.std.specs.Prelude.{◌≤ℤ◌, ◌<ℤ◌}
 use Rattle.std.proofs.lemmas.Int.{ints}
 use Rattle.std.proofs.lemmas.List.{append_assoc}
 use Rattle.tb_node.specs.declared.What.TheVariants as what
-use Rattle.tb_node.specs.PlainNodes.{hbox, rule, skip, kerned, pen, mark, note, whatsit, PlainKind, plain, ins, act, PlainNode, without_acts, without_insertions}
+use Rattle.tb_node.specs.PlainNodes.{skip, pen, PlainKind, plain, ins, act, PlainNode, without_acts, without_insertions}
 use Rattle.tb_break.specs.PageTop.{pruned_nodes, top_glue}
 use Rattle.tb_param.specs.declared.Params.{Params}
 use Rattle.tb_insert.specs.Account.{Frozen, Labelled, labelled_from, labelled_with}
@@ -69,16 +69,8 @@ at-clear [] h = let no : false ≡ true = h in cc
 at-clear (n ∷ ns) h = by_kind n.line n.kind h
   where
     by_kind : (l : ℕ) (x : PlainKind) → Output.is_int (penalty_at (record { line = l; kind = x } ∷ ns)) Output.clear_penalty ≡ true → AtClear (record { line = l; kind = x } ∷ ns)
-    by_kind l (plain (hbox w a d)) h = let no : false ≡ true = h in cc
-    by_kind l (plain (rule name a d)) h = let no : false ≡ true = h in cc
-    by_kind l (plain (skip g)) h = let no : false ≡ true = h in cc
-    by_kind l (plain (kerned g)) h = let no : false ≡ true = h in cc
     by_kind l (plain (pen q)) h = record { line = l; tail = ns; whole = ap (λ x. break_at l x ∷ ns) (clear-int q h) }
-    by_kind l (plain (mark name)) h = let no : false ≡ true = h in cc
-    by_kind l (plain (note name)) h = let no : false ≡ true = h in cc
-    by_kind l (plain whatsit) h = let no : false ≡ true = h in cc
-    by_kind l (ins i) h = let no : false ≡ true = h in cc
-    by_kind l (act a) h = let no : false ≡ true = h in cc
+    by_kind l x h = let no : false ≡ true = h in cc
 
 take-most : {X : Type 0} (i : ℕ) (xs : List X) → length (take i xs) ≤ i
 take-most zero xs = omega arith

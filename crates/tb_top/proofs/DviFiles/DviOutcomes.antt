@@ -55,12 +55,10 @@ module _ (input : List ℕ) (source out : Stream) (read : Gives source.before so
   cut (Some page) far b = cut_off_by modes.Dvi input source out read _ (replied (Some page) far) refl b
 
   by-pages : IsValid g → (f : PageFault) → RefusesPages g out.before out.after f → (f ≡ pages.WriteFault → Failed out) → StandsAfter (Some modes.Dvi) (page_status f) source out (err_line (page_text f))
-  by-pages valid (pages.PoolFull line live) r rose = ended (pages.PoolFull line live) r
   by-pages valid (pages.DeadCycles n) r rose = out_of_cycles valid n r
-  by-pages valid (pages.PageLimit n) r rose = ended (pages.PageLimit n) r
-  by-pages valid (pages.NodeLimit n) r rose = ended (pages.NodeLimit n) r
   by-pages valid pages.WriteFault r rose = (cut (far_page g) refl r, rose refl, refl)
   by-pages valid pages.Memory r rose = (inr (cut (far_page g) refl r), refl)
+  by-pages valid f r rose = ended f r
 
   -- what holds after a refusal of `paginate_dvi`
   pub left_by_file : IsValid g → (e : DviRunFault) → RefusesFile g out.before out.after e → (e ≡ undone.Pages pages.WriteFault → Failed out) → StandsAfter (Some modes.Dvi) (refusal_status (dvi_fault e)) source out (refusal_line (dvi_fault e))
@@ -76,11 +74,4 @@ module _ (input : List ℕ) (source out : Stream) (read : Gives source.before so
       rw (h.0) (decided_by modes.DviList input source out read _ _ (fault_reply too_long) h.1 refl refl (nothing out.before out.after kept))
   left_by_listing (refusals.Dvi (dvi.At byte cause)) h = decided_by modes.DviList input source out read _ _ (cause_reply byte cause) h refl refl (nothing out.before out.after kept)
   left_by_listing refusals.Memory h = (inl kept, refl)
-  left_by_listing (refusals.Dvi (dvi.TooFar page)) h = absurd h
-  left_by_listing (refusals.Galley unread.Memory) h = absurd h
-  left_by_listing (refusals.Words f) h = absurd h
-  left_by_listing (refusals.Input f) h = absurd h
-  left_by_listing (refusals.Pages f) h = absurd h
-  left_by_listing (refusals.Lines f) h = absurd h
-  left_by_listing (refusals.Unsuited n) h = absurd h
-  left_by_listing (refusals.Output f) h = absurd h
+  left_by_listing r h = absurd h

@@ -99,12 +99,10 @@ leaf-nodes (l ∷ ls) h = (h.0, leaf-nodes ls h.1)
 leaf-pruned : (t : ℤ) (ls : List Leaf) → WritableLeaves ls → WritableLeaves (pruned_leaves t ls) → (n : ℕ) (m : Matter) → WritableMatter m → WritableLeaves (pruned_leaves t (record { line = n; matter = m } ∷ ls))
 leaf-pruned t ls h k n (hbox w a d) g = (tt, (g, h))
 leaf-pruned t ls h k n (rule name a d) g = (tt, (g, h))
-leaf-pruned t ls h k n (skip x) g = k
-leaf-pruned t ls h k n (kerned w) g = k
-leaf-pruned t ls h k n (pen p) g = k
 leaf-pruned t ls h k n (mark name) g = (g, k)
 leaf-pruned t ls h k n (note name) g = (g, k)
 leaf-pruned t ls h k n whatsit g = (g, k)
+leaf-pruned t ls h k n m g = k
 
 leaves-pruned : (t : ℤ) (ls : List Leaf) → WritableLeaves ls → WritableLeaves (pruned_leaves t ls)
 leaves-pruned t [] h = tt
@@ -116,11 +114,7 @@ node-pruned t ns h k n (plain (rule name a d)) g = (tt, (g, h))
 node-pruned t ns h k n (plain (skip x)) g = k
 node-pruned t ns h k n (plain (kerned w)) g = k
 node-pruned t ns h k n (plain (pen p)) g = k
-node-pruned t ns h k n (plain (mark name)) g = (g, k)
-node-pruned t ns h k n (plain (note name)) g = (g, k)
-node-pruned t ns h k n (plain whatsit) g = (g, k)
-node-pruned t ns h k n (ins i) g = (g, k)
-node-pruned t ns h k n (act a) g = (g, k)
+node-pruned t ns h k n x g = (g, k)
 
 pub nodes-pruned : (t : ℤ) (ns : List PlainNode) → WritableNodes ns → WritableNodes (pruned_nodes t ns)
 nodes-pruned t [] h = tt
@@ -227,16 +221,8 @@ boxes-given ls (b ∷ bs) h g = (box-given ls b h g.0, boxes-given ls bs h g.1)
 -- ---- the page that fires
 
 spent : (k : PlainKind) → WritableKind k → WritableKind (spent_kind k)
-spent (plain (hbox w a d)) h = h
-spent (plain (rule name a d)) h = h
-spent (plain (skip g)) h = h
-spent (plain (kerned w)) h = h
 spent (plain (pen p)) h = tt
-spent (plain (mark name)) h = h
-spent (plain (note name)) h = h
-spent (plain whatsit) h = h
-spent (ins i) h = h
-spent (act a) h = h
+spent k h = h
 
 spent-break : (ns : List PlainNode) → WritableNodes ns → WritableNodes (with_spent_break ns)
 spent-break [] h = tt

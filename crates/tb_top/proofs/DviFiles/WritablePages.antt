@@ -20,7 +20,7 @@ use Rattle.tb_dvi.specs.Progress.{bytes_by}
 use Rattle.tb_dvi.specs.Machine.{listed}
 use Rattle.tb_dvi.specs.Listing.{pages_items}
 use Rattle.tb_dvi.proofs.FileLaw.{lists_its_pages}
-use Rattle.tb_run.specs.Run.{RunEvent, offered, sent, End, done, pool_full, dead_cycles, page_limit, node_limit, run_of}
+use Rattle.tb_run.specs.Run.{RunEvent, offered, sent, End, done, run_of}
 use Rattle.tb_top.specs.Laws.{EndsDone, FilesListTheirPages}
 use Rattle.tb_top.specs.Answer.{is_done}
 use Rattle.tb_top.specs.DviPages.{event_pages, run_pages}
@@ -87,10 +87,7 @@ pages-writable g v =
 
 done-is : (e : End) → EndsDone e → is_done e ≡ true
 done-is (done left) h = refl
-done-is (pool_full line live) h = absurd h
-done-is (dead_cycles n) h = absurd h
-done-is (page_limit n) h = absurd h
-done-is (node_limit n) h = absurd h
+done-is e h = absurd h
 
 pub files-list : FilesListTheirPages
 files-list g v ended near size =

@@ -207,9 +207,7 @@ short front name f n = omega (arith, f, n, length-append front name)
 leaf-kinds : (k : LeafKind) (n : ℕ) → IsTrue (is_leaf k) → WritableLeaves (plain_leaf (record { line = n; kind = k }) ∷ [])
 leaf-kinds (leaves.Hbox name h d) n v = let s = sized name h d v in ((short (codes "box ") name (omega arith) s.0, s.1), tt)
 leaf-kinds (leaves.Rule name h d) n v = let s = sized name h d v in ((short (codes "rule ") name (omega arith) s.0, s.1), tt)
-leaf-kinds (leaves.Skip g) n v = (tt, tt)
-leaf-kinds (leaves.Kern w) n v = (tt, tt)
-leaf-kinds (leaves.Penalty p) n v = (tt, tt)
+leaf-kinds k n v = (tt, tt)
 
 all-leaves : (ls : List Leaf) → IsTrue (list_all (λ l. is_leaf l.kind) ls) → WritableLeaves (map plain_leaf ls)
 all-leaves [] v = tt
@@ -218,11 +216,7 @@ all-leaves (l ∷ ls) v = let parts = and_parts (is_leaf l.kind) (list_all (λ l
 -- the word of a place and of a side is short
 where-short : (place : Where) → length (where_text place) ≤ 8
 where-short places.Here = omega arith
-where-short places.Top = omega arith
-where-short places.Bottom = omega arith
-where-short places.Page = omega arith
-where-short places.Double = omega arith
-where-short places.Deferred = omega arith
+where-short place = omega arith
 
 side-short : (side : Side) → length (side_text side) ≤ 5
 side-short sides.Left = omega arith

@@ -330,9 +330,7 @@ module _ (p : Params) where
   float-goes vert f l w places.Here h g k = puts-more (here_nodes p vert f) (puts_interline p (place_float p places.Here f l w)) (stands-here vert f h) (interline (place_float p places.Here f l w) (goes-to places.Here f l w h g k))
   float-goes vert f l w places.Top h g k = interline (place_float p places.Top f l w) (goes-to places.Top f l w h g k)
   float-goes vert f l w places.Bottom h g k = interline (place_float p places.Bottom f l w) (goes-to places.Bottom f l w h g k)
-  float-goes vert f l w places.Page h g k = interline (defer p f l w) (defers f l w h g k)
-  float-goes vert f l w places.Double h g k = interline (defer p f l w) (defers f l w h g k)
-  float-goes vert f l w places.Deferred h g k = interline (defer p f l w) (defers f l w h g k)
+  float-goes vert f l w place h g k = interline (defer p f l w) (defers f l w h g k)
 
   note-goes : (depth : ℤ) (m : Margin) (l : FloatLists) (w : Work) (at : Placed) → WritableNote m → WritableLists l → WritableWork w → WritableWork (note_goes p depth m l w at)
   note-goes depth m l w at h g k =

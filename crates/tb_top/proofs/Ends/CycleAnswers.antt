@@ -2,7 +2,7 @@
 use Rattle.std.proofs.Common.{◌≡◌, ℕ, List, Option, Some}
 use Rattle.tb_galley.specs.declared.Galley.{Galley}
 use Rattle.tb_galley.specs.Valid.{IsValid}
-use Rattle.tb_run.specs.Run.{End, done, pool_full, dead_cycles, page_limit, node_limit, run_of}
+use Rattle.tb_run.specs.Run.{End, dead_cycles, run_of}
 use Rattle.tb_top.specs.declared.View.{View}
 use Rattle.tb_top.specs.declared.PageFault.{PageFault}
 use Rattle.tb_top.specs.declared.PageFault.TheVariants as faults
@@ -11,20 +11,13 @@ use Rattle.tb_top.specs.DeadCycles.{EndsWithinCycles, HasRoomForCycles}
 use Rattle.tb_top.proofs.DeadCycles.CycleBound.{dead-cycle-bound}
 
 not-ended : (e : End) (n : ℕ) → EndsWithinCycles e → end_fault e ≡ Some (faults.DeadCycles n) → ⊥
-not-ended (done left) n few is = cc
-not-ended (pool_full line live) n few is = cc
 not-ended (dead_cycles m) n few is = absurd few
-not-ended (page_limit m) n few is = cc
-not-ended (node_limit m) n few is = cc
+not-ended e n few is = cc
 
 -- a run that was refused for its dead cycles had no room for them
 pub no-room : (g : Galley) → IsValid g → (v : View) (old new : Option (List ℕ)) (n : ℕ) → EndsWith v (run_of g) old new (faults.DeadCycles n) → HasRoomForCycles g → ⊥
 no-room g valid v old new n h room = not-ended (run_of g).end n (dead-cycle-bound g valid room) h.ended
 
 pub not-for-cycles : (g : Galley) → IsValid g → HasRoomForCycles g → (v : View) (old new : Option (List ℕ)) (f : PageFault) → Refuses v (run_of g) old new f → IsNoCycleFault f
-not-for-cycles g valid room v old new (faults.PoolFull line live) h = tt
 not-for-cycles g valid room v old new (faults.DeadCycles n) h = absurd (no-room g valid v old new n h room)
-not-for-cycles g valid room v old new (faults.PageLimit n) h = tt
-not-for-cycles g valid room v old new (faults.NodeLimit n) h = tt
-not-for-cycles g valid room v old new faults.WriteFault h = tt
-not-for-cycles g valid room v old new faults.Memory h = tt
+not-for-cycles g valid room v old new f h = tt

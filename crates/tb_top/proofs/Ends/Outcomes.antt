@@ -53,17 +53,11 @@ use Rattle.tb_top.specs.Refusal.{galley_status, page_status, lines_status, input
 -- the end of a run that is not refused
 pub answer_at-well : (e : End) → end_fault e ≡ None → answers.Done ≡ answer_at e
 answer_at-well (done left) is = refl
-answer_at-well (pool_full line live) is = cc
-answer_at-well (dead_cycles n) is = cc
-answer_at-well (page_limit n) is = cc
-answer_at-well (node_limit n) is = cc
+answer_at-well e is = cc
 
 pub line_at-well : (e : End) → end_fault e ≡ None → [] ≡ line_at e
 line_at-well (done left) is = refl
-line_at-well (pool_full line live) is = cc
-line_at-well (dead_cycles n) is = cc
-line_at-well (page_limit n) is = cc
-line_at-well (node_limit n) is = cc
+line_at-well e is = cc
 
 -- the refusal of a run has the status and the line of the run's end
 pub page_status-ended : (e : End) (f : PageFault) → end_fault e ≡ Some f → page_status f ≡ answer_at e
@@ -109,12 +103,10 @@ module _ (m : Mode) (input : List ℕ) (source out : Stream) (read : Reads m sou
 
     -- what holds after a refusal of `paginate`
     pub left_by_pages : IsValid g → (f : PageFault) → Refuses v (run_of g) out.before out.after f → (f ≡ pages.WriteFault → Failed out) → StandsAfter (Some m) (page_status f) source out (err_line (page_text f))
-    left_by_pages valid (pages.PoolFull line live) r rose = pages_ended (pages.PoolFull line live) r
     left_by_pages valid (pages.DeadCycles n) r rose = out_of_cycles valid n r
-    left_by_pages valid (pages.PageLimit n) r rose = pages_ended (pages.PageLimit n) r
-    left_by_pages valid (pages.NodeLimit n) r rose = pages_ended (pages.NodeLimit n) r
     left_by_pages valid pages.WriteFault r rose = (cut_off_by _ is refl r, rose refl, refl)
     left_by_pages valid pages.Memory r rose = (inr (cut_off_by _ is refl r), refl)
+    left_by_pages valid f r rose = pages_ended f r
 
   module _ (text : List ℕ) (is : reply_to m input ≡ text_reply text) where
     -- what holds if a text was written, or not
@@ -181,12 +173,7 @@ module _ (m : Mode) (reply : Galley → Reply) (mode : ReadsGalleys m reply) (so
       (decided_by m missing.0 source out (mode.reads source missing.0 missing.1) _ _ (fault_reply f) (mode.replies missing.0 ∙ ap (galley_reply reply) missing.2) refl refl (nothing out.before out.after kept))
   left_by_reading kept (refusals.Galley unread.Memory) missing = (inl kept, refl)
   left_by_reading kept refusals.Memory missing = (inl kept, refl)
-  left_by_reading kept (refusals.Words f) missing = absurd missing
-  left_by_reading kept (refusals.Pages f) missing = absurd missing
-  left_by_reading kept (refusals.Output f) missing = absurd missing
-  left_by_reading kept (refusals.Lines f) missing = absurd missing
-  left_by_reading kept (refusals.Dvi f) missing = absurd missing
-  left_by_reading kept (refusals.Unsuited n) missing = absurd missing
+  left_by_reading kept r missing = absurd missing
 
 -- ---- the mode that runs a generated galley
 
@@ -203,10 +190,7 @@ module _ (n : ℕ) (source out : Stream) (left : Keeps source.before source.afte
 
   none-written : (e : End) (t : Totals) (f : PageFault) → end_fault e ≡ Some f → summary_at n t e ≡ []
   none-written (done l) t f is = cc
-  none-written (pool_full line live) t f is = refl
-  none-written (dead_cycles k) t f is = refl
-  none-written (page_limit k) t f is = refl
-  none-written (node_limit k) t f is = refl
+  none-written e t f is = refl
 
   nothing-written : (f : PageFault) → EndsWith views.Silent run_made out.before out.after f → Appends out.before out.after (summary_at n (totals_of run_made.events) run_made.end)
   nothing-written f r = subst (Appends out.before out.after) (sym (none-written run_made.end (totals_of run_made.events) f r.ended)) r.written
@@ -222,19 +206,14 @@ module _ (n : ℕ) (source out : Stream) (left : Keeps source.before source.afte
 
   -- what holds if the run is refused; it writes nothing
   pub left_by_run : IsValid (generated n) → (f : PageFault) → Refuses views.Silent run_made out.before out.after f → (f ≡ pages.WriteFault → ⊥) → StandsAfter (Some (modes.Generate n)) (page_status f) source out (err_line (page_text f))
-  left_by_run valid (pages.PoolFull line live) r never = summary-ended (pages.PoolFull line live) r
   left_by_run valid (pages.DeadCycles k) r never = out-of-cycles-made valid k r
-  left_by_run valid (pages.PageLimit k) r never = summary-ended (pages.PageLimit k) r
-  left_by_run valid (pages.NodeLimit k) r never = summary-ended (pages.NodeLimit k) r
   left_by_run valid pages.WriteFault r never = absurd (never refl)
   left_by_run valid pages.Memory r never = (inl (Keeps-nothing out.before out.after (prefix-nothing out.before out.after r)), refl)
+  left_by_run valid f r never = summary-ended f r
 
   well-written : (e : End) (t : Totals) → end_fault e ≡ None → (summary_at n t e ≡ summary_line n t) × (is_done e ≡ true) × (answers.Done ≡ answer_at e) × ([] ≡ line_at e)
   well-written (done l) t is = (refl, refl, refl, refl)
-  well-written (pool_full line live) t is = cc
-  well-written (dead_cycles k) t is = cc
-  well-written (page_limit k) t is = cc
-  well-written (node_limit k) t is = cc
+  well-written e t is = cc
 
   module _ (ended : end_fault run_made.end ≡ None) where
     -- what holds if the line was written, or not
@@ -281,11 +260,7 @@ galley_status-refused unread.Memory = λ same. cc
 
 page_status-refused : (f : PageFault) → page_status f ≢ answers.Done
 page_status-refused (pages.PoolFull line live) = λ same. cc
-page_status-refused (pages.DeadCycles n) = λ same. cc
-page_status-refused (pages.PageLimit n) = λ same. cc
-page_status-refused (pages.NodeLimit n) = λ same. cc
-page_status-refused pages.WriteFault = λ same. cc
-page_status-refused pages.Memory = λ same. cc
+page_status-refused f = λ same. cc
 
 lines_status-refused : (f : LinesRefusal) → lines_status f ≢ answers.Done
 lines_status-refused (unbroken.At line field cause) = answer_for_cause-refused (is_range_cause cause) cause refl
@@ -329,19 +304,7 @@ module _ (asked : Option Mode) (source out err : Stream) (line : List ℕ) where
   stays : (status : Status) → status ≢ answers.Done → StandsAfter asked status source out line → TellsLine line err → Outcome asked status source out err
   stays answers.Done ne left told = absurd (ne refl)
   stays answers.Memory ne left told = record { refusal = answers.Memory; refused = ne; line = line; stands = left; told = prefix_told line err told }
-  stays answers.Words ne left told = (line, left, told)
-  stays answers.Syntax ne left told = (line, left, told)
-  stays answers.Range ne left told = (line, left, told)
-  stays answers.PoolFull ne left told = (line, left, told)
-  stays answers.DeadCycles ne left told = (line, left, told)
-  stays answers.PageLimit ne left told = (line, left, told)
-  stays answers.ReadFault ne left told = (line, left, told)
-  stays answers.WriteFault ne left told = (line, left, told)
-  stays answers.NodeLimit ne left told = (line, left, told)
-  stays answers.Unsuited ne left told = (line, left, told)
-  stays answers.TooFar ne left told = (line, left, told)
-  stays answers.Dvi ne left told = (line, left, told)
-  stays answers.NoBreaks ne left told = (line, left, told)
+  stays status ne left told = (line, left, told)
 
   -- the outcome of a refusal, whatever became of its line
   pub Outcome-said : (status answer : Status) → status ≢ answers.Done → StandsAfter asked status source out line → Says status line answer err → Outcome asked answer source out err
@@ -438,16 +401,8 @@ module _ (asked : Option Mode) (m : Mode) (source out : Stream) (well : Succeeds
   IsAnswer-stands answers.WriteFault line left = absurd (well.written left.1)
   IsAnswer-stands answers.Memory line left = IsAnswer-memory
   IsAnswer-stands answers.Done line left = IsAnswer-decided answers.Done line left.0
-  IsAnswer-stands answers.Syntax line left = IsAnswer-decided answers.Syntax line left
-  IsAnswer-stands answers.Range line left = IsAnswer-decided answers.Range line left
-  IsAnswer-stands answers.PoolFull line left = IsAnswer-decided answers.PoolFull line left
   IsAnswer-stands answers.DeadCycles line left = IsAnswer-decided answers.DeadCycles line left.0
-  IsAnswer-stands answers.PageLimit line left = IsAnswer-decided answers.PageLimit line left
-  IsAnswer-stands answers.NodeLimit line left = IsAnswer-decided answers.NodeLimit line left
-  IsAnswer-stands answers.Unsuited line left = IsAnswer-decided answers.Unsuited line left
-  IsAnswer-stands answers.TooFar line left = IsAnswer-decided answers.TooFar line left
-  IsAnswer-stands answers.Dvi line left = IsAnswer-decided answers.Dvi line left
-  IsAnswer-stands answers.NoBreaks line left = IsAnswer-decided answers.NoBreaks line left
+  IsAnswer-stands status line left = IsAnswer-decided status line left
 
   pub IsAnswer-said : (status answer : Status) (line : List ℕ) (err : Stream) → StandsAfter asked status source out line → Says status line answer err → IsAnswer m answer source.before
   IsAnswer-said status answer line err left (inl same) = rw (same.0) (IsAnswer-stands status line left)

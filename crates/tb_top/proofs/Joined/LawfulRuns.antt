@@ -3,7 +3,7 @@ use Rattle.std.proofs.Common.{◌≡◌, sym, subst, ℕ, List, Option, None, So
 use Rattle.tb_galley.specs.declared.Galley.{Galley}
 use Rattle.tb_galley.specs.Valid.{IsValid}
 use Rattle.tb_report.specs.declared.Totals.{Totals}
-use Rattle.tb_run.specs.Run.{End, done, pool_full, dead_cycles, page_limit, node_limit, run_of}
+use Rattle.tb_run.specs.Run.{End, done, run_of}
 use Rattle.tb_top.specs.declared.View.{View}
 use Rattle.tb_top.specs.declared.PageFault.{PageFault}
 use Rattle.tb_top.specs.Pages.{end_fault, Paginates}
@@ -24,10 +24,7 @@ some-fault f e = let no : IsSome None = subst IsSome e tt in no
 
 no-fault : (e : End) → end_fault e ≡ None → EndsDone e
 no-fault (done left) h = tt
-no-fault (pool_full line live) h = absurd (some-fault _ h)
-no-fault (dead_cycles n) h = absurd (some-fault _ h)
-no-fault (page_limit n) h = absurd (some-fault _ h)
-no-fault (node_limit n) h = absurd (some-fault _ h)
+no-fault e h = absurd (some-fault _ h)
 
 pub keeps-laws : (g : Galley) → IsValid g → (v : View) (old new : Option (List ℕ)) (t : Totals) → Paginates v (run_of g) old new t → KeepsLaws g t
 keeps-laws g valid v old new t h =

@@ -33,10 +33,8 @@ use Rattle.tb_top.specs.Laws.{IsEmptied}
 -- ---- a kept column at a change of columns
 
 act-fits : (v : Weight) (o : Option PlainColumn) (d : Bool) (a : Act) (ds : List Act) → (d ≡ true → left_weight v o ≡ 0) → ActsClose d (a ∷ ds) → ActFits v o a
-act-fits v o d (acts.Take f) ds h c = tt
-act-fits v o d (acts.TakeMargin m) ds h c = tt
-act-fits v o d (acts.Suppress area) ds h c = tt
 act-fits v o d (acts.Columns two) ds h c = h c.0
+act-fits v o d a ds h c = tt
 
 -- it weighs nothing
 pub acts-fit : (v : Weight) (o : Option PlainColumn) (d : Bool) (ds : List Act) → (d ≡ true → left_weight v o ≡ 0) → ActsClose d ds → ActsFit v o ds

@@ -7,7 +7,7 @@ use Rattle.tb_scaled.specs.Scaled.{awful_bad, eject_penalty}
 use Rattle.tb_node.specs.declared.Act.TheVariants as acts
 use Rattle.tb_node.specs.declared.What.{What}
 use Rattle.tb_node.specs.declared.What.TheVariants as what
-use Rattle.tb_node.specs.PlainNodes.{Leaf, hbox, rule, skip, kerned, pen, mark, note, whatsit, PlainKind, plain, ins, act, PlainNode, without_acts, without_insertions}
+use Rattle.tb_node.specs.PlainNodes.{Leaf, hbox, rule, PlainKind, plain, ins, act, PlainNode, without_acts, without_insertions}
 use Rattle.tb_node.proofs.Weights.{Weight, nodes_weight, kind_weight, weight-append}
 use Rattle.tb_param.specs.declared.Params.{Params}
 use Rattle.tb_insert.specs.Account.{Frozen, Labelled, labelled, labelled_from}
@@ -72,19 +72,8 @@ weightless-lists l q h e =
 -- nodes that weigh nothing show nothing
 kind-shows : (l : ℕ) (k : PlainKind) → kind_weight ones l k ≡ 0 → printed l k ≡ []
 kind-shows l (plain (hbox (what.Text name) h d)) e = let no : ⊥ = omega arith in absurd no
-kind-shows l (plain (hbox what.Blank h d)) e = refl
-kind-shows l (plain (hbox (what.Float name class place item) h d)) e = refl
-kind-shows l (plain (hbox (what.Margin name side shift height depth item) h d)) e = refl
-kind-shows l (plain (rule None h d)) e = refl
 kind-shows l (plain (rule (Some name) h d)) e = let no : ⊥ = omega arith in absurd no
-kind-shows l (plain (skip g)) e = refl
-kind-shows l (plain (kerned g)) e = refl
-kind-shows l (plain (pen p)) e = refl
-kind-shows l (plain (mark name)) e = refl
-kind-shows l (plain (note name)) e = refl
-kind-shows l (plain whatsit) e = refl
-kind-shows l (ins i) e = refl
-kind-shows l (act a) e = refl
+kind-shows l k e = refl
 
 pub weightless-prints : (ns : List PlainNode) → nodes_weight ones ns ≡ 0 → prints ns ≡ []
 weightless-prints [] e = refl
@@ -100,25 +89,17 @@ weightless-left (Some c) e = weightless-prints c.nodes e
 -- ---- quiet nodes
 
 what-quiet : (v : Weight) (l : ℕ) (w : What) (h d : ℤ) → Quiet (kind_token (plain (hbox w h d))) → kind_weight v l (plain (hbox w h d)) ≡ 0
-what-quiet v l (what.Text name) h d q = absurd q
 what-quiet v l what.Blank h d q = refl
-what-quiet v l (what.Float name class place item) h d q = absurd q
-what-quiet v l (what.Margin name side shift height depth item) h d q = absurd q
+what-quiet v l w h d q = absurd q
 
 kind-quiet : (v : Weight) (l : ℕ) (k : PlainKind) → Quiet (kind_token k) → kind_weight v l k ≡ 0
 kind-quiet v l (plain (hbox w h d)) q = what-quiet v l w h d q
 kind-quiet v l (plain (rule name h d)) q = absurd q
-kind-quiet v l (plain (skip g)) q = refl
-kind-quiet v l (plain (kerned g)) q = refl
-kind-quiet v l (plain (pen p)) q = refl
-kind-quiet v l (plain (mark name)) q = refl
-kind-quiet v l (plain (note name)) q = refl
-kind-quiet v l (plain whatsit) q = refl
 kind-quiet v l (ins i) q = absurd q
 kind-quiet v l (act (acts.Take f)) q = absurd q
 kind-quiet v l (act (acts.TakeMargin m)) q = absurd q
-kind-quiet v l (act (acts.Suppress area)) q = refl
 kind-quiet v l (act (acts.Columns two)) q = absurd q
+kind-quiet v l k q = refl
 
 -- they weigh nothing
 quiet-weight : (v : Weight) (ns : List PlainNode) → AllByRecursion Quiet (tokens ns) → nodes_weight v ns ≡ 0

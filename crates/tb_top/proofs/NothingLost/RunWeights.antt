@@ -86,10 +86,8 @@ fits-none v [] = tt
 fits-none v (a ∷ ds) = (by_act a, fits-none v ds)
   where
     by_act : (a : Act) → ActFits v None a
-    by_act (acts.Take f) = tt
-    by_act (acts.TakeMargin m) = tt
-    by_act (acts.Suppress area) = tt
     by_act (acts.Columns two) = refl
+    by_act a = tt
 
 -- the state after acts that weigh this much
 pub record After (v : Weight) (n : ℕ) (s t : State) : Type 0 where

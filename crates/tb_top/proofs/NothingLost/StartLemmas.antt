@@ -44,13 +44,7 @@ high-penalty q h ys s = by_tests (int_le q eject_penalty) (is_int q eject_penalt
     by_tests false e c x z u = (tt, s)
 
 item-extends : (ks : List ℕ) (p : Params) (two : Bool) (line : ℕ) (k : ItemKind) → ItemFits ks k → Extends ks many false (on_line line (item_kinds p two k))
-item-extends ks p two line (items.Hbox name h d) f = record { by = λ ys s. (tt, s); feet = (tt, tt) }
-item-extends ks p two line (items.Rule name h d) f = record { by = λ ys s. (tt, s); feet = (tt, tt) }
-item-extends ks p two line (items.Skip g) f = record { by = λ ys s. (tt, s); feet = (tt, tt) }
-item-extends ks p two line (items.Kern w) f = record { by = λ ys s. (tt, s); feet = (tt, tt) }
 item-extends ks p two line (items.Penalty n) f = record { by = λ ys s. high-penalty n f ys s; feet = (tt, tt) }
-item-extends ks p two line (items.Mark name) f = record { by = λ ys s. (tt, s); feet = (tt, tt) }
-item-extends ks p two line (items.Note name) f = record { by = λ ys s. (tt, s); feet = (tt, tt) }
 item-extends ks p two line (items.Foot class foot) f = record { by = λ ys s. (tt, s); feet = (f, tt) }
 item-extends ks p two line (items.Float x vert) f = by_taking (has_second p && two && x.wide) vert
   where
@@ -80,7 +74,7 @@ item-extends ks p two line (items.NoPageBreak n) f = record { by = by_strength n
     by_strength (suc (suc (suc (suc n)))) ys s = (tt, s)
 item-extends ks p two line items.OneColumn f = record { by = λ ys s. (tt, (tt, (tt, (tt, (tt, (tt, s)))))); feet = (tt, (tt, (tt, (tt, (tt, (tt, tt)))))) }
 item-extends ks p two line items.TwoColumn f = record { by = λ ys s. (tt, (tt, (tt, (tt, (tt, (tt, s)))))); feet = (tt, (tt, (tt, (tt, (tt, (tt, tt)))))) }
-item-extends ks p two line (items.Suppress area) f = record { by = λ ys s. (tt, s); feet = (tt, tt) }
+item-extends ks p two line k f = record { by = λ ys s. (tt, s); feet = (tt, tt) }
 
 abbrev pub ItemsFit : List ℕ → List Item → Type 0
 ItemsFit ks = AllByRecursion (λ n. ItemFits ks n.kind)
@@ -147,10 +141,7 @@ items_weight v (n ∷ ns) = item_weight v n.line n.kind + items_weight v ns
 
 leaf-expanded : (v : Weight) (l : ℕ) (k : LeafKind) (r : ℕ) → leaves_weight v (plain_leaf (record { line = l; kind = k }) ∷ []) + r ≡ leaf_line v l k + r
 leaf-expanded v l (leaves.Hbox name h d) r = omega arith
-leaf-expanded v l (leaves.Rule name h d) r = omega arith
-leaf-expanded v l (leaves.Skip g) r = omega arith
-leaf-expanded v l (leaves.Kern w) r = omega arith
-leaf-expanded v l (leaves.Penalty p) r = omega arith
+leaf-expanded v l k r = omega arith
 
 foot-expanded : (v : Weight) (ls : List Leaf) → leaves_weight v (map plain_leaf ls) ≡ foot_weight v ls
 foot-expanded v [] = refl
@@ -162,11 +153,6 @@ foot-expanded v (l ∷ ls) =
 pub item-expanded : (v : Weight) (p : Params) (two : Bool) (n : ℕ) (k : ItemKind) → nodes_weight v (on_line n (item_kinds p two k)) ≡ item_weight v n k
 item-expanded v p two n (items.Hbox name h d) = omega arith
 item-expanded v p two n (items.Rule name h d) = omega arith
-item-expanded v p two n (items.Skip g) = refl
-item-expanded v p two n (items.Kern w) = refl
-item-expanded v p two n (items.Penalty q) = refl
-item-expanded v p two n (items.Mark name) = refl
-item-expanded v p two n (items.Note name) = refl
 item-expanded v p two n (items.Foot class ls) = let h : leaves_weight v (map plain_leaf ls) ≡ foot_weight v ls = foot-expanded v ls in omega arith
 item-expanded v p two n (items.Float f vert) = by_taking (has_second p && two && f.wide)
   where
@@ -174,13 +160,7 @@ item-expanded v p two n (items.Float f vert) = by_taking (has_second p && two &&
     by_taking true = omega arith
     by_taking false = omega arith
 item-expanded v p two n (items.Margin m vert) = omega arith
-item-expanded v p two n items.NewPage = refl
-item-expanded v p two n items.ClearPage = refl
-item-expanded v p two n (items.PageBreak q) = refl
-item-expanded v p two n (items.NoPageBreak q) = refl
-item-expanded v p two n items.OneColumn = refl
-item-expanded v p two n items.TwoColumn = refl
-item-expanded v p two n (items.Suppress area) = refl
+item-expanded v p two n k = refl
 
 items-expanded : (v : Weight) (p : Params) (two : Bool) (ns : List Item) → nodes_weight v (item_nodes p two ns) ≡ items_weight v ns
 items-expanded v p two [] = refl

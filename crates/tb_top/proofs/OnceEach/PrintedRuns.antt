@@ -226,10 +226,7 @@ by-reads p s later h (goes_on es rs t) w c x =
       plain_events = λ d. plain-append es (later t).events x.1 (r.plain_events d);
     }
 by-reads p s later h (ends es rs (done left)) w c x = record { lines = λ d. subst (λ l. Within l (events_prints es)) (sym (weightless-state s (c.1 ones))) tt; plain_events = λ d. x }
-by-reads p s later h (ends es rs (pool_full line live)) w c x = never-reads s es rs (pool_full line live) (λ d. d)
-by-reads p s later h (ends es rs (dead_cycles n)) w c x = never-reads s es rs (dead_cycles n) (λ d. d)
-by-reads p s later h (ends es rs (page_limit n)) w c x = never-reads s es rs (page_limit n) (λ d. d)
-by-reads p s later h (ends es rs (node_limit n)) w c x = never-reads s es rs (node_limit n) (λ d. d)
+by-reads p s later h (ends es rs k) w c x = never-reads s es rs k (λ d. d)
 
 run-reads : (p : Params) → int_le p.interlinepenalty eject_penalty ≡ false → (fuel : ℕ) (s : State) → Kept s → Closing p s → LeftPlain s.left_column → Reads s (run_from p fuel s)
 unfolding run_from

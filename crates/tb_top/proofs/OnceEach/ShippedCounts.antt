@@ -5,7 +5,7 @@ use Rattle.std.specs.Prelude.{◌==◌, IsTrue}
 use Rattle.std.specs.List.{list_all}
 use Rattle.std.proofs.lemmas.Bool.{and_parts}
 use Rattle.tb_node.specs.declared.What.TheVariants as what
-use Rattle.tb_node.specs.PlainNodes.{hbox, rule, skip, kerned, pen, mark, note, whatsit, PlainKind, plain, ins, act, PlainNode}
+use Rattle.tb_node.specs.PlainNodes.{hbox, rule, PlainKind, plain, ins, act, PlainNode}
 use Rattle.tb_node.proofs.Weights.{Weight, kind_weight, nodes_weight, weight-append}
 use Rattle.tb_node.specs.declared.Float.{Float}
 use Rattle.tb_galley.specs.declared.Leaf.{Leaf}
@@ -55,19 +55,8 @@ events-plain (sent (shipped page sheet) ∷ es) h = plain-both (sheet_nodes shee
 
 kind-lines : (l : ℕ) (k : PlainKind) → printed l k ≡ box_lines_of l k
 kind-lines l (plain (hbox (what.Text name) h d)) = refl
-kind-lines l (plain (hbox what.Blank h d)) = refl
-kind-lines l (plain (hbox (what.Float name class place item) h d)) = refl
-kind-lines l (plain (hbox (what.Margin name side shift height depth item) h d)) = refl
 kind-lines l (plain (rule None h d)) = refl
-kind-lines l (plain (rule (Some name) h d)) = refl
-kind-lines l (plain (skip g)) = refl
-kind-lines l (plain (kerned g)) = refl
-kind-lines l (plain (pen p)) = refl
-kind-lines l (plain (mark name)) = refl
-kind-lines l (plain (note name)) = refl
-kind-lines l (plain whatsit) = refl
-kind-lines l (ins i) = refl
-kind-lines l (act a) = refl
+kind-lines l k = refl
 
 pub box-lines : (ns : List PlainNode) → prints ns ≡ node_lines box_lines_of ns
 box-lines [] = refl
@@ -109,51 +98,24 @@ module _ (m : Measure) where
 
   box-measure : (l : ℕ) (k : PlainKind) → IsPlain k → kind_weight of_boxes l k ≡ m.of (box_lines_of l k)
   box-measure l (plain (hbox (what.Text name) h d)) q = refl
-  box-measure l (plain (hbox what.Blank h d)) q = sym m.nothing
-  box-measure l (plain (hbox (what.Float name class place item) h d)) q = sym m.nothing
-  box-measure l (plain (hbox (what.Margin name side shift height depth item) h d)) q = sym m.nothing
-  box-measure l (plain (rule None h d)) q = sym m.nothing
   box-measure l (plain (rule (Some name) h d)) q = refl
-  box-measure l (plain (skip g)) q = sym m.nothing
-  box-measure l (plain (kerned g)) q = sym m.nothing
-  box-measure l (plain (pen p)) q = sym m.nothing
-  box-measure l (plain (mark name)) q = sym m.nothing
-  box-measure l (plain (note name)) q = sym m.nothing
-  box-measure l (plain whatsit) q = sym m.nothing
   box-measure l (ins i) q = absurd q
   box-measure l (act a) q = absurd q
+  box-measure l k q = sym m.nothing
 
   float-measure : (l : ℕ) (k : PlainKind) → IsPlain k → kind_weight of_floats l k ≡ m.of (float_lines_of l k)
-  float-measure l (plain (hbox (what.Text name) h d)) q = sym m.nothing
-  float-measure l (plain (hbox what.Blank h d)) q = sym m.nothing
   float-measure l (plain (hbox (what.Float name class place item) h d)) q = refl
-  float-measure l (plain (hbox (what.Margin name side shift height depth item) h d)) q = sym m.nothing
   float-measure l (plain (rule None h d)) q = sym m.nothing
-  float-measure l (plain (rule (Some name) h d)) q = sym m.nothing
-  float-measure l (plain (skip g)) q = sym m.nothing
-  float-measure l (plain (kerned g)) q = sym m.nothing
-  float-measure l (plain (pen p)) q = sym m.nothing
-  float-measure l (plain (mark name)) q = sym m.nothing
-  float-measure l (plain (note name)) q = sym m.nothing
-  float-measure l (plain whatsit) q = sym m.nothing
   float-measure l (ins i) q = absurd q
   float-measure l (act a) q = absurd q
+  float-measure l k q = sym m.nothing
 
   note-measure : (l : ℕ) (k : PlainKind) → IsPlain k → kind_weight of_notes l k ≡ m.of (note_lines_of l k)
-  note-measure l (plain (hbox (what.Text name) h d)) q = sym m.nothing
-  note-measure l (plain (hbox what.Blank h d)) q = sym m.nothing
-  note-measure l (plain (hbox (what.Float name class place item) h d)) q = sym m.nothing
   note-measure l (plain (hbox (what.Margin name side shift height depth item) h d)) q = refl
   note-measure l (plain (rule None h d)) q = sym m.nothing
-  note-measure l (plain (rule (Some name) h d)) q = sym m.nothing
-  note-measure l (plain (skip g)) q = sym m.nothing
-  note-measure l (plain (kerned g)) q = sym m.nothing
-  note-measure l (plain (pen p)) q = sym m.nothing
-  note-measure l (plain (mark name)) q = sym m.nothing
-  note-measure l (plain (note name)) q = sym m.nothing
-  note-measure l (plain whatsit) q = sym m.nothing
   note-measure l (ins i) q = absurd q
   note-measure l (act a) q = absurd q
+  note-measure l k q = sym m.nothing
 
   nodes-measure : (v : Weight) (lines : ℕ → PlainKind → List ℕ) → ((l : ℕ) (k : PlainKind) → IsPlain k → kind_weight v l k ≡ m.of (lines l k)) → (ns : List PlainNode) → AllPlain ns → nodes_weight v ns ≡ m.of (node_lines lines ns)
   nodes-measure v lines h [] q = sym m.nothing
@@ -182,9 +144,7 @@ module _ (m : Measure) where
   leaf-has : (n : ℕ) (k : LeafKind) → leaf_line of_boxes n k ≡ m.of (leaf_boxes n k)
   leaf-has n (leaves.Hbox name h d) = refl
   leaf-has n (leaves.Rule name h d) = refl
-  leaf-has n (leaves.Skip g) = sym m.nothing
-  leaf-has n (leaves.Kern w) = sym m.nothing
-  leaf-has n (leaves.Penalty p) = sym m.nothing
+  leaf-has n k = sym m.nothing
 
   foot-has : (ls : List Leaf) → foot_weight of_boxes ls ≡ m.of (foot_boxes ls)
   foot-has [] = sym m.nothing
@@ -202,21 +162,8 @@ module _ (m : Measure) where
   item-boxes : (n : ℕ) (k : ItemKind) → item_weight of_boxes n k ≡ m.of (text_line n k) + m.of (foot_line n k)
   item-boxes n (items.Hbox name h d) = with-nothing (m.of (n ∷ []))
   item-boxes n (items.Rule name h d) = with-nothing (m.of (n ∷ []))
-  item-boxes n (items.Skip g) = both-nothing
-  item-boxes n (items.Kern w) = both-nothing
-  item-boxes n (items.Penalty q) = both-nothing
-  item-boxes n (items.Mark name) = both-nothing
-  item-boxes n (items.Note name) = both-nothing
   item-boxes n (items.Foot class ls) = foot-has ls ∙ after-nothing (m.of (foot_boxes ls))
-  item-boxes n (items.Float f vert) = both-nothing
-  item-boxes n (items.Margin x vert) = both-nothing
-  item-boxes n items.NewPage = both-nothing
-  item-boxes n items.ClearPage = both-nothing
-  item-boxes n (items.PageBreak q) = both-nothing
-  item-boxes n (items.NoPageBreak q) = both-nothing
-  item-boxes n items.OneColumn = both-nothing
-  item-boxes n items.TwoColumn = both-nothing
-  item-boxes n (items.Suppress area) = both-nothing
+  item-boxes n k = both-nothing
 
   pub galley-boxes : (ns : List Item) → items_weight of_boxes ns ≡ m.of (lines_by text_line ns) + m.of (lines_by foot_line ns)
   galley-boxes [] = both-nothing
@@ -230,9 +177,7 @@ module _ (m : Measure) where
   no-leaf : (v : Weight) → ((n : ℕ) → v.box n ≡ 0) → (n : ℕ) (k : LeafKind) → leaf_line v n k ≡ 0
   no-leaf v h n (leaves.Hbox name x d) = h n
   no-leaf v h n (leaves.Rule name x d) = h n
-  no-leaf v h n (leaves.Skip g) = refl
-  no-leaf v h n (leaves.Kern w) = refl
-  no-leaf v h n (leaves.Penalty p) = refl
+  no-leaf v h n k = refl
 
   no-foot : (v : Weight) → ((n : ℕ) → v.box n ≡ 0) → (ls : List Leaf) → foot_weight v ls ≡ 0
   no-foot v h [] = refl
@@ -246,23 +191,9 @@ module _ (m : Measure) where
   lines-append (x ∷ xs) ys = ap (λ l. x.line ∷ l) (lines-append xs ys)
 
   item-floats : (n : ℕ) (k : ItemKind) → item_weight of_floats n k ≡ m.of (float_lines (float_of k))
-  item-floats n (items.Hbox name h d) = sym m.nothing
-  item-floats n (items.Rule name h d) = sym m.nothing
-  item-floats n (items.Skip g) = sym m.nothing
-  item-floats n (items.Kern w) = sym m.nothing
-  item-floats n (items.Penalty q) = sym m.nothing
-  item-floats n (items.Mark name) = sym m.nothing
-  item-floats n (items.Note name) = sym m.nothing
   item-floats n (items.Foot class ls) = no-foot of_floats (λ n. refl) ls ∙ sym m.nothing
   item-floats n (items.Float f vert) = refl
-  item-floats n (items.Margin x vert) = sym m.nothing
-  item-floats n items.NewPage = sym m.nothing
-  item-floats n items.ClearPage = sym m.nothing
-  item-floats n (items.PageBreak q) = sym m.nothing
-  item-floats n (items.NoPageBreak q) = sym m.nothing
-  item-floats n items.OneColumn = sym m.nothing
-  item-floats n items.TwoColumn = sym m.nothing
-  item-floats n (items.Suppress area) = sym m.nothing
+  item-floats n k = sym m.nothing
 
   pub galley-has-floats : (ns : List Item) → items_weight of_floats ns ≡ m.of (float_lines (galley_floats ns))
   galley-has-floats [] = sym m.nothing
@@ -274,23 +205,9 @@ module _ (m : Measure) where
   same-line a b h = grind (arith, h)
 
   item-notes : (n : ℕ) (k : ItemKind) → IsTrue (is_item n k) → item_weight of_notes n k ≡ m.of (note_line n k)
-  item-notes n (items.Hbox name h d) v = sym m.nothing
-  item-notes n (items.Rule name h d) v = sym m.nothing
-  item-notes n (items.Skip g) v = sym m.nothing
-  item-notes n (items.Kern w) v = sym m.nothing
-  item-notes n (items.Penalty q) v = sym m.nothing
-  item-notes n (items.Mark name) v = sym m.nothing
-  item-notes n (items.Note name) v = sym m.nothing
   item-notes n (items.Foot class ls) v = no-foot of_notes (λ n. refl) ls ∙ sym m.nothing
-  item-notes n (items.Float f vert) v = sym m.nothing
   item-notes n (items.Margin x vert) v = ap (λ l. m.of (l ∷ [])) (same-line x.line n (and_parts (x.line == n) (is_margin x) v).0)
-  item-notes n items.NewPage v = sym m.nothing
-  item-notes n items.ClearPage v = sym m.nothing
-  item-notes n (items.PageBreak q) v = sym m.nothing
-  item-notes n (items.NoPageBreak q) v = sym m.nothing
-  item-notes n items.OneColumn v = sym m.nothing
-  item-notes n items.TwoColumn v = sym m.nothing
-  item-notes n (items.Suppress area) v = sym m.nothing
+  item-notes n k v = sym m.nothing
 
   -- if each item is valid
   pub galley-has-notes : (ns : List Item) → IsTrue (list_all (λ n. is_item n.line n.kind) ns) → items_weight of_notes ns ≡ m.of (lines_by note_line ns)

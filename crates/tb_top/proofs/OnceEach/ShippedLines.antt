@@ -23,21 +23,7 @@ rise-on k xs ys h = all-back (λ x. k < x) xs ys (rise-above k (xs ++ ys) h)
 item-text : (k n : ℕ) (x : ItemKind) → AllAbove k (lines_of_item n x) → AllAbove k (text_line n x)
 item-text k n (items.Hbox name h d) a = a
 item-text k n (items.Rule name h d) a = a
-item-text k n (items.Skip g) a = tt
-item-text k n (items.Kern w) a = tt
-item-text k n (items.Penalty q) a = tt
-item-text k n (items.Mark name) a = tt
-item-text k n (items.Note name) a = tt
-item-text k n (items.Foot class ls) a = tt
-item-text k n (items.Float f vert) a = tt
-item-text k n (items.Margin m vert) a = tt
-item-text k n items.NewPage a = tt
-item-text k n items.ClearPage a = tt
-item-text k n (items.PageBreak q) a = tt
-item-text k n (items.NoPageBreak q) a = tt
-item-text k n items.OneColumn a = tt
-item-text k n items.TwoColumn a = tt
-item-text k n (items.Suppress area) a = tt
+item-text k n x a = tt
 
 text-above : (k : ℕ) (ns : List Item) → AllAbove k (named_lines ns) → AllAbove k (lines_by text_line ns)
 text-above k [] a = tt
@@ -46,32 +32,15 @@ text-above k (n ∷ ns) a = all-join (λ x. k < x) (text_line n.line n.kind) (li
 leaf-above : (k n : ℕ) (x : LeafKind) → k < n → AllAbove k (leaf_boxes n x)
 leaf-above k n (leaves.Hbox name h d) l = (l, tt)
 leaf-above k n (leaves.Rule name h d) l = (l, tt)
-leaf-above k n (leaves.Skip g) l = tt
-leaf-above k n (leaves.Kern w) l = tt
-leaf-above k n (leaves.Penalty p) l = tt
+leaf-above k n x l = tt
 
 leaves-above : (k : ℕ) (ls : List Leaf) → AllAbove k (leaf_lines ls) → AllAbove k (foot_boxes ls)
 leaves-above k [] a = tt
 leaves-above k (l ∷ ls) a = all-join (λ x. k < x) (leaf_boxes l.line l.kind) (foot_boxes ls) (leaf-above k l.line l.kind a.0) (leaves-above k ls a.1)
 
 item-foot : (k n : ℕ) (x : ItemKind) → AllAbove k (lines_of_item n x) → AllAbove k (foot_line n x)
-item-foot k n (items.Hbox name h d) a = tt
-item-foot k n (items.Rule name h d) a = tt
-item-foot k n (items.Skip g) a = tt
-item-foot k n (items.Kern w) a = tt
-item-foot k n (items.Penalty q) a = tt
-item-foot k n (items.Mark name) a = tt
-item-foot k n (items.Note name) a = tt
 item-foot k n (items.Foot class ls) a = leaves-above k ls a
-item-foot k n (items.Float f vert) a = tt
-item-foot k n (items.Margin m vert) a = tt
-item-foot k n items.NewPage a = tt
-item-foot k n items.ClearPage a = tt
-item-foot k n (items.PageBreak q) a = tt
-item-foot k n (items.NoPageBreak q) a = tt
-item-foot k n items.OneColumn a = tt
-item-foot k n items.TwoColumn a = tt
-item-foot k n (items.Suppress area) a = tt
+item-foot k n x a = tt
 
 feet-above : (k : ℕ) (ns : List Item) → AllAbove k (named_lines ns) → AllAbove k (lines_by foot_line ns)
 feet-above k [] a = tt
@@ -112,9 +81,7 @@ outs-none (t ∷ ts) = (refl, outs-none ts)
 outs-leaf : (n : ℕ) (x : LeafKind) (ts : List ℕ) → AllAbove n ts → AllOut (leaf_boxes n x) ts
 outs-leaf n (leaves.Hbox name h d) ts a = outs-line n ts a
 outs-leaf n (leaves.Rule name h d) ts a = outs-line n ts a
-outs-leaf n (leaves.Skip g) ts a = outs-none ts
-outs-leaf n (leaves.Kern w) ts a = outs-none ts
-outs-leaf n (leaves.Penalty p) ts a = outs-none ts
+outs-leaf n x ts a = outs-none ts
 
 -- lines behind a foot are not in it
 outs-foot : (k : ℕ) (ls : List Leaf) (rest ts : List ℕ) → ((j : ℕ) → AllAbove j rest → AllAbove j ts) → IsTrue (rise_from k (leaf_lines ls ++ rest)) → AllOut (foot_boxes ls) ts
@@ -130,21 +97,8 @@ outs-more n fs ts a h = (out-above n fs a, h)
 item-outs : (k n : ℕ) (x : ItemKind) (ns : List Item) (last : List ℕ) → IsTrue (rise_from k (lines_of_item n x ++ (named_lines ns ++ last))) → AllOut (lines_by foot_line ns) (lines_by text_line ns) → AllOut (foot_line n x ++ lines_by foot_line ns) (text_line n x ++ lines_by text_line ns)
 item-outs k n (items.Hbox name h d) ns last r o = outs-more n (lines_by foot_line ns) (lines_by text_line ns) (feet-above n ns (all-front (λ x. n < x) (named_lines ns) last (rise-above n (named_lines ns ++ last) (rise-first k n (named_lines ns ++ last) r).1))) o
 item-outs k n (items.Rule name h d) ns last r o = outs-more n (lines_by foot_line ns) (lines_by text_line ns) (feet-above n ns (all-front (λ x. n < x) (named_lines ns) last (rise-above n (named_lines ns ++ last) (rise-first k n (named_lines ns ++ last) r).1))) o
-item-outs k n (items.Skip g) ns last r o = o
-item-outs k n (items.Kern w) ns last r o = o
-item-outs k n (items.Penalty q) ns last r o = o
-item-outs k n (items.Mark name) ns last r o = o
-item-outs k n (items.Note name) ns last r o = o
 item-outs k n (items.Foot class ls) ns last r o = outs-either (lines_by text_line ns) (foot_boxes ls) (lines_by foot_line ns) (outs-foot k ls (named_lines ns ++ last) (lines_by text_line ns) (λ j a. text-above j ns (all-front (λ x. j < x) (named_lines ns) last a)) r) o
-item-outs k n (items.Float f vert) ns last r o = o
-item-outs k n (items.Margin m vert) ns last r o = o
-item-outs k n items.NewPage ns last r o = o
-item-outs k n items.ClearPage ns last r o = o
-item-outs k n (items.PageBreak q) ns last r o = o
-item-outs k n (items.NoPageBreak q) ns last r o = o
-item-outs k n items.OneColumn ns last r o = o
-item-outs k n items.TwoColumn ns last r o = o
-item-outs k n (items.Suppress area) ns last r o = o
+item-outs k n x ns last r o = o
 
 -- the lines of the text are in no foot, if the named lines rise
 pub text-out : (k : ℕ) (ns : List Item) (last : List ℕ) → IsTrue (rise_from k (named_lines ns ++ last)) → AllOut (lines_by foot_line ns) (lines_by text_line ns)

@@ -25,27 +25,12 @@ use Rattle.tb_top.proofs.OnceEach.OnceLemmas.{counted, text-once, feet-once}
 -- ---- the lines of the galley's nodes
 
 pub item-prints : (p : Params) (two : Bool) (n : ℕ) (k : ItemKind) → prints (on_line n (item_kinds p two k)) ≡ text_line n k
-item-prints p two n (items.Hbox name h d) = refl
-item-prints p two n (items.Rule name h d) = refl
-item-prints p two n (items.Skip g) = refl
-item-prints p two n (items.Kern w) = refl
-item-prints p two n (items.Penalty q) = refl
-item-prints p two n (items.Mark name) = refl
-item-prints p two n (items.Note name) = refl
-item-prints p two n (items.Foot class ls) = refl
 item-prints p two n (items.Float f vert) = by_taking (has_second p && two && f.wide)
   where
     by_taking : (t : Bool) → prints (on_line n (if t then act (acts.Take f) ∷ [] else with_firings (acts.Take f) vert)) ≡ []
     by_taking true = refl
     by_taking false = refl
-item-prints p two n (items.Margin m vert) = refl
-item-prints p two n items.NewPage = refl
-item-prints p two n items.ClearPage = refl
-item-prints p two n (items.PageBreak q) = refl
-item-prints p two n (items.NoPageBreak q) = refl
-item-prints p two n items.OneColumn = refl
-item-prints p two n items.TwoColumn = refl
-item-prints p two n (items.Suppress area) = refl
+item-prints p two n k = refl
 
 items-print : (p : Params) (two : Bool) (ns : List Item) → prints (item_nodes p two ns) ≡ lines_by text_line ns
 items-print p two [] = refl

@@ -1,8 +1,8 @@
 -- The totals of a run that is done are those of its galley.
-use Rattle.std.proofs.Common.{◌≡◌, refl, ◌∙◌, ℕ, ◌+◌, List, [], ◌∷◌, ◌++◌, length, Some, None, arith, length-append}
+use Rattle.std.proofs.Common.{◌≡◌, refl, ◌∙◌, ℕ, ◌+◌, List, [], ◌∷◌, ◌++◌, length, None, arith, length-append}
 use Rattle.tb_node.specs.declared.What.TheVariants as what
 use Rattle.tb_node.specs.declared.Float.{Float}
-use Rattle.tb_node.specs.PlainNodes.{hbox, rule, skip, kerned, pen, mark, note, whatsit, PlainKind, plain, ins, act, PlainNode}
+use Rattle.tb_node.specs.PlainNodes.{hbox, rule, PlainKind, plain, PlainNode}
 use Rattle.tb_galley.specs.declared.Galley.{Galley}
 use Rattle.tb_galley.specs.Valid.{IsValid}
 use Rattle.tb_column.specs.Column.{warned, shipped}
@@ -16,35 +16,13 @@ use Rattle.tb_top.proofs.OnceEach.ShippedOnce.{boxes-shipped, floats-shipped}
 -- a kind of node is counted if it has a line
 kind-counted : (l : ℕ) (k : PlainKind) → one_if (is_item_box k) ≡ length (box_lines_of l k)
 kind-counted l (plain (hbox (what.Text name) h d)) = refl
-kind-counted l (plain (hbox what.Blank h d)) = refl
-kind-counted l (plain (hbox (what.Float name class place item) h d)) = refl
-kind-counted l (plain (hbox (what.Margin name side shift height depth item) h d)) = refl
 kind-counted l (plain (rule None h d)) = refl
-kind-counted l (plain (rule (Some name) h d)) = refl
-kind-counted l (plain (skip g)) = refl
-kind-counted l (plain (kerned g)) = refl
-kind-counted l (plain (pen p)) = refl
-kind-counted l (plain (mark name)) = refl
-kind-counted l (plain (note name)) = refl
-kind-counted l (plain whatsit) = refl
-kind-counted l (ins i) = refl
-kind-counted l (act a) = refl
+kind-counted l k = refl
 
 float-counted : (l : ℕ) (k : PlainKind) → one_if (is_float_box k) ≡ length (float_lines_of l k)
 float-counted l (plain (hbox (what.Text name) h d)) = refl
-float-counted l (plain (hbox what.Blank h d)) = refl
-float-counted l (plain (hbox (what.Float name class place item) h d)) = refl
-float-counted l (plain (hbox (what.Margin name side shift height depth item) h d)) = refl
 float-counted l (plain (rule None h d)) = refl
-float-counted l (plain (rule (Some name) h d)) = refl
-float-counted l (plain (skip g)) = refl
-float-counted l (plain (kerned g)) = refl
-float-counted l (plain (pen p)) = refl
-float-counted l (plain (mark name)) = refl
-float-counted l (plain (note name)) = refl
-float-counted l (plain whatsit) = refl
-float-counted l (ins i) = refl
-float-counted l (act a) = refl
+float-counted l k = refl
 
 pub boxes-counted : (ns : List PlainNode) → count_kinds is_item_box ns ≡ length (node_lines box_lines_of ns)
 boxes-counted [] = refl

@@ -8,7 +8,6 @@ use Rattle.tb_io.proofs.Appended.{prefix_whole, prefix_longer, prefix_on}
 use Rattle.tb_param.specs.declared.Params.{Params}
 use Rattle.tb_builder.specs.Contents.{node_count}
 use Rattle.tb_column.specs.Column.{PlainSent}
-use Rattle.tb_galley.specs.declared.Galley.{Galley}
 use Rattle.tb_report.specs.declared.Totals.{Totals}
 use Rattle.tb_report.specs.Lines.{sent_lines}
 use Rattle.tb_report.specs.RunTotals.{no_totals, AreCounts}
@@ -16,8 +15,7 @@ use Rattle.tb_run.specs.declared.happenings.Happening.{Happening}
 use Rattle.tb_run.specs.Run.{sent}
 use Rattle.tb_run.specs.Happenings.{events_of}
 use Rattle.tb_run.specs.Routine.{ArePages}
-use Rattle.tb_plain.specs.GalleyNodes.{made_up}
-use Rattle.tb_plain.specs.Run.{MakeupState, MakeupRun, MakeupEnd, node_limit, run_after, makeup_of_state, first_makeup, makeup_of}
+use Rattle.tb_plain.specs.Run.{MakeupState, MakeupRun, MakeupEnd, node_limit, run_after}
 use Rattle.tb_plain.specs.Report.{all_lines as page_lines, closing_lines, makeup_report}
 use Rattle.tb_makeup.specs.declared.makeup.Makeup.{Makeup}
 use Rattle.tb_makeup.specs.declared.makeup.MakeupEnding.{MakeupEnding}
@@ -26,6 +24,7 @@ use Rattle.tb_makeup.specs.Makeup.{held_in, state_of, run_at, over_limit, end_of
 use Rattle.tb_top.specs.declared.View.{View}
 use Rattle.tb_top.specs.declared.View.TheVariants as views
 use Rattle.tb_top.specs.MakeupPages.{makeup_text}
+use Rattle.tb_top.specs.MakeupWritten.{run_on}
 use Rattle.tb_top.specs.Report.{traced_lines, all_lines}
 use Rattle.tb_top.specs.Views.{viewed, with_events}
 use Rattle.tb_top.proofs.Written.GoingLemmas.{header, viewed-append}
@@ -45,8 +44,7 @@ lines-append (e ∷ es) rest = ap (λ ls. sent_lines e ++ ls) (lines-append es r
 pub view-text : (v : View) (r : MakeupRun) → makeup_text v r ≡ viewed v ((header ++ page_lines r.sent) ++ closing_lines r.end r.sent)
 unfolding makeup_report
 view-text views.Report r = refl
-view-text views.Trace r = refl
-view-text views.Silent r = refl
+view-text v r = refl
 
 -- the text of a run that shipped these pages first
 text-from : (v : View) (r : MakeupRun) (es rest : List PlainSent) → r.sent ≡ es ++ rest → makeup_text v r ≡ viewed v (header ++ page_lines es) ++ viewed v (page_lines rest ++ closing_lines r.end r.sent)
@@ -79,11 +77,11 @@ prefix-now p v s old now t whole g =
     (prefix_longer old now (viewed v (header ++ page_lines g.shipped)) (viewed v (page_lines rest ++ closing_lines whole.end whole.sent)) (prefix_whole old now (viewed v (header ++ page_lines g.shipped)) g.appended))
 
 -- a part of the header was written, and nothing else
-pub prefix-first : (v : View) (g : Galley) (old now : Option (List ℕ)) → AppendsPrefix old now (viewed v header) → AppendsPrefix old now (makeup_text v (makeup_of g))
-prefix-first v g old now b =
-    let rest = (makeup_of g).sent in
-    subst (AppendsPrefix old now) (sym (text-from v (makeup_of g) [] rest refl))
-    (prefix_longer old now (viewed v (header ++ [])) (viewed v (page_lines rest ++ closing_lines (makeup_of g).end rest)) (subst (λ ls. AppendsPrefix old now (viewed v ls)) (sym (append-nil header)) b))
+pub prefix-first : (v : View) (whole : MakeupRun) (old now : Option (List ℕ)) → AppendsPrefix old now (viewed v header) → AppendsPrefix old now (makeup_text v whole)
+prefix-first v whole old now b =
+    let rest = whole.sent in
+    subst (AppendsPrefix old now) (sym (text-from v whole [] rest refl))
+    (prefix_longer old now (viewed v (header ++ [])) (viewed v (page_lines rest ++ closing_lines whole.end rest)) (subst (λ ls. AppendsPrefix old now (viewed v ls)) (sym (append-nil header)) b))
 
 -- ---- the beginning
 
@@ -96,28 +94,22 @@ starts-by : (p : Params) (s : MakeupState) (t : Bool) → StartsAs p s (if t the
 starts-by p s true = refl
 starts-by p s false = refl
 
-module _ (v : View) (g : Galley) (r : Makeup) (old now : Option (List ℕ)) (t : Totals) (o : Option MakeupEnding) (is : state_of r ≡ first_makeup (made_up g)) (params : r.plain.params ≡ g.params) (limit : r.limit ≡ r.plain.params.maxnodes) (a : Appends old now (viewed v header))
-    (nothing : t ≡ no_totals) (over : o ≡ over_limit r.limit (node_count (held_in r).waiting)) where
-  same-run : makeup_of g ≡ makeup_of_state g.params (state_of r)
-  unfolding makeup_of
-  same-run = ap (makeup_of_state g.params) (sym is)
-
-  starts : StartsAs g.params (state_of r) o (makeup_of g)
+module _ (v : View) (r : Makeup) (old now : Option (List ℕ)) (t : Totals) (o : Option MakeupEnding) (limit : r.limit ≡ r.plain.params.maxnodes) (a : Appends old now (viewed v header)) (nothing : t ≡ no_totals) (over : o ≡ over_limit r.limit (node_count (held_in r).waiting)) where
+  starts : StartsAs r.plain.params (state_of r) o (run_on r)
   starts =
-      let same : over_limit g.params.maxnodes (node_count (state_of r).waiting) ≡ o = ap (λ (m : ℤ). over_limit m (node_count (state_of r).waiting)) (sym (limit ∙ ap (λ (p : Params). p.maxnodes) params)) ∙ sym over in
-      subst (λ x. StartsAs g.params (state_of r) x (makeup_of g)) same
-      (subst (StartsAs g.params (state_of r) (over_limit g.params.maxnodes (node_count (state_of r).waiting))) (sym same-run) (starts-by g.params (state_of r) (int_lt g.params.maxnodes (pos (node_count (state_of r).waiting)))))
+      let same : over_limit r.plain.params.maxnodes (node_count (state_of r).waiting) ≡ o = ap (λ (m : ℤ). over_limit m (node_count (state_of r).waiting)) (sym limit) ∙ sym over in
+      subst (λ x. StartsAs r.plain.params (state_of r) x (run_on r)) same (starts-by r.plain.params (state_of r) (int_lt r.plain.params.maxnodes (pos (node_count (state_of r).waiting))))
 
   begun : Appends old now (viewed v (header ++ []))
   begun = subst (λ ls. Appends old now (viewed v ls)) (sym (append-nil header)) a
 
   -- too many nodes wait at the start
-  pub start-closing : (e : MakeupEnding) → o ≡ Some e → Closing v (end_of e) old now t (makeup_of g)
-  start-closing e some = record { shipped = []; appended = begun; run = subst (λ x. StartsAs g.params (state_of r) x (makeup_of g)) some starts; totals = nothing }
+  pub start-closing : (e : MakeupEnding) → o ≡ Some e → Closing v (end_of e) old now t (run_on r)
+  start-closing e some = record { shipped = []; appended = begun; run = subst (λ x. StartsAs r.plain.params (state_of r) x (run_on r)) some starts; totals = nothing }
 
   -- the run goes on from its first state
-  pub start-going : o ≡ None → Going g.params v (state_of r) old now t (makeup_of g)
-  start-going none = record { shipped = []; appended = begun; run = subst (λ x. StartsAs g.params (state_of r) x (makeup_of g)) none starts; totals = nothing; nodes = tt }
+  pub start-going : o ≡ None → Going r.plain.params v (state_of r) old now t (run_on r)
+  start-going none = record { shipped = []; appended = begun; run = subst (λ x. StartsAs r.plain.params (state_of r) x (run_on r)) none starts; totals = nothing; nodes = tt }
 
 -- ---- a turn
 

@@ -32,23 +32,9 @@ use Rattle.tb_top.proofs.OnceEach.ShippedTotals.{boxes-counted, floats-counted, 
 -- ---- the nodes of the galley
 
 item-weighs : (v : Weight) (p : Params) (n : ℕ) (k : ItemKind) → nodes_weight v (on_line n (makeup_kinds p k)) ≡ item_weight v n k
-item-weighs v p n (items.Hbox name h d) = item-expanded v p false n (items.Hbox name h d)
-item-weighs v p n (items.Rule name h d) = item-expanded v p false n (items.Rule name h d)
-item-weighs v p n (items.Skip g) = item-expanded v p false n (items.Skip g)
-item-weighs v p n (items.Kern w) = item-expanded v p false n (items.Kern w)
-item-weighs v p n (items.Penalty q) = item-expanded v p false n (items.Penalty q)
-item-weighs v p n (items.Mark name) = item-expanded v p false n (items.Mark name)
-item-weighs v p n (items.Note name) = item-expanded v p false n (items.Note name)
-item-weighs v p n (items.Foot class ls) = item-expanded v p false n (items.Foot class ls)
 item-weighs v p n (items.Float f vert) = omega arith
-item-weighs v p n (items.Margin m vert) = item-expanded v p false n (items.Margin m vert)
-item-weighs v p n items.NewPage = item-expanded v p false n items.NewPage
 item-weighs v p n items.ClearPage = refl
-item-weighs v p n (items.PageBreak q) = item-expanded v p false n (items.PageBreak q)
-item-weighs v p n (items.NoPageBreak q) = item-expanded v p false n (items.NoPageBreak q)
-item-weighs v p n items.OneColumn = item-expanded v p false n items.OneColumn
-item-weighs v p n items.TwoColumn = item-expanded v p false n items.TwoColumn
-item-weighs v p n (items.Suppress area) = item-expanded v p false n (items.Suppress area)
+item-weighs v p n k = item-expanded v p false n k
 
 items-weigh : (v : Weight) (p : Params) (ns : List Item) → nodes_weight v (makeup_nodes p ns) ≡ items_weight v ns
 items-weigh v p [] = refl
@@ -66,23 +52,10 @@ made-weighs v g =
     omega arith
 
 item-shows : (p : Params) (n : ℕ) (k : ItemKind) → prints (on_line n (makeup_kinds p k)) ≡ text_line n k
-item-shows p n (items.Hbox name h d) = refl
-item-shows p n (items.Rule name h d) = refl
-item-shows p n (items.Skip g) = refl
-item-shows p n (items.Kern w) = refl
-item-shows p n (items.Penalty q) = refl
-item-shows p n (items.Mark name) = refl
-item-shows p n (items.Note name) = refl
-item-shows p n (items.Foot class ls) = refl
-item-shows p n (items.Float f vert) = refl
 item-shows p n (items.Margin m vert) = item-prints p false n (items.Margin m vert)
-item-shows p n items.NewPage = refl
-item-shows p n items.ClearPage = refl
-item-shows p n (items.PageBreak q) = refl
-item-shows p n (items.NoPageBreak q) = refl
 item-shows p n items.OneColumn = item-prints p false n items.OneColumn
 item-shows p n items.TwoColumn = item-prints p false n items.TwoColumn
-item-shows p n (items.Suppress area) = refl
+item-shows p n k = refl
 
 items-show : (p : Params) (ns : List Item) → prints (makeup_nodes p ns) ≡ lines_by text_line ns
 items-show p [] = refl

@@ -7,7 +7,6 @@ use Rattle.tb_pool.specs.Lists.{Lists}
 use Rattle.tb_node.specs.declared.Node.{Node}
 use Rattle.tb_node.specs.PlainNodes.{PlainNode}
 use Rattle.tb_param.specs.declared.Params.{Params}
-use Rattle.tb_galley.specs.declared.Galley.{Galley}
 use Rattle.tb_builder.specs.FiredPages.{Fired, fired_of}
 use Rattle.tb_builder.specs.Reach.{Reach}
 use Rattle.tb_builder.specs.Contents.{node_count}
@@ -18,10 +17,9 @@ use Rattle.tb_run.specs.declared.happenings.Happening.{Happening}
 use Rattle.tb_run.specs.Run.{RunEvent, sent}
 use Rattle.tb_run.specs.Happenings.{events_of, noted}
 use Rattle.tb_run.specs.Routine.{ArePages}
-use Rattle.tb_plain.specs.GalleyNodes.{made_up}
 use Rattle.tb_plain.specs.Firing.{holds_any, makeup_column}
 use Rattle.tb_plain.specs.Report.{sent_totals}
-use Rattle.tb_plain.specs.Run.{MakeupState, MakeupRun, MakeupStep, ends, goes_on, page_limit, node_limit, AtAct, no_act, at_act, first_act, meets_act, makeup_ask, makeup_classes, void_boxes, makeup_reach, act_step, waiting_after, shipping_step, firing_step, last_step, makeup_step, run_by, makeup_from, first_makeup, steps_left, makeup_of, done, ejecting_nodes}
+use Rattle.tb_plain.specs.Run.{MakeupState, MakeupRun, MakeupStep, ends, goes_on, page_limit, node_limit, AtAct, no_act, at_act, first_act, meets_act, makeup_ask, makeup_classes, void_boxes, makeup_reach, act_step, waiting_after, shipping_step, firing_step, last_step, makeup_step, run_by, makeup_from, makeup_of_state, steps_left, done, ejecting_nodes}
 use Rattle.tb_plain.proofs.StepLemmas.{page-less, within}
 use Rattle.tb_top.specs.Views.{with_events}
 use Rattle.tb_top.proofs.Written.EventCounts.{among-sent}
@@ -174,13 +172,12 @@ run-few p zero s n = omega arith
 run-few p (suc fuel) s n = run-by-few p fuel s (λ u k. run-few p fuel u k) (makeup_step p s) (ships-few p s n)
 
 -- a run ships no more pages than may be
-pub makeup-few : (g : Galley) → length (makeup_of g).sent ≤ nat_abs g.params.maxpages
-unfolding makeup_of
-makeup-few g = by_nodes (int_lt g.params.maxnodes (pos (node_count s.waiting)))
+pub makeup-few : (p : Params) (s : MakeupState) → s.number ≡ 1 → length (makeup_of_state p s).sent ≤ nat_abs p.maxpages
+makeup-few p s first = by_nodes (int_lt p.maxnodes (pos (node_count s.waiting)))
   where
-    s : MakeupState
-    s = first_makeup (made_up g)
-
-    by_nodes : (t : Bool) → length (if t then (let r : MakeupRun = record { sent = []; end = node_limit (node_count s.waiting) } in r) else makeup_from g.params (suc (steps_left g.params s)) s).sent ≤ nat_abs g.params.maxpages
+    by_nodes : (t : Bool) → length (if t then (let r : MakeupRun = record { sent = []; end = node_limit (node_count s.waiting) } in r) else makeup_from p (suc (steps_left p s)) s).sent ≤ nat_abs p.maxpages
     by_nodes true = omega arith
-    by_nodes false = let a : length (makeup_from g.params (suc (steps_left g.params s)) s).sent ≤ nat_abs g.params.maxpages - 0 = run-few g.params (suc (steps_left g.params s)) s (omega arith) in omega (arith, a)
+    by_nodes false =
+        let least : 1 ≤ s.number = omega (arith, first) in
+        let a : length (makeup_from p (suc (steps_left p s)) s).sent ≤ nat_abs p.maxpages - pred s.number = run-few p (suc (steps_left p s)) s least in
+        omega (arith, a)

@@ -77,24 +77,10 @@ high : (n : ℤ) → IsTrue (is_within (neg_ℤ (pos 10000)) (pos 10000) n) → 
 high n h = grind (arith, ints, h)
 
 item-fits : (g : Galley) → IsValid g → (line : ℕ) (k : ItemKind) → IsTrue (is_item line k) → IsTrue (has_known_class (map (λ (c : ClassLine). c.number) g.classes) k) → ItemFits (class_numbers (classes_of g)) k
-item-fits g v line (items.Hbox name h d) i c = tt
-item-fits g v line (items.Rule name h d) i c = tt
-item-fits g v line (items.Skip s) i c = tt
-item-fits g v line (items.Kern w) i c = tt
 item-fits g v line (items.Penalty n) i c = high n i
-item-fits g v line (items.Mark name) i c = tt
-item-fits g v line (items.Note name) i c = tt
 item-fits g v line (items.Foot class ls) i c =
     one-of (class_numbers (classes_of g)) class (classes_of g) (fit-among (classes_of g) (void_boxes (classes_of g)) (void-fit (classes_of g) (valid-differ g v))) (is-declared g.params class g.classes c)
-item-fits g v line (items.Float f vert) i c = tt
-item-fits g v line (items.Margin m vert) i c = tt
-item-fits g v line items.NewPage i c = tt
-item-fits g v line items.ClearPage i c = tt
-item-fits g v line (items.PageBreak n) i c = tt
-item-fits g v line (items.NoPageBreak n) i c = tt
-item-fits g v line items.OneColumn i c = tt
-item-fits g v line items.TwoColumn i c = tt
-item-fits g v line (items.Suppress area) i c = tt
+item-fits g v line k i c = tt
 
 items-fit : (g : Galley) → IsValid g → (ns : List Item) → IsTrue (list_all (λ (n : Item). is_item n.line n.kind) ns) → IsTrue (list_all (λ (n : Item). has_known_class (map (λ (c : ClassLine). c.number) g.classes) n.kind) ns) → ItemsFit (class_numbers (classes_of g)) ns
 items-fit g v [] i c = tt

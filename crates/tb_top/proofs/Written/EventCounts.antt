@@ -3,7 +3,7 @@
 use Rattle.std.proofs.Common.{◌≡◌, refl, ◌∙◌, ap, ℕ, suc, pos, ◌+◌, ◌≤◌, Bool, true, false, List, [], ◌∷◌, ◌++◌, map, length, Option, Some, None, arith}
 use Rattle.std.specs.Prelude.{ℤ, pred, nat_abs, int_lt, int_le, if◌then◌else◌}
 use Rattle.tb_scaled.specs.Scaled.{awful_bad, min_ℤ}
-use Rattle.tb_node.specs.Shape.{Shape, box, glue, kern, penalty, other}
+use Rattle.tb_node.specs.Shape.{Shape, box}
 use Rattle.tb_node.specs.declared.Act.{Act}
 use Rattle.tb_node.specs.declared.Act.TheVariants as acts
 use Rattle.tb_node.specs.PlainNodes.{PlainKind, plain, ins, act, PlainNode, node_shape, skip, without_acts}
@@ -115,10 +115,7 @@ pruned-longest top (n ∷ ns) = by_shape (node_shape n) (pruned-longest top ns)
   where
     by_shape : (s : Shape) → length (pruned_nodes top ns) ≤ suc (length ns) → length (pruned_at (λ m g. record { line = m.line; kind = plain (skip g) }) top s n ns (pruned_nodes top ns)) ≤ suc (suc (length ns))
     by_shape (box h d) k = omega arith
-    by_shape (glue g) k = omega (arith, k)
-    by_shape (kern w) k = omega (arith, k)
-    by_shape (penalty q) k = omega (arith, k)
-    by_shape other k = omega (arith, k)
+    by_shape s k = omega (arith, k)
 
 -- ---- a step
 

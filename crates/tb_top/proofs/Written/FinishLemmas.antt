@@ -11,19 +11,17 @@ use Rattle.tb_float.proofs.ParamLemmas.{in-range}
 use Rattle.tb_param.specs.declared.Params.{Params}
 use Rattle.tb_param.specs.Table.{is_within, out_of_range}
 use Rattle.tb_param.specs.Ranges.{is_no_fault}
-use Rattle.tb_galley.specs.declared.Galley.{Galley}
-use Rattle.tb_galley.specs.GalleyNodes.{expanded}
 use Rattle.tb_report.specs.RunTotals.{no_totals, AreCounts}
 use Rattle.tb_report.specs.declared.Totals.{Totals}
 use Rattle.tb_output.specs.declared.RunFault.{RunFault}
 use Rattle.tb_output.specs.declared.RunFault.TheVariants as refused
 use Rattle.tb_output.specs.Machine.{IsLimit}
-use Rattle.tb_output.specs.State.{State, first_state}
+use Rattle.tb_output.specs.State.{State}
 use Rattle.tb_run.specs.declared.happenings.Happening.{Happening}
 use Rattle.tb_run.specs.declared.routine.Routine.{Routine}
 use Rattle.tb_run.specs.declared.routine.Ending.{Ending}
 use Rattle.tb_run.specs.declared.routine.Ending.TheVariants as endings
-use Rattle.tb_run.specs.Run.{Run, End, done, pool_full, dead_cycles, page_limit, node_limit, held_count, Step, ends, goes_on, step, run_of, firings_left, classes_of}
+use Rattle.tb_run.specs.Run.{Run, End, done, pool_full, dead_cycles, page_limit, node_limit, held_count, Step, ends, goes_on, step, run_of_state, firings_left}
 use Rattle.tb_run.specs.Happenings.{events_of, step_events}
 use Rattle.tb_run.specs.Routine.{held_in, state_of, IsFaultEnd, IsEnd, EndsAs, over_limit, ArePages, IsReady, IsBounded}
 use Rattle.tb_run.proofs.Turns.TurnLemmas.{within-limit}
@@ -72,11 +70,8 @@ module _ (v : View) (r : Routine) (t : Totals) (whole : Run) (old mid new : Opti
 
 no-write : (e : Ending) → IsRefusalOf e faults.WriteFault → ⊥
 no-write endings.Done h = h
-no-write (endings.PoolFull line live) h = cc
 no-write (endings.Fault (refused.DeadCycles n)) h = cc
-no-write (endings.Fault (refused.PageLimit n)) h = cc
-no-write (endings.Fault refused.Memory) h = cc
-no-write (endings.NodeLimit n) h = cc
+no-write e h = cc
 
 module _ (v : View) (r : Routine) (t : Totals) (e : Ending) (old new : Option (List ℕ)) (before now : ℕ) where
   -- it comes only if the sink's faults rose
@@ -110,22 +105,22 @@ pub over-none : (p : Params) (n : ℕ) (t : Bool) → int_lt p.maxnodes (pos n) 
 over-none p n true h k = cc
 over-none p n false h k = h
 
--- the run of a galley from its first state, which the routine shows
-module _ (v : View) (g : Galley) (r : Routine) (old now : Option (List ℕ)) (t : Totals) (o : Option Ending) (is : state_of r ≡ first_state g.params (classes_of g) (expanded g)) (a : Appends old now (viewed v header)) (nothing : t ≡ no_totals) (over : o ≡ over_limit g.params (held_count (state_of r))) where
-  pub start-closing : (ending : Ending) → o ≡ Some ending → ClosesAt v r ending old now t (run_of g)
+-- a run from its first state, which the routine shows
+module _ (p : Params) (v : View) (first : State) (r : Routine) (old now : Option (List ℕ)) (t : Totals) (o : Option Ending) (is : state_of r ≡ first) (page : first.page ≡ 1) (a : Appends old now (viewed v header)) (nothing : t ≡ no_totals) (over : o ≡ over_limit p (held_count (state_of r))) where
+  pub start-closing : (ending : Ending) → o ≡ Some ending → ClosesAt v r ending old now t (run_of_state p first)
   start-closing ending some =
-      let k = over-some g.params (held_count (state_of r)) ending (int_lt g.params.maxnodes (pos (held_count (state_of r)))) refl (sym over ∙ some) in
+      let k = over-some p (held_count (state_of r)) ending (int_lt p.maxnodes (pos (held_count (state_of r)))) refl (sym over ∙ some) in
       record {
         end = node_limit (held_count (state_of r));
         is = rw (k.1) refl;
-        closing = subst (λ x. Closing v (node_limit (held_count (state_of r))) old now x (run_of g)) (sym nothing) (begins-over v g (state_of r) old now is a (k.0));
+        closing = subst (λ x. Closing v (node_limit (held_count (state_of r))) old now x (run_of_state p first)) (sym nothing) (begins-over p v first (state_of r) old now is page a (k.0));
       }
 
-  pub start-going : o ≡ None → Going g.params v (state_of r) old now t (run_of g)
-  start-going none = subst (λ x. Going g.params v (state_of r) old now x (run_of g)) (sym nothing) (begins v g (state_of r) old now is a (over-none g.params (held_count (state_of r)) (int_lt g.params.maxnodes (pos (held_count (state_of r)))) refl (sym over ∙ none)))
+  pub start-going : o ≡ None → Going p v (state_of r) old now t (run_of_state p first)
+  start-going none = subst (λ x. Going p v (state_of r) old now x (run_of_state p first)) (sym nothing) (begins p v first (state_of r) old now is page a (over-none p (held_count (state_of r)) (int_lt p.maxnodes (pos (held_count (state_of r)))) refl (sym over ∙ none)))
 
-  pub start-tally : AreFewFirings g.params → IsTally g.params t (state_of r)
-  start-tally few = subst (λ x. IsTally g.params x (state_of r)) (sym nothing) (tally-first g.params (state_of r) few (ap (λ (s : State). s.page) is) (ap (λ (s : State). s.dead_cycles) is))
+  pub start-tally : first.dead_cycles ≡ 0 → AreFewFirings p → IsTally p t (state_of r)
+  start-tally cycles few = subst (λ x. IsTally p x (state_of r)) (sym nothing) (tally-first p (state_of r) few (ap (λ (s : State). s.page) is ∙ page) (ap (λ (s : State). s.dead_cycles) is ∙ cycles))
 
 -- ---- a turn
 

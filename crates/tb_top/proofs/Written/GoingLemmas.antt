@@ -13,14 +13,12 @@ use Rattle.tb_column.specs.Column.{PlainSent, warned, shipped}
 use Rattle.tb_report.specs.declared.Totals.{Totals}
 use Rattle.tb_report.specs.Lines.{end_lines}
 use Rattle.tb_report.specs.RunTotals.{is_item_box, is_float_box, count_kinds, sheet_nodes, no_totals, with_sent}
-use Rattle.tb_galley.specs.declared.Galley.{Galley}
-use Rattle.tb_galley.specs.GalleyNodes.{expanded}
-use Rattle.tb_output.specs.State.{State, Recorded, first_state}
+use Rattle.tb_output.specs.State.{State, Recorded}
 use Rattle.tb_top.specs.declared.View.{View}
 use Rattle.tb_top.specs.declared.View.TheVariants as views
 use Rattle.tb_top.specs.declared.PageFault.{PageFault}
 use Rattle.tb_top.specs.declared.PageFault.TheVariants as faults
-use Rattle.tb_run.specs.Run.{Run, RunEvent, offered, sent, End, done, node_limit, Step, ends, goes_on, held_count, step, run_by, run_from, firings_left, run_of_state, run_of, classes_of}
+use Rattle.tb_run.specs.Run.{Run, RunEvent, offered, sent, End, done, node_limit, Step, ends, goes_on, held_count, step, run_by, run_from, firings_left, run_of_state}
 use Rattle.tb_top.specs.Report.{totals_of, event_lines, traced_lines, all_lines, closing_lines, report, trace}
 use Rattle.tb_top.specs.Pages.{view_text, end_fault, Paginates, EndsWith, Refuses}
 use Rattle.tb_run.specs.Happenings.{noted, step_events}
@@ -90,8 +88,7 @@ noted-events wanted (sent e ∷ es) t = noted-events wanted es (with_sent e t)
 
 pub viewed-append : (v : View) (a b : List ℕ) → viewed v (a ++ b) ≡ viewed v a ++ viewed v b
 viewed-append views.Report a b = refl
-viewed-append views.Trace a b = refl
-viewed-append views.Silent a b = refl
+viewed-append v a b = refl
 
 -- ---- the run from here
 
@@ -249,26 +246,26 @@ begins-by p v s old now false e page a =
     let whole = run_from p (suc (firings_left p s)) s in
     ((λ k. record { page = page; written = header; fuel = suc (firings_left p s); appended = a; enough = omega arith; text = refl; end = refl; totals = sym (nothing-joined (totals_of whole.events)) }), (λ k. cc))
 
-module _ (v : View) (g : Galley) (s : State) (old now : Option (List ℕ)) (is : s ≡ first_state g.params (classes_of g) (expanded g)) (a : Appends old now (viewed v header)) where
-  same-run : run_of g ≡ run_of_state g.params s
-  unfolding run_of
-  same-run = ap (run_of_state g.params) (sym is)
+-- a run from its first state, which is this one
+module _ (p : Params) (v : View) (first s : State) (old now : Option (List ℕ)) (is : s ≡ first) (page : first.page ≡ 1) (a : Appends old now (viewed v header)) where
+  pages : 1 ≤ s.page
+  pages = omega (arith, ap (λ (x : State). x.page) is, page)
 
-  -- the run goes on from its first state
-  pub begins : int_lt g.params.maxnodes (pos (held_count s)) ≡ false → Going g.params v s old now no_totals (run_of g)
-  begins e = subst (Going g.params v s old now no_totals) (ap (λ t. if t then (let r : Run = record { events = []; records = []; end = node_limit (held_count s) } in r) else run_from g.params (suc (firings_left g.params s)) s) (sym e) ∙ sym same-run)
-      ((begins-by g.params v s old now false e (let one : 1 ≤ s.page = omega (arith, ap (λ (x : State). x.page) is) in one) a).0 refl)
+  -- it goes on
+  pub begins : int_lt p.maxnodes (pos (held_count s)) ≡ false → Going p v s old now no_totals (run_of_state p first)
+  begins e = subst (Going p v s old now no_totals) (ap (λ t. if t then (let r : Run = record { events = []; records = []; end = node_limit (held_count s) } in r) else run_from p (suc (firings_left p s)) s) (sym e) ∙ ap (run_of_state p) is)
+      ((begins-by p v s old now false e pages a).0 refl)
 
   -- too many nodes wait at the start
-  pub begins-over : int_lt g.params.maxnodes (pos (held_count s)) ≡ true → Closing v (node_limit (held_count s)) old now no_totals (run_of g)
-  begins-over e = subst (Closing v (node_limit (held_count s)) old now no_totals) (ap (λ t. if t then (let r : Run = record { events = []; records = []; end = node_limit (held_count s) } in r) else run_from g.params (suc (firings_left g.params s)) s) (sym e) ∙ sym same-run)
-      ((begins-by g.params v s old now true e (let one : 1 ≤ s.page = omega (arith, ap (λ (x : State). x.page) is) in one) a).1 refl)
+  pub begins-over : int_lt p.maxnodes (pos (held_count s)) ≡ true → Closing v (node_limit (held_count s)) old now no_totals (run_of_state p first)
+  begins-over e = subst (Closing v (node_limit (held_count s)) old now no_totals) (ap (λ t. if t then (let r : Run = record { events = []; records = []; end = node_limit (held_count s) } in r) else run_from p (suc (firings_left p s)) s) (sym e) ∙ ap (run_of_state p) is)
+      ((begins-by p v s old now true e pages a).1 refl)
 
 -- a part of the header was written, and nothing else
-pub prefix-first : (v : View) (g : Galley) (old now : Option (List ℕ)) → AppendsPrefix old now (viewed v header) → AppendsPrefix old now (view_text v (run_of g))
-prefix-first v g old now b =
-    subst (AppendsPrefix old now) (sym (viewed-append v header (tail_lines v (run_of g).events (run_of g))) ∙ viewed-whole v (run_of g))
-    (prefix_longer old now (viewed v header) (viewed v (tail_lines v (run_of g).events (run_of g))) b)
+pub prefix-first : (v : View) (whole : Run) (old now : Option (List ℕ)) → AppendsPrefix old now (viewed v header) → AppendsPrefix old now (view_text v whole)
+prefix-first v whole old now b =
+    subst (AppendsPrefix old now) (sym (viewed-append v header (tail_lines v whole.events whole)) ∙ viewed-whole v whole)
+    (prefix_longer old now (viewed v header) (viewed v (tail_lines v whole.events whole)) b)
 
 -- ---- the end
 

@@ -1,7 +1,7 @@
-use Rattle.std.proofs.Common.{sym, subst}
+use Rattle.std.proofs.Common.{sym, subst, ap, ◌∙◌, append-nil}
 use Rattle.tb_output.specs.MachineFrame.{AreNoneOf}
-use Rattle.tb_output.specs.Machine.{machine_lists}
-use Rattle.tb_output.specs.ActCalls.{dropped_lists}
+use Rattle.tb_output.specs.Machine.{MachineView, machine_lists, state_shown}
+use Rattle.tb_output.specs.ActCalls.{IsActed, acted_in, dropped_lists}
 use Rattle.tb_output.proofs.Acts.ActingLemmas.{float-stands, float-takes, columns-drop}
 use Rattle.tb_output.proofs.Machine.act.Goals as goal
 
@@ -14,3 +14,13 @@ returns-in-Take-clause-lists c = float-takes c.args.self.now c.take_float.new.se
 pub returns-in-Columns-clause-dropped : goal.returns-in-Columns-clause-dropped
 returns-in-Columns-clause-dropped c = λ store is.
     subst (λ a. AreNoneOf (dropped_lists a c.args.self.now.left_column) (machine_lists c.begin_columns.new.self)) (sym c.in-Columns.is) (columns-drop c.in-Columns.two c.args.self.now c.begin_columns.new.self c.begin_columns.ensures store is)
+
+pub returns-in-Suppress-clause-acted : goal.returns-in-Suppress-clause-acted
+returns-in-Suppress-clause-acted c = λ store boxes waiting.
+    subst (λ a. IsActed store boxes waiting c.args.self.now c.suppress_in.new.self (acted_in store boxes waiting c.args.self.now a)) (sym c.in-Suppress.is)
+    (record { state = ap (state_shown store boxes waiting) c.suppress_in.ensures; sent = ap (λ (m : MachineView). m.events) c.suppress_in.ensures ∙ sym (append-nil c.args.self.now.events) })
+
+pub returns-in-Columns-clause-acted : goal.returns-in-Columns-clause-acted
+returns-in-Columns-clause-acted c = λ store boxes waiting.
+    subst (λ a. IsActed store boxes waiting c.args.self.now c.begin_columns.new.self (acted_in store boxes waiting c.args.self.now a)) (sym c.in-Columns.is)
+    (record { state = ap (state_shown store boxes waiting) c.begin_columns.ensures; sent = ap (λ (m : MachineView). m.events) c.begin_columns.ensures ∙ sym (append-nil c.args.self.now.events) })

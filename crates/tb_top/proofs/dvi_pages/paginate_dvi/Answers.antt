@@ -1,42 +1,11 @@
-use Rattle.std.proofs.Common.{◌∙◌, refl, ap, sym, subst, ◌≡◌, ◌<◌, ◌++◌, false, Some, arith}
-use Rattle.std.proofs.lemmas.Result.{err_from_is_err_and, IfErr-weaker, IfOk-weaker}
-use Rattle.std.specs.Io.KnownBytes.{Appends}
-use Rattle.tb_io.specs.Sink.{AppendsPrefix}
-use Rattle.tb_io.proofs.Appended.{prefix_whole}
-use Rattle.tb_output.specs.Machine.{MachineView}
-use Rattle.tb_run.specs.declared.routine.Routine.{Routine}
-use Rattle.tb_run.specs.declared.routine.Ending.{Ending}
-use Rattle.tb_run.specs.Run.{run_of, held_count, firings_left}
-use Rattle.tb_run.specs.Happenings.{events_of}
-use Rattle.tb_run.specs.Routine.{state_of, over_limit}
+use Rattle.std.proofs.lemmas.Result.{err_from_is_err_and}
 use Rattle.tb_run.proofs.FromGalley.GalleyRuns.{galley-classes}
 use Rattle.tb_run.proofs.FromGalley.GalleyItems.{galley-items}
 use Rattle.tb_run.proofs.FromGalley.GalleyNodeLemmas.{galley-nodes}
-use Rattle.tb_dvi.specs.File.{preamble}
-use Rattle.tb_top.specs.DviPages.{event_pages}
-use Rattle.tb_top.specs.DviWritten.{HoldsPages, FailsAmong}
-use Rattle.tb_top.proofs.DviFiles.DviGoing.{ClosesAt, prefix-first, refuses-cut, refuses-among, going-short, start-closing, start-going, turn-fails, turn-closing, turn-going, ends-well, stops-with, height-fits}
-use Rattle.tb_top.proofs.Written.TurnLemmas.{ShowsStep, shows-step, turn-fewer}
-use Rattle.tb_top.proofs.Written.FinishLemmas.{limit-ready}
+use Rattle.tb_top.specs.DviFiles.{galley_file}
+use Rattle.tb_top.proofs.Written.FirstRuns.{none-yet}
 use Rattle.tb_top.proofs.Written.RunParams.{params-runnable}
-use Rattle.tb_top.proofs.dvi_pages.paginate_dvi.Given.{Over}
-use Rattle.tb_top.proofs.dvi_pages.paginate_dvi.Goals.{In_ok-write_all, In-Some, In_ok-ending, In_ok-send}
 use Rattle.tb_top.proofs.dvi_pages.paginate_dvi.Goals as goal
-
-pub returns-in_err-write_all-clause-refused : goal.returns-in_err-write_all-clause-refused
-returns-in_err-write_all-clause-refused g c =
-    let p = err_from_is_err_and c.from_residual-in_err-write_all.result c.from_residual-in_err-write_all.ensures.1 in
-    let part = subst (AppendsPrefix (g.K.Sink.held c.args.out.now) (g.K.Sink.held c.write_all.new.out)) (c.deref.ensures.value ∙ c.in_ok-start.ensures) c.in_err-write_all.ensures.err in
-    rw (p.1, p.2) (refuses-cut c.args.galley.now _ c.in_err-write_all.field-0.0 _ (prefix-first c.args.galley.now _ _ part))
-
--- the preamble is written
-begun : (g : Over) (c : In_ok-write_all g) → Appends (g.K.Sink.held c.args.out.now) (g.K.Sink.held c.write_all.new.out) preamble
-begun g c = subst (Appends (g.K.Sink.held c.args.out.now) (g.K.Sink.held c.write_all.new.out)) (c.deref.ensures.value ∙ c.in_ok-start.ensures) c.in_ok-write_all.ensures.ok
-
-pub returns-in_err-routine-clause-refused : goal.returns-in_err-routine-clause-refused
-returns-in_err-routine-clause-refused g c =
-    let p = err_from_is_err_and c.from_residual-in_err-routine.result c.from_residual-in_err-routine.ensures.1 in
-    rw (p.1, p.2) (prefix-first c.args.galley.now _ _ (prefix_whole _ _ _ (begun g (goal.at.returns-in_err-routine-clause-refused g c).In_ok-write_all)))
 
 pub new-requires-clause-params : goal.new-requires-clause-params
 new-requires-clause-params g c = params-runnable c.args.galley.now.params c.requires.valid.params
@@ -50,101 +19,8 @@ new-requires-clause-classes g c = galley-classes c.args.galley.now (params-runna
 pub new-requires-clause-nodes : goal.new-requires-clause-nodes
 new-requires-clause-nodes g c = galley-nodes c.args.galley.now (params-runnable c.args.galley.now.params c.requires.valid.params).foot c.requires.valid
 
-pub finish-requires-in-Some-ending-clause-height : goal.finish-requires-in-Some-ending-clause-height
-finish-requires-in-Some-ending-clause-height g c = height-fits c.args.galley.now.params (params-runnable c.args.galley.now.params c.requires.valid.params)
-
--- ---- more nodes wait at the start than may be
-
--- nothing but the end of the file is left
-ends-at-start : (g : Over) (c : In-Some g) → Appends (g.K.Sink.held c.args.out.now) (g.K.Sink.held c.write_all.new.out) preamble → ClosesAt c.node_limit.new.self c.in-Some.ending (g.K.Sink.held c.args.out.now) (g.K.Sink.held c.write_all.new.out) c.new-progress.result (run_of c.args.galley.now)
-ends-at-start g c whole = start-closing c.args.galley.now c.node_limit.new.self _ _ c.new-progress.result c.node_limit.result (ap state_of c.node_limit.ensures.same ∙ c.in_ok-routine.ensures.state) c.new-progress.ensures.value whole (c.node_limit.ensures.limit ∙ (λ i. over_limit (c.in_ok-routine.ensures.params i) (held_count (sym (ap state_of c.node_limit.ensures.same) i)))) c.in-Some.ending c.in-Some.is
-
-pub returns-in-Some-clause-done : goal.returns-in-Some-clause-done
-returns-in-Some-clause-done g c =
-    let w = goal.at.returns-in-Some-clause-done g c in
-    let closing = ends-at-start g w.In-Some (begun g w.In_ok-write_all) in
-    IfOk-weaker c.finish.result _ _ (λ u h. ends-well c.args.galley.now _ _ c.new-progress.result c.node_limit.new.self c.in-Some.ending closing _ h) c.finish.ensures.done
-
-pub returns-in-Some-clause-refused : goal.returns-in-Some-clause-refused
-returns-in-Some-clause-refused g c =
-    let w = goal.at.returns-in-Some-clause-refused g c in
-    let closing = ends-at-start g w.In-Some (begun g w.In_ok-write_all) in
-    IfErr-weaker c.finish.result _ _ (λ e h. stops-with c.args.galley.now _ _ c.new-progress.result c.node_limit.new.self c.in-Some.ending closing e _ h) c.finish.ensures.refused
-
-pub firing-init : goal.firing-init
-firing-init g c =
-    let whole = begun g (goal.at.firing-init g c).In_ok-write_all in
-    let is = ap state_of c.node_limit.ensures.same ∙ c.in_ok-routine.ensures.state in
-    let over = c.node_limit.ensures.limit ∙ (λ i. over_limit (c.in_ok-routine.ensures.params i) (held_count (sym (ap state_of c.node_limit.ensures.same) i))) in
-    record {
-      ready = limit-ready c.in_ok-routine.routine c.node_limit.new.self c.node_limit.result c.in_ok-routine.ensures.ready c.node_limit.ensures.same c.node_limit.ensures.bounded c.node_limit.ensures.within c.in_default.is;
-      params = ap (λ (r : Routine). r.machine.params) c.node_limit.ensures.same ∙ c.in_ok-routine.ensures.params;
-      in_file = c.new-progress.ensures.in_file;
-      going = start-going c.args.galley.now c.node_limit.new.self _ _ c.new-progress.result c.node_limit.result is c.new-progress.ensures.value whole over c.in_default.is;
-      later = c.in_ok-write_all.ensures.cause.later;
-    }
-
-pub returns-in_err-ending-clause-refused : goal.returns-in_err-ending-clause-refused
-returns-in_err-ending-clause-refused g c =
-    let p = err_from_is_err_and c.from_residual-in_err-ending.result c.from_residual-in_err-ending.ensures.1 in
-    rw (p.1, p.2) (going-short c.args.galley.now _ _ c.firing.progress c.args.galley.now.params (state_of c.firing.routine) c.firing.invariant.going)
-
--- ---- a turn
-
--- it is the next step of the run
-turn : (g : Over) (c : In_ok-ending g) → ShowsStep c.args.galley.now.params false (state_of c.firing.routine) c.turn.new.self c.turn.new.happened.items c.in_ok-ending.ending
-turn g c = shows-step c.args.galley.now.params false false c.firing.routine c.turn.new.self c.turn.new.happened.items c.in_ok-ending.ending c.firing.invariant.params refl c.in_ok-ending.ensures.turned
-
-pub returns-in_err-send-clause-refused : goal.returns-in_err-send-clause-refused
-returns-in_err-send-clause-refused g c =
-    let going = c.firing.invariant.going in
-    let shows = turn g (goal.at.returns-in_err-send-clause-refused g c).In_ok-ending in
-    let p = err_from_is_err_and c.from_residual-in_err-send.result c.from_residual-in_err-send.ensures.1 in
-    let failed = subst (λ hs. FailsAmong c.in_err-send.field-0.0 (g.K.Sink.held c.args.out.now) (g.K.Sink.held c.send.new.out) (going.written ++ event_pages (events_of c.turn.new.self.store hs))) c.deref-in-firing.ensures.value
-    (c.in_err-send.ensures.sent (g.K.Sink.held c.args.out.now) going.written going.holds) in
-    rw (p.1, p.2)
-    (refuses-among c.args.galley.now _ c.in_err-send.field-0.0 _ _ _ c.in_err-send.ensures.cause
-    (turn-fails c.args.galley.now.params (state_of c.firing.routine) _ _ c.firing.progress (run_of c.args.galley.now) going c.turn.new.self c.turn.new.happened.items c.in_ok-ending.ending false shows c.in_err-send.field-0.0 _ failed))
-
--- its pages are written
-holds : (g : Over) (c : In_ok-send g) → HoldsPages (g.K.Sink.held c.args.out.now) (g.K.Sink.held c.send.new.out) c.send.new.progress (c.firing.invariant.going.written ++ event_pages (events_of c.turn.new.self.store c.turn.new.happened.items))
-holds g c =
-    let going = c.firing.invariant.going in
-    subst (λ hs. HoldsPages (g.K.Sink.held c.args.out.now) (g.K.Sink.held c.send.new.out) c.send.new.progress (going.written ++ event_pages (events_of c.turn.new.self.store hs))) c.deref-in-firing.ensures.value
-    (c.in_ok-send.ensures.sent (g.K.Sink.held c.args.out.now) going.written going.holds)
-
--- nothing but the end of the file is left
-ends-here : (g : Over) (c : In_ok-send g) → ShowsStep c.args.galley.now.params false (state_of c.firing.routine) c.turn.new.self c.turn.new.happened.items c.in_ok-ending.ending → (ending : Ending) → c.in_ok-ending.ending ≡ Some ending
-    → ClosesAt c.turn.new.self ending (g.K.Sink.held c.args.out.now) (g.K.Sink.held c.send.new.out) c.send.new.progress (run_of c.args.galley.now)
-ends-here g c shows ending some = turn-closing c.args.galley.now.params (state_of c.firing.routine) _ _ c.firing.progress (run_of c.args.galley.now) c.firing.invariant.going c.turn.new.self c.turn.new.happened.items c.in_ok-ending.ending false shows _ c.send.new.progress (holds g c) ending some
-
-pub returns-in-Some-ending-clause-done : goal.returns-in-Some-ending-clause-done
-returns-in-Some-ending-clause-done g c =
-    let w = goal.at.returns-in-Some-ending-clause-done g c in
-    let closing = ends-here g w.In_ok-send (turn g w.In_ok-ending) c.in-Some-ending.ending c.in-Some-ending.is in
-    IfOk-weaker c.finish-in-Some-ending.result _ _ (λ u h. ends-well c.args.galley.now _ _ c.send.new.progress c.turn.new.self c.in-Some-ending.ending closing _ h) c.finish-in-Some-ending.ensures.done
-
-pub returns-in-Some-ending-clause-refused : goal.returns-in-Some-ending-clause-refused
-returns-in-Some-ending-clause-refused g c =
-    let w = goal.at.returns-in-Some-ending-clause-refused g c in
-    let closing = ends-here g w.In_ok-send (turn g w.In_ok-ending) c.in-Some-ending.ending c.in-Some-ending.is in
-    IfErr-weaker c.finish-in-Some-ending.result _ _ (λ e h. stops-with c.args.galley.now _ _ c.send.new.progress c.turn.new.self c.in-Some-ending.ending closing e _ h) c.finish-in-Some-ending.ensures.refused
-
-pub firing-smaller : goal.firing-smaller
-firing-smaller g c =
-    let shows = turn g (goal.at.firing-smaller g c).In_ok-ending in
-    let fewer = turn-fewer c.args.galley.now.params (state_of c.firing.routine) c.turn.new.self c.firing.invariant.going.page false c.turn.new.happened.items c.in_ok-ending.ending shows c.in_default-ending.is in
-    subst (λ s. firings_left c.args.galley.now.params s < firings_left c.args.galley.now.params (state_of c.firing.routine)) (sym c.done_with.ensures.state) fewer
-
-pub firing-preserved : goal.firing-preserved
-firing-preserved g c =
-    let w = goal.at.firing-preserved g c in
-    let start = c.firing.invariant.later in
-    let later = c.in_ok-send.ensures.later in
-    record {
-      ready = c.done_with.ensures.ready;
-      params = ap (λ (m : MachineView). m.params) c.done_with.ensures.machine ∙ c.in_ok-ending.ensures.params ∙ c.firing.invariant.params;
-      in_file = c.in_ok-send.ensures.in_file;
-      going = turn-going c.args.galley.now.params (state_of c.firing.routine) _ _ c.firing.progress (run_of c.args.galley.now) c.firing.invariant.going c.turn.new.self c.turn.new.happened.items c.in_ok-ending.ending false (turn g w.In_ok-ending) _ c.send.new.progress (holds g w.In_ok-send) (state_of c.done_with.new.self) c.done_with.ensures.state c.in_default-ending.is;
-      later = omega (arith, start, later);
-    }
+-- there was no memory for the routine
+pub returns-in_err-routine-clause-refused : goal.returns-in_err-routine-clause-refused
+returns-in_err-routine-clause-refused g c =
+    let p = err_from_is_err_and c.from_residual.result c.from_residual.ensures.1 in
+    rw (p.1, p.2) (none-yet (g.K.Sink.held c.args.out.now) (galley_file c.args.galley.now))

@@ -1,28 +1,13 @@
-use Rattle.std.proofs.Common.{◌∙◌, ap, sym, subst, ◌≡◌, ◌<◌, Some, arith}
-use Rattle.std.proofs.lemmas.Result.{err_from_is_err_and, IfErr-weaker, IfOk-weaker, IfErr-at_err}
-use Rattle.std.proofs.lemmas.Option.{MatchOption-at_none}
-use Rattle.std.specs.Io.KnownBytes.{Appends}
-use Rattle.tb_io.specs.Sink.{AppendsPrefix}
-use Rattle.tb_io.proofs.Appended.{prefix_whole}
-use Rattle.tb_param.specs.declared.Params.{Params}
-use Rattle.tb_report.specs.RunTotals.{AreCounts}
-use Rattle.tb_builder.specs.Contents.{Contents, box_count}
-use Rattle.tb_run.specs.Happenings.{events_of}
-use Rattle.tb_run.specs.Routine.{ArePages}
-use Rattle.tb_plain.specs.declared.Plain.{Plain}
-use Rattle.tb_plain.specs.Run.{makeup_of}
-use Rattle.tb_makeup.specs.declared.makeup.MakeupEnding.{MakeupEnding}
-use Rattle.tb_makeup.specs.Makeup.{state_of, end_of, turns_left, GoesTo, AreHappened}
-use Rattle.tb_top.specs.Report.{all_lines, traced_lines}
-use Rattle.tb_top.specs.Views.{viewed, with_events}
-use Rattle.tb_top.proofs.Plain.MakeupClosing.{ended-done, refuses-cut, ends-well, stops-with, stops-cause, stops-shown}
-use Rattle.tb_top.proofs.Plain.MakeupGoing.{Closing, prefix-now, prefix-first, start-closing, start-going, turn-cut, turn-closing, turn-fewer, turn-counts, turn-going}
+use Rattle.std.proofs.Common.{ap, sym, subst}
+use Rattle.std.proofs.lemmas.Result.{err_from_is_err_and, IfOk-weaker}
+use Rattle.std.specs.Prelude.{IsTrue, IfOk, IfErr}
+use Rattle.tb_param.specs.Ranges.{are_params}
+use Rattle.tb_plain.specs.Run.{MakeupState, makeup_of}
+use Rattle.tb_top.specs.MakeupPages.{MakesPages, RefusesPages, makeup_text}
+use Rattle.tb_top.proofs.Plain.MakeupClosing.{ended-done}
 use Rattle.tb_top.proofs.Plain.MakeupOnce.{makes-up-once}
-use Rattle.tb_top.proofs.Plain.MakeupStarts.{makeup-params, makeup-items, makeup-nodes, makeup-room}
-use Rattle.tb_top.proofs.Plain.MakeupTotals.{makeup-few}
-use Rattle.tb_top.proofs.Written.RunParams.{few-firings}
-use Rattle.tb_top.proofs.makeup_pages.paginate_plain.Goals.{In-Some, In_ok-ending, In_ok-send}
-use Rattle.tb_top.proofs.makeup_pages.paginate_plain.Given.{Over}
+use Rattle.tb_top.proofs.Plain.MakeupStarts.{makeup-params, makeup-items, makeup-nodes, makeup-room, runs-galley}
+use Rattle.tb_top.proofs.Written.FirstRuns.{none-yet}
 use Rattle.tb_top.proofs.makeup_pages.paginate_plain.Goals as goal
 
 pub new-requires-clause-params : goal.new-requires-clause-params
@@ -37,151 +22,29 @@ new-requires-clause-nodes g c = makeup-nodes c.args.galley.now c.requires.valid 
 pub new-requires-clause-few : goal.new-requires-clause-few
 new-requires-clause-few g c = makeup-room c.args.galley.now c.requires.valid c.requires.suited
 
-pub node_limit-requires-clause-sound : goal.node_limit-requires-clause-sound
-node_limit-requires-clause-sound g c = c.in_ok-makeup.ensures.ready.sound
+-- ---- the run of the page makeup is the galley's
 
-pub node_limit-requires-clause-few : goal.node_limit-requires-clause-few
-node_limit-requires-clause-few g c = let few = c.in_ok-makeup.ensures.ready.nodes.few in omega (arith, few)
+pub run_on-requires-clause-params : goal.run_on-requires-clause-params
+run_on-requires-clause-params g c = subst (λ p. IsTrue (are_params p)) (sym c.in_ok-makeup.ensures.params) c.requires.valid.params
 
-pub node_limit-requires-clause-void : goal.node_limit-requires-clause-void
-node_limit-requires-clause-void g c = ap (λ (h : Contents). box_count h.boxes) c.in_ok-makeup.ensures.ready.holds
+pub run_on-requires-clause-page : goal.run_on-requires-clause-page
+run_on-requires-clause-page g c = ap (λ (s : MakeupState). s.number) c.in_ok-makeup.ensures.state
 
-pub returns-in_err-show-clause-refused : goal.returns-in_err-show-clause-refused
-returns-in_err-show-clause-refused g c =
-    let p = err_from_is_err_and c.from_residual.result c.from_residual.ensures.1 in
-    rw (p.1, p.2) (refuses-cut c.args.view (makeup_of c.args.galley.now) _ _ c.in_err-show.field-0.0 (prefix-first c.args.view c.args.galley.now _ _ c.in_err-show.ensures.part))
+pub returns-clause-done : goal.returns-clause-done
+returns-clause-done g c =
+    let is = runs-galley c.args.galley.now c.in_ok-makeup.makeup c.in_ok-makeup.ensures.state c.in_ok-makeup.ensures.params in
+    subst (λ r. IfOk c.run_on.result (MakesPages c.args.view r (g.K.Sink.held c.args.out.now) (g.K.Sink.held c.run_on.new.out))) is c.run_on.ensures.done
 
+pub returns-clause-refused : goal.returns-clause-refused
+returns-clause-refused g c =
+    let is = runs-galley c.args.galley.now c.in_ok-makeup.makeup c.in_ok-makeup.ensures.state c.in_ok-makeup.ensures.params in
+    subst (λ r. IfErr c.run_on.result (RefusesPages c.args.view r (g.K.Sink.held c.args.out.now) (g.K.Sink.held c.run_on.new.out))) is c.run_on.ensures.refused
+
+pub returns-clause-laws : goal.returns-clause-laws
+returns-clause-laws g c = IfOk-weaker c.run_on.result _ _ (λ u h. makes-up-once c.args.galley.now c.requires.valid c.requires.suited (ended-done (makeup_of c.args.galley.now).end h.ended)) (returns-clause-done g c)
+
+-- there was no memory for it
 pub returns-in_err-makeup-clause-refused : goal.returns-in_err-makeup-clause-refused
 returns-in_err-makeup-clause-refused g c =
-    let p = err_from_is_err_and c.from_residual-in_err-makeup.result c.from_residual-in_err-makeup.ensures.1 in
-    rw (p.1, p.2) (prefix-first c.args.view c.args.galley.now _ _ (prefix_whole _ _ _ c.in_ok-show.ensures.whole))
-
--- ---- more nodes wait at the start than may be
-
--- nothing but the end of the run is left
-ends-at-start : (g : Over) (c : In-Some g) → Closing c.args.view (end_of c.in-Some.ending) (g.K.Sink.held c.args.out.now) (g.K.Sink.held c.show.new.out) c.new-totals.result (makeup_of c.args.galley.now)
-ends-at-start g c = start-closing c.args.view c.args.galley.now c.in_ok-makeup.makeup _ _ c.new-totals.result c.node_limit.result c.in_ok-makeup.ensures.state c.in_ok-makeup.ensures.params c.in_ok-makeup.ensures.ready.limit c.in_ok-show.ensures.whole c.new-totals.ensures c.node_limit.ensures c.in-Some.ending c.in-Some.is
-
-pub returns-in-Some-clause-done : goal.returns-in-Some-clause-done
-returns-in-Some-clause-done g c =
-    let closing = ends-at-start g (goal.at.returns-in-Some-clause-done g c).In-Some in
-    IfOk-weaker c.finish.result _ _ (λ u h. ends-well c.args.view c.new-totals.result (makeup_of c.args.galley.now) _ _ _ c.in-Some.ending u closing h) c.finish.ensures.done
-
-pub returns-in-Some-clause-laws : goal.returns-in-Some-clause-laws
-returns-in-Some-clause-laws g c = IfOk-weaker c.finish.result _ _ (λ u h. makes-up-once c.args.galley.now c.requires.valid c.requires.suited (ended-done (makeup_of c.args.galley.now).end h.ended)) (returns-in-Some-clause-done g c)
-
-pub returns-in-Some-clause-refused : goal.returns-in-Some-clause-refused
-returns-in-Some-clause-refused g c =
-    let closing = ends-at-start g (goal.at.returns-in-Some-clause-refused g c).In-Some in
-    IfErr-weaker c.finish.result _ _ (λ f h. stops-with c.args.view c.new-totals.result (makeup_of c.args.galley.now) _ _ _ c.in-Some.ending _ _ f closing h) c.finish.ensures.refused
-
-pub returns-in-Some-clause-cause : goal.returns-in-Some-clause-cause
-returns-in-Some-clause-cause g c = λ is. stops-cause c.args.view c.new-totals.result c.in-Some.ending _ _ _ _ _ c.in_ok-show.ensures.later (IfErr-at_err _ is c.finish.ensures.refused)
-
-pub returns-in-Some-clause-silent : goal.returns-in-Some-clause-silent
-returns-in-Some-clause-silent g c = λ silent is. stops-shown c.args.view c.new-totals.result c.in-Some.ending _ _ _ _ silent (IfErr-at_err _ is c.finish.ensures.refused)
-
-pub page-init : goal.page-init
-page-init g c = record {
-  ready = c.in_ok-makeup.ensures.ready;
-  params = c.in_ok-makeup.ensures.params;
-  going = start-going c.args.view c.args.galley.now c.in_ok-makeup.makeup _ _ c.new-totals.result c.node_limit.result c.in_ok-makeup.ensures.state c.in_ok-makeup.ensures.params c.in_ok-makeup.ensures.ready.limit c.in_ok-show.ensures.whole c.new-totals.ensures c.node_limit.ensures c.in_default.is;
-  later = c.in_ok-show.ensures.later;
-}
-
--- ---- a turn
-
-pub returns-in_err-ending-clause-refused : goal.returns-in_err-ending-clause-refused
-returns-in_err-ending-clause-refused g c =
-    let p = err_from_is_err_and c.from_residual-in_err-ending.result c.from_residual-in_err-ending.ensures.1 in
-    rw (p.1, p.2) (prefix-now c.args.galley.now.params c.args.view (state_of c.page.makeup) _ _ c.page.totals (makeup_of c.args.galley.now) c.page.invariant.going)
-
-pub send-requires-clause-pages : goal.send-requires-clause-pages
-send-requires-clause-pages g c = subst (λ hs. ArePages c.turn.new.self.store hs) (sym c.deref.ensures.value) c.in_ok-ending.ensures.pages
-
--- what the makeup goes on to, by the galley's parameters
-goes : (g : Over) (c : In_ok-ending g) → GoesTo c.turn.new.self c.in_ok-ending.ending c.args.galley.now.params c.in_ok-ending.ensures.turned.es (state_of c.page.makeup)
-goes g c = subst (λ (p : Params). GoesTo c.turn.new.self c.in_ok-ending.ending p c.in_ok-ending.ensures.turned.es (state_of c.page.makeup)) c.page.invariant.params c.in_ok-ending.ensures.turned.goes
-
-pub send-requires-clause-room : goal.send-requires-clause-room
-send-requires-clause-room g c =
-    let turned = c.in_ok-ending.ensures.turned in
-    let p = c.args.galley.now.params in
-    subst (λ hs. AreCounts (with_events (events_of c.turn.new.self.store hs) c.page.totals)) (sym c.deref.ensures.value)
-    (turn-counts p c.args.view (state_of c.page.makeup) _ _ c.page.totals (makeup_of c.args.galley.now) c.page.invariant.going c.turn.new.self c.turn.new.happened.items c.in_ok-ending.ending turned.es turned.events (goes g (goal.at.send-requires-clause-room g c).In_ok-ending) c.in_ok-ending.ensures.pages
-    (few-firings p c.requires.valid.params).pages (makeup-few c.args.galley.now))
-
-pub returns-in_err-send-clause-refused : goal.returns-in_err-send-clause-refused
-returns-in_err-send-clause-refused g c =
-    let turned = c.in_ok-ending.ensures.turned in
-    let p = err_from_is_err_and c.from_residual-in_err-send.result c.from_residual-in_err-send.ensures.1 in
-    let part = subst (λ hs. AppendsPrefix (g.K.Sink.held c.page.out) (g.K.Sink.held c.send.new.out) (viewed c.args.view (all_lines traced_lines (events_of c.turn.new.self.store hs)))) c.deref.ensures.value c.in_err-send.ensures.shown.part in
-    rw (p.1, p.2)
-    (refuses-cut c.args.view (makeup_of c.args.galley.now) _ _ c.in_err-send.field-0.0
-    (turn-cut c.args.galley.now.params c.args.view (state_of c.page.makeup) _ _ c.page.totals (makeup_of c.args.galley.now) c.page.invariant.going c.turn.new.self c.turn.new.happened.items c.in_ok-ending.ending turned.es turned.events (goes g (goal.at.returns-in_err-send-clause-refused g c).In_ok-ending) _ part))
-
--- what a turn sent is shown, and counted
-shown : (g : Over) (c : In_ok-send g) → Appends (g.K.Sink.held c.page.out) (g.K.Sink.held c.send.new.out) (viewed c.args.view (all_lines traced_lines (events_of c.turn.new.self.store c.turn.new.happened.items)))
-shown g c = subst (λ hs. Appends (g.K.Sink.held c.page.out) (g.K.Sink.held c.send.new.out) (viewed c.args.view (all_lines traced_lines (events_of c.turn.new.self.store hs)))) c.deref.ensures.value c.in_ok-send.ensures.shown.whole
-
-counted : (g : Over) (c : In_ok-send g) → c.send.new.totals ≡ with_events (events_of c.turn.new.self.store c.turn.new.happened.items) c.page.totals
-counted g c = c.in_ok-send.ensures.counted ∙ ap (λ hs. with_events (events_of c.turn.new.self.store hs) c.page.totals) c.deref.ensures.value
-
--- ---- the turn was the last
-
--- nothing but the end of the run is left
-ends-here : (g : Over) (c : In_ok-send g) → GoesTo c.turn.new.self c.in_ok-ending.ending c.args.galley.now.params c.in_ok-ending.ensures.turned.es (state_of c.page.makeup) → (e : MakeupEnding) → c.in_ok-ending.ending ≡ Some e
-    → Closing c.args.view (end_of e) (g.K.Sink.held c.args.out.now) (g.K.Sink.held c.send.new.out) c.send.new.totals (makeup_of c.args.galley.now)
-ends-here g c to e some =
-    let turned = c.in_ok-ending.ensures.turned in
-    turn-closing c.args.galley.now.params c.args.view (state_of c.page.makeup) _ _ c.page.totals (makeup_of c.args.galley.now) c.page.invariant.going c.turn.new.self c.turn.new.happened.items c.in_ok-ending.ending turned.es turned.events to _ c.send.new.totals e some (shown g c) (counted g c)
-
-pub returns-in-Some-ending-clause-done : goal.returns-in-Some-ending-clause-done
-returns-in-Some-ending-clause-done g c =
-    let w = goal.at.returns-in-Some-ending-clause-done g c in
-    let closing = ends-here g w.In_ok-send (goes g w.In_ok-ending) c.in-Some-ending.ending c.in-Some-ending.is in
-    IfOk-weaker c.finish-in-Some-ending.result _ _ (λ u h. ends-well c.args.view c.send.new.totals (makeup_of c.args.galley.now) _ _ _ c.in-Some-ending.ending u closing h) c.finish-in-Some-ending.ensures.done
-
-pub returns-in-Some-ending-clause-laws : goal.returns-in-Some-ending-clause-laws
-returns-in-Some-ending-clause-laws g c =
-    IfOk-weaker c.finish-in-Some-ending.result _ _ (λ u h. makes-up-once c.args.galley.now c.requires.valid c.requires.suited (ended-done (makeup_of c.args.galley.now).end h.ended)) (returns-in-Some-ending-clause-done g c)
-
-pub returns-in-Some-ending-clause-refused : goal.returns-in-Some-ending-clause-refused
-returns-in-Some-ending-clause-refused g c =
-    let w = goal.at.returns-in-Some-ending-clause-refused g c in
-    let closing = ends-here g w.In_ok-send (goes g w.In_ok-ending) c.in-Some-ending.ending c.in-Some-ending.is in
-    IfErr-weaker c.finish-in-Some-ending.result _ _ (λ f h. stops-with c.args.view c.send.new.totals (makeup_of c.args.galley.now) _ _ _ c.in-Some-ending.ending _ _ f closing h) c.finish-in-Some-ending.ensures.refused
-
-pub returns-in-Some-ending-clause-cause : goal.returns-in-Some-ending-clause-cause
-returns-in-Some-ending-clause-cause g c = λ is.
-    let start = c.page.invariant.later in
-    let later = c.in_ok-send.ensures.shown.later in
-    stops-cause c.args.view c.send.new.totals c.in-Some-ending.ending _ _ _ _ _ (omega (arith, start, later)) (IfErr-at_err _ is c.finish-in-Some-ending.ensures.refused)
-
-pub returns-in-Some-ending-clause-silent : goal.returns-in-Some-ending-clause-silent
-returns-in-Some-ending-clause-silent g c = λ silent is. stops-shown c.args.view c.send.new.totals c.in-Some-ending.ending _ _ _ _ silent (IfErr-at_err _ is c.finish-in-Some-ending.ensures.refused)
-
-pub done_with-requires-clause-ready : goal.done_with-requires-clause-ready
-done_with-requires-clause-ready g c = MatchOption-at_none _ _ c.in_default-ending.is c.in_ok-ending.ensures.ready
-
-pub done_with-requires-clause-lists : goal.done_with-requires-clause-lists
-done_with-requires-clause-lists g c = subst (AreHappened c.turn.new.self) (sym c.deref-in-page.ensures.value) (MatchOption-at_none _ _ c.in_default-ending.is c.in_ok-ending.ensures.lists)
-
-pub page-smaller : goal.page-smaller
-page-smaller g c =
-    let turned = c.in_ok-ending.ensures.turned in
-    let fewer = turn-fewer c.args.galley.now.params c.args.view (state_of c.page.makeup) _ _ c.page.totals (makeup_of c.args.galley.now) c.page.invariant.going c.turn.new.self c.turn.new.happened.items c.in_ok-ending.ending turned.es turned.events (goes g (goal.at.page-smaller g c).In_ok-ending) c.in_default-ending.is in
-    subst (λ s. turns_left c.args.galley.now.params s < turns_left c.args.galley.now.params (state_of c.page.makeup)) (sym c.done_with.ensures.state) fewer
-
-pub page-preserved : goal.page-preserved
-page-preserved g c =
-    let turned = c.in_ok-ending.ensures.turned in
-    let w = goal.at.page-preserved g c in
-    let start = c.page.invariant.later in
-    let later = c.in_ok-send.ensures.shown.later in
-    record {
-      ready = c.done_with.ensures.ready;
-      params = ap (λ (m : Plain). m.params) c.done_with.ensures.plain ∙ c.in_ok-ending.ensures.params ∙ c.page.invariant.params;
-      going = turn-going c.args.galley.now.params c.args.view (state_of c.page.makeup) _ _ c.page.totals (makeup_of c.args.galley.now) c.page.invariant.going c.turn.new.self c.turn.new.happened.items c.in_ok-ending.ending turned.es turned.events (goes g w.In_ok-ending) c.in_ok-ending.ensures.pages _ c.send.new.totals (state_of c.done_with.new.self) c.done_with.ensures.state c.in_default-ending.is (shown g w.In_ok-send) (counted g w.In_ok-send);
-      later = omega (arith, start, later);
-    }
+    let p = err_from_is_err_and c.from_residual.result c.from_residual.ensures.1 in
+    rw (p.1, p.2) (none-yet (g.K.Sink.held c.args.out.now) (makeup_text c.args.view (makeup_of c.args.galley.now)))

@@ -1,166 +1,19 @@
-use Rattle.std.proofs.Common.{◌∙◌, ap, sym, subst, ◌≡◌, ◌<◌, Some, arith}
-use Rattle.std.proofs.lemmas.Result.{err_from_is_err_and, IfErr-weaker, IfOk-weaker, IfErr-at_err}
-use Rattle.std.proofs.lemmas.Option.{MatchOption-at_none}
-use Rattle.tb_io.proofs.Appended.{prefix_whole}
-use Rattle.tb_output.specs.Machine.{MachineView}
-use Rattle.tb_run.specs.declared.routine.Routine.{Routine}
-use Rattle.tb_run.specs.Run.{run_of, held_count, firings_left}
-use Rattle.tb_run.specs.Happenings.{events_of}
-use Rattle.tb_run.specs.Routine.{state_of, over_limit, ArePages, AreHappened}
-use Rattle.std.specs.Io.KnownBytes.{Appends}
-use Rattle.tb_io.specs.Sink.{AppendsPrefix}
-use Rattle.tb_report.specs.RunTotals.{AreCounts}
-use Rattle.tb_run.specs.declared.routine.Ending.{Ending}
-use Rattle.tb_top.specs.Report.{all_lines, traced_lines}
-use Rattle.tb_top.specs.Views.{is_traced, viewed, with_events}
-use Rattle.tb_top.proofs.Written.GoingLemmas.{prefix-first, prefix-now, refuses-cut, failed-at, silent-shown}
-use Rattle.tb_top.proofs.Written.FinishLemmas.{ClosesAt, ends-well, stops-with, start-closing, start-going, start-tally, turn-cut, turn-closing, turn-going, turn-counts, turn-tally, limit-ready, few-wait, stops-cause, stops-shown}
-use Rattle.tb_top.proofs.Written.TurnLemmas.{ShowsStep, shows-step, turn-fewer}
-use Rattle.tb_top.proofs.Written.RunParams.{params-runnable, few-firings}
-use Rattle.tb_top.proofs.Joined.LawfulRuns.{keeps-laws}
-use Rattle.tb_top.proofs.Limits.LimitedRuns.{run-within}
-use Rattle.tb_top.proofs.Ends.CycleAnswers.{not-for-cycles}
+use Rattle.std.proofs.Common.{ap, sym, subst}
+use Rattle.std.proofs.lemmas.Result.{err_from_is_err_and, IfErr-weaker, IfOk-weaker}
+use Rattle.std.specs.Prelude.{IsTrue, IfOk, IfErr}
+use Rattle.tb_param.specs.Ranges.{are_params}
+use Rattle.tb_output.specs.State.{State}
+use Rattle.tb_run.specs.Run.{run_of}
 use Rattle.tb_run.proofs.FromGalley.GalleyRuns.{galley-classes}
 use Rattle.tb_run.proofs.FromGalley.GalleyItems.{galley-items}
 use Rattle.tb_run.proofs.FromGalley.GalleyNodeLemmas.{galley-nodes}
-use Rattle.tb_top.proofs.pages.paginate.Given.{Over}
-use Rattle.tb_top.proofs.pages.paginate.Goals.{In-Some, In_ok-ending, In_ok-send}
+use Rattle.tb_top.specs.Pages.{Paginates, Refuses, view_text}
+use Rattle.tb_top.proofs.Written.FirstRuns.{runs-galley, none-yet}
+use Rattle.tb_top.proofs.Written.RunParams.{params-runnable}
+use Rattle.tb_top.proofs.Joined.LawfulRuns.{keeps-laws}
+use Rattle.tb_top.proofs.Limits.LimitedRuns.{run-within}
+use Rattle.tb_top.proofs.Ends.CycleAnswers.{not-for-cycles}
 use Rattle.tb_top.proofs.pages.paginate.Goals as goal
-
-pub returns-in_err-show-clause-refused : goal.returns-in_err-show-clause-refused
-returns-in_err-show-clause-refused g c =
-    let p = err_from_is_err_and c.from_residual.result c.from_residual.ensures.1 in
-    rw (p.1, p.2) (refuses-cut c.args.view (run_of c.args.galley.now) _ _ c.in_err-show.field-0.0 (prefix-first c.args.view c.args.galley.now _ _ c.in_err-show.ensures.part))
-
-pub returns-in_err-routine-clause-refused : goal.returns-in_err-routine-clause-refused
-returns-in_err-routine-clause-refused g c =
-    let p = err_from_is_err_and c.from_residual-in_err-routine.result c.from_residual-in_err-routine.ensures.1 in
-    rw (p.1, p.2) (prefix-first c.args.view c.args.galley.now _ _ (prefix_whole _ _ _ c.in_ok-show.ensures.whole))
-
--- ---- more nodes wait at the start than may be
-
--- nothing but the end of the run is left
-ends-at-start : (g : Over) (c : In-Some g) → ClosesAt c.args.view c.node_limit.new.self c.in-Some.ending (g.K.Sink.held c.args.out.now) (g.K.Sink.held c.show.new.out) c.new-totals.result (run_of c.args.galley.now)
-ends-at-start g c = start-closing c.args.view c.args.galley.now c.node_limit.new.self _ _ c.new-totals.result c.node_limit.result (ap state_of c.node_limit.ensures.same ∙ c.in_ok-routine.ensures.state) c.in_ok-show.ensures.whole c.new-totals.ensures (c.node_limit.ensures.limit ∙ (λ i. over_limit (c.in_ok-routine.ensures.params i) (held_count (sym (ap state_of c.node_limit.ensures.same) i)))) c.in-Some.ending c.in-Some.is
-
-pub returns-in-Some-clause-done : goal.returns-in-Some-clause-done
-returns-in-Some-clause-done g c =
-    let closing = ends-at-start g (goal.at.returns-in-Some-clause-done g c).In-Some in
-    IfOk-weaker c.finish.result _ _ (λ u h. ends-well c.args.view c.node_limit.new.self c.new-totals.result (run_of c.args.galley.now) _ _ _ c.in-Some.ending closing.end u closing.is closing.closing h) c.finish.ensures.done
-
-pub returns-in-Some-clause-laws : goal.returns-in-Some-clause-laws
-returns-in-Some-clause-laws g c = IfOk-weaker c.finish.result _ _ (keeps-laws c.args.galley.now c.requires.valid c.args.view _ _) (returns-in-Some-clause-done g c)
-
-pub returns-in-Some-clause-refused : goal.returns-in-Some-clause-refused
-returns-in-Some-clause-refused g c =
-    let closing = ends-at-start g (goal.at.returns-in-Some-clause-refused g c).In-Some in
-    IfErr-weaker c.finish.result _ _ (λ f h. stops-with c.args.view c.node_limit.new.self c.new-totals.result (run_of c.args.galley.now) _ _ _ c.in-Some.ending closing.end _ _ f closing.is closing.closing h) c.finish.ensures.refused
-
-pub firing-init : goal.firing-init
-firing-init g c =
-    let is = ap state_of c.node_limit.ensures.same ∙ c.in_ok-routine.ensures.state in
-    let over = c.node_limit.ensures.limit ∙ (λ i. over_limit (c.in_ok-routine.ensures.params i) (held_count (sym (ap state_of c.node_limit.ensures.same) i))) in
-    record {
-      ready = limit-ready c.in_ok-routine.routine c.node_limit.new.self c.node_limit.result c.in_ok-routine.ensures.ready c.node_limit.ensures.same c.node_limit.ensures.bounded c.node_limit.ensures.within c.in_default.is;
-      params = ap (λ (r : Routine). r.machine.params) c.node_limit.ensures.same ∙ c.in_ok-routine.ensures.params;
-      going = start-going c.args.view c.args.galley.now c.node_limit.new.self _ _ c.new-totals.result c.node_limit.result is c.in_ok-show.ensures.whole c.new-totals.ensures over c.in_default.is;
-      tally = start-tally c.args.view c.args.galley.now c.node_limit.new.self _ _ c.new-totals.result c.node_limit.result is c.in_ok-show.ensures.whole c.new-totals.ensures over (few-firings c.args.galley.now.params c.requires.valid.params);
-      later = c.in_ok-show.ensures.later;
-    }
-
-pub returns-in_err-ending-clause-refused : goal.returns-in_err-ending-clause-refused
-returns-in_err-ending-clause-refused g c =
-    let p = err_from_is_err_and c.from_residual-in_err-ending.result c.from_residual-in_err-ending.ensures.1 in
-    rw (p.1, p.2) (prefix-now c.args.galley.now.params c.args.view (state_of c.firing.routine) _ _ c.firing.totals (run_of c.args.galley.now) c.firing.invariant.going)
-
--- ---- a turn
-
-pub send-requires-clause-pages : goal.send-requires-clause-pages
-send-requires-clause-pages g c = subst (λ hs. ArePages c.turn.new.self.store hs) (sym c.deref.ensures.value) c.in_ok-ending.ensures.pages
-
--- it is the next step of the run
-turn : (g : Over) (c : In_ok-ending g) → ShowsStep c.args.galley.now.params (is_traced c.args.view) (state_of c.firing.routine) c.turn.new.self c.turn.new.happened.items c.in_ok-ending.ending
-turn g c = shows-step c.args.galley.now.params c.is_traced.result (is_traced c.args.view) c.firing.routine c.turn.new.self c.turn.new.happened.items c.in_ok-ending.ending c.firing.invariant.params c.is_traced.ensures c.in_ok-ending.ensures.turned
-
-pub send-requires-clause-room : goal.send-requires-clause-room
-send-requires-clause-room g c =
-    let shows = turn g (goal.at.send-requires-clause-room g c).In_ok-ending in
-    subst (λ hs. AreCounts (with_events (events_of c.turn.new.self.store hs) c.firing.totals)) (sym c.deref.ensures.value)
-    (turn-counts c.args.galley.now.params c.args.view (state_of c.firing.routine) _ _ c.firing.totals (run_of c.args.galley.now) c.firing.invariant.going c.turn.new.self c.turn.new.happened.items c.in_ok-ending.ending shows (few-firings c.args.galley.now.params c.requires.valid.params) c.firing.invariant.tally (few-wait c.firing.routine c.firing.invariant.ready) c.in_ok-ending.ensures.pages)
-
-pub returns-in_err-send-clause-refused : goal.returns-in_err-send-clause-refused
-returns-in_err-send-clause-refused g c =
-    let shows = turn g (goal.at.returns-in_err-send-clause-refused g c).In_ok-ending in
-    let p = err_from_is_err_and c.from_residual-in_err-send.result c.from_residual-in_err-send.ensures.1 in
-    let part = subst (λ hs. AppendsPrefix (g.K.Sink.held c.firing.out) (g.K.Sink.held c.send.new.out) (viewed c.args.view (all_lines traced_lines (events_of c.turn.new.self.store hs)))) c.deref.ensures.value c.in_err-send.ensures.shown.part in
-    rw (p.1, p.2) (refuses-cut c.args.view (run_of c.args.galley.now) _ _ c.in_err-send.field-0.0 (turn-cut c.args.galley.now.params c.args.view (state_of c.firing.routine) _ _ c.firing.totals (run_of c.args.galley.now) c.firing.invariant.going c.turn.new.self c.turn.new.happened.items c.in_ok-ending.ending shows _ part))
-
-pub returns-in_err-send-clause-cause : goal.returns-in_err-send-clause-cause
-returns-in_err-send-clause-cause g c = λ is.
-    let failed = failed-at c.from_residual-in_err-send.result c.in_err-send.field-0.0 c.from_residual-in_err-send.ensures.1 is in
-    let rose = (c.in_err-send.ensures.shown.cause failed).0 in
-    let start = c.firing.invariant.later in
-    omega (arith, start, rose)
-
-pub returns-in_err-send-clause-silent : goal.returns-in_err-send-clause-silent
-returns-in_err-send-clause-silent g c = λ silent is.
-    let failed = failed-at c.from_residual-in_err-send.result c.in_err-send.field-0.0 c.from_residual-in_err-send.ensures.1 is in
-    silent-shown c.args.view silent (c.in_err-send.ensures.shown.cause failed).1
-
--- what it sent is shown, and counted
-shown : (g : Over) (c : In_ok-send g) → Appends (g.K.Sink.held c.firing.out) (g.K.Sink.held c.send.new.out) (viewed c.args.view (all_lines traced_lines (events_of c.turn.new.self.store c.turn.new.happened.items)))
-shown g c = subst (λ hs. Appends (g.K.Sink.held c.firing.out) (g.K.Sink.held c.send.new.out) (viewed c.args.view (all_lines traced_lines (events_of c.turn.new.self.store hs)))) c.deref.ensures.value c.in_ok-send.ensures.shown.whole
-
-counted : (g : Over) (c : In_ok-send g) → c.send.new.totals ≡ with_events (events_of c.turn.new.self.store c.turn.new.happened.items) c.firing.totals
-counted g c = c.in_ok-send.ensures.counted ∙ ap (λ hs. with_events (events_of c.turn.new.self.store hs) c.firing.totals) c.deref.ensures.value
-
--- ---- the turn was the last
-
--- nothing but the end of the run is left
-ends-here : (g : Over) (c : In_ok-send g) → ShowsStep c.args.galley.now.params (is_traced c.args.view) (state_of c.firing.routine) c.turn.new.self c.turn.new.happened.items c.in_ok-ending.ending → (ending : Ending) → c.in_ok-ending.ending ≡ Some ending
-    → ClosesAt c.args.view c.turn.new.self ending (g.K.Sink.held c.args.out.now) (g.K.Sink.held c.send.new.out) c.send.new.totals (run_of c.args.galley.now)
-ends-here g c shows ending some = turn-closing c.args.galley.now.params c.args.view (state_of c.firing.routine) _ _ c.firing.totals (run_of c.args.galley.now) c.firing.invariant.going c.turn.new.self c.turn.new.happened.items c.in_ok-ending.ending shows _ c.send.new.totals ending some (shown g c) (counted g c)
-
-pub returns-in-Some-ending-clause-done : goal.returns-in-Some-ending-clause-done
-returns-in-Some-ending-clause-done g c =
-    let w = goal.at.returns-in-Some-ending-clause-done g c in
-    let closing = ends-here g w.In_ok-send (turn g w.In_ok-ending) c.in-Some-ending.ending c.in-Some-ending.is in
-    IfOk-weaker c.finish-in-Some-ending.result _ _ (λ u h. ends-well c.args.view c.turn.new.self c.send.new.totals (run_of c.args.galley.now) _ _ _ c.in-Some-ending.ending closing.end u closing.is closing.closing h) c.finish-in-Some-ending.ensures.done
-
-pub returns-in-Some-ending-clause-laws : goal.returns-in-Some-ending-clause-laws
-returns-in-Some-ending-clause-laws g c = IfOk-weaker c.finish-in-Some-ending.result _ _ (keeps-laws c.args.galley.now c.requires.valid c.args.view _ _) (returns-in-Some-ending-clause-done g c)
-
-pub returns-in-Some-ending-clause-refused : goal.returns-in-Some-ending-clause-refused
-returns-in-Some-ending-clause-refused g c =
-    let w = goal.at.returns-in-Some-ending-clause-refused g c in
-    let closing = ends-here g w.In_ok-send (turn g w.In_ok-ending) c.in-Some-ending.ending c.in-Some-ending.is in
-    IfErr-weaker c.finish-in-Some-ending.result _ _ (λ f h. stops-with c.args.view c.turn.new.self c.send.new.totals (run_of c.args.galley.now) _ _ _ c.in-Some-ending.ending closing.end _ _ f closing.is closing.closing h) c.finish-in-Some-ending.ensures.refused
-
-pub make_room-requires-clause-ready : goal.make_room-requires-clause-ready
-make_room-requires-clause-ready g c = MatchOption-at_none _ _ c.in_default-ending.is c.in_ok-ending.ensures.ready
-
-pub make_room-requires-clause-lists : goal.make_room-requires-clause-lists
-make_room-requires-clause-lists g c = subst (AreHappened c.turn.new.self) (sym c.deref-in-firing.ensures.value) (MatchOption-at_none _ _ c.in_default-ending.is c.in_ok-ending.ensures.lists)
-
-pub firing-smaller : goal.firing-smaller
-firing-smaller g c =
-    let shows = turn g (goal.at.firing-smaller g c).In_ok-ending in
-    let fewer = turn-fewer c.args.galley.now.params (state_of c.firing.routine) c.turn.new.self c.firing.invariant.going.page (is_traced c.args.view) c.turn.new.happened.items c.in_ok-ending.ending shows c.in_default-ending.is in
-    subst (λ s. firings_left c.args.galley.now.params s < firings_left c.args.galley.now.params (state_of c.firing.routine)) (sym c.make_room.ensures.state) fewer
-
-pub firing-preserved : goal.firing-preserved
-firing-preserved g c =
-    let w = goal.at.firing-preserved g c in
-    let shows = turn g w.In_ok-ending in
-    let start = c.firing.invariant.later in
-    let later = c.in_ok-send.ensures.shown.later in
-    record {
-      ready = c.make_room.ensures.ready;
-      params = ap (λ (m : MachineView). m.params) c.make_room.ensures.machine ∙ c.in_ok-ending.ensures.params ∙ c.firing.invariant.params;
-      going = turn-going c.args.galley.now.params c.args.view (state_of c.firing.routine) _ _ c.firing.totals (run_of c.args.galley.now) c.firing.invariant.going c.turn.new.self c.turn.new.happened.items c.in_ok-ending.ending shows _ c.send.new.totals (state_of c.make_room.new.self) c.make_room.ensures.state c.in_default-ending.is (shown g w.In_ok-send) (counted g w.In_ok-send);
-      tally = turn-tally c.args.galley.now.params c.args.view (state_of c.firing.routine) _ _ c.firing.totals (run_of c.args.galley.now) c.firing.invariant.going c.turn.new.self c.turn.new.happened.items c.in_ok-ending.ending shows (few-firings c.args.galley.now.params c.requires.valid.params) c.firing.invariant.tally (few-wait c.firing.routine c.firing.invariant.ready) c.in_ok-ending.ensures.pages c.send.new.totals (state_of c.make_room.new.self) c.make_room.ensures.state c.in_default-ending.is (counted g w.In_ok-send);
-      later = omega (arith, start, later);
-    }
 
 pub new-requires-clause-params : goal.new-requires-clause-params
 new-requires-clause-params g c = params-runnable c.args.galley.now.params c.requires.valid.params
@@ -174,53 +27,45 @@ new-requires-clause-classes g c = galley-classes c.args.galley.now (params-runna
 pub new-requires-clause-nodes : goal.new-requires-clause-nodes
 new-requires-clause-nodes g c = galley-nodes c.args.galley.now (params-runnable c.args.galley.now.params c.requires.valid.params).foot c.requires.valid
 
-pub returns-in_err-show-clause-limits : goal.returns-in_err-show-clause-limits
-returns-in_err-show-clause-limits g c = run-within c.args.galley.now
+-- ---- the routine's run is the galley's
+
+pub run_on-requires-clause-params : goal.run_on-requires-clause-params
+run_on-requires-clause-params g c = subst (λ p. IsTrue (are_params p)) (sym c.in_ok-routine.ensures.params) c.requires.valid.params
+
+pub run_on-requires-clause-page : goal.run_on-requires-clause-page
+run_on-requires-clause-page g c = ap (λ (s : State). s.page) c.in_ok-routine.ensures.state
+
+pub run_on-requires-clause-cycles : goal.run_on-requires-clause-cycles
+run_on-requires-clause-cycles g c = ap (λ (s : State). s.dead_cycles) c.in_ok-routine.ensures.state
+
+pub returns-clause-done : goal.returns-clause-done
+returns-clause-done g c =
+    let is = runs-galley c.args.galley.now c.in_ok-routine.routine c.in_ok-routine.ensures.state c.in_ok-routine.ensures.params in
+    subst (λ r. IfOk c.run_on.result (Paginates c.args.view r (g.K.Sink.held c.args.out.now) (g.K.Sink.held c.run_on.new.out))) is c.run_on.ensures.done
+
+pub returns-clause-refused : goal.returns-clause-refused
+returns-clause-refused g c =
+    let is = runs-galley c.args.galley.now c.in_ok-routine.routine c.in_ok-routine.ensures.state c.in_ok-routine.ensures.params in
+    subst (λ r. IfErr c.run_on.result (Refuses c.args.view r (g.K.Sink.held c.args.out.now) (g.K.Sink.held c.run_on.new.out))) is c.run_on.ensures.refused
+
+pub returns-clause-laws : goal.returns-clause-laws
+returns-clause-laws g c = IfOk-weaker c.run_on.result _ _ (keeps-laws c.args.galley.now c.requires.valid c.args.view _ _) (returns-clause-done g c)
+
+pub returns-clause-limits : goal.returns-clause-limits
+returns-clause-limits g c = run-within c.args.galley.now
+
+pub returns-clause-cycles : goal.returns-clause-cycles
+returns-clause-cycles g c = λ room. IfErr-weaker c.run_on.result _ _ (not-for-cycles c.args.galley.now c.requires.valid room c.args.view _ _) (returns-clause-refused g c)
+
+-- ---- there was no memory for the routine
+
+pub returns-in_err-routine-clause-refused : goal.returns-in_err-routine-clause-refused
+returns-in_err-routine-clause-refused g c =
+    let p = err_from_is_err_and c.from_residual.result c.from_residual.ensures.1 in
+    rw (p.1, p.2) (none-yet (g.K.Sink.held c.args.out.now) (view_text c.args.view (run_of c.args.galley.now)))
 
 pub returns-in_err-routine-clause-limits : goal.returns-in_err-routine-clause-limits
 returns-in_err-routine-clause-limits g c = run-within c.args.galley.now
 
-pub returns-in-Some-clause-limits : goal.returns-in-Some-clause-limits
-returns-in-Some-clause-limits g c = run-within c.args.galley.now
-
-pub returns-in_err-ending-clause-limits : goal.returns-in_err-ending-clause-limits
-returns-in_err-ending-clause-limits g c = run-within c.args.galley.now
-
-pub returns-in_err-send-clause-limits : goal.returns-in_err-send-clause-limits
-returns-in_err-send-clause-limits g c = run-within c.args.galley.now
-
-pub returns-in-Some-ending-clause-limits : goal.returns-in-Some-ending-clause-limits
-returns-in-Some-ending-clause-limits g c = run-within c.args.galley.now
-
-pub returns-in_err-show-clause-cycles : goal.returns-in_err-show-clause-cycles
-returns-in_err-show-clause-cycles g c = λ room. IfErr-weaker c.from_residual.result _ _ (not-for-cycles c.args.galley.now c.requires.valid room c.args.view _ _) (returns-in_err-show-clause-refused g c)
-
 pub returns-in_err-routine-clause-cycles : goal.returns-in_err-routine-clause-cycles
-returns-in_err-routine-clause-cycles g c = λ room. IfErr-weaker c.from_residual-in_err-routine.result _ _ (not-for-cycles c.args.galley.now c.requires.valid room c.args.view _ _) (returns-in_err-routine-clause-refused g c)
-
-pub returns-in-Some-clause-cycles : goal.returns-in-Some-clause-cycles
-returns-in-Some-clause-cycles g c = λ room. IfErr-weaker c.finish.result _ _ (not-for-cycles c.args.galley.now c.requires.valid room c.args.view _ _) (returns-in-Some-clause-refused g c)
-
-pub returns-in_err-ending-clause-cycles : goal.returns-in_err-ending-clause-cycles
-returns-in_err-ending-clause-cycles g c = λ room. IfErr-weaker c.from_residual-in_err-ending.result _ _ (not-for-cycles c.args.galley.now c.requires.valid room c.args.view _ _) (returns-in_err-ending-clause-refused g c)
-
-pub returns-in_err-send-clause-cycles : goal.returns-in_err-send-clause-cycles
-returns-in_err-send-clause-cycles g c = λ room. IfErr-weaker c.from_residual-in_err-send.result _ _ (not-for-cycles c.args.galley.now c.requires.valid room c.args.view _ _) (returns-in_err-send-clause-refused g c)
-
-pub returns-in-Some-ending-clause-cycles : goal.returns-in-Some-ending-clause-cycles
-returns-in-Some-ending-clause-cycles g c = λ room. IfErr-weaker c.finish-in-Some-ending.result _ _ (not-for-cycles c.args.galley.now c.requires.valid room c.args.view _ _) (returns-in-Some-ending-clause-refused g c)
-
-pub returns-in-Some-clause-cause : goal.returns-in-Some-clause-cause
-returns-in-Some-clause-cause g c = λ is. stops-cause c.args.view c.node_limit.new.self c.new-totals.result c.in-Some.ending _ _ _ _ _ c.in_ok-show.ensures.later (IfErr-at_err _ is c.finish.ensures.refused)
-
-pub returns-in-Some-clause-silent : goal.returns-in-Some-clause-silent
-returns-in-Some-clause-silent g c = λ silent is. stops-shown c.args.view c.node_limit.new.self c.new-totals.result c.in-Some.ending _ _ _ _ silent (IfErr-at_err _ is c.finish.ensures.refused)
-
-pub returns-in-Some-ending-clause-cause : goal.returns-in-Some-ending-clause-cause
-returns-in-Some-ending-clause-cause g c = λ is.
-    let start = c.firing.invariant.later in
-    let later = c.in_ok-send.ensures.shown.later in
-    stops-cause c.args.view c.turn.new.self c.send.new.totals c.in-Some-ending.ending _ _ _ _ _ (omega (arith, start, later)) (IfErr-at_err _ is c.finish-in-Some-ending.ensures.refused)
-
-pub returns-in-Some-ending-clause-silent : goal.returns-in-Some-ending-clause-silent
-returns-in-Some-ending-clause-silent g c = λ silent is. stops-shown c.args.view c.turn.new.self c.send.new.totals c.in-Some-ending.ending _ _ _ _ silent (IfErr-at_err _ is c.finish-in-Some-ending.ensures.refused)
+returns-in_err-routine-clause-cycles g c = λ room. IfErr-weaker c.from_residual.result _ _ (not-for-cycles c.args.galley.now c.requires.valid room c.args.view _ _) (returns-in_err-routine-clause-refused g c)

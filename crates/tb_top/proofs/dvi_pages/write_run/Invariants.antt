@@ -3,7 +3,7 @@ use Rattle.tb_dvi.specs.Progress.{IsInFile}
 use Rattle.tb_run.specs.Run.{run_of, firings_left}
 use Rattle.tb_run.specs.Routine.{IsReady, state_of}
 use Rattle.tb_top.proofs.DviFiles.DviGoing.{Going}
-use Rattle.tb_top.proofs.dvi_pages.paginate_dvi.Given as goal
+use Rattle.tb_top.proofs.dvi_pages.write_run.Given as goal
 
 abbrev pub invariant-firing : goal.invariant-firing
 invariant-firing g l = record {

@@ -1,0 +1,104 @@
+-- One float of a start is told of and goes to its place: what is left of the walk, and of its lines.
+use Rattle.std.proofs.Common.{◌≡◌, ◌≢◌, ℕ, zero, suc, ◌+◌, ◌<◌, ◌≤◌, List, [], ◌∷◌, ◌++◌, append_assoc, length, take, drop, Some, slice_get, refl, sym, ap, ◌∙◌, add-one, arith}
+use Rattle.std.proofs.Math.ListN.{drop_of_length-le}
+use Rattle.std.proofs.lemmas.List.{length-append}
+use Rattle.std.proofs.lemmas.Option.{slice_get_within}
+use Rattle.tb_node.specs.declared.Float.{Float}
+use Rattle.tb_node.specs.declared.Where.{Where}
+use Rattle.tb_node.specs.declared.Where.TheVariants.{Top, Bottom, Deferred}
+use Rattle.tb_param.specs.declared.Params.{Params}
+use Rattle.tb_float.specs.declared.Suppress.{Suppress}
+use Rattle.tb_float.specs.Lists.{FloatLists}
+use Rattle.tb_float.specs.Pool.{FloatPool}
+use Rattle.tb_float.proofs.ListLemmas.{slice_get-drop, take-at, whole-at, take-front, drop-front}
+use Rattle.tb_area.specs.Area.{AreaPlace, at_top, at_bottom, deferred, where_of, next_area_place, next_place}
+use Rattle.tb_area.specs.Deferred.{gone_to, still_before, filled}
+use Rattle.tb_area.proofs.OrderLemmas.{gone-deferred}
+use Rattle.tb_area.proofs.DeferredWalks.{IsMoved}
+use Rattle.tb_told.specs.AreaTold.{told_next}
+use Rattle.tb_told.specs.Lines.{told_lines}
+use Rattle.tb_told.specs.Filled.{filled_lines, IsTurn}
+
+-- a float that goes neither to the top nor to the bottom stays
+pub is-kept : (w : Where) (a : AreaPlace) → w ≡ where_of a → w ≢ Top → w ≢ Bottom → a ≡ deferred
+is-kept w at_top e top bottom = absurd (top e)
+is-kept w at_bottom e top bottom = absurd (bottom e)
+is-kept w deferred e top bottom = refl
+
+-- the float went to an area
+pub turn-moved : (p : Params) (s : Suppress) (k : ℕ) (f : Float) (a : AreaPlace) (v u : FloatPool) (old new : List ℕ) → IsMoved p s k f a v u →
+    new ≡ old ++ told_lines f.name (told_next p v.lists s (take k v.lists.deferred) f) → IsTurn p s k k v.lists u.lists old new
+turn-moved p s k f a v u old new m told =
+    let l = v.lists in
+    let d = l.deferred in
+    let before = take k d in
+    let rest = drop (suc k) d in
+    let gone = gone_to a f before rest l in
+    let text = told_lines f.name (told_next p l s before f) in
+    let within : k < length d = slice_get_within d k f m.there in
+    let few : k ≤ length d = omega arith in
+    let whole = whole-at d k f m.there in
+    let are : u.lists.deferred ≡ before ++ rest = ap (λ n. n.deferred) m.lists ∙ gone-deferred a f before rest l whole ∙ ap (λ b. b ++ rest) (m.still before) in
+    let front : take k u.lists.deferred ≡ before = ap (take k) are ∙ take-front k d rest few in
+    let back : drop k u.lists.deferred ≡ rest = ap (drop k) are ∙ drop-front k d rest few in
+    let next = slice_get-drop k d f m.there in
+    record {
+      lists = ap (λ left. filled p s before left l) next
+          ∙ ap (λ c. filled p s (still_before c f before) rest (gone_to c f before rest l)) m.decided
+          ∙ ap (λ b. filled p s b rest gone) (m.still before)
+          ∙ ap (λ n. filled p s before rest n) (sym m.lists)
+          ∙ ap (λ b. filled p s b rest u.lists) (sym front)
+          ∙ ap (λ left. filled p s (take k u.lists.deferred) left u.lists) (sym back);
+      lines = ap (λ left. old ++ filled_lines p s before left l) next
+          ∙ ap (λ c. old ++ (text ++ filled_lines p s (still_before c f before) rest (gone_to c f before rest l))) m.decided
+          ∙ ap (λ b. old ++ (text ++ filled_lines p s b rest gone)) (m.still before)
+          ∙ ap (λ n. old ++ (text ++ filled_lines p s before rest n)) (sym m.lists)
+          ∙ ap (λ b. old ++ (text ++ filled_lines p s b rest u.lists)) (sym front)
+          ∙ ap (λ left. old ++ (text ++ filled_lines p s (take k u.lists.deferred) left u.lists)) (sym back)
+          ∙ sym (append_assoc old text (filled_lines p s (take k u.lists.deferred) (drop k u.lists.deferred) u.lists))
+          ∙ ap (λ t. t ++ filled_lines p s (take k u.lists.deferred) (drop k u.lists.deferred) u.lists) (sym told);
+      left = omega (arith, ap length are, length-append before rest, ap length whole, length-append before (f ∷ rest));
+    }
+
+-- the float stays
+pub turn-kept : (p : Params) (s : Suppress) (k : ℕ) (f : Float) (l : FloatLists) (old new : List ℕ) → slice_get l.deferred k ≡ Some f →
+    next_area_place p l s (take k l.deferred) f ≡ deferred → new ≡ old ++ told_lines f.name (told_next p l s (take k l.deferred) f) → IsTurn p s k (suc k) l l old new
+turn-kept p s k f l old new there stays told =
+    let d = l.deferred in
+    let before = take k d in
+    let rest = drop (suc k) d in
+    let text = told_lines f.name (told_next p l s before f) in
+    let next = slice_get-drop k d f there in
+    let front : take (suc k) d ≡ before ++ f ∷ [] = take-at d k f there in
+    record {
+      lists = ap (λ left. filled p s before left l) next
+          ∙ ap (λ c. filled p s (still_before c f before) rest (gone_to c f before rest l)) stays
+          ∙ ap (λ b. filled p s b rest l) (sym front);
+      lines = ap (λ left. old ++ filled_lines p s before left l) next
+          ∙ ap (λ c. old ++ (text ++ filled_lines p s (still_before c f before) rest (gone_to c f before rest l))) stays
+          ∙ ap (λ b. old ++ (text ++ filled_lines p s b rest l)) (sym front)
+          ∙ sym (append_assoc old text (filled_lines p s (take (suc k) d) rest l))
+          ∙ ap (λ t. t ++ filled_lines p s (take (suc k) d) rest l) (sym told);
+      left = omega arith;
+    }
+
+-- one turn after others
+pub turns-on : (p : Params) (s : Suppress) (k j turn n : ℕ) (l m : FloatLists) (old mid new : List ℕ) (end : FloatLists) (all : List ℕ) → IsTurn p s k j l m mid new →
+    end ≡ filled p s (take k l.deferred) (drop k l.deferred) l → all ≡ mid ++ filled_lines p s (take k l.deferred) (drop k l.deferred) l → length l.deferred + turn ≡ n + k →
+    record { lists : end ≡ filled p s (take j m.deferred) (drop j m.deferred) m; lines : all ≡ new ++ filled_lines p s (take j m.deferred) (drop j m.deferred) m; left : length m.deferred + (turn + 1) ≡ n + j }
+turns-on p s k j turn n l m old mid new end all t lists lines left = record {
+  lists = lists ∙ t.lists;
+  lines = lines ∙ t.lines;
+  left = omega (arith, t.left);
+}
+
+-- at the end no float is left to try
+pub turns-over : (p : Params) (s : Suppress) (k : ℕ) (l end : FloatLists) → length l.deferred ≡ k → end ≡ filled p s (take k l.deferred) (drop k l.deferred) l → l ≡ end
+turns-over p s k l end over lists =
+    let few : length l.deferred ≤ k = omega arith in
+    sym (lists ∙ ap (λ left. filled p s (take k l.deferred) left l) (drop_of_length-le l.deferred few))
+
+pub lines-over : (p : Params) (s : Suppress) (k : ℕ) (l : FloatLists) (all new : List ℕ) → length l.deferred ≡ k → all ≡ new ++ filled_lines p s (take k l.deferred) (drop k l.deferred) l → new ++ [] ≡ all
+lines-over p s k l all new over lines =
+    let few : length l.deferred ≤ k = omega arith in
+    sym (lines ∙ ap (λ left. new ++ filled_lines p s (take k l.deferred) left l) (drop_of_length-le l.deferred few))

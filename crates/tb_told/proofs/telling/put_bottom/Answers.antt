@@ -1,0 +1,18 @@
+use Rattle.std.proofs.lemmas.Int.{to_z-of_z}
+use Rattle.tb_report.specs.Lines.{where_text}
+use Rattle.tb_report.proofs.JoinedTexts.{on_joined}
+use Rattle.tb_told.specs.AreaTold.{told_bottom}
+use Rattle.tb_told.specs.Lines.{bottom_line, goes_line, told_lines}
+use Rattle.tb_told.proofs.TellingLemmas.{bottom-lines}
+use Rattle.tb_told.proofs.telling.put_bottom.Goals as goal
+
+pub returns : goal.returns
+returns c =
+    let p = c.args.p.now in
+    let l = c.args.pool.now.lists in
+    let f = c.args.f.now in
+    let rr = c.ranges.required in
+    let told = simp to_z-of_z at c.at_bottom-told.ensures in
+    on_joined c.put_goes.result c.args.out.now.items c.put_at_bottom.new.out.items c.put_goes.new.out.items
+    (bottom_line f.name c.at_bottom-told.result) (goes_line f.name (where_text c.place_if.result)) (told_lines f.name (told_bottom p l c.args.s.now c.args.required f))
+    (bottom-lines p l c.args.s.now c.args.required f c.at_bottom-told.result c.place_if.result told c.place_if.ensures) c.in_ok-put_at_bottom.ensures c.put_goes.ensures

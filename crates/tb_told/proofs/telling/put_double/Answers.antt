@@ -1,0 +1,23 @@
+use Rattle.std.proofs.Common.{◌++◌, take, sym, ap, ◌∙◌, append-nil}
+use Rattle.tb_report.specs.Lines.{where_text}
+use Rattle.tb_report.proofs.JoinedTexts.{on_joined}
+use Rattle.tb_float.specs.Lists.{floats_of}
+use Rattle.tb_told.specs.AreaTold.{told_wide}
+use Rattle.tb_told.specs.Lines.{wide_line, goes_line, told_lines}
+use Rattle.tb_told.proofs.TellingLemmas.{single-not-asked, wide-lines}
+use Rattle.tb_told.proofs.telling.put_double.Goals as goal
+
+pub returns-then-not-f : goal.returns-then-not-f
+returns-then-not-f c = λ s.
+    let f = c.args.f.now in
+    sym (ap (λ z. c.args.out.now.items ++ z) (sym (single-not-asked f.name f.wide _ c.if-not-f.true)) ∙ append-nil _)
+
+pub returns : goal.returns
+returns c = λ s.
+    let p = c.args.p.now in
+    let l = c.args.pool.now.lists in
+    let f = c.args.f.now in
+    let before = take c.args.k (floats_of c.args.from l) in
+    on_joined c.put_goes.result c.args.out.now.items c.put_above_both.new.out.items c.put_goes.new.out.items
+    (wide_line f.name c.above_both-told.result) (goes_line f.name (where_text c.place_if.result)) (told_lines f.name (told_wide p l s before f))
+    (wide-lines p l s before f c.above_both-told.result c.place_if.result c.if-not-f.false (c.above_both-told.ensures s) c.place_if.ensures) c.in_ok-put_above_both.ensures c.put_goes.ensures

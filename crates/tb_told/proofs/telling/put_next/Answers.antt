@@ -1,0 +1,47 @@
+use Rattle.std.proofs.Common.{◌++◌, take, sym, ap, ◌∙◌, append-nil, FitsSigned, w64, rules}
+use Rattle.std.specs.Prelude.{◌+ℤ◌}
+use Rattle.std.proofs.lemmas.Int.{to_z-of_z}
+use Rattle.tb_node.specs.declared.Where.TheVariants.{Deferred}
+use Rattle.tb_report.specs.Lines.{where_text}
+use Rattle.tb_report.proofs.JoinedTexts.{on_joined}
+use Rattle.tb_area.specs.Area.{text_minimum}
+use Rattle.tb_told.specs.AreaTold.{told_areas, told_next}
+use Rattle.tb_told.specs.Lines.{enter_line, goes_line, told_lines}
+use Rattle.tb_told.proofs.TellingLemmas.{enters-on, enters-not, not-asked, asked}
+use Rattle.tb_told.proofs.telling.put_next.Goals as goal
+
+pub returns-then-f : goal.returns-then-f
+returns-then-f c =
+    let f = c.args.f.now in
+    sym (ap (λ z. c.args.out.now.items ++ z) (sym (not-asked f.name f.wide _ c.if-f.true)) ∙ append-nil _)
+
+pub returns-then-is_yes : goal.returns-then-is_yes
+returns-then-is_yes c =
+    let p = c.args.p.now in
+    let l = c.args.pool.now.lists in
+    let s = c.args.s.now in
+    let f = c.args.f.now in
+    let before = take c.args.k l.deferred in
+    let r = f.height +ℤ text_minimum p l f in
+    let n : FitsSigned w64 c.entering_next-told.result.need = search rules in
+    let told = c.entering_next-told.ensures.told in
+    let passes = sym c.is_yes.ensures ∙ c.if-is_yes.true in
+    let need = ap (λ u. u.need) told in
+    let back = rw need at (simp to_z-of_z at c.put_areas.ensures) in
+    on_joined c.put_areas.result c.args.out.now.items c.put_entering.new.out.items c.put_areas.new.out.items
+    (enter_line f.name c.entering_next-told.result) (told_lines f.name (told_areas p l s r f)) (told_lines f.name (told_next p l s before f))
+    (enters-on p l s before r f c.entering_next-told.result (told_areas p l s r f) told passes ∙ asked f.name f.wide _ c.if-f.false) c.in_ok-put_entering.ensures back
+
+pub returns-else-is_yes : goal.returns-else-is_yes
+returns-else-is_yes c =
+    let p = c.args.p.now in
+    let l = c.args.pool.now.lists in
+    let s = c.args.s.now in
+    let f = c.args.f.now in
+    let before = take c.args.k l.deferred in
+    let r = f.height +ℤ text_minimum p l f in
+    let told = c.entering_next-told.ensures.told in
+    let stops = sym c.is_yes.ensures ∙ c.if-is_yes.false in
+    on_joined c.put_goes.result c.args.out.now.items c.put_entering.new.out.items c.put_goes.new.out.items
+    (enter_line f.name c.entering_next-told.result) (goes_line f.name (where_text Deferred)) (told_lines f.name (told_next p l s before f))
+    (enters-not p l s before r f c.entering_next-told.result (told_areas p l s r f) told stops ∙ asked f.name f.wide _ c.if-f.false) c.in_ok-put_entering.ensures c.put_goes.ensures

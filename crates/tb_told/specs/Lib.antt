@@ -1,0 +1,6 @@
+pub mod Tested
+pub mod AreaTold
+pub mod ColumnTold
+pub mod Tales
+pub mod Lines
+pub mod Filled

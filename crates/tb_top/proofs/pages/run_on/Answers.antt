@@ -1,0 +1,165 @@
+use Rattle.std.proofs.Common.{◌∙◌, ap, sym, subst, ◌≡◌, ◌<◌, Option, Some, arith}
+use Rattle.std.proofs.lemmas.Result.{err_from_is_err_and, IfErr-weaker, IfOk-weaker, IfErr-at_err}
+use Rattle.std.proofs.lemmas.Option.{MatchOption-at_none}
+use Rattle.tb_output.specs.Machine.{MachineView}
+use Rattle.tb_run.specs.declared.routine.Routine.{Routine}
+use Rattle.tb_run.specs.Run.{held_count, firings_left}
+use Rattle.tb_run.specs.Happenings.{events_of}
+use Rattle.tb_run.specs.Routine.{state_of, over_limit, ArePages, AreHappened}
+use Rattle.std.specs.Io.KnownBytes.{Appends}
+use Rattle.tb_io.specs.Sink.{AppendsPrefix}
+use Rattle.tb_report.specs.RunTotals.{AreCounts}
+use Rattle.tb_run.specs.declared.routine.Ending.{Ending}
+use Rattle.tb_top.specs.PagesWritten.{run_on}
+use Rattle.tb_top.specs.Report.{all_lines, traced_lines}
+use Rattle.tb_top.specs.Views.{is_traced, viewed, with_events}
+use Rattle.tb_top.proofs.Written.GoingLemmas.{prefix-first, prefix-now, refuses-cut, failed-at, silent-shown}
+use Rattle.tb_top.proofs.Written.FinishLemmas.{ClosesAt, ends-well, stops-with, start-closing, start-going, start-tally, turn-cut, turn-closing, turn-going, turn-counts, turn-tally, limit-ready, few-wait, stops-cause, stops-shown}
+use Rattle.tb_top.proofs.Written.TurnLemmas.{ShowsStep, shows-step, turn-fewer}
+use Rattle.tb_top.proofs.Written.RunParams.{few-firings}
+use Rattle.tb_top.proofs.pages.run_on.Given.{Over}
+use Rattle.tb_top.proofs.pages.run_on.Goals.{In-Some, In_ok-ending, In_ok-send}
+use Rattle.tb_top.proofs.pages.run_on.Goals as goal
+
+pub returns-in_err-show-clause-refused : goal.returns-in_err-show-clause-refused
+returns-in_err-show-clause-refused g c =
+    let p = err_from_is_err_and c.from_residual.result c.from_residual.ensures.1 in
+    rw (p.1, p.2) (refuses-cut c.args.view (run_on c.args.routine.now) _ _ c.in_err-show.field-0.0 (prefix-first c.args.view (run_on c.args.routine.now) _ _ c.in_err-show.ensures.part))
+
+-- ---- more nodes wait at the start than may be
+
+-- the limit is that of the routine whose nodes were counted
+over : (r q : Routine) (o : Option Ending) → o ≡ over_limit r.machine.params (held_count (state_of r)) → q ≡ record r { most = q.most } → o ≡ over_limit r.machine.params (held_count (state_of q))
+over r q o limit same = limit ∙ ap (λ s. over_limit r.machine.params (held_count s)) (sym (ap state_of same))
+
+-- nothing but the end of the run is left
+ends-at-start : (g : Over) (c : In-Some g) → ClosesAt c.args.view c.node_limit.new.self c.in-Some.ending (g.K.Sink.held c.args.out.now) (g.K.Sink.held c.show.new.out) c.new-totals.result (run_on c.args.routine.now)
+ends-at-start g c = start-closing c.args.routine.now.machine.params c.args.view (state_of c.args.routine.now) c.node_limit.new.self _ _ c.new-totals.result c.node_limit.result (ap state_of c.node_limit.ensures.same) c.requires.page c.in_ok-show.ensures.whole c.new-totals.ensures (over c.args.routine.now c.node_limit.new.self c.node_limit.result c.node_limit.ensures.limit c.node_limit.ensures.same) c.in-Some.ending c.in-Some.is
+
+pub returns-in-Some-clause-done : goal.returns-in-Some-clause-done
+returns-in-Some-clause-done g c =
+    let closing = ends-at-start g (goal.at.returns-in-Some-clause-done g c).In-Some in
+    IfOk-weaker c.finish.result _ _ (λ u h. ends-well c.args.view c.node_limit.new.self c.new-totals.result (run_on c.args.routine.now) _ _ _ c.in-Some.ending closing.end u closing.is closing.closing h) c.finish.ensures.done
+
+pub returns-in-Some-clause-refused : goal.returns-in-Some-clause-refused
+returns-in-Some-clause-refused g c =
+    let closing = ends-at-start g (goal.at.returns-in-Some-clause-refused g c).In-Some in
+    IfErr-weaker c.finish.result _ _ (λ f h. stops-with c.args.view c.node_limit.new.self c.new-totals.result (run_on c.args.routine.now) _ _ _ c.in-Some.ending closing.end _ _ f closing.is closing.closing h) c.finish.ensures.refused
+
+pub firing-init : goal.firing-init
+firing-init g c =
+    let is = ap state_of c.node_limit.ensures.same in
+    let more = over c.args.routine.now c.node_limit.new.self c.node_limit.result c.node_limit.ensures.limit c.node_limit.ensures.same in
+    record {
+      ready = limit-ready c.args.routine.now c.node_limit.new.self c.node_limit.result c.requires.ready c.node_limit.ensures.same c.node_limit.ensures.bounded c.node_limit.ensures.within c.in_default.is;
+      params = ap (λ (r : Routine). r.machine.params) c.node_limit.ensures.same;
+      going = start-going c.args.routine.now.machine.params c.args.view (state_of c.args.routine.now) c.node_limit.new.self _ _ c.new-totals.result c.node_limit.result is c.requires.page c.in_ok-show.ensures.whole c.new-totals.ensures more c.in_default.is;
+      tally = start-tally c.args.routine.now.machine.params c.args.view (state_of c.args.routine.now) c.node_limit.new.self _ _ c.new-totals.result c.node_limit.result is c.requires.page c.in_ok-show.ensures.whole c.new-totals.ensures more c.requires.cycles (few-firings c.args.routine.now.machine.params c.requires.params);
+      later = c.in_ok-show.ensures.later;
+    }
+
+pub returns-in_err-ending-clause-refused : goal.returns-in_err-ending-clause-refused
+returns-in_err-ending-clause-refused g c =
+    let p = err_from_is_err_and c.from_residual-in_err-ending.result c.from_residual-in_err-ending.ensures.1 in
+    rw (p.1, p.2) (prefix-now c.args.routine.now.machine.params c.args.view (state_of c.firing.routine) _ _ c.firing.totals (run_on c.args.routine.now) c.firing.invariant.going)
+
+-- ---- a turn
+
+pub send-requires-clause-pages : goal.send-requires-clause-pages
+send-requires-clause-pages g c = subst (λ hs. ArePages c.turn.new.self.store hs) (sym c.deref.ensures.value) c.in_ok-ending.ensures.pages
+
+-- it is the next step of the run
+turn : (g : Over) (c : In_ok-ending g) → ShowsStep c.args.routine.now.machine.params (is_traced c.args.view) (state_of c.firing.routine) c.turn.new.self c.turn.new.happened.items c.in_ok-ending.ending
+turn g c = shows-step c.args.routine.now.machine.params c.is_traced.result (is_traced c.args.view) c.firing.routine c.turn.new.self c.turn.new.happened.items c.in_ok-ending.ending c.firing.invariant.params c.is_traced.ensures c.in_ok-ending.ensures.turned
+
+pub send-requires-clause-room : goal.send-requires-clause-room
+send-requires-clause-room g c =
+    let shows = turn g (goal.at.send-requires-clause-room g c).In_ok-ending in
+    subst (λ hs. AreCounts (with_events (events_of c.turn.new.self.store hs) c.firing.totals)) (sym c.deref.ensures.value)
+    (turn-counts c.args.routine.now.machine.params c.args.view (state_of c.firing.routine) _ _ c.firing.totals (run_on c.args.routine.now) c.firing.invariant.going c.turn.new.self c.turn.new.happened.items c.in_ok-ending.ending shows (few-firings c.args.routine.now.machine.params c.requires.params) c.firing.invariant.tally (few-wait c.firing.routine c.firing.invariant.ready) c.in_ok-ending.ensures.pages)
+
+pub returns-in_err-send-clause-refused : goal.returns-in_err-send-clause-refused
+returns-in_err-send-clause-refused g c =
+    let shows = turn g (goal.at.returns-in_err-send-clause-refused g c).In_ok-ending in
+    let p = err_from_is_err_and c.from_residual-in_err-send.result c.from_residual-in_err-send.ensures.1 in
+    let part = subst (λ hs. AppendsPrefix (g.K.Sink.held c.firing.out) (g.K.Sink.held c.send.new.out) (viewed c.args.view (all_lines traced_lines (events_of c.turn.new.self.store hs)))) c.deref.ensures.value c.in_err-send.ensures.shown.part in
+    rw (p.1, p.2) (refuses-cut c.args.view (run_on c.args.routine.now) _ _ c.in_err-send.field-0.0 (turn-cut c.args.routine.now.machine.params c.args.view (state_of c.firing.routine) _ _ c.firing.totals (run_on c.args.routine.now) c.firing.invariant.going c.turn.new.self c.turn.new.happened.items c.in_ok-ending.ending shows _ part))
+
+pub returns-in_err-send-clause-cause : goal.returns-in_err-send-clause-cause
+returns-in_err-send-clause-cause g c = λ is.
+    let failed = failed-at c.from_residual-in_err-send.result c.in_err-send.field-0.0 c.from_residual-in_err-send.ensures.1 is in
+    let rose = (c.in_err-send.ensures.shown.cause failed).0 in
+    let start = c.firing.invariant.later in
+    omega (arith, start, rose)
+
+pub returns-in_err-send-clause-silent : goal.returns-in_err-send-clause-silent
+returns-in_err-send-clause-silent g c = λ silent is.
+    let failed = failed-at c.from_residual-in_err-send.result c.in_err-send.field-0.0 c.from_residual-in_err-send.ensures.1 is in
+    silent-shown c.args.view silent (c.in_err-send.ensures.shown.cause failed).1
+
+-- what it sent is shown, and counted
+shown : (g : Over) (c : In_ok-send g) → Appends (g.K.Sink.held c.firing.out) (g.K.Sink.held c.send.new.out) (viewed c.args.view (all_lines traced_lines (events_of c.turn.new.self.store c.turn.new.happened.items)))
+shown g c = subst (λ hs. Appends (g.K.Sink.held c.firing.out) (g.K.Sink.held c.send.new.out) (viewed c.args.view (all_lines traced_lines (events_of c.turn.new.self.store hs)))) c.deref.ensures.value c.in_ok-send.ensures.shown.whole
+
+counted : (g : Over) (c : In_ok-send g) → c.send.new.totals ≡ with_events (events_of c.turn.new.self.store c.turn.new.happened.items) c.firing.totals
+counted g c = c.in_ok-send.ensures.counted ∙ ap (λ hs. with_events (events_of c.turn.new.self.store hs) c.firing.totals) c.deref.ensures.value
+
+-- ---- the turn was the last
+
+-- nothing but the end of the run is left
+ends-here : (g : Over) (c : In_ok-send g) → ShowsStep c.args.routine.now.machine.params (is_traced c.args.view) (state_of c.firing.routine) c.turn.new.self c.turn.new.happened.items c.in_ok-ending.ending → (ending : Ending) → c.in_ok-ending.ending ≡ Some ending
+    → ClosesAt c.args.view c.turn.new.self ending (g.K.Sink.held c.args.out.now) (g.K.Sink.held c.send.new.out) c.send.new.totals (run_on c.args.routine.now)
+ends-here g c shows ending some = turn-closing c.args.routine.now.machine.params c.args.view (state_of c.firing.routine) _ _ c.firing.totals (run_on c.args.routine.now) c.firing.invariant.going c.turn.new.self c.turn.new.happened.items c.in_ok-ending.ending shows _ c.send.new.totals ending some (shown g c) (counted g c)
+
+pub returns-in-Some-ending-clause-done : goal.returns-in-Some-ending-clause-done
+returns-in-Some-ending-clause-done g c =
+    let w = goal.at.returns-in-Some-ending-clause-done g c in
+    let closing = ends-here g w.In_ok-send (turn g w.In_ok-ending) c.in-Some-ending.ending c.in-Some-ending.is in
+    IfOk-weaker c.finish-in-Some-ending.result _ _ (λ u h. ends-well c.args.view c.turn.new.self c.send.new.totals (run_on c.args.routine.now) _ _ _ c.in-Some-ending.ending closing.end u closing.is closing.closing h) c.finish-in-Some-ending.ensures.done
+
+pub returns-in-Some-ending-clause-refused : goal.returns-in-Some-ending-clause-refused
+returns-in-Some-ending-clause-refused g c =
+    let w = goal.at.returns-in-Some-ending-clause-refused g c in
+    let closing = ends-here g w.In_ok-send (turn g w.In_ok-ending) c.in-Some-ending.ending c.in-Some-ending.is in
+    IfErr-weaker c.finish-in-Some-ending.result _ _ (λ f h. stops-with c.args.view c.turn.new.self c.send.new.totals (run_on c.args.routine.now) _ _ _ c.in-Some-ending.ending closing.end _ _ f closing.is closing.closing h) c.finish-in-Some-ending.ensures.refused
+
+pub make_room-requires-clause-ready : goal.make_room-requires-clause-ready
+make_room-requires-clause-ready g c = MatchOption-at_none _ _ c.in_default-ending.is c.in_ok-ending.ensures.ready
+
+pub make_room-requires-clause-lists : goal.make_room-requires-clause-lists
+make_room-requires-clause-lists g c = subst (AreHappened c.turn.new.self) (sym c.deref-in-firing.ensures.value) (MatchOption-at_none _ _ c.in_default-ending.is c.in_ok-ending.ensures.lists)
+
+pub firing-smaller : goal.firing-smaller
+firing-smaller g c =
+    let shows = turn g (goal.at.firing-smaller g c).In_ok-ending in
+    let fewer = turn-fewer c.args.routine.now.machine.params (state_of c.firing.routine) c.turn.new.self c.firing.invariant.going.page (is_traced c.args.view) c.turn.new.happened.items c.in_ok-ending.ending shows c.in_default-ending.is in
+    subst (λ s. firings_left c.args.routine.now.machine.params s < firings_left c.args.routine.now.machine.params (state_of c.firing.routine)) (sym c.make_room.ensures.state) fewer
+
+pub firing-preserved : goal.firing-preserved
+firing-preserved g c =
+    let w = goal.at.firing-preserved g c in
+    let shows = turn g w.In_ok-ending in
+    let start = c.firing.invariant.later in
+    let later = c.in_ok-send.ensures.shown.later in
+    record {
+      ready = c.make_room.ensures.ready;
+      params = ap (λ (m : MachineView). m.params) c.make_room.ensures.machine ∙ c.in_ok-ending.ensures.params ∙ c.firing.invariant.params;
+      going = turn-going c.args.routine.now.machine.params c.args.view (state_of c.firing.routine) _ _ c.firing.totals (run_on c.args.routine.now) c.firing.invariant.going c.turn.new.self c.turn.new.happened.items c.in_ok-ending.ending shows _ c.send.new.totals (state_of c.make_room.new.self) c.make_room.ensures.state c.in_default-ending.is (shown g w.In_ok-send) (counted g w.In_ok-send);
+      tally = turn-tally c.args.routine.now.machine.params c.args.view (state_of c.firing.routine) _ _ c.firing.totals (run_on c.args.routine.now) c.firing.invariant.going c.turn.new.self c.turn.new.happened.items c.in_ok-ending.ending shows (few-firings c.args.routine.now.machine.params c.requires.params) c.firing.invariant.tally (few-wait c.firing.routine c.firing.invariant.ready) c.in_ok-ending.ensures.pages c.send.new.totals (state_of c.make_room.new.self) c.make_room.ensures.state c.in_default-ending.is (counted g w.In_ok-send);
+      later = omega (arith, start, later);
+    }
+
+pub returns-in-Some-clause-cause : goal.returns-in-Some-clause-cause
+returns-in-Some-clause-cause g c = λ is. stops-cause c.args.view c.node_limit.new.self c.new-totals.result c.in-Some.ending _ _ _ _ _ c.in_ok-show.ensures.later (IfErr-at_err _ is c.finish.ensures.refused)
+
+pub returns-in-Some-clause-silent : goal.returns-in-Some-clause-silent
+returns-in-Some-clause-silent g c = λ silent is. stops-shown c.args.view c.node_limit.new.self c.new-totals.result c.in-Some.ending _ _ _ _ silent (IfErr-at_err _ is c.finish.ensures.refused)
+
+pub returns-in-Some-ending-clause-cause : goal.returns-in-Some-ending-clause-cause
+returns-in-Some-ending-clause-cause g c = λ is.
+    let start = c.firing.invariant.later in
+    let later = c.in_ok-send.ensures.shown.later in
+    stops-cause c.args.view c.turn.new.self c.send.new.totals c.in-Some-ending.ending _ _ _ _ _ (omega (arith, start, later)) (IfErr-at_err _ is c.finish-in-Some-ending.ensures.refused)
+
+pub returns-in-Some-ending-clause-silent : goal.returns-in-Some-ending-clause-silent
+returns-in-Some-ending-clause-silent g c = λ silent is. stops-shown c.args.view c.turn.new.self c.send.new.totals c.in-Some-ending.ending _ _ _ _ silent (IfErr-at_err _ is c.finish-in-Some-ending.ensures.refused)

@@ -1,0 +1,19 @@
+use Rattle.std.proofs.Common.{◌≡◌, ◌≤◌}
+use Rattle.tb_run.specs.Run.{firings_left}
+use Rattle.tb_run.specs.Routine.{IsReady, state_of}
+use Rattle.tb_top.specs.PagesWritten.{run_on}
+use Rattle.tb_top.proofs.Written.GoingLemmas.{Going}
+use Rattle.tb_top.proofs.Written.TallyLemmas.{IsTally}
+use Rattle.tb_top.proofs.pages.run_on.Given as goal
+
+abbrev pub invariant-firing : goal.invariant-firing
+invariant-firing g l = record {
+  ready : IsReady l.routine;
+  params : l.routine.machine.params ≡ l.fn.routine.machine.params;
+  going : Going l.fn.routine.machine.params l.fn.view (state_of l.routine) (g.K.Sink.held l.fn.out) (g.K.Sink.held l.out) l.totals (run_on l.fn.routine);
+  tally : IsTally l.fn.routine.machine.params l.totals (state_of l.routine);
+  later : g.K.Sink.faults l.fn.out ≤ g.K.Sink.faults l.out;
+}
+
+abbrev pub decreases-firing : goal.decreases-firing
+decreases-firing g l = firings_left l.fn.routine.machine.params (state_of l.routine)

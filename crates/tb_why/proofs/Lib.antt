@@ -1,0 +1,4 @@
+pub mod RunLemmas
+pub mod PlacementLemmas
+pub mod AllWords
+pub mod Rows

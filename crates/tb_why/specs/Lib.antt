@@ -1,0 +1,5 @@
+pub mod Firing
+pub mod WhyRun
+pub mod Summary
+pub mod ShownLines
+pub mod Placements
