@@ -3,13 +3,13 @@ use Rattle.std.specs.Prelude.{ℕ, pos, negsuc, ◌≤ℤ◌, Bool, true, false,
 use Rattle.tb_node.specs.Names.{is_name}
 use Rattle.tb_galley.specs.declared.Cause.{Cause}
 use Rattle.tb_galley.specs.declared.Cause.TheVariants as causes
-use Rattle.tb_galley.specs.Spelling.{Spelled, spelled_value}
+use Rattle.tb_galley.specs.Spelling.{Spelled, says, spelled_value}
 use Rattle.tb_galley.specs.Fields.{Slot, least_slot, range_slot, test_slot, size_slot}
 pub use Rattle.tb_lines.specs.declared.words.Parameter.{Parameter}
 use Rattle.tb_lines.specs.declared.words.Parameter.TheVariants as parameters
 pub use Rattle.tb_lines.specs.declared.words.Form.{Form}
 use Rattle.tb_lines.specs.declared.words.Form.TheVariants as forms
-use Rattle.tb_lines.specs.Words.{LineWord, says, header, setting, par, word, space, pen, endpar, end}
+use Rattle.tb_lines.specs.Words.{LineWord, header, setting, par, word, space, pen, endpar, end}
 
 -- the names of the parameters
 abbrev pub parameter_names : List (Spelled Parameter)

@@ -6,12 +6,8 @@ pub use Rattle.tb_lines.specs.declared.words.Word.TheVariants.{Lines as header, 
 pub use Rattle.tb_galley.specs.declared.words.Phase.{Phase}
 pub use Rattle.tb_galley.specs.declared.words.Phase.TheVariants.{Start as at_start, Sets as among_sets, Items as among_pars, Inside as in_par, Ended as ended}
 use Rattle.tb_text.specs.Lines.{fields_of, is_skipped}
-use Rattle.tb_galley.specs.Spelling.{Spelled, spelled_value}
+use Rattle.tb_galley.specs.Spelling.{Spelled, says, spelled_value}
 use Rattle.tb_galley.specs.Words.{first_field, other_fields, word_passes}
-
--- a text and what it says
-abbrev pub says : {A : Type 0} → List ℕ → A → Spelled A
-says text value = record { text = text; value = value }
 
 -- the words that may begin a line
 abbrev pub line_words : List (Spelled LineWord)
