@@ -13,6 +13,15 @@ const FOUR_WORDS: &[u8] =
 const TWO_LINES: &[u8] =
     b"galley 1\nbox p.1 7 2\npenalty 300\nglue 3 plus 0 minus 0\nbox p.2 7 2\nend\n";
 
+// All eight parameters, and two paragraphs of four lines. Without any one of the values, or with two of them exchanged, the
+// galley is another.
+const ALL_PARAMETERS: &[u8] =
+    b"lines 1\nset hsize 30\nset tolerance 2000\nset linepenalty 1500\nset clubpenalty 1\nset widowpenalty 20\nset baselineskip 12\nset lineskip 4\nset parskip 5\npar a\nword 11 7 2\nspace 6 3 3\nword 7 11 2\nspace 6 3 3\nword 6 11 2\nspace 6 3 3\nword 7 7 2\nspace 6 3 3\nword 7 7 2\nspace 6 3 3\nword 10 11 2\nspace 6 3 3\nword 7 7 2\nspace 6 3 3\nword 9 11 2\nspace 6 3 3\nword 12 7 2\nspace 6 3 3\nword 12 7 2\nendpar\npar b\nword 10 7 6\nspace 6 3 3\nword 12 7 2\nspace 6 3 3\nword 13 7 6\nspace 6 3 3\nword 12 7 2\nspace 6 3 3\nword 12 7 6\nspace 6 3 3\nword 10 7 2\nspace 6 3 3\nword 10 7 2\nspace 6 3 3\nword 11 7 6\nendpar\nend\n";
+
+// The galley of its lines.
+const EIGHT_LINES: &[u8] =
+    b"galley 1\nbox a.1 11 2\npenalty 1\nglue 4 plus 0 minus 0\nbox a.2 11 2\nglue 4 plus 0 minus 0\nbox a.3 11 2\npenalty 20\nglue 3 plus 0 minus 0\nbox a.4 7 2\nglue 5 plus 0 minus 0\nglue 3 plus 0 minus 0\nbox b.1 7 6\npenalty 1\nglue 4 plus 0 minus 0\nbox b.2 7 6\nglue 4 plus 0 minus 0\nbox b.3 7 6\npenalty 20\nglue 4 plus 0 minus 0\nbox b.4 7 6\nend\n";
+
 // What a text gives: the galley, or in one line why there is none.
 fn answer(alloc: Global, text: &[u8]) -> Result<Vec<u8>, Fail> {
     Ok(match lines_galley(alloc, text) {
@@ -30,8 +39,9 @@ fn answer(alloc: Global, text: &[u8]) -> Result<Vec<u8>, Fail> {
 // Galleys and refusals, worked by hand.
 #[test]
 fn answers_texts(rt: HostRuntime) -> Result<(), Fail> {
-    let rows: [(&[u8], &[u8]); 22] = [
+    let rows: [(&[u8], &[u8]); 23] = [
         (FOUR_WORDS, TWO_LINES),
+        (ALL_PARAMETERS, EIGHT_LINES),
         (
             b"lines 1\nset hsize 100\npar q\nword 120 7 2\nendpar\nend",
             b"no breaks 1",

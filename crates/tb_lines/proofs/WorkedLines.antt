@@ -17,5 +17,6 @@ lines_rows = record {
   later_of_equal_ways = refl;
   empty_paragraphs = refl;
   word_too_wide = refl;
+  all_parameters = refl;
   nested_par = refl;
 }

@@ -1,20 +1,31 @@
 -- The fields after a line's word: what each must be.
-use Rattle.std.specs.Prelude.{map, ℕ, pos, negsuc, ◌≤ℤ◌, Bool, true, false, ◌&&◌, nat_le, List, [], ◌∷◌, length, Option, Some, None, codes, bytes_eq}
+use Rattle.std.specs.Prelude.{ℕ, pos, negsuc, ◌≤ℤ◌, Bool, true, false, ◌&&◌, nat_le, List, [], ◌∷◌, length, Option, Some, None, codes, bytes_eq}
 use Rattle.tb_node.specs.Names.{is_name}
 use Rattle.tb_galley.specs.declared.Cause.{Cause}
 use Rattle.tb_galley.specs.declared.Cause.TheVariants as causes
-use Rattle.tb_galley.specs.Spelling.{spelled, spelled_value}
+use Rattle.tb_galley.specs.Spelling.{Spelled, says, spelled_value}
 use Rattle.tb_galley.specs.Fields.{Slot, least_slot, range_slot, test_slot, size_slot}
 pub use Rattle.tb_lines.specs.declared.words.Parameter.{Parameter}
 use Rattle.tb_lines.specs.declared.words.Parameter.TheVariants as parameters
 pub use Rattle.tb_lines.specs.declared.words.Form.{Form}
 use Rattle.tb_lines.specs.declared.words.Form.TheVariants as forms
-use Rattle.tb_lines.specs.declared.words.TheConstants.{PARAMETERS}
 use Rattle.tb_lines.specs.Words.{LineWord, header, setting, par, word, space, pen, endpar, end}
+
+-- the names of the parameters
+abbrev pub parameter_names : List (Spelled Parameter)
+parameter_names =
+    says (codes "hsize") parameters.Hsize ∷
+    says (codes "tolerance") parameters.Tolerance ∷
+    says (codes "linepenalty") parameters.LinePenalty ∷
+    says (codes "clubpenalty") parameters.ClubPenalty ∷
+    says (codes "widowpenalty") parameters.WidowPenalty ∷
+    says (codes "baselineskip") parameters.BaselineSkip ∷
+    says (codes "lineskip") parameters.LineSkip ∷
+    says (codes "parskip") parameters.ParSkip ∷ []
 
 -- the parameter of this name
 unfoldable pub parameter_of : List ℕ → Option Parameter
-parameter_of text = spelled_value (map spelled PARAMETERS) text
+parameter_of text = spelled_value parameter_names text
 
 -- how the value of a parameter is written: a dimension of at least this much, or an integer from 0 to this much
 abbrev pub form_of : Parameter → Form

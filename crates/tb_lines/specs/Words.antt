@@ -1,18 +1,25 @@
 -- The lines of a text that have content, and their order.
-use Rattle.std.specs.Prelude.{map, ℕ, ◌+◌, Bool, true, false, nat_le, List, [], ◌∷◌, Option, Some, None, if◌then◌else◌}
+use Rattle.std.specs.Prelude.{ℕ, ◌+◌, Bool, true, false, nat_le, List, [], ◌∷◌, Option, Some, None, codes, if◌then◌else◌}
 use Rattle.std.specs.List.{fold}
 pub use Rattle.tb_lines.specs.declared.words.Word.{Word as LineWord}
 pub use Rattle.tb_lines.specs.declared.words.Word.TheVariants.{Lines as header, Setting as setting, Par as par, Word as word, Space as space, Pen as pen, Endpar as endpar, End as end}
 pub use Rattle.tb_galley.specs.declared.words.Phase.{Phase}
 pub use Rattle.tb_galley.specs.declared.words.Phase.TheVariants.{Start as at_start, Sets as among_sets, Items as among_pars, Inside as in_par, Ended as ended}
-use Rattle.tb_lines.specs.declared.words.TheConstants.{WORDS}
 use Rattle.tb_text.specs.Lines.{fields_of, is_skipped}
-use Rattle.tb_galley.specs.Spelling.{Spelled, spelled, spelled_value}
+use Rattle.tb_galley.specs.Spelling.{Spelled, says, spelled_value}
 use Rattle.tb_galley.specs.Words.{first_field, other_fields, word_passes}
 
 -- the words that may begin a line
 abbrev pub line_words : List (Spelled LineWord)
-line_words = map spelled WORDS
+line_words =
+    says (codes "word") word ∷
+    says (codes "space") space ∷
+    says (codes "pen") pen ∷
+    says (codes "par") par ∷
+    says (codes "endpar") endpar ∷
+    says (codes "set") setting ∷
+    says (codes "lines") header ∷
+    says (codes "end") end ∷ []
 
 -- the word that a first field is
 unfoldable pub word_of : List ℕ → Option LineWord

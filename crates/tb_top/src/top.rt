@@ -27,9 +27,9 @@ use tb_words::{Mode, read_words};
 ///
 /// `words` are the program's name and the words after it; an empty list is read as the name alone. They are read by one
 /// command of `clap`, as [`tb_words`] says. The whole galley is read and parsed before anything is written, in pieces of at
-/// most 4096 bytes. Reading stops at the end of input, or once more than 8388608 bytes were taken, and not a piece later,
-/// whatever is returned. Each status but `Done` writes one line to `err`, after all else; if `err` fails the status stays,
-/// and if there is no memory for the line it becomes `Memory`.
+/// most 4096 bytes. Reading stops at the end of input, or once more than 8388608 bytes were taken, and no more than 8388608 +
+/// 4096 are taken, whatever is returned. Each status but `Done` writes one line to `err`, after all else; if `err` fails the
+/// status stays, and if there is no memory for the line it becomes `Memory`.
 ///
 /// After `Done` in report, trace, dvi or gen mode the run of the galley kept the laws of whole runs: each box, rule, float and note
 /// shipped once, the text in its order, and the floats of each class (in release 2014 of each class and width) in theirs, but
