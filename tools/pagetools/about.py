@@ -1,0 +1,36 @@
+"""What program this is: the commit of its sources, the toolchain, and whether it is proved."""
+import subprocess
+
+from . import program
+
+
+def commit():
+    """The commit of the sources, with a word if files differ from it."""
+    def git(*words):
+        ran = subprocess.run(['git', '-C', program.TOP] + list(words), stdout=subprocess.PIPE,
+                             stderr=subprocess.DEVNULL, text=True, check=False)
+        return ran.stdout.strip() if ran.returncode == 0 else ''
+    try:
+        number = git('rev-parse', '--short=12', 'HEAD')
+        changed = git('status', '--porcelain', '--untracked-files=no')
+    except OSError:
+        number = changed = ''
+    return (number or 'unknown') + (' with changes' if changed else '')
+
+
+def state():
+    """What is known of the program: its commit, the toolchain's line, and whether it is proved."""
+    known = program.installed()
+    if known:
+        return known
+    used = program.named() or program.kept()
+    if used is None:
+        proved = 'not built yet'
+    else:
+        proved = {True: 'proved', False: 'not proved', None: 'named by GALLEY_PAGES'}[used.proved]
+    return {'commit': commit(), 'toolchain': program.kit(), 'program': proved}
+
+
+def version():
+    known = state()
+    return 'galley-pages, commit %s\ntoolchain %s\nprogram: %s\n' % (known['commit'], known['toolchain'], known['program'])
