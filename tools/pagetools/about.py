@@ -18,19 +18,17 @@ def commit():
     return (number or 'unknown') + (' with changes' if changed else '')
 
 
-def state():
-    """What is known of the program: its commit, the toolchain's line, and whether it is proved."""
+def state(used):
+    """What is known of a program: its commit, the toolchain's line, and whether it is proved."""
     known = program.installed()
     if known:
         return known
-    used = program.named() or program.kept()
-    if used is None:
-        proved = 'not built yet'
-    else:
+    proved = 'not built yet'
+    if used is not None:
         proved = {True: 'proved', False: 'not proved', None: 'named by GALLEY_PAGES'}[used.proved]
     return {'commit': commit(), 'toolchain': program.kit(), 'program': proved}
 
 
 def version():
-    known = state()
+    known = state(program.named() or program.installed_program() or program.kept())
     return 'galley-pages, commit %s\ntoolchain %s\nprogram: %s\n' % (known['commit'], known['toolchain'], known['program'])

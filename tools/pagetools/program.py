@@ -7,6 +7,7 @@ import hashlib
 import json
 import os
 import shutil
+import signal
 import subprocess
 import sys
 import time
@@ -102,7 +103,7 @@ def installed_program():
     path = os.path.normpath(os.path.join(TOOLS, known['path']))
     if not os.access(path, os.X_OK):
         raise NotBuilt('the installed program is gone: %s' % path)
-    return Program(path, known['program'] == 'proved')
+    return Program(path, {'proved': True, 'not proved': False}.get(known['program']))
 
 
 def kept(kinds=('proved', 'unproved')):
@@ -124,6 +125,7 @@ def find(proved, who):
 
 def build(proved, who):
     """Builds the program of these sources. A second call meanwhile waits for the first."""
+    signal.signal(signal.SIGTERM, signal.default_int_handler)       # so that what runs below ends too
     os.makedirs(BUILT, exist_ok=True)
     kind = 'proved' if proved else 'unproved'
     with open(os.path.join(BUILT, 'lock'), 'w', encoding='utf-8') as lock:
