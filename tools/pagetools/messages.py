@@ -24,7 +24,7 @@ PARAGRAPH_LINES = {
 
 # What each cause means and what to do. A galley and a text of paragraphs share most of them.
 CAUSES = {
-    'InputSize': 'the input has more than 8388608 bytes. Split it at a `clearpage`, and give the parts one after another',
+    'InputSize': 'the input has more than 8388608 bytes. {split}, and give the parts one after another',
     'LineLength': 'the line has more than 255 bytes. Shorten it; this holds of comments too',
     'NotAscii': 'a byte here is no visible character of ASCII. Write it in ASCII, without accents or control characters',
     'NoHeader': 'the first line but comments says what the text is. Begin with `{header}`',
@@ -74,7 +74,7 @@ OTHERS = {
     'NodeLimit': '{now} nodes are held, and `maxnodes` allows fewer. {advice}',
     'Unsuited': '{word} is not supported by the mode plain. Use the mode report, or leave it out',
     'TooFar': 'an item of page {now} is too far up or down for a DVI file, or the file gets too long. Use the mode report',
-    'NoBreaks': 'the paragraph {name} has no feasible lines. Raise `set tolerance` (10000 is the most), widen `set hsize`, or '
+    'NoBreaks': 'the paragraph `{name}` has no feasible lines. Raise `set tolerance` (10000 is the most), widen `set hsize`, or '
                 'give its spaces more stretch',
 }
 
@@ -93,7 +93,7 @@ REFUSALS = [
     (re.compile(r'write fault$'), 'WriteFault'),
     (re.compile(r'out of memory$'), 'Memory'),
 ]
-NAMED = {'Words': 'galley-pages', 'WriteFault': 'standard output'}     # what is no fault of the input
+NAMED = {'Words': 'galley-pages', 'Memory': 'galley-pages', 'WriteFault': 'standard output'}     # what is no fault of the input
 PARAMETERS = {'DeadCycles': 'maxdeadcycles', 'PageLimit': 'maxpages', 'NodeLimit': 'maxnodes'}
 
 
@@ -199,8 +199,12 @@ def _sentence(cause, line, number, source):
     form = forms.get(words[0]) if words else None
     header = 'lines 1' if is_lines else 'galley 1'
     choice = 'Lines begin with ' + ', '.join(sorted(forms))
+    if words[:1] == ['class']:
+        choice = '`class` is a word of `galley 2` alone'
+    split = {'lines': 'Split it between paragraphs', 'dvilist': 'Make it of fewer pages'}
     return CAUSES.get(cause, 'this is refused').format(
         header=header,
+        split=split.get(source.mode, 'Split it at a `clearpage`'),
         form='Write `%s`' % form if form else 'Begin with `%s`' % header,
         choice='Write `%s`' % form if form and number > 1 else choice,
         inside=('`set` comes before the first paragraph. Move this line up' if words[:1] == ['set'] else
