@@ -113,7 +113,7 @@ def main(arguments):
     except Usage as fault:
         say('%s: %s; galley-pages --help says more' % (WHO, fault))
         return 2
-    except program.NotBuilt as fault:
+    except (program.NotBuilt, report.ReportFault) as fault:
         say('%s: %s' % (WHO, fault))
         return 1
     except KeyboardInterrupt:
@@ -189,9 +189,7 @@ def input_of(file, mode):
     """The open file that the program is to read. What comes through a pipe is kept, so that it can be read again."""
     if mode == 'gen':
         return open(os.devnull, 'rb')
-    if file != '-':
-        return open(file, 'rb')
-    given = open(0, 'rb', closefd=False)
+    given = open(0, 'rb', closefd=False) if file == '-' else open(file, 'rb')
     if given.seekable():
         return given
     kept = tempfile.TemporaryFile()
@@ -217,9 +215,9 @@ def shaped(options, out, name):
     if not out or not (options.json or options.points):
         return out
     text = out.decode('latin-1')
+    read = report.read_lines(text.splitlines(), name)
     if options.points:
         return points.in_points(text).encode('latin-1')
-    read = report.read_lines(text.splitlines(), name)
     return (json.dumps(report.data(read), indent=1) + '\n').encode()
 
 

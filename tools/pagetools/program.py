@@ -6,8 +6,10 @@ import fcntl
 import hashlib
 import json
 import os
+import re
 import shutil
 import signal
+import stat
 import subprocess
 import sys
 import time
@@ -47,8 +49,13 @@ class Program:
 
 def kit():
     """The toolchain's line."""
-    if shutil.which('rt') is None:
+    found = shutil.which('rt')
+    if found is None:
         raise NotBuilt("the toolchain's `rt` is not on the path")
+    line = os.path.join(os.path.dirname(os.path.dirname(os.path.realpath(found))), 'KIT-ID')
+    if os.path.isfile(line):            # what `rt version` prints, without the time that it takes
+        with open(line, encoding='utf-8') as file:
+            return file.read().strip()
     return subprocess.run(['rt', 'version'], stdout=subprocess.PIPE, text=True, check=True).stdout.strip()
 
 
@@ -147,13 +154,12 @@ def build(proved, who):
 
 def fault_of(path):
     """Why a file can't be read, '' if it can."""
-    if os.path.isdir(path):
-        return '%s is a folder' % path
     try:
-        with open(path, 'rb'):
-            return ''
+        if stat.S_ISDIR(os.stat(path).st_mode):
+            return '%s is a folder' % path
     except OSError as error:
         return '%s: %s' % (path, error.strerror)
+    return '' if os.access(path, os.R_OK) else '%s may not be read' % path
 
 
 def keep_streams():
@@ -243,10 +249,18 @@ class Step:
         self.folder = folder
         self.log = log
         self.given = os.path.join(folder, given)        # what it reads
+        self.start = os.path.getsize(log.name)          # where its part of the log begins
         self.begun = time.monotonic()
 
     def seconds(self):
         return time.monotonic() - self.begun
+
+    def told(self):
+        """How far the command says that it is, '' if it does not."""
+        with open(self.log.name, 'rb') as log:
+            log.seek(max(self.start, os.path.getsize(self.log.name) - 4000))
+            found = re.findall(rb'so far: (\d+ of \d+ functions)', log.read())
+        return found[-1].decode() if found else ''
 
     def run(self, label):
         """Runs the command and returns its status. A line says that it runs, at least every ten seconds."""
@@ -258,7 +272,7 @@ class Step:
                     status = child.wait(0.5)
                     break
                 except subprocess.TimeoutExpired:
-                    progress.say()
+                    progress.say(self.told)
                 except BaseException:
                     child.terminate()
                     raise
@@ -275,12 +289,13 @@ class Progress:
         self.is_terminal = sys.stderr.isatty()
         self.shown = False
 
-    def say(self):
+    def say(self, more=lambda: ''):
         now = time.monotonic()
         if now - self.last < (1 if self.is_terminal else EVERY):
             return
         self.last = now
-        text = '%s  %s ..' % (self.label, duration(now - self.begun))
+        text = '%s  %s .. %s' % (self.label, duration(now - self.begun), more())
+        text = text.rstrip()
         if self.is_terminal:
             sys.stderr.write('\r' + text + '\033[K')
             sys.stderr.flush()

@@ -49,6 +49,7 @@ class Repository(unittest.TestCase):
             put(self.path('crates/%s/src/lib.rt' % crate), 'fn f() {}\n')
         put(self.path('crates/high/proofs/f/Answers.antt'), '-- none\n')
         put(self.path('crates/galley_pages/stdin'), '#!/bin/sh\necho proved\n')
+        # without a KIT-ID above it, the line of this toolchain is asked for
         environment = {'PATH': self.path('bin') + ':' + os.environ['PATH'], 'GALLEY_PAGES': '', 'KIT': ''}
         for patch in (mock.patch.object(program, 'TOP', self.top),
                       mock.patch.object(program, 'BUILT', self.path('built')),
