@@ -4,7 +4,9 @@ import glob
 import json
 import os
 import re
+import subprocess
 import sys
+import tempfile
 import unittest
 
 HERE = os.path.dirname(os.path.abspath(__file__))
@@ -108,6 +110,19 @@ class Data(unittest.TestCase):
         data = self.data('report 1\npage 1 one\ncolumn 1 text height 1 natural 1 set none\n')
         self.assertIsNone(data['end'])
         self.assertEqual(data['after'], {'warnings': [], 'tries': []})
+
+    @unittest.skipUnless(os.environ.get('GALLEY_PAGES'), 'GALLEY_PAGES names no program')
+    def test_the_script_of_the_document(self):
+        with open(os.path.join(TOP, 'docs', 'JSON.md'), encoding='utf-8') as file:
+            script = re.search(r'```\n(import json.*?)```', file.read(), re.S)[1]
+        with tempfile.TemporaryDirectory() as folder:
+            for name in ('tools', 'examples'):
+                os.symlink(os.path.join(TOP, name), os.path.join(folder, name))
+            program = os.path.abspath(os.environ['GALLEY_PAGES'])
+            ran = subprocess.run([sys.executable, '-B', '-c', script], cwd=folder, env={**os.environ, 'GALLEY_PAGES': program},
+                                 capture_output=True, text=True, check=True)
+        self.assertIn('1 1 box ', ran.stdout)
+        Shape().check(json.loads(ran.stdout.splitlines()[-1]), 'Report')
 
     def test_each_table_has_rows(self):
         self.assertEqual(set(tables()), {'Report', 'Page', 'Before', 'Column', 'Set', 'Item', 'Warning', 'Try', 'Left',

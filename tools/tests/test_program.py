@@ -130,6 +130,17 @@ class Found(Repository):
         self.assertEqual(said.getvalue().splitlines(), ['low  %s ..' % it for it in (
             '10 s', '20 s', '30 s', '40 s', '50 s', '1 min 0 s', '1 min 10 s')])
 
+    def test_a_terminal_has_one_line_that_changes(self):
+        said = io.StringIO()
+        said.isatty = lambda: True
+        with contextlib.redirect_stderr(said), mock.patch.object(program.time, 'monotonic', lambda: now[0]):
+            now = [0]
+            progress = program.Progress('low')
+            for now[0] in (1, 2):
+                progress.say(lambda: '3 of 4 functions')
+            progress.clear()
+        self.assertEqual(said.getvalue(), '\rlow  1 s .. 3 of 4 functions\033[K\rlow  2 s .. 3 of 4 functions\033[K\r\033[K')
+
 
 class Used(Repository):
     """examples/run and tools/program."""

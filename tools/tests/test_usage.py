@@ -4,6 +4,7 @@ import os
 import subprocess
 import tempfile
 import unittest
+from concurrent.futures import ThreadPoolExecutor
 
 HERE = os.path.dirname(os.path.abspath(__file__))
 TOP = os.path.normpath(os.path.join(HERE, os.pardir, os.pardir))
@@ -24,28 +25,30 @@ def scripts():
     return found
 
 
+def answer(script, word):
+    """The status of a script, what it wrote, what it said, and the files that it left behind."""
+    with open(os.path.join(TOP, script), 'rb') as file:
+        runner = 'bash' if b'bash' in file.readline() else 'python3'
+    with tempfile.TemporaryDirectory() as folder:
+        ran = subprocess.run([runner, os.path.join(TOP, script), word], cwd=folder, stdin=subprocess.DEVNULL,
+                             stdout=subprocess.PIPE, stderr=subprocess.PIPE, text=True, timeout=60, check=False)
+        return ran.returncode, ran.stdout, ran.stderr, os.listdir(folder)
+
+
 class Usage(unittest.TestCase):
-    def run_in_scratch(self, script, word):
-        """The status of a script and what it wrote; it must leave no file behind."""
-        with open(os.path.join(TOP, script), 'rb') as file:
-            runner = 'bash' if b'bash' in file.readline() else 'python3'
-        with tempfile.TemporaryDirectory() as folder:
-            ran = subprocess.run([runner, os.path.join(TOP, script), word], cwd=folder, stdin=subprocess.DEVNULL,
-                                 stdout=subprocess.PIPE, stderr=subprocess.PIPE, text=True, timeout=60, check=False)
-            self.assertEqual(os.listdir(folder), [], script)
-        return ran.returncode, ran.stdout, ran.stderr
+    def answers(self, word):
+        with ThreadPoolExecutor(os.cpu_count()) as pool:
+            return zip(scripts(), pool.map(lambda script: answer(script, word), scripts()))
 
     def test_help(self):
-        for script in scripts():
-            for word in ('--help', '-h'):
-                status, out, said = self.run_in_scratch(script, word)
-                self.assertEqual((status, said), (0, ''), script)
+        for word in ('--help', '-h'):
+            for script, (status, out, said, left) in self.answers(word):
+                self.assertEqual((status, said, left), (0, '', []), script)
                 self.assertIn('usage: ', out, script)
 
     def test_an_option_that_is_none(self):
-        for script in scripts():
-            status, out, said = self.run_in_scratch(script, '--nothing-known')
-            self.assertEqual((status, out), (2, ''), script)
+        for script, (status, out, said, left) in self.answers('--nothing-known'):
+            self.assertEqual((status, out, left), (2, '', []), script)
             self.assertNotEqual(said, '', script)
 
 
