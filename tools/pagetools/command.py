@@ -72,7 +72,6 @@ def options_of(arguments):
     named = options.words[:1] in [[mode] for mode in MODES]
     options.mode = options.words[0] if named else 'report'
     options.files = options.words[named:] or ['-']
-    check(options)
     return options
 
 
@@ -106,6 +105,7 @@ def main(arguments):
         if options.version:
             print(about.version(), end='')
             return 0
+        check(options)
         used = program.find(False, WHO)
         if used.note() and not options.quiet:
             say('%s: %s' % (WHO, used.note()))
@@ -156,19 +156,20 @@ class Run:
         words = [path, '--mode', options.mode] + (['--count', options.count] if options.count is not None else [])
         keeps = options.json or options.points or options.out
         with input_of(file, options.mode) as given:
+            start = given.tell() if given.seekable() else 0
             ran = subprocess.run(words, stdin=given, stdout=subprocess.PIPE if keeps else None, stderr=subprocess.PIPE,
                                  check=False)
             self.status = ran.returncode if ran.returncode >= 0 else 128 - ran.returncode
             if ran.stderr:
-                self.tell(ran.stderr.decode('latin-1'), given)
+                self.tell(ran.stderr.decode('latin-1'), text_of(given, start))
         if keeps:
             self.put(shaped(options, ran.stdout, self.name))
 
-    def tell(self, said, given):
+    def tell(self, said, text):
         """Tells why the program refused its input."""
         if self.options.quiet and 'write fault' in said and reader_stopped():
             return
-        sys.stderr.write(messages.told(said, messages.Source(self.name, self.options.mode, text_of(given))))
+        sys.stderr.write(messages.told(said, messages.Source(self.name, self.options.mode, text)))
         sys.stderr.flush()
 
     def put(self, out):
@@ -201,10 +202,10 @@ def input_of(file, mode):
     return kept
 
 
-def text_of(given):
+def text_of(given, start):
     """All that the program was given to read, '' if it can't be read again."""
     try:
-        given.seek(0)
+        given.seek(start)
         return given.read(MOST + 1)
     except OSError:
         return b''

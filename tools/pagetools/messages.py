@@ -46,7 +46,8 @@ CAUSES = {
     'WrongForm': 'the value of this parameter is written otherwise. docs/FORMATS.md has the form of each',
     'BadNumber': 'this is no number. Write digits, as 12 or 7.5pt',
     'BadUnit': 'no such unit may be here. Write sizes as 7.5pt, or as whole scaled points (65536 are 1pt)',
-    'BadName': 'this is no name. A name has 1 to {name} letters, digits, `.`, `_` and `-`, and begins with a letter or digit',
+    'BadName': 'this is no name. A name has 1 to {name} letters, digits, `.`, `_` and `-`, and begins with a letter or '
+               'digit',
     'BadPlace': 'this names no places of a float. Write one or more of h, t, b and p, and ! to lift the limits',
     'Dimension': 'the size is past 1073741823sp (16383.99998pt), or below 0 where it may not be. Make it smaller, or 0',
     'Penalty': 'the number is out of its range. Penalties go from -10000 to 10000, page breaks from 0 to 4',
@@ -65,8 +66,8 @@ DVI_CAUSES = {
 OTHERS = {
     'Words': 'an option was refused. `--count` takes 1 to 40000',
     'PoolFull': 'as many boxes of floats and marginal notes wait as `pool` allows ({now}). {advice}',
-    'DeadCycles': 'the output routine fired {now} times in a row without a page. `set maxdeadcycles {enough}` is always enough '
-                  'here: 16, and 4 for each float, marginal note, clear and change of columns',
+    'DeadCycles': 'the output routine fired {now} times in a row without a page. `set maxdeadcycles {enough}` is always '
+                  'enough here: 16, and 4 for each float, marginal note, clear and change of columns',
     'PageLimit': 'as many pages were shipped as `maxpages` allows ({now}). {advice}',
     'ReadFault': 'the input could not be read. It is closed, or a folder, or its device failed',
     'WriteFault': 'the output could not be written. The device is full, or the reader of a pipe has stopped',
@@ -74,8 +75,8 @@ OTHERS = {
     'NodeLimit': '{now} nodes are held, and `maxnodes` allows fewer. {advice}',
     'Unsuited': '{word} is not supported by the mode plain. Use the mode report, or leave it out',
     'TooFar': 'an item of page {now} is too far up or down for a DVI file, or the file gets too long. Use the mode report',
-    'NoBreaks': 'the paragraph `{name}` has no feasible lines. Raise `set tolerance` (10000 is the most), widen `set hsize`, or '
-                'give its spaces more stretch',
+    'NoBreaks': 'the paragraph `{name}` has no feasible lines. Raise `set tolerance` (10000 is the most), widen `set '
+                'hsize`, or give its spaces more stretch',
 }
 
 REFUSALS = [
@@ -93,7 +94,7 @@ REFUSALS = [
     (re.compile(r'write fault$'), 'WriteFault'),
     (re.compile(r'out of memory$'), 'Memory'),
 ]
-NAMED = {'Words': 'galley-pages', 'Memory': 'galley-pages', 'WriteFault': 'standard output'}     # what is no fault of the input
+NAMED = {'Words': 'galley-pages', 'Memory': 'galley-pages', 'WriteFault': 'standard output'}     # no faults of the input
 PARAMETERS = {'DeadCycles': 'maxdeadcycles', 'PageLimit': 'maxpages', 'NodeLimit': 'maxnodes'}
 
 
@@ -209,8 +210,9 @@ def _sentence(cause, line, number, source):
         choice='Write `%s`' % form if form and number > 1 else choice,
         inside=('`set` comes before the first paragraph. Move this line up' if words[:1] == ['set'] else
                 'no paragraph is open. Write `par` and a name above it'),
-        items=('the text has more than 25000 words, spaces and penalties, or a paragraph more than 5000. Split it' if is_lines
-               else 'the galley has more than 100000 items. Split it at a `clearpage`, and give the parts one after another'),
+        items=('the text has more than 25000 words, spaces and penalties, or a paragraph more than 5000. Split it'
+               if is_lines else
+               'the galley has more than 100000 items. Split it at a `clearpage`, and give the parts one after another'),
         name=58 if words[:1] == ['par'] else 63)
 
 
@@ -222,8 +224,10 @@ def shown(source, line, number, cause, sentence, name=None):
     if text is None:
         return out
     text, start, end = window(*readable(text, *span(text, number)))
-    margin = ' ' * len(str(line))
-    return out + ' %d | %s\n' % (line, text) + (' %s | %s%s\n' % (margin, ' ' * start, '^' * max(1, end - start)) if number else '')
+    out += ' %d | %s\n' % (line, text)
+    if number:
+        out += ' %s | %s%s\n' % (' ' * len(str(line)), ' ' * start, '^' * max(1, end - start))
+    return out
 
 
 def span(text, number):
@@ -238,7 +242,11 @@ def span(text, number):
 def readable(text, start, end):
     """A line as text, with a blank for a tab and `?` for what can't be shown; and the same place in it."""
     text = text.ljust(end)
-    plain = lambda part: ''.join(it if it.isprintable() else ' ' if it == '\t' else '?' for it in part.decode('utf-8', 'replace'))
+
+    def plain(part):
+        letters = part.decode('utf-8', 'replace').replace('\t', ' ')
+        return ''.join(it if it.isprintable() else '?' for it in letters)
+
     return plain(text).rstrip(), len(plain(text[:start])), len(plain(text[:end]))
 
 

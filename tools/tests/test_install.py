@@ -138,8 +138,10 @@ class Installs(Scratch):
 class Completions(Scratch):
     def complete(self, *words):
         """What bash offers for the last word."""
-        script = 'source "$0"; COMP_WORDS=(galley-pages "$@"); COMP_CWORD=$#; compopt() { :; }; _galley_pages; printf "%s\\n" "${COMPREPLY[@]}"'
-        ran = subprocess.run(['bash', '-c', script, os.path.join(TOP, 'tools', 'completion', 'galley-pages.bash')] + list(words),
+        script = ('source "$0"; COMP_WORDS=(galley-pages "$@"); COMP_CWORD=$#; compopt() { :; }; _galley_pages; '
+                  'printf "%s\\n" "${COMPREPLY[@]}"')
+        file = os.path.join(TOP, 'tools', 'completion', 'galley-pages.bash')
+        ran = subprocess.run(['bash', '-c', script, file] + list(words),
                              cwd=self.folder, capture_output=True, text=True, check=True)
         return sorted(ran.stdout.split())
 
