@@ -105,6 +105,9 @@ def main(arguments):
         if options.version:
             print(about.version(), end='')
             return 0
+        if not arguments and os.isatty(0):
+            print(USAGE, end='', file=sys.stderr)
+            return 2
         check(options)
         used = program.find(False, WHO)
         if used.note() and not options.quiet:
