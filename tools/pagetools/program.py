@@ -209,6 +209,7 @@ def build_proved(who, log, made):
     jobs = str(len(os.sched_getaffinity(0)))
     say('%s: proving and building the %d crates of galley_pages. It takes about half an hour on four free processors, once; '
         'what was proved is kept. The log is %s.' % (who, len(crates), shown(log)))
+    begun = time.monotonic()
     with open(log, 'wb') as out:
         for number, crate in enumerate(crates, 1):
             # `rt run` also runs the program, once, on the crate's own input.
@@ -219,6 +220,7 @@ def build_proved(who, log, made):
                 raise NotBuilt(failure('%s was not proved' % crate, log))
             say('%s  %s' % (label, duration(step.seconds())))
     shutil.copy2(os.path.join(TOP, 'crates', PROGRAM, 'out', PROGRAM), made)
+    say('%s: proved and built in %s' % (who, duration(time.monotonic() - begun)))
 
 
 def reached(program):

@@ -91,7 +91,7 @@ class Found(Repository):
         self.assertEqual(found.note(), '')
         self.assertEqual(self.asked(), [['lib', 'low'], ['lib', 'high'], ['run', 'galley_pages']])
         self.assertIn('half an hour', said)
-        self.assertRegex(said, r' 1 of 3  low +0 s\n 2 of 3  high +0 s\n 3 of 3  galley_pages +0 s\n')
+        self.assertRegex(said, r' 1 of 3  low +0 s\n 2 of 3  high +0 s\n 3 of 3  galley_pages +0 s\ntest: proved and built in 0 s\n')
         self.assertEqual(self.find()[0].path, found.path)
 
     def test_another_source_makes_another_program(self):
