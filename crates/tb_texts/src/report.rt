@@ -8,12 +8,13 @@ ghost use Rattle.tb_node.specs.SmallAmounts.{IsAmount};
 ghost use Rattle.tb_report.specs.Printable.{IsPrintable};
 
 use std::test::Fail;
-use tb_column::{Column, ColumnKind, Sent, Sheet, Warn};
+use tb_column::{Column, ColumnKind};
 use tb_node::{Kind, Node, What, name_of};
 use tb_pack::pack;
 use tb_pool::{ListId, Lists};
 use tb_report::{Totals, end_text, sent_text};
 use tb_scaled::{Glue, Order};
+use tb_sheet::{Sent, Sheet, Warn};
 
 const FIL: Kind = Kind::Skip(Glue {
     width: 0,

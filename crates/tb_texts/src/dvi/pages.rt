@@ -9,13 +9,14 @@ ghost use Rattle.tb_dvi.specs.Page.{IsShowable};
 use super::{NO_PAGE, THREE_BOXES, listing_of};
 use crate::report::put;
 use std::test::Fail;
-use tb_column::{Column, ColumnKind, Sheet};
+use tb_column::{Column, ColumnKind};
 use tb_dvi::{DviFault, Part, Progress, page_bytes, post_bytes, pre_bytes, put_far};
 use tb_node::{Kind, Name, Node, Side, What, Where, name_of};
 use tb_pack::pack;
 use tb_param::defaults;
 use tb_pool::{ListId, Lists};
 use tb_scaled::{Glue, Order};
+use tb_sheet::Sheet;
 
 const FIVE: Kind = Kind::Skip(Glue {
     width: 0,
