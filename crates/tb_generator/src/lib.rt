@@ -331,4 +331,3 @@ fn sure_name(bytes: &[u8]) -> Name
         }
     }
 }
-
