@@ -88,7 +88,7 @@ pub fn place_penalty(n: &Node, lasting: bool, glue_next: bool) -> Option<i64>
     penalty_before(n, lasting, glue_next)
 }
 
-// The same, but the amounts of the node need not be small.
+// The penalty of the place before a node, whose amounts need not be small.
 fn penalty_before(n: &Node, lasting: bool, glue_next: bool) -> Option<i64>
     ensures { result ≡ penalty_by lasting glue_next (shape_of n.now) }
 {

@@ -35,8 +35,8 @@ fn is_insertion(n: &Node) -> bool
 
 /// The place of the first insertion of a list that has one.
 ///
-/// The walk does not test for the end of the list: what comes after it is proved never to be reached, and it shifts by
-/// the whole width, which LLVM takes as undefined.
+/// The walk does not test for the end of the list. What comes after it is never reached. It shifts a number by its full
+/// width; LLVM may assume that no such shift happens, and so drops the test.
 #[inline(never)]
 pub(crate) fn insertion_place(store: &Lists<Node>, l: ListId) -> usize
     requires live { IsLive store.now l }

@@ -133,7 +133,7 @@ pub fn put_post(
     put_end(out, place as u32)
 }
 
-/// These bytes as a text of their own. It fails only if there is no memory for them.
+/// Returns the bytes that `put_post` appends: those of a file from its postamble on. It fails only if there is no memory.
 pub fn post_bytes(
     alloc: Global,
     p: &Params,

@@ -225,7 +225,7 @@ pub fn put_sheet(
     }
 }
 
-/// These bytes as a text of their own. It fails as `put_page` does.
+/// Returns the bytes that `put_page` appends: those of one page. It fails as `put_page` does.
 pub fn page_bytes(
     alloc: Global,
     store: &Lists<Node>,

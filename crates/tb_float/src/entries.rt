@@ -11,8 +11,8 @@ use tb_pool::Iter;
 impl Entry {
     /// The float that an entry holds. In a list in which floats wait or are on a page every entry holds one.
     ///
-    /// The arm of a note is proved never to be reached. It shifts by the width, which LLVM takes as undefined, so that a
-    /// walk over floats makes no test for notes.
+    /// The arm of a note is never reached. It shifts a number by its full width; LLVM may assume that no such shift
+    /// happens, and so drops the test for notes in a walk over floats.
     #[inline(always)]
     pub fn float(&self) -> &Float
         requires { is_float self.now ≡ true }
@@ -29,7 +29,7 @@ impl Entry {
     }
 }
 
-/// The entries of a list in order, seen as the list of those that are left.
+/// The entries of a list in order. In contracts it is the list of those that are left.
 #[derive(Drop)]
 pub struct Entries<'a> {
     pub(crate) slots: Iter<'a, Slot>,

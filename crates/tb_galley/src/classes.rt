@@ -12,7 +12,7 @@ pub struct ClassLine {
     pub line: u32,
     /// The number of the class, from 0 to 253.
     pub number: u8,
-    /// 1000 times the share of a page that its insertions take, from 0 to 10000.
+    /// How many thousandths of an insertion's height count against the page's goal, from 0 to 10000.
     pub factor: i64,
     /// The greatest height of its insertions on a page, in sp; from 0 to 1073741823.
     pub limit: i64,
@@ -20,7 +20,7 @@ pub struct ClassLine {
     pub skip: Glue,
 }
 
-/// The classes of a galley. It is seen as a list of [`ClassLine`] with rising numbers.
+/// The classes of a galley. In contracts it is the list of its [`ClassLine`]s, with rising numbers.
 #[derive(Drop)]
 pub struct Classes {
     items: Vec<ClassLine>,

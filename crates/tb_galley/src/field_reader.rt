@@ -186,8 +186,9 @@ impl<'a> Fields<'a> {
         }
     }
 
-    /// The same, for a field that seldom is a few digits alone or with `pt` behind: most have a point. What is read as a
-    /// dimension has printable bytes only, so only other fields are tested for them.
+    /// A dimension that is at least this, as `dimension_from` reads it, of a field that is seldom a few digits alone or with
+    /// `pt` behind: most have a point. What is read as a dimension has printable bytes only, so only other fields are
+    /// tested for them.
     #[inline(never)]
     #[tactic(auto, unfolding(crate::specs::FieldReader::least_left))]
     pub fn decimal_from(&mut self, low: i64, cause: Cause) -> Result<i64, At>

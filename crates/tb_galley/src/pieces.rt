@@ -161,7 +161,8 @@ fn end_text(
 }
 
 /// Reads a galley that comes in pieces, cut anywhere. It keeps what the lines gave, and of a line that has not ended no
-/// more than shows that it is too long. It is seen as the number of the bytes and what they gave.
+/// more than shows that it is too long. In contracts it is the number of the bytes and what
+/// they gave.
 #[derive(Drop)]
 pub struct Reader {
     alloc: Global,

@@ -7,8 +7,8 @@ use std::marker::Model;
 // A line of this many bytes is too long, whether a carriage return at its end counts or not.
 const KEPT_LENGTH: usize = 257;
 
-/// A line whose end was not read yet. No more of it is kept than shows that it is too long. It is seen as the list of the
-/// bytes that are kept.
+/// A line whose end was not read yet. No more of it is kept than shows that it is too long. In contracts it is the
+/// list of the bytes that are kept.
 #[derive(Drop)]
 pub struct Unfinished {
     bytes: [u8; KEPT_LENGTH],

@@ -315,8 +315,8 @@ fn write_led(letter: u8, k: u32, text: &mut [u8; 6]) -> usize
     start
 }
 
-// The name in these bytes. The arm without one is proved never to be reached, and it would shift by the whole width, which
-// LLVM takes as undefined: so it drops the tests of the bytes.
+// The name in these bytes. The arm without one is never reached. It shifts a number by its full width; LLVM may assume that
+// no such shift happens, and so drops the tests of the bytes.
 #[inline(always)]
 fn sure_name(bytes: &[u8]) -> Name
     requires { is_name bytes.now ≡ true }

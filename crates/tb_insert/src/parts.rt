@@ -40,7 +40,7 @@ fn label_of(
     Part::Split(find(store, i.list, wanted, i.split_depth))
 }
 
-/// The same, by the entry of the class.
+/// What becomes of an insertion on its page, by the entry of its class.
 pub(crate) fn label_by(
     store: &Lists<Node>,
     i: &Insertion,

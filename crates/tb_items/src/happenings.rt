@@ -9,7 +9,7 @@ use tb_builder::Try;
 use tb_sheet::Sent;
 
 /// What the output routine sent. It is a type of this crate, since the checker does not find the modules of what a [`Sent`]
-/// holds when it fills in a type parameter. It is seen as that [`Sent`].
+/// holds when it fills in a type parameter. In contracts it is that [`Sent`].
 #[derive(Clone, Copy)]
 pub struct Event {
     /// What was sent.

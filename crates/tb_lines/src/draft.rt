@@ -52,7 +52,7 @@ impl LineParams {
 }
 
 impl Draft {
-    /// Before the first line.
+    /// A draft of which no line was read.
     pub fn new(alloc: Global) -> Draft
         ensures { result ≡ empty_draft }
     {

@@ -171,8 +171,9 @@ fn read_text(alloc: Global, bytes: &[u8]) -> Result<Result<Text, Fault>, AllocEr
     Ok(reader.finish())
 }
 
-/// Reads a text. `At` comes exactly if it has a fault, with the first one: that of the earliest line, in it of the earliest
-/// field, and there of the cause that is first in [`Cause`]. All values of a text that it returns are in their ranges.
+/// Reads a text. It returns `At` exactly if the text has a fault, with the first one: that of the earliest line, in it of
+/// the earliest field, and there of the cause that is first in [`Cause`]. All values of a text that it returns are in
+/// their ranges.
 pub fn read_lines(alloc: Global, bytes: &[u8]) -> Result<Text, LinesFault>
     ensures grammar { Answers result (reading bytes.now) }
     ensures valid { IfOk result IsValidText }

@@ -12,8 +12,8 @@ use crate::text::{Item, LineParams, Text};
 use std::alloc::{AllocError, Global};
 use std::marker::Model;
 
-/// A way to break a paragraph. It is seen as its breaks, which are places of the paragraph's list counted from 0, in
-/// rising order, and its total demerits.
+/// A way to break a paragraph. In contracts it is its breaks, which are places of the paragraph's list counted from 0,
+/// in rising order, and its total demerits.
 #[derive(Drop)]
 pub struct Solution {
     breaks: Vec<usize>,

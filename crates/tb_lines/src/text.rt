@@ -51,7 +51,7 @@ pub struct LineParams {
     pub par_skip: u32,
 }
 
-/// The items of a paragraph in order, at most 5000. It is seen as a list of [`Item`].
+/// The items of a paragraph in order, at most 5000. In contracts it is the list of its [`Item`]s.
 #[derive(Drop)]
 pub struct Items {
     items: Vec<Item>,
@@ -114,7 +114,7 @@ pub struct Paragraph {
     pub items: Items,
 }
 
-/// The paragraphs of a text in order. It is seen as a list of [`Paragraph`].
+/// The paragraphs of a text in order. In contracts it is the list of its [`Paragraph`]s.
 #[derive(Drop)]
 pub struct Paragraphs {
     items: Vec<Paragraph>,

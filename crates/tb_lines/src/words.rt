@@ -66,7 +66,7 @@ const PARAMETERS: [(&[u8], Parameter); 8] = [
     (b"parskip", Parameter::ParSkip),
 ];
 
-/// The word that a text is.
+/// The word that this text spells, or `None`.
 #[tactic(auto, unfolding(crate::specs::Words::word_of))]
 pub(crate) fn word_of(text: &[u8]) -> Option<Word>
     ensures { result ≡ word_of text.now }

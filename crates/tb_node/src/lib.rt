@@ -245,7 +245,8 @@ pub enum Kind {
 
 /// A node of a vertical list (TeX: The Program §133).
 ///
-/// Each amount in it is at most 1073741823 in absolute value, but an insertion's height and a marginal note's shift.
+/// Each amount in it is at most 1073741823 in absolute value, but an insertion's height and a marginal note's shift; a
+/// penalty is at most 1073741824 (that of the end in plain mode is -1073741824).
 #[derive(Clone, Copy)]
 pub struct Node {
     /// The line of its galley item; 0 for a node that the output routine makes.

@@ -6,7 +6,7 @@ use std::alloc::{AllocError, Global};
 use std::marker::Model;
 use tb_insert::Class;
 
-/// Classes of insertions, by rising number. They are seen as a list of [`Class`].
+/// Classes of insertions, by rising number. In contracts they are the list of each [`Class`].
 #[derive(Drop)]
 pub(crate) struct Classes {
     pub(crate) items: Vec<Class>,

@@ -240,7 +240,7 @@ impl Machine {
         }
     }
 
-    // The same, but if there is no memory, the floats stay chosen.
+    // Makes the column of the chosen floats; if there is no memory, they stay chosen.
     fn make_floats(
         &mut self,
         store: &mut Lists<Node>,

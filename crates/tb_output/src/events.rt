@@ -25,7 +25,8 @@ impl Model for Event {
     ghost inverse = { λ s. record { sent = s } };
 }
 
-/// A queue of events, with room kept for a number of further ones. It is seen as a list of [`Sent`] and that number.
+/// A queue of events, with room kept for a number of further ones. In contracts it is the list of
+/// each [`Sent`] and that number.
 #[derive(Drop)]
 pub(crate) struct Events {
     queue: VecDeque<Event>,

@@ -122,7 +122,7 @@ fn roomy_events(alloc: Global, room: usize) -> Result<Events, AllocError>
 const MAX_REACH: i64 = 18_014_394_214_514_688;
 
 impl Machine {
-    /// The next event that was not taken yet. None exactly if there is none.
+    /// The next event that was not taken yet. `None` exactly if no event is left.
     ///
     /// The lists of a page that it returns are the caller's from then on.
     pub fn sent(&mut self) -> Option<Sent>

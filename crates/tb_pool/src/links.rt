@@ -12,8 +12,8 @@ use std::alloc::Allocator;
 
 /// The value under a key that has one.
 ///
-/// `slab[key]` tests at run time whether there is a value. Here the arm without one is proved never to be reached, and it
-/// shifts by the whole width, which LLVM takes as undefined: so it drops the test.
+/// `slab[key]` tests at run time whether there is a value. Here the arm without one is never reached. It shifts a number by
+/// its full width; LLVM may assume that no such shift happens, and so drops the test.
 #[inline(always)]
 pub(crate) fn get_unchecked<T, A: Allocator>(slab: &Slab<T, A>, key: usize) -> &T
     requires { ContainsKey slab.now key }

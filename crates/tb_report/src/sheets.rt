@@ -166,7 +166,7 @@ pub fn put_sent(out: &mut Vec<u8>, store: &Lists<Node>, s: &Sent) -> Result<(), 
     }
 }
 
-/// These lines as a text of their own. It fails only if there is no memory for it.
+/// Returns the lines that `put_sent` appends: those of a warning or page. It fails only if there is no memory.
 pub fn sent_text(alloc: Global, store: &Lists<Node>, s: &Sent) -> Result<Vec<u8>, AllocError>
     requires { IsPrintableSent store.now s.now }
     ensures { IfOk result (λ text. text.items ≡ sent_lines (sent_shown store.now s.now)) }

@@ -37,8 +37,8 @@ use tb_words::{Mode, read_words};
 /// empty at each change of columns and at the end. The DVI file of the run, if each page is in range and it has at most
 /// 8388608 bytes, lists exactly the placements of the run, page by page. `DeadCycles` comes only if `maxdeadcycles` is less
 /// than 16 plus 4 for each float, marginal note, clearpage, onecolumn and twocolumn.
-/// After `Done` in plain mode each box, rule and float shipped once, and the text in its order; `Unsuited` comes exactly if an
-/// item of the galley is not served there.
+/// After `Done` in plain mode each box, rule and float shipped once, and the text in its order; `Unsuited` is returned exactly
+/// if an item of the galley is not supported there.
 pub fn run<S: Source, K: Sink, E: Sink>(
     alloc: Global,
     words: &[String],

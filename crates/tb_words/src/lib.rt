@@ -68,10 +68,10 @@ impl From<clap::Error> for WordsFault {
     }
 }
 
-/// What the words ask for: the program's name and the words after it.
+/// Which mode the command line asks for: the program's name and the options after it.
 ///
-/// An empty list is read as the name alone. `Refused` comes exactly if the command refuses the words for another cause
-/// than memory, or the mode is none that is served; the command's own help and usage requests are refusals too.
+/// An empty list is read as the name alone. Returns `Refused` exactly if the command refuses the options for another cause
+/// than memory, or the program has no such mode; requests for help are refused too.
 #[tactic(auto, unfolding(crate::specs::Words::asked))]
 pub fn read_words(alloc: Global, words: &[String]) -> Result<Mode, WordsFault>
     ensures asked { IfOk result (λ mode. asked (map string_bytes words.now) ≡ Some mode) }
