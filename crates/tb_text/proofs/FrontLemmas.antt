@@ -1,12 +1,14 @@
 -- One part after another is appended: fronts of the parts are fronts of the whole.
-use Rattle.std.proofs.Common.{◌≡◌, refl, sym, ap, ◌∙◌, List, [], ◌++◌, append_assoc, append-nil, Result, Ok, Err, IsErr}
-use Rattle.std.proofs.lemmas.List.{append_cancel_left}
+use Rattle.std.proofs.Common.{◌≡◌, refl, sym, ap, ◌∙◌, List, [], ◌++◌, append_assoc, append-nil, Result, Ok, Err, IsErr, OnOk}
 use Rattle.tb_text.specs.Fronts.{PutsFront, PutsAfter}
 
 module _ {A : Type 0} where
-  -- nothing is appended yet
-  pub put-none : (before whole after : List A) → after ≡ before → PutsFront before whole after
-  put-none before whole after e = record { put = []; left = whole; front = refl; appended = e ∙ sym (append-nil before) }
+  -- nothing is appended, or all
+  pub put-none : (before whole : List A) → PutsFront before whole before
+  put-none before whole = record { put = []; left = whole; front = refl; appended = sym (append-nil before) }
+
+  pub put-all : (before whole after : List A) → after ≡ before ++ whole → PutsFront before whole after
+  put-all before whole after e = record { put = whole; left = []; front = append-nil whole; appended = e }
 
   -- a front of the first part
   pub cut-in : {before a after : List A} (rest whole : List A) → a ++ rest ≡ whole → PutsFront before a after → PutsFront before whole after
@@ -30,17 +32,41 @@ module _ {A : Type 0} where
   pub past : {before mid b after : List A} (a : List A) → mid ≡ before ++ a → PutsFront mid b after → PutsFront before (a ++ b) after
   past {before} {mid} {b} {after} a m p = cut-after a (a ++ b) refl m p
 
-  -- some of the whole is there, a part comes next, and it stops within that
-  pub cut-within : {before mid after : List A} (put part rest whole : List A) → mid ≡ before ++ put → mid ++ (part ++ rest) ≡ before ++ whole → PutsFront mid part after → PutsFront before whole after
-  cut-within {before} {mid} {after} put part rest whole m e p =
-      let all : put ++ (part ++ rest) ≡ whole = append_cancel_left before (put ++ (part ++ rest)) whole (sym (append_assoc before put (part ++ rest)) ∙ ap (λ t. t ++ (part ++ rest)) (sym m) ∙ e) in
-      cut-after put whole all m (cut rest p)
+  -- of the whole all is there but what is left
+  pub record PutSoFar (before whole now left : List A) : Type 0 where
+    pub put : List A
+    pub front : put ++ left ≡ whole
+    pub appended : now ≡ before ++ put
+
+  pub put-begins : (before whole : List A) → PutSoFar before whole before whole
+  put-begins before whole = record { put = []; front = refl; appended = sym (append-nil before) }
+
+  -- the next part is appended
+  pub put-more : {before whole now : List A} (next part left : List A) → PutSoFar before whole now (part ++ left) → next ≡ now ++ part → PutSoFar before whole next left
+  put-more {before} {whole} {now} next part left p e =
+      record {
+        put = p.put ++ part;
+        front = append_assoc p.put part left ∙ p.front;
+        appended = e ∙ ap (λ t. t ++ part) p.appended ∙ append_assoc before p.put part;
+      }
+
+  -- it stops within the next part
+  pub put-stops : {before whole now after : List A} (part left : List A) → PutSoFar before whole now (part ++ left) → PutsFront now part after → PutsFront before whole after
+  put-stops {before} {whole} {now} {after} part left p q = cut-after p.put whole p.front p.appended (cut left q)
+
+  pub put-ends : {before whole now : List A} → PutSoFar before whole now [] → now ≡ before ++ whole
+  put-ends {before} {whole} {now} p = p.appended ∙ ap (λ t. before ++ t) (sym (append-nil p.put) ∙ p.front)
 
   module _ {T E : Type 0} where
     -- the call fails: a front is there
     pub fails : (r : Result T E) (before whole after : List A) → IsErr r → PutsFront before whole after → PutsAfter r before whole after
     fails (Err e) before whole after is p = p
     fails (Ok v) before whole after is p = cc
+
+    -- if the call succeeds, the whole is there
+    pub when_ok : (r : Result T E) (before whole after : List A) → PutsAfter r before whole after → OnOk r (after ≡ before ++ whole)
+    when_ok (Ok v) before whole after p = p
+    when_ok (Err e) before whole after p = tt
 
     -- the first part, and a call that appends the second
     pub on_joined : (r : Result T E) (before mid after a b whole : List A) → a ++ b ≡ whole → mid ≡ before ++ a → PutsAfter r mid b after → PutsAfter r before whole after
