@@ -6,16 +6,14 @@ use Rattle.tb_text.proofs.FrontLemmas.{cut, fails, on_joined}
 use Rattle.tb_report.specs.Lines.{set_text}
 use Rattle.tb_report.proofs.heads.end_column.Goals as goal
 
-stops-1 : (a b d e f g h : List ℕ) → a ++ b ++ (d ++ e ++ f ++ g ++ h) ≡ a ++ b ++ d ++ e ++ f ++ g ++ h
-stops-1 a b d e f g h = simp append_assoc
-
+-- the parts, one after another
 joined : (a b d e f g h : List ℕ) → a ++ b ++ (d ++ e ++ f ++ g ++ h) ≡ a ++ b ++ d ++ e ++ f ++ g ++ h
 joined a b d e f g h = simp append_assoc
 
 pub returns-in_err-put_measure : goal.returns-in_err-put_measure
 returns-in_err-put_measure c =
     let h : FitsSigned w64 c.args.set.now.height = search rules in
-    fails _ _ _ _ c.from_residual.ensures.0 (subst (λ (t : List ℕ). PutsFront c.args.out.now.items t c.put_measure.new.out.items) (stops-1 (codes " height") (and_number c.args.set.now.height) (codes " natural") (and_number c.args.set.now.natural) (codes " set ") (set_text c.args.set.now) (10 ∷ []))
+    fails _ _ _ _ c.from_residual.ensures.0 (subst (λ (t : List ℕ). PutsFront c.args.out.now.items t c.put_measure.new.out.items) (joined (codes " height") (and_number c.args.set.now.height) (codes " natural") (and_number c.args.set.now.natural) (codes " set ") (set_text c.args.set.now) (10 ∷ []))
     (cut (codes " natural" ++ and_number c.args.set.now.natural ++ codes " set " ++ set_text c.args.set.now ++ 10 ∷ []) (simp to_z-of_z at c.in_err-put_measure.ensures)))
 
 pub returns : goal.returns

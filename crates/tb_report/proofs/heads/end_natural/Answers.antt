@@ -6,16 +6,14 @@ use Rattle.tb_text.proofs.FrontLemmas.{cut, fails, on_joined}
 use Rattle.tb_report.specs.Lines.{set_text}
 use Rattle.tb_report.proofs.heads.end_natural.Goals as goal
 
-stops-1 : (a b d e f : List ℕ) → a ++ b ++ (d ++ e ++ f) ≡ a ++ b ++ d ++ e ++ f
-stops-1 a b d e f = simp append_assoc
-
+-- the parts, one after another
 joined : (a b d e f : List ℕ) → a ++ b ++ (d ++ e ++ f) ≡ a ++ b ++ d ++ e ++ f
 joined a b d e f = simp append_assoc
 
 pub returns-in_err-put_measure : goal.returns-in_err-put_measure
 returns-in_err-put_measure c =
     let h : FitsSigned w64 c.args.set.now.natural = search rules in
-    fails _ _ _ _ c.from_residual.ensures.0 (subst (λ (t : List ℕ). PutsFront c.args.out.now.items t c.put_measure.new.out.items) (stops-1 (codes " natural") (and_number c.args.set.now.natural) (codes " set ") (set_text c.args.set.now) (10 ∷ []))
+    fails _ _ _ _ c.from_residual.ensures.0 (subst (λ (t : List ℕ). PutsFront c.args.out.now.items t c.put_measure.new.out.items) (joined (codes " natural") (and_number c.args.set.now.natural) (codes " set ") (set_text c.args.set.now) (10 ∷ []))
     (cut (codes " set " ++ set_text c.args.set.now ++ 10 ∷ []) (simp to_z-of_z at c.in_err-put_measure.ensures)))
 
 pub returns : goal.returns

@@ -6,9 +6,7 @@ use Rattle.tb_text.specs.Fronts.{PutsFront, PutsAfter}
 use Rattle.tb_text.proofs.FrontLemmas.{cut, fails, on_joined}
 use Rattle.tb_report.proofs.items.end_any_box.Goals as goal
 
-stops-1 : (a b d e : List ℕ) → a ++ (b ++ d ++ e) ≡ a ++ b ++ d ++ e
-stops-1 a b d e = simp append_assoc
-
+-- the parts, one after another
 joined : (a b d e : List ℕ) → a ++ (b ++ d ++ e) ≡ a ++ b ++ d ++ e
 joined a b d e = simp append_assoc
 
@@ -17,7 +15,7 @@ returns-in_err-put_field c =
     let ft : FitsSigned w128 c.args.top = c.ranges.top in
     let fh : FitsSigned w64 c.args.height = c.ranges.height in
     let fd : FitsSigned w64 c.args.depth = c.ranges.depth in
-    fails _ _ _ _ c.from_residual.ensures.0 (subst (λ (t : List ℕ). PutsFront c.args.out.now.items t c.put_field.new.out.items) (stops-1 (and_number c.args.top) (and_number c.args.height) (and_number c.args.depth) (10 ∷ []))
+    fails _ _ _ _ c.from_residual.ensures.0 (subst (λ (t : List ℕ). PutsFront c.args.out.now.items t c.put_field.new.out.items) (joined (and_number c.args.top) (and_number c.args.height) (and_number c.args.depth) (10 ∷ []))
     (cut (and_number c.args.height ++ and_number c.args.depth ++ 10 ∷ []) (simp to_z-of_z at c.in_err-put_field.ensures)))
 
 pub returns : goal.returns

@@ -6,9 +6,7 @@ use Rattle.tb_text.specs.Fronts.{PutsFront, PutsAfter}
 use Rattle.tb_text.proofs.FrontLemmas.{cut, fails, on_joined}
 use Rattle.tb_report.proofs.items.put_any_item.Goals as goal
 
-stops-1 : (a b d e f g : List ℕ) → a ++ b ++ (d ++ e ++ f ++ g) ≡ a ++ b ++ d ++ e ++ f ++ g
-stops-1 a b d e f g = simp append_assoc
-
+-- the parts, one after another
 joined : (a b d e f g : List ℕ) → a ++ b ++ (d ++ e ++ f ++ g) ≡ a ++ b ++ d ++ e ++ f ++ g
 joined a b d e f g = simp append_assoc
 
@@ -17,7 +15,7 @@ returns-in_err-put_named c =
     let ft : FitsSigned w128 c.args.top = c.ranges.top in
     let fh : FitsSigned w64 c.args.height = c.ranges.height in
     let fd : FitsSigned w64 c.args.depth = c.ranges.depth in
-    fails _ _ _ _ c.from_residual.ensures.0 (subst (λ (t : List ℕ). PutsFront c.args.out.now.items t c.put_named.new.out.items) (stops-1 c.args.word.now c.args.name.now (and_number c.args.top) (and_number c.args.height) (and_number c.args.depth) (10 ∷ []))
+    fails _ _ _ _ c.from_residual.ensures.0 (subst (λ (t : List ℕ). PutsFront c.args.out.now.items t c.put_named.new.out.items) (joined c.args.word.now c.args.name.now (and_number c.args.top) (and_number c.args.height) (and_number c.args.depth) (10 ∷ []))
     (cut (and_number c.args.top ++ and_number c.args.height ++ and_number c.args.depth ++ 10 ∷ []) (simp c.as_bytes.ensures at c.in_err-put_named.ensures)))
 
 pub returns : goal.returns

@@ -6,16 +6,14 @@ use Rattle.tb_text.specs.Fronts.{PutsFront, PutsAfter}
 use Rattle.tb_text.proofs.FrontLemmas.{cut, fails, on_joined}
 use Rattle.tb_report.proofs.items.put_at.Goals as goal
 
-stops-1 : (a b d e : List ℕ) → a ++ b ++ (d ++ e) ≡ a ++ b ++ d ++ e
-stops-1 a b d e = simp append_assoc
-
+-- the parts, one after another
 joined : (a b d e : List ℕ) → a ++ b ++ (d ++ e) ≡ a ++ b ++ d ++ e
 joined a b d e = simp append_assoc
 
 pub returns-in_err-put_named : goal.returns-in_err-put_named
 returns-in_err-put_named c =
     let ft : FitsSigned w128 c.args.top = c.ranges.top in
-    fails _ _ _ _ c.from_residual.ensures.0 (subst (λ (t : List ℕ). PutsFront c.args.out.now.items t c.put_named.new.out.items) (stops-1 c.args.word.now c.args.name.now (and_number c.args.top) (10 ∷ []))
+    fails _ _ _ _ c.from_residual.ensures.0 (subst (λ (t : List ℕ). PutsFront c.args.out.now.items t c.put_named.new.out.items) (joined c.args.word.now c.args.name.now (and_number c.args.top) (10 ∷ []))
     (cut (and_number c.args.top ++ 10 ∷ []) (simp c.as_bytes.ensures at c.in_err-put_named.ensures)))
 
 pub returns : goal.returns

@@ -6,25 +6,20 @@ use Rattle.tb_text.proofs.FrontLemmas.{cut, fails, on_joined, past}
 use Rattle.tb_report.specs.Lines.{side_text}
 use Rattle.tb_report.proofs.items.put_moved.Goals as goal
 
-stops-1 : (a b d e : List ℕ) → a ++ b ++ (d ++ e) ≡ a ++ b ++ d ++ e
-stops-1 a b d e = simp append_assoc
-
-stops-2 : (a b d e : List ℕ) → a ++ b ++ (d ++ e) ≡ a ++ b ++ d ++ e
-stops-2 a b d e = simp append_assoc
-
+-- the parts, one after another
 joined : (a b d e : List ℕ) → a ++ b ++ (d ++ e) ≡ a ++ b ++ d ++ e
 joined a b d e = simp append_assoc
 
 pub returns-in_err-put_named : goal.returns-in_err-put_named
 returns-in_err-put_named c =
     let fs : FitsSigned w64 c.args.shift = c.ranges.shift in
-    fails _ _ _ _ c.from_residual.ensures.0 (subst (λ (t : List ℕ). PutsFront c.args.out.now.items t c.put_named.new.out.items) (stops-1 c.args.word.now c.args.name.now (and_text (side_text c.args.side)) (and_number c.args.shift))
+    fails _ _ _ _ c.from_residual.ensures.0 (subst (λ (t : List ℕ). PutsFront c.args.out.now.items t c.put_named.new.out.items) (joined c.args.word.now c.args.name.now (and_text (side_text c.args.side)) (and_number c.args.shift))
     (cut (and_text (side_text c.args.side) ++ and_number c.args.shift) (simp c.as_bytes.ensures at c.in_err-put_named.ensures)))
 
 pub returns-in_err-put_text : goal.returns-in_err-put_text
 returns-in_err-put_text c =
     let fs : FitsSigned w64 c.args.shift = c.ranges.shift in
-    fails _ _ _ _ c.from_residual-in_err-put_text.ensures.0 (subst (λ (t : List ℕ). PutsFront c.args.out.now.items t c.put_text.new.out.items) (stops-2 c.args.word.now c.args.name.now (and_text (side_text c.args.side)) (and_number c.args.shift))
+    fails _ _ _ _ c.from_residual-in_err-put_text.ensures.0 (subst (λ (t : List ℕ). PutsFront c.args.out.now.items t c.put_text.new.out.items) (joined c.args.word.now c.args.name.now (and_text (side_text c.args.side)) (and_number c.args.shift))
     (past _ (simp c.as_bytes.ensures at c.in_ok-put_named.ensures) (cut (and_number c.args.shift) (simp c.side_text.ensures at c.in_err-put_text.ensures))))
 
 pub returns : goal.returns

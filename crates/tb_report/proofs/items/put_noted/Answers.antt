@@ -7,9 +7,7 @@ use Rattle.tb_text.proofs.FrontLemmas.{cut, fails, on_joined}
 use Rattle.tb_report.specs.Lines.{side_text}
 use Rattle.tb_report.proofs.items.put_noted.Goals as goal
 
-stops-1 : (a b d e f g h i : List ℕ) → a ++ b ++ d ++ e ++ (f ++ g ++ h ++ i) ≡ a ++ b ++ d ++ e ++ f ++ g ++ h ++ i
-stops-1 a b d e f g h i = simp append_assoc
-
+-- the parts, one after another
 joined : (a b d e f g h i : List ℕ) → a ++ b ++ d ++ e ++ (f ++ g ++ h ++ i) ≡ a ++ b ++ d ++ e ++ f ++ g ++ h ++ i
 joined a b d e f g h i = simp append_assoc
 
@@ -19,7 +17,7 @@ returns-in_err-put_moved c =
     let ft : FitsSigned w128 c.args.top = c.ranges.top in
     let fh : FitsSigned w64 c.args.height = c.ranges.height in
     let fd : FitsSigned w64 c.args.depth = c.ranges.depth in
-    fails _ _ _ _ c.from_residual.ensures.0 (subst (λ (t : List ℕ). PutsFront c.args.out.now.items t c.put_moved.new.out.items) (stops-1 c.args.word.now c.args.name.now (and_text (side_text c.args.side)) (and_number c.args.shift) (and_number c.args.top) (and_number c.args.height) (and_number c.args.depth) (10 ∷ []))
+    fails _ _ _ _ c.from_residual.ensures.0 (subst (λ (t : List ℕ). PutsFront c.args.out.now.items t c.put_moved.new.out.items) (joined c.args.word.now c.args.name.now (and_text (side_text c.args.side)) (and_number c.args.shift) (and_number c.args.top) (and_number c.args.height) (and_number c.args.depth) (10 ∷ []))
     (cut (and_number c.args.top ++ and_number c.args.height ++ and_number c.args.depth ++ 10 ∷ []) (simp to_z-of_z at c.in_err-put_moved.ensures)))
 
 pub returns : goal.returns

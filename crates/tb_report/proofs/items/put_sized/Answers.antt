@@ -6,9 +6,7 @@ use Rattle.tb_text.specs.Fronts.{PutsFront, PutsAfter}
 use Rattle.tb_text.proofs.FrontLemmas.{cut, fails, on_joined}
 use Rattle.tb_report.proofs.items.put_sized.Goals as goal
 
-stops-1 : (a b d e f : List ℕ) → a ++ (b ++ d ++ e ++ f) ≡ a ++ b ++ d ++ e ++ f
-stops-1 a b d e f = simp append_assoc
-
+-- the parts, one after another
 joined : (a b d e f : List ℕ) → a ++ (b ++ d ++ e ++ f) ≡ a ++ b ++ d ++ e ++ f
 joined a b d e f = simp append_assoc
 
@@ -17,7 +15,7 @@ returns-in_err-put c =
     let ft : FitsSigned w128 c.args.top = c.ranges.top in
     let fh : FitsSigned w64 c.args.height = c.ranges.height in
     let fd : FitsSigned w64 c.args.depth = c.ranges.depth in
-    fails _ _ _ _ c.from_residual.ensures.0 (subst (λ (t : List ℕ). PutsFront c.args.out.now.items t c.put.new.out.items) (stops-1 c.args.text.now (and_number c.args.top) (and_number c.args.height) (and_number c.args.depth) (10 ∷ []))
+    fails _ _ _ _ c.from_residual.ensures.0 (subst (λ (t : List ℕ). PutsFront c.args.out.now.items t c.put.new.out.items) (joined c.args.text.now (and_number c.args.top) (and_number c.args.height) (and_number c.args.depth) (10 ∷ []))
     (cut (and_number c.args.top ++ and_number c.args.height ++ and_number c.args.depth ++ 10 ∷ []) c.in_err-put.ensures))
 
 pub returns : goal.returns

@@ -5,25 +5,20 @@ use Rattle.tb_text.specs.Fronts.{PutsFront, PutsAfter}
 use Rattle.tb_text.proofs.FrontLemmas.{cut, fails, on_joined, past}
 use Rattle.tb_report.proofs.warnings.put_by.Goals as goal
 
-stops-1 : (a b d e : List ℕ) → a ++ b ++ (d ++ e) ≡ a ++ b ++ d ++ e
-stops-1 a b d e = simp append_assoc
-
-stops-2 : (a b d e : List ℕ) → a ++ b ++ (d ++ e) ≡ a ++ b ++ d ++ e
-stops-2 a b d e = simp append_assoc
-
+-- the parts, one after another
 joined : (a b d e : List ℕ) → a ++ b ++ (d ++ e) ≡ a ++ b ++ d ++ e
 joined a b d e = simp append_assoc
 
 pub returns-in_err-put_named : goal.returns-in_err-put_named
 returns-in_err-put_named c =
     let b : FitsSigned w64 c.args.by = c.ranges.by in
-    fails _ _ _ _ c.from_residual.ensures.0 (subst (λ (t : List ℕ). PutsFront c.args.out.now.items t c.put_named.new.out.items) (stops-1 c.args.word.now c.args.name.now (and_number c.args.by) (10 ∷ []))
+    fails _ _ _ _ c.from_residual.ensures.0 (subst (λ (t : List ℕ). PutsFront c.args.out.now.items t c.put_named.new.out.items) (joined c.args.word.now c.args.name.now (and_number c.args.by) (10 ∷ []))
     (cut (and_number c.args.by ++ 10 ∷ []) (simp c.as_bytes.ensures at c.in_err-put_named.ensures)))
 
 pub returns-in_err-put_amount : goal.returns-in_err-put_amount
 returns-in_err-put_amount c =
     let b : FitsSigned w64 c.args.by = c.ranges.by in
-    fails _ _ _ _ c.from_residual-in_err-put_amount.ensures.0 (subst (λ (t : List ℕ). PutsFront c.args.out.now.items t c.put_amount.new.out.items) (stops-2 c.args.word.now c.args.name.now (and_number c.args.by) (10 ∷ []))
+    fails _ _ _ _ c.from_residual-in_err-put_amount.ensures.0 (subst (λ (t : List ℕ). PutsFront c.args.out.now.items t c.put_amount.new.out.items) (joined c.args.word.now c.args.name.now (and_number c.args.by) (10 ∷ []))
     (past _ (simp c.as_bytes.ensures at c.in_ok-put_named.ensures) (cut (10 ∷ []) (simp to_z-of_z at c.in_err-put_amount.ensures))))
 
 pub returns : goal.returns
