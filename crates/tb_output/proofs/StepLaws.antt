@@ -2,5 +2,7 @@
 pub mod WorkSteps
 pub mod ColumnSteps
 pub mod FiringSteps
+pub mod Moves
+pub mod FiringTree
 pub mod ClassBoxes
 pub mod FollowLemmas

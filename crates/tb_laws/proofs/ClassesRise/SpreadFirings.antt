@@ -12,6 +12,7 @@ use Rattle.tb_float.specs.Rooms.{column_height_of}
 use Rattle.tb_area.specs.Deferred.{doubled}
 use Rattle.tb_fpage.specs.declared.Wanted.{Wanted}
 use Rattle.tb_fpage.specs.Company.{Choice, company, chosen_floats, left_floats}
+use Rattle.tb_fpage.proofs.FirstLemmas.{company-all}
 use Rattle.tb_column.specs.Column.{PlainColumn, PlainSheet, PlainSent, shipped, one, wide, pair_sheet, wide_floats_column, single_floats_column}
 use Rattle.tb_output.specs.State.{State, Work, Recorded, output, records_also, sends, with_floats}
 use Rattle.tb_output.specs.Pages
@@ -21,7 +22,7 @@ use Rattle.tb_output.proofs.StepLaws.WorkSteps.{column-unrefused}
 use Rattle.tb_output.proofs.ColumnPages.FillLemmas.{HasLists, fill_double-lists}
 use Rattle.tb_laws.proofs.ClassesRise.RisingLists.{IsMissing}
 use Rattle.tb_laws.proofs.ClassesRise.ClassLines.{FloatKind, IsReleased, wide-from, class_lines, float_lines, left_lines, sheet_lines, sent_lines, sent-append, floats_above-lines, floats_column-lines}
-use Rattle.tb_laws.proofs.StepLaws.QuietLemmas.{AddsQuiet, double-added, company-all}
+use Rattle.tb_laws.proofs.StepLaws.QuietLemmas.{AddsQuiet, double-added}
 use Rattle.tb_laws.proofs.Closed.SparedLists.{waiting-double}
 use Rattle.tb_laws.proofs.ClassesRise.SpreadLemmas.{IsBehind, Spread, no-left, left-lines, behind-missing}
 use Rattle.tb_laws.proofs.ClassesRise.SpreadSteps.{recorded, shipped_alone, kept_left, shipped_pair, chosen, chosen_wide, filled_double}
