@@ -45,7 +45,7 @@ double-leaves parts.Second q f fs l = refl
 double-leaves from q f fs l = absurd q
 
 -- no move of a column changes their number
-two-stays : {p : Params} {h i : Hand} {a b : Work} → ColumnMove p h a i b → b.state.two_columns ≡ a.state.two_columns
+pub two-stays : {p : Params} {h i : Hand} {a b : Work} → ColumnMove p h a i b → b.state.two_columns ≡ a.state.two_columns
 two-stays {p = p} (records_column c w) = (stays {p = p} {law = no_law p} (records_one (output c) w tt)).columns
 two-stays {p = p} (ships_column c w t) = (stays {p = p} {law = no_law p} (ships_one (one c) w)).columns
 two-stays {p = p} (ships_pair c w t f) = (stays {p = p} {law = no_law p} (ships_one _ w)).columns
