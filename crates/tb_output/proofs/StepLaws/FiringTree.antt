@@ -154,11 +154,15 @@ module _ (p : Params) where
   pub fill_column-moves : (w : Work) → OfColumn nothing w (Columns.fill_column p w)
   fill_column-moves w = next-moves [] w.state.floats.deferred w refl
 
-  pub ordinary-moves : (body : List PlainNode) (w : Work) → OfPage (of_text body) w (Columns.ordinary p body w)
-  ordinary-moves body w =
+  -- an ordinary page once its text is made a column
+  pub ordinary-columns : (body : List PlainNode) (w : Work) → OfColumn (of_column (text_column p w.state.floats body (footnotes w.state))) (Columns.without_column_floats w) (Columns.ordinary p body w)
+  ordinary-columns body w =
       let a = Columns.put_out_text p body w in
       let b = Columns.all_float_columns p false a in
-      in_turn (put_out_text-moves body w) (page (in_turn (all_columns-moves false a) (fill_column-moves b)))
+      in_turn (put_out-moves (text_column p w.state.floats body (footnotes w.state)) (Columns.without_column_floats w)) (in_turn (all_columns-moves false a) (fill_column-moves b))
+
+  pub ordinary-moves : (body : List PlainNode) (w : Work) → OfPage (of_text body) w (Columns.ordinary p body w)
+  ordinary-moves body w = in_turn (moves (takes_text body w)) (page (ordinary-columns body w))
 
   -- ---- floats and notes in the text
 
