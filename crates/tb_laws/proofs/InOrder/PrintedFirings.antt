@@ -19,7 +19,7 @@ use Rattle.tb_output.specs.Columns
 use Rattle.tb_output.specs.Text
 use Rattle.tb_output.specs.Output
 use Rattle.tb_output.specs.Clear
-use Rattle.tb_output.proofs.StepLaws.Moves.{Hand, nothing, of_text, of_column, of_float, of_note, ColumnMove, takes_company, records_column, ships_column, keeps_left, ships_pair, ends_column, ships_wide, places_waiting, PageMove, by_column, takes_text, fills_text, Move, by_page, places_current, defers_current, takes_float, puts_penalty, warns, Moves, goes-on, widen}
+use Rattle.tb_output.proofs.StepLaws.Moves.{Hand, nothing, of_text, of_column, of_float, of_note, ColumnMove, takes_company, records_column, ships_column, keeps_left, ships_pair, ends_column, ships_wide, places_waiting, PageMove, by_column, takes_text, fills_text, TextMove, places_current, defers_current, takes_float, puts_penalty, warns, Move, by_page, by_text, Moves, goes-on, widen}
 use Rattle.tb_output.proofs.StepLaws.FiringTree.{ordinary-columns, clear_by-moves, float_or_note-moves, goal-moves}
 use Rattle.tb_laws.proofs.NothingLost.StateWeights.{ColumnsFit, first-left, one-left}
 use Rattle.tb_laws.proofs.Closed.Closings.{never}
@@ -273,13 +273,17 @@ module _ (p : Params) where
   page-shown (fills_text body w) = alike (of_text body) (of_text _) w w refl refl refl (λ k. k) (λ s. plain-both body (made (skip filling_glue) ∷ []) s (tt, tt)) (itself (shown w))
   page-shown {h = h} {a = a} {i = i} {b = b} m = alike h i a b refl refl refl (λ k. k) (λ k. tt) (itself (shown a))
 
+  text-shows : {h : Hand} {a : Work} {i : Hand} {b : Work} → TextMove p h a i b → Shows h a i b
+  text-shows (places_current place f es height w c e i) = placed-shows p nothing place f _ w (λ k. k) (itself (shown w))
+  text-shows (defers_current t f es w e i) = placed-shows p nothing places.Deferred _ _ w (λ k. k) (itself (shown w))
+  text-shows (takes_float f es w e) = placed-shows p (of_float f) places.Here f _ w (λ k. k) (itself (shown w))
+  text-shows (puts_penalty h w) = alike h h w _ refl refl refl (λ k. k) (λ k. k) (itself (beside h (shown w)))
+  text-shows (warns h e w) = warns-shows h e w
+  text-shows {h = h} {a = a} {i = i} {b = b} m = alike h i a b refl refl refl (λ k. k) (λ k. tt) (itself (shown a))
+
   firing-shows : {h : Hand} {a : Work} {i : Hand} {b : Work} → Move p h a i b → Shows h a i b
   firing-shows (by_page m) = page-shown m
-  firing-shows (places_current place f es height w c e i) = placed-shows p nothing place f _ w (λ k. k) (itself (shown w))
-  firing-shows (defers_current t f es w e i) = placed-shows p nothing places.Deferred _ _ w (λ k. k) (itself (shown w))
-  firing-shows (takes_float f es w e) = placed-shows p (of_float f) places.Here f _ w (λ k. k) (itself (shown w))
-  firing-shows (puts_penalty h w) = alike h h w _ refl refl refl (λ k. k) (λ k. k) (itself (beside h (shown w)))
-  firing-shows (warns h e w) = warns-shows h e w
+  firing-shows (by_text m) = text-shows m
   firing-shows {h = h} {a = a} {i = i} {b = b} m = alike h i a b refl refl refl (λ k. k) (λ k. tt) (itself (shown a))
 
   -- ---- what the parts of a firing show
@@ -306,7 +310,7 @@ module _ (p : Params) where
   clear_by-prints body w o s = moves-print (widen (λ h i a b m. by_page m) (clear_by-moves p body w o)) (λ l. refl) s
 
   pub float_or_note-prints : (vert : Bool) (body : List PlainNode) (w : Work) → AllPlain body → Prints [] w (Text.float_or_note p vert body w)
-  float_or_note-prints vert body w s = moves-print (float_or_note-moves p vert body w) (λ l. refl) s
+  float_or_note-prints vert body w s = moves-print (widen (λ h i a b m. by_text m) (float_or_note-moves p vert body w)) (λ l. refl) s
 
   pub goal-prints : (n : ℤ) (w : Work) → Prints [] w (Output.next_goal p n w)
   goal-prints n w = moves-print (goal-moves p n w) (λ l. refl) tt

@@ -32,7 +32,7 @@ use Rattle.tb_output.specs.Clear
 use Rattle.tb_output.specs.Output
 use Rattle.tb_output.specs.Firing.{page_work}
 use Rattle.tb_output.proofs.StepLaws.ColumnSteps.{no_law, records_one, ships_one, ship_wide-step, place_float-step, stays}
-use Rattle.tb_output.proofs.StepLaws.Moves.{Hand, nothing, of_text, of_column, of_float, of_note, deferred_float, for_column, for_two, ColumnMove, takes_company, records_column, ships_column, keeps_left, ships_pair, ends_column, ships_wide, places_waiting, PageMove, by_column, takes_text, fills_text, keeps_front, gathers, gathers_wide, leaves_second, clears_again, Move, by_page, goes_back, places_current, defers_current, takes_float, stands_here, takes_note, stands_beside, puts_penalty, warns, holds_page, leaves_blank, sets_goal, Moves, rests, moves, in_turn, goes-on, widen}
+use Rattle.tb_output.proofs.StepLaws.Moves.{Hand, nothing, of_text, of_column, of_float, of_note, deferred_float, for_column, for_two, ColumnMove, takes_company, records_column, ships_column, keeps_left, ships_pair, ends_column, ships_wide, places_waiting, PageMove, by_column, takes_text, fills_text, keeps_front, gathers, gathers_wide, leaves_second, clears_again, TextMove, goes_back, places_current, defers_current, takes_float, stands_here, takes_note, stands_beside, puts_penalty, warns, Move, by_page, by_text, holds_page, leaves_blank, sets_goal, Moves, rests, moves, in_turn, goes-on, widen}
 
 -- the list of a place that was not taken still has its float
 still-waits : (before : List Float) (f : Float) (rest fs : List Float) → fs ≡ before ++ f ∷ rest → fs ≡ (before ++ f ∷ []) ++ rest
@@ -70,6 +70,9 @@ module _ (p : Params) where
 
   abbrev OfPage : Hand → Work → Work → Type 0
   OfPage h a b = Moves (PageMove p) h a nothing b
+
+  abbrev OfText : Hand → Work → Work → Type 0
+  OfText h a b = Moves (TextMove p) h a nothing b
 
   abbrev Of : Hand → Work → Work → Type 0
   Of h a b = Moves (Move p) h a nothing b
@@ -167,16 +170,16 @@ module _ (p : Params) where
   -- ---- floats and notes in the text
 
   -- the interline penalty goes back at last
-  then_penalty : {h : Hand} {a : Work} (b : Work) → Moves (Move p) h a nothing b → Moves (Move p) h a nothing (Text.puts_interline p b)
+  then_penalty : {h : Hand} {a : Work} (b : Work) → Moves (TextMove p) h a nothing b → Moves (TextMove p) h a nothing (Text.puts_interline p b)
   then_penalty b x = in_turn x (moves (puts_penalty nothing b))
 
-  defer-moves : (f : Float) (es : List Entry) (w : Work) → w.state.floats.current ≡ entries.Float f ∷ es → Of nothing w (Text.defer p f (record w.state.floats { current = es }) w)
+  defer-moves : (f : Float) (es : List Entry) (w : Work) → w.state.floats.current ≡ entries.Float f ∷ es → OfText nothing w (Text.defer p f (record w.state.floats { current = es }) w)
   defer-moves f es w e = by_test (Text.only_here f) _ _ (λ i. in_turn (placed true i) (moves (warns nothing (warnings.Ht f.name) _))) (placed false)
     where
-      placed : (t : Bool) → Text.only_here f ≡ t → Of nothing w (FloatMoves.place_float p places.Deferred (deferred_float t f) (record w.state.floats { current = es }) w)
+      placed : (t : Bool) → Text.only_here f ≡ t → OfText nothing w (FloatMoves.place_float p places.Deferred (deferred_float t f) (record w.state.floats { current = es }) w)
       placed t i = moves (defers_current t f es w e i)
 
-  float_goes-moves : (vert : Bool) (f : Float) (es : List Entry) (w : Work) (page_height : ℤ) (place : Where) → w.state.floats.current ≡ entries.Float f ∷ es → current_place p w.state.floats w.state.suppress page_height f ≡ place → Of nothing w (Text.float_goes p vert f (record w.state.floats { current = es }) w place)
+  float_goes-moves : (vert : Bool) (f : Float) (es : List Entry) (w : Work) (page_height : ℤ) (place : Where) → w.state.floats.current ≡ entries.Float f ∷ es → current_place p w.state.floats w.state.suppress page_height f ≡ place → OfText nothing w (Text.float_goes p vert f (record w.state.floats { current = es }) w place)
   float_goes-moves vert f es w height places.Here e i =
       let a = FloatMoves.place_float p places.Here f (record w.state.floats { current = es }) w in
       in_turn (moves (takes_float f es w e)) (in_turn (moves (puts_penalty (of_float f) a)) (moves (stands_here vert f (Text.puts_interline p a))))
@@ -184,25 +187,25 @@ module _ (p : Params) where
   float_goes-moves vert f es w height places.Bottom e i = then_penalty _ (moves (places_current places.Bottom f es height w tt e i))
   float_goes-moves vert f es w height place e i = then_penalty _ (defer-moves f es w e)
 
-  note-moves : (height depth : ℤ) (m : Margin) (es : List Entry) (w : Work) → w.state.floats.current ≡ entries.Left m ∷ es → Of nothing w (Text.note_at p height depth m (record w.state.floats { current = drop 1 es }) w)
+  note-moves : (height depth : ℤ) (m : Margin) (es : List Entry) (w : Work) → w.state.floats.current ≡ entries.Left m ∷ es → OfText nothing w (Text.note_at p height depth m (record w.state.floats { current = drop 1 es }) w)
   note-moves height depth m es w e =
       let at = placed_note p w.state.page w.state.two_columns w.state.first_column height w.state.note_bottom m in
       let a = Text.with_note_bottom at.bottom (with_floats (record w.state.floats { current = drop 1 es }) w) in
       let b = Text.moved_warning m at a in
       then_penalty _ (in_turn (moves (takes_note height m es at w e refl)) (in_turn (told at a at.moved) (moves (stands_beside depth m at b))))
     where
-      told : (at : Placed) (a : Work) (t : Bool) → Moves (Move p) (of_note m at) a (of_note m at) (if t then sends (warned (warnings.Moved m.name at.shift)) a else a)
+      told : (at : Placed) (a : Work) (t : Bool) → Moves (TextMove p) (of_note m at) a (of_note m at) (if t then sends (warned (warnings.Moved m.name at.shift)) a else a)
       told at a true = moves (warns (of_note m at) (warnings.Moved m.name at.shift) a)
       told at a false = rests
 
-  pub first-moves : (vert : Bool) (height depth page_height : ℤ) (es : List Entry) (w : Work) → w.state.floats.current ≡ es → Of nothing w (Text.first_goes p vert height depth page_height es w)
+  pub first-moves : (vert : Bool) (height depth page_height : ℤ) (es : List Entry) (w : Work) → w.state.floats.current ≡ es → OfText nothing w (Text.first_goes p vert height depth page_height es w)
   first-moves vert height depth page_height (entries.Float f ∷ es) w e = float_goes-moves vert f es w page_height _ e refl
   first-moves vert height depth page_height (entries.Left m ∷ []) w e = note-moves height depth m [] w e
   first-moves vert height depth page_height (entries.Left m ∷ n ∷ es) w e = note-moves height depth m (n ∷ es) w e
   first-moves vert height depth page_height (entries.Right m ∷ es) w e = moves (puts_penalty nothing w)
   first-moves vert height depth page_height [] w e = moves (puts_penalty nothing w)
 
-  pub float_or_note-moves : (vert : Bool) (body : List PlainNode) (w : Work) → Of (of_text body) w (Text.float_or_note p vert body w)
+  pub float_or_note-moves : (vert : Bool) (body : List PlainNode) (w : Work) → OfText (of_text body) w (Text.float_or_note p vert body w)
   float_or_note-moves vert body w = in_turn (moves (goes_back body w)) (first-moves vert _ _ _ w.state.floats.current (Text.list_back p (w.state.held_page ++ Text.without_firing_box body) w) refl)
 
   -- ---- a clear
@@ -241,15 +244,15 @@ module _ (p : Params) where
   output-moves f w =
       by_test (int_le eject_penalty f.penalty) (Columns.ordinary p f.body w) _ (λ e. widen (λ h i a b m. by_page m) (ordinary-moves f.body w))
       (λ e. by_test (Output.is_int f.penalty Output.clear_penalty) (Clear.clear p f.body w) _ (λ e. widen (λ h i a b m. by_page m) (clear_by-moves f.body w (footnotes w.state)))
-      (λ e. by_test (Output.is_int f.penalty Output.par_penalty) (Text.float_or_note p false f.body w) _ (λ e. float_or_note-moves false f.body w)
-      (λ e. by_test (Output.is_int f.penalty Output.vert_penalty) (Text.float_or_note p true f.body w) (Output.hold f.body w) (λ e. float_or_note-moves true f.body w) (λ e. moves (holds_page f.body w)))))
+      (λ e. by_test (Output.is_int f.penalty Output.par_penalty) (Text.float_or_note p false f.body w) _ (λ e. widen (λ h i a b m. by_text m) (float_or_note-moves false f.body w))
+      (λ e. by_test (Output.is_int f.penalty Output.vert_penalty) (Text.float_or_note p true f.body w) (Output.hold f.body w) (λ e. widen (λ h i a b m. by_text m) (float_or_note-moves true f.body w)) (λ e. moves (holds_page f.body w)))))
 
   pub goal-moves : (n : ℤ) (w : Work) → Of nothing w (Output.next_goal p n w)
   goal-moves n w =
       let room = column_room_of p w.state.floats in
       let told = sends (warned (warnings.Floats w.state.page)) w in
       by_test (Output.is_int n Output.hold_penalty) (Output.with_goal max_dimen w) (Output.goal_by p room w) (λ e. moves (sets_goal max_dimen w))
-      (λ e. by_test (Output.is_crowded p room) (Output.leave_column w) (Output.with_goal room w) (λ e. in_turn (moves (warns nothing (warnings.Floats w.state.page) w)) (moves (leaves_blank (w.state.two_columns && not w.state.first_column) told))) (λ e. moves (sets_goal room w)))
+      (λ e. by_test (Output.is_crowded p room) (Output.leave_column w) (Output.with_goal room w) (λ e. in_turn (moves (by_text (warns nothing (warnings.Floats w.state.page) w))) (moves (leaves_blank (w.state.two_columns && not w.state.first_column) told))) (λ e. moves (sets_goal room w)))
 
   -- a firing without what waits after it
   pub page-moves : (s : State) (f : Fired) → Of (of_text f.body) (begun (Output.after_page s f)) (page_work p s f)

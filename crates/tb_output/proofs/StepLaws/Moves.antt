@@ -74,18 +74,22 @@ pub data PageMove (p : Params) : Hand → Work → Hand → Work → Type 0 wher
   leaves_second : (w : Work) → w.state.two_columns ≡ true → w.state.first_column ≡ false → PageMove p nothing w nothing (puts (made blank_box ∷ Clear.clear_again) w)
   clears_again : (w : Work) → PageMove p nothing w nothing (puts Clear.clear_again w)
 
--- what is done at any break: beside the above, with a float or note in the text, a page that is held, and the goal of the next page
+-- what is done with a float or note in the text
+pub data TextMove (p : Params) : Hand → Work → Hand → Work → Type 0 where
+  goes_back : (body : List PlainNode) (w : Work) → TextMove p (of_text body) w nothing (Text.list_back p (w.state.held_page ++ Text.without_firing_box body) w)
+  places_current : (place : Where) (f : Float) (es : List Entry) (page_height : ℤ) (w : Work) → IsInColumn place → w.state.floats.current ≡ entries.Float f ∷ es → current_place p w.state.floats w.state.suppress page_height f ≡ place → TextMove p nothing w nothing (FloatMoves.place_float p place f (record w.state.floats { current = es }) w)
+  defers_current : (t : Bool) (f : Float) (es : List Entry) (w : Work) → w.state.floats.current ≡ entries.Float f ∷ es → Text.only_here f ≡ t → TextMove p nothing w nothing (FloatMoves.place_float p places.Deferred (deferred_float t f) (record w.state.floats { current = es }) w)
+  takes_float : (f : Float) (es : List Entry) (w : Work) → w.state.floats.current ≡ entries.Float f ∷ es → TextMove p nothing w (of_float f) (FloatMoves.place_float p places.Here f (record w.state.floats { current = es }) w)
+  stands_here : (vert : Bool) (f : Float) (w : Work) → TextMove p (of_float f) w nothing (puts (Text.here_nodes p vert f) w)
+  takes_note : (height : ℤ) (m : Margin) (es : List Entry) (at : Placed) (w : Work) → w.state.floats.current ≡ entries.Left m ∷ es → at ≡ placed_note p w.state.page w.state.two_columns w.state.first_column height w.state.note_bottom m → TextMove p nothing w (of_note m at) (Text.with_note_bottom at.bottom (with_floats (record w.state.floats { current = drop 1 es }) w))
+  stands_beside : (depth : ℤ) (m : Margin) (at : Placed) (w : Work) → TextMove p (of_note m at) w nothing (puts (Text.note_nodes depth m at) w)
+  puts_penalty : (h : Hand) (w : Work) → TextMove p h w h (Text.puts_interline p w)
+  warns : (h : Hand) (e : Warn) (w : Work) → TextMove p h w h (sends (warned e) w)
+
+-- what is done at any break: the above, a page that is held, and the goal of the next page
 pub data Move (p : Params) : Hand → Work → Hand → Work → Type 0 where
   by_page : {h i : Hand} {a b : Work} → PageMove p h a i b → Move p h a i b
-  goes_back : (body : List PlainNode) (w : Work) → Move p (of_text body) w nothing (Text.list_back p (w.state.held_page ++ Text.without_firing_box body) w)
-  places_current : (place : Where) (f : Float) (es : List Entry) (page_height : ℤ) (w : Work) → IsInColumn place → w.state.floats.current ≡ entries.Float f ∷ es → current_place p w.state.floats w.state.suppress page_height f ≡ place → Move p nothing w nothing (FloatMoves.place_float p place f (record w.state.floats { current = es }) w)
-  defers_current : (t : Bool) (f : Float) (es : List Entry) (w : Work) → w.state.floats.current ≡ entries.Float f ∷ es → Text.only_here f ≡ t → Move p nothing w nothing (FloatMoves.place_float p places.Deferred (deferred_float t f) (record w.state.floats { current = es }) w)
-  takes_float : (f : Float) (es : List Entry) (w : Work) → w.state.floats.current ≡ entries.Float f ∷ es → Move p nothing w (of_float f) (FloatMoves.place_float p places.Here f (record w.state.floats { current = es }) w)
-  stands_here : (vert : Bool) (f : Float) (w : Work) → Move p (of_float f) w nothing (puts (Text.here_nodes p vert f) w)
-  takes_note : (height : ℤ) (m : Margin) (es : List Entry) (at : Placed) (w : Work) → w.state.floats.current ≡ entries.Left m ∷ es → at ≡ placed_note p w.state.page w.state.two_columns w.state.first_column height w.state.note_bottom m → Move p nothing w (of_note m at) (Text.with_note_bottom at.bottom (with_floats (record w.state.floats { current = drop 1 es }) w))
-  stands_beside : (depth : ℤ) (m : Margin) (at : Placed) (w : Work) → Move p (of_note m at) w nothing (puts (Text.note_nodes depth m at) w)
-  puts_penalty : (h : Hand) (w : Work) → Move p h w h (Text.puts_interline p w)
-  warns : (h : Hand) (e : Warn) (w : Work) → Move p h w h (sends (warned e) w)
+  by_text : {h i : Hand} {a b : Work} → TextMove p h a i b → Move p h a i b
   holds_page : (body : List PlainNode) (w : Work) → Move p (of_text body) w nothing (Output.hold body w)
   leaves_blank : (two : Bool) (w : Work) → Move p nothing w nothing (puts (if two then Output.blank_column ++ Output.blank_column else Output.blank_column) w)
   sets_goal : (g : ℤ) (w : Work) → Move p nothing w nothing (Output.with_goal g w)

@@ -31,7 +31,7 @@ use Rattle.tb_output.specs.Text.{penalty_nodes, penalty_after, without_firing_bo
 use Rattle.tb_output.specs.Clear.{clear_again, cleared_front, deferred_again, double_again}
 use Rattle.tb_output.specs.Output.{blank_column, out}
 use Rattle.tb_output.specs.Firing.{page_work}
-use Rattle.tb_output.proofs.StepLaws.Moves.{Hand, nothing, of_text, of_column, of_float, of_note, deferred_float, Waited, for_column, for_two, ColumnMove, takes_company, records_column, ships_column, keeps_left, ships_pair, ends_column, ships_wide, places_waiting, PageMove, by_column, takes_text, fills_text, keeps_front, gathers, gathers_wide, leaves_second, clears_again, Move, by_page, goes_back, places_current, defers_current, takes_float, stands_here, takes_note, stands_beside, puts_penalty, warns, holds_page, leaves_blank, sets_goal, holds-on}
+use Rattle.tb_output.proofs.StepLaws.Moves.{Hand, nothing, of_text, of_column, of_float, of_note, deferred_float, Waited, for_column, for_two, ColumnMove, takes_company, records_column, ships_column, keeps_left, ships_pair, ends_column, ships_wide, places_waiting, PageMove, by_column, takes_text, fills_text, keeps_front, gathers, gathers_wide, leaves_second, clears_again, TextMove, goes_back, places_current, defers_current, takes_float, stands_here, takes_note, stands_beside, puts_penalty, warns, Move, by_page, by_text, holds_page, leaves_blank, sets_goal, holds-on}
 use Rattle.tb_output.proofs.StepLaws.FiringTree.{page-moves}
 use Rattle.tb_top.proofs.DviFiles.WritableNodes.{WritableFloat, WritableFloats, WritableNote, WritableNodes, nodes-join, nodes-take, WritableContent, WritableBoxes, WritableFired, floats-column, WritableNotes, text-writable, pair-writable, WritableSheet}
 
@@ -249,9 +249,8 @@ module _ (p : Params) where
   page-writable (leaves_second w t f) k = (tt, puts-more (made blank_box ∷ clear_again) w (tt, clear-nodes) k.1)
   page-writable (clears_again w) k = (tt, puts-more clear_again w clear-nodes k.1)
 
-  writable : {h : Hand} {a : Work} {i : Hand} {b : Work} → Move p h a i b → Writable h a → Writable i b
-  writable (by_page m) k = page-writable m k
-  writable (goes_back body w) k =
+  served-writable : {h : Hand} {a : Work} {i : Hand} {b : Work} → TextMove p h a i b → Writable h a → Writable i b
+  served-writable (goes_back body w) k =
       let s = k.1.0 in
       let ns = w.state.held_page ++ without_firing_box body in (
         tt,
@@ -259,17 +258,21 @@ module _ (p : Params) where
             (nodes-join ns (notes_nodes p (footnotes w.state)) (nodes-join w.state.held_page (without_firing_box body) s.2 (nodes-take _ body k.0)) (notes-back (footnotes w.state) (notes-of w.state.classes w.state.boxes s.1)))
             ((s.0, emptied w.state.boxes, tt, s.3, s.4), k.1.1, k.1.2),
       )
-  writable (places_current place f es height w c e i) k = (tt, (current-goes place f f es w e (λ h. h) k.1).1)
-  writable (defers_current t f es w e i) k = (tt, (current-goes places.Deferred f (deferred_float t f) es w e (with-top t f) k.1).1)
-  writable (takes_float f es w e) k = current-goes places.Here f f es w e (λ h. h) k.1
-  writable (stands_here vert f w) k = (tt, puts-more (here_nodes p vert f) w (stands vert f k.0) k.1)
-  writable (takes_note height m es at w e i) k =
+  served-writable (places_current place f es height w c e i) k = (tt, (current-goes place f f es w e (λ h. h) k.1).1)
+  served-writable (defers_current t f es w e i) k = (tt, (current-goes places.Deferred f (deferred_float t f) es w e (with-top t f) k.1).1)
+  served-writable (takes_float f es w e) k = current-goes places.Here f f es w e (λ h. h) k.1
+  served-writable (stands_here vert f w) k = (tt, puts-more (here_nodes p vert f) w (stands vert f k.0) k.1)
+  served-writable (takes_note height m es at w e i) k =
       let l = k.1.0.3 in
       let g = note-taken m es w.state.floats e l in
       (g.0, has-floats (record w.state.floats { current = drop 1 es }) w (g.1, l.1, l.2, l.3, l.4, l.5) k.1)
-  writable (stands_beside depth m at w) k = (tt, puts-more (note_nodes depth m at) w (tt, ((k.0.0 at.side, k.0.1 at.side), (tt, tt))) k.1)
-  writable (puts_penalty h w) k = (k.0, puts-more (penalty_after p.interlinepenalty w.put_back) w (penalties p.interlinepenalty _) k.1)
-  writable (warns h e w) k = (k.0, sends-more (warned e) w tt k.1)
+  served-writable (stands_beside depth m at w) k = (tt, puts-more (note_nodes depth m at) w (tt, ((k.0.0 at.side, k.0.1 at.side), (tt, tt))) k.1)
+  served-writable (puts_penalty h w) k = (k.0, puts-more (penalty_after p.interlinepenalty w.put_back) w (penalties p.interlinepenalty _) k.1)
+  served-writable (warns h e w) k = (k.0, sends-more (warned e) w tt k.1)
+
+  writable : {h : Hand} {a : Work} {i : Hand} {b : Work} → Move p h a i b → Writable h a → Writable i b
+  writable (by_page m) k = page-writable m k
+  writable (by_text m) k = served-writable m k
   writable (holds_page body w) k = (tt, ((k.1.0.0, k.1.0.1, k.0, k.1.0.3, k.1.0.4), k.1.1, k.1.2))
   writable (leaves_blank two w) k = (tt, puts-more (if two then blank_column ++ blank_column else blank_column) w (blank-nodes two) k.1)
   writable (sets_goal g w) k = k
