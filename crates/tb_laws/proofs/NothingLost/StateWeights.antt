@@ -1,5 +1,5 @@
 -- What the parts of a state weigh, and by how much a step of a firing adds to it.
-use Rattle.std.proofs.Common.{◌≡◌, refl, ◌∙◌, ℕ, pos, ◌+◌, Bool, true, false, List, [], ◌∷◌, ◌++◌, map, Option, Some, None, add-zero, zero-add, arith}
+use Rattle.std.proofs.Common.{◌≡◌, refl, sym, ◌∙◌, ℕ, pos, ◌+◌, Bool, true, false, List, [], ◌∷◌, ◌++◌, map, Option, Some, None, add-zero, zero-add, arith}
 use Rattle.std.specs.Prelude.{int_lt, if◌then◌else◌}
 use Rattle.tb_node.specs.declared.Float.{Float}
 use Rattle.tb_node.specs.PlainNodes.{PlainNode}
@@ -13,6 +13,7 @@ use Rattle.tb_float.specs.declared.Entry.TheVariants as entries
 use Rattle.tb_float.specs.Lists.{FloatLists}
 use Rattle.tb_column.specs.Column.{PlainColumn, PlainSheet, warned, shipped}
 use Rattle.tb_column.specs.declared.Warn.{Warn}
+use Rattle.tb_output.proofs.StepLaws.Moves.{Hand, nothing, of_text, of_column, of_float, of_note}
 pub use Rattle.tb_column.proofs.PrintedLines.{sheet_weight, sent_weight}
 use Rattle.tb_column.proofs.PrintedLines.{sent_weight-append}
 use Rattle.tb_output.specs.State.{State, Work, Recorded, puts, sends, records_also}
@@ -170,3 +171,61 @@ shipped-adds v p sheet w = by_refused w.refused refl
     by_refused : (t : Bool) → w.refused ≡ t → Adds v (sheet_weight v sheet) w (if t then w else (if int_lt p.maxpages (pos w.state.page) then record w { refused = true } else Pages.ship_now sheet w))
     by_refused true h = record { waits = refl; classes = refl; goes = λ k. k; by = λ k s. let no : ⊥ = grind (arith, k, h) in absurd no }
     by_refused false h = by_limit h (int_lt p.maxpages (pos w.state.page))
+
+-- ---- with something in hand
+
+abbrev pub hand_weight : Weight → Hand → ℕ
+hand_weight v nothing = 0
+hand_weight v (of_text body) = nodes_weight v body
+hand_weight v (of_column c) = nodes_weight v c.nodes
+hand_weight v (of_float f) = v.float f.line
+hand_weight v (of_note m at) = v.margin m.line
+
+-- a page's list in hand weighs nothing
+abbrev pub Light : Weight → Hand → Type 0
+Light v nothing = Unit {0}
+Light v (of_text body) = nodes_weight v body ≡ 0
+Light v (of_column c) = Unit {0}
+Light v (of_float f) = Unit {0}
+Light v (of_note m at) = Unit {0}
+
+-- between two moves nothing is lost, if a page's list in hand weighs nothing
+pub record Weighs (v : Weight) (h : Hand) (a : Work) (i : Hand) (b : Work) : Type 0 where
+  pub waits : b.state.waiting ≡ a.state.waiting
+  pub classes : b.state.classes ≡ a.state.classes
+  pub goes : b.refused ≡ false → a.refused ≡ false
+  pub light : Light v h → Light v i
+  pub by : b.refused ≡ false → Light v h → Sound a.state → Sound b.state × (work_weight v b + hand_weight v i ≡ work_weight v a + hand_weight v h)
+
+-- what is in hand is lighter by what is added
+pub gives : (v : Weight) (h i : Hand) (n : ℕ) (a b : Work) → Adds v n a b → (Light v h → (hand_weight v h ≡ n + hand_weight v i) × Light v i) → Weighs v h a i b
+gives v h i n a b x k = record {
+  waits = x.waits;
+  classes = x.classes;
+  goes = λ r. x.goes r;
+  light = λ l. (k l).1;
+  by = λ r l s. let y = x.by r s in (y.0, sums (work_weight v a) (work_weight v b) n (hand_weight v h) (hand_weight v i) y.1 (k l).0);
+}
+  where
+    sums : (x y n h i : ℕ) → y ≡ x + n → h ≡ n + i → y + i ≡ x + h
+    sums x y n h i d e = omega arith
+
+-- what is in hand stays as it is
+pub keeps : (v : Weight) (h : Hand) (a b : Work) → Adds v 0 a b → Weighs v h a h b
+keeps v h a b x = gives v h h 0 a b x (λ l. (sym (zero-add (hand_weight v h)), l))
+
+pub weighs-then : (v : Weight) (h i j : Hand) (a b c : Work) → Weighs v h a i b → Weighs v i b j c → Weighs v h a j c
+weighs-then v h i j a b c x y = record {
+  waits = y.waits ∙ x.waits;
+  classes = y.classes ∙ x.classes;
+  goes = λ r. x.goes (y.goes r);
+  light = λ l. y.light (x.light l);
+  by = λ r l s.
+      let d = x.by (y.goes r) l s in
+      let e = y.by r (x.light l) d.0 in
+      (e.0, e.1 ∙ d.1);
+}
+
+-- all moves until nothing is in hand
+pub all-added : (v : Weight) (h : Hand) (a b : Work) → Weighs v h a nothing b → Light v h → Adds v (hand_weight v h) a b
+all-added v h a b x l = record { waits = x.waits; classes = x.classes; goes = λ r. x.goes r; by = λ r s. let d = x.by r l s in (d.0, sym (add-zero (work_weight v b)) ∙ d.1) }
