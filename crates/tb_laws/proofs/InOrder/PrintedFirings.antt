@@ -12,6 +12,7 @@ use Rattle.tb_float.specs.Rooms.{column_height_of}
 use Rattle.tb_fpage.specs.Company.{chosen_floats, left_floats}
 use Rattle.tb_column.specs.Column.{Notes, PlainColumn, PlainSheet, one, wide, PlainSent, warned, shipped, text_column, single_floats_column, wide_floats_column, pair_sheet, floats_above}
 use Rattle.tb_column.specs.declared.Warn.{Warn}
+use Rattle.tb_area.specs.Area.{where_of}
 use Rattle.tb_output.specs.State.{Work, Recorded, placed, output, sends, records_also, with_floats, footnotes}
 use Rattle.tb_output.specs.FloatMoves
 use Rattle.tb_output.specs.Pages
@@ -19,7 +20,7 @@ use Rattle.tb_output.specs.Columns
 use Rattle.tb_output.specs.Text
 use Rattle.tb_output.specs.Output
 use Rattle.tb_output.specs.Clear
-use Rattle.tb_output.proofs.StepLaws.Moves.{Hand, nothing, of_text, of_column, of_float, of_note, ColumnMove, takes_company, records_column, ships_column, keeps_left, ships_pair, ends_column, ships_wide, places_waiting, PageMove, by_column, takes_text, fills_text, TextMove, places_current, defers_current, takes_float, puts_penalty, warns, Move, by_page, by_text, Moves, goes-on, widen}
+use Rattle.tb_output.proofs.StepLaws.Moves.{Hand, nothing, of_text, of_column, of_float, of_note, ColumnMove, takes_company, records_column, ships_column, keeps_left, ships_pair, ends_column, ships_wide, places_double, PageMove, by_column, places_next, takes_text, fills_text, TextMove, places_current, defers_current, takes_float, puts_penalty, warns, Move, by_page, by_text, Moves, goes-on, widen}
 use Rattle.tb_output.proofs.StepLaws.FiringTree.{ordinary-columns, clear_by-moves, float_or_note-moves, goal-moves}
 use Rattle.tb_laws.proofs.NothingLost.StateWeights.{ColumnsFit, first-left, one-left}
 use Rattle.tb_laws.proofs.Closed.Closings.{never}
@@ -263,10 +264,11 @@ module _ (p : Params) where
   column-shows (ships_wide clearing cs w e) =
       let x = ship-shipped p (wide (wide_floats_column p p.textheight (chosen_floats cs))) (with_floats (with_wide_waiting p (left_floats cs) w.state.floats) w) in
       page-shows (wide (wide_floats_column p p.textheight (chosen_floats cs))) w _ (floats-plain p.textheight p.dblfptop p.dblfpsep p.dblfpbot (chosen_floats cs)) (record { goes = x.goes; sends_it = x.sends_it; plain = x.plain; left = x.left; fit = x.fit })
-  column-shows (places_waiting place f left w x) = placed-shows p nothing place f left w (λ k. k) (itself (shown w))
+  column-shows (places_double f before rest w two e i) = placed-shows p nothing places.Double f _ w (λ k. k) (itself (shown w))
 
   page-shown : {h : Hand} {a : Work} {i : Hand} {b : Work} → PageMove p h a i b → Shows h a i b
   page-shown (by_column m) = column-shows m
+  page-shown (places_next a f before rest w c e i) = placed-shows p nothing (where_of a) f _ w (λ k. k) (itself (shown w))
   page-shown (takes_text body w) =
       let c = text_column p w.state.floats body (footnotes w.state) in
       alike (of_text body) (of_column c) w _ refl refl refl (λ k. k) (λ s. text-plain p w.state.floats body (footnotes w.state) s) (within-front (shown w) (prints c.nodes))
@@ -289,9 +291,9 @@ module _ (p : Params) where
   -- ---- what the parts of a firing show
 
   -- with a column in hand
-  columns-print : {c : PlainColumn} {a b : Work} → Moves (ColumnMove p) (of_column c) a nothing b → AllPlain c.nodes → Prints (prints c.nodes) a b
+  columns-print : {c : PlainColumn} {a b : Work} → Moves (PageMove p) (of_column c) a nothing b → AllPlain c.nodes → Prints (prints c.nodes) a b
   columns-print {c} {a} {b} x s =
-      let y : Shows (of_column c) a nothing b = goes-on Shows rests-shows then_shows (λ h i a b m. column-shows m) x in
+      let y : Shows (of_column c) a nothing b = goes-on Shows rests-shows then_shows (λ h i a b m. page-shown m) x in
       record { goes = y.goes; fit = y.fit; shows = y.shows; plain = λ k. y.plain s k }
 
   -- with no column in hand

@@ -16,7 +16,6 @@ use Rattle.tb_area.specs.Area.{AreaPlace, at_top, at_bottom, deferred, where_of}
 use Rattle.tb_output.specs.State.{Work, Recorded, placed, records_also, with_floats}
 use Rattle.tb_output.specs.FloatMoves
 use Rattle.tb_output.proofs.StepLaws.FollowLemmas.{records-state, joined-current, part-current}
-use Rattle.tb_output.proofs.StepLaws.Moves.{Waited, for_column, for_two}
 use Rattle.tb_laws.proofs.NothingLost.StateWeights.{floats_weight, lists_weight, left_weight, sent_weight, floats-append, Paired, Adds, then_kept, records-adds}
 
 -- ---- moving floats
@@ -93,8 +92,10 @@ area-joins at_top = tt
 area-joins at_bottom = tt
 area-joins deferred = tt
 
-pub waiting-adds : {p : Params} (v : Weight) {w : Work} {place : Where} {f : Float} {left : FloatLists} → Waited p w place f left → Adds v 0 w (FloatMoves.place_float p place f left w)
-waiting-adds {p} v {w} (for_column a f before rest c e i) = placed-adds v p (where_of a) f (record w.state.floats { deferred = before ++ rest }) w (area-joins a) (λ x. x) (lighter v parts.Deferred tt f before rest w.state.floats e)
-waiting-adds {p} v {w} (for_two f before rest two e i) =
+pub next-adds : (v : Weight) (p : Params) (a : AreaPlace) (f : Float) (before rest : List Float) (w : Work) → w.state.floats.deferred ≡ before ++ f ∷ rest → Adds v 0 w (FloatMoves.place_float p (where_of a) f (record w.state.floats { deferred = before ++ rest }) w)
+next-adds v p a f before rest w e = placed-adds v p (where_of a) f (record w.state.floats { deferred = before ++ rest }) w (area-joins a) (λ x. x) (lighter v parts.Deferred tt f before rest w.state.floats e)
+
+pub double-adds : (v : Weight) (p : Params) (f : Float) (before rest : List Float) (w : Work) → floats_of (wide_part p) w.state.floats ≡ before ++ f ∷ rest → Adds v 0 w (FloatMoves.place_float p places.Double f (with_floats_of (wide_part p) (before ++ rest) w.state.floats) w)
+double-adds v p f before rest w e =
     let from = wide_part p in
     placed-adds v p places.Double f (with_floats_of from (before ++ rest) w.state.floats) w tt (λ x. paired-with from (wide-waits p) (before ++ rest) w.state.floats x) (lighter v from (wide-waits p) f before rest w.state.floats e)

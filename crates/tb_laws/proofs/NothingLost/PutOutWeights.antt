@@ -21,11 +21,10 @@ use Rattle.tb_column.specs.Column.{Notes, PlainColumn, PlainSheet, shipped, one,
 use Rattle.tb_output.specs.State.{Work, output, with_floats, with_notes, notes_in, footnotes}
 use Rattle.tb_output.specs.Pages
 use Rattle.tb_output.specs.Columns
-use Rattle.tb_output.proofs.StepLaws.Moves.{Hand, nothing, of_column, ColumnMove, takes_company, records_column, ships_column, keeps_left, ships_pair, ends_column, ships_wide, places_waiting, goes-on}
-use Rattle.tb_output.proofs.StepLaws.FiringTree.{ordinary-columns}
-use Rattle.tb_laws.proofs.NothingLost.StateWeights.{Paired, hand_weight, Light, Weighs, gives, keeps, weighs-then, class_numbers, BoxesFit, floats_weight, lists_weight, left_weight, sheet_weight, sent_weight, work_weight, ColumnsFit, Sound, Adds, unchanged, records-adds, shipped-adds}
+use Rattle.tb_output.proofs.StepLaws.Moves.{Hand, nothing, of_column, ColumnMove, takes_company, records_column, ships_column, keeps_left, ships_pair, ends_column, ships_wide, places_double}
+use Rattle.tb_laws.proofs.NothingLost.StateWeights.{Paired, hand_weight, Light, Weighs, gives, keeps, weighs-then, class_numbers, BoxesFit, floats_weight, lists_weight, left_weight, sheet_weight, sent_weight, work_weight, ColumnsFit, Sound, Adds, records-adds, shipped-adds}
 use Rattle.tb_laws.proofs.NothingLost.ColumnWeights.{floats_above-weight, notes_weight, text_column-weight, floats_column-weight, CompanyOf, company-weight, parted-weight}
-use Rattle.tb_laws.proofs.NothingLost.FloatWeights.{waiting-adds, paired-with, lists-with}
+use Rattle.tb_laws.proofs.NothingLost.FloatWeights.{double-adds, paired-with, lists-with}
 
 -- ---- companies
 
@@ -131,7 +130,7 @@ column-weighs {p} v (ships_wide clearing cs w e) =
     (takes-weighs v (of_column c) l w tt (λ x. paired-with (wide_part p) (wide-waits p) (left_floats cs) w.state.floats x)
     (taken-weight v (wide_part p) (wide-waits p) (left_floats cs) w.state.floats (nodes_weight v c.nodes) (parts-weight v (Pages.wide_wanted p clearing) (wide_waiting p w.state.floats) cs e (nodes_weight v c.nodes) (floats_column-weight v p.textheight p.dblfptop p.dblfpsep p.dblfpbot (chosen_floats cs)))))
     (gone v c a _ (shipped-adds v p (wide c) a))
-column-weighs {p} v (places_waiting place f left w x) = keeps v nothing w _ (waiting-adds v x)
+column-weighs {p} v (places_double f before rest w two e i) = keeps v nothing w _ (double-adds v p f before rest w e)
 
 -- ---- the class boxes
 
@@ -182,12 +181,3 @@ text-taken v p body w s = (record { box = emptied-box w.state.classes w.state.bo
         let b : notes_weight v (footnotes w.state) ≡ boxes_weight v w.state.boxes = box-weight v w.state.classes w.state.boxes s.box in
         let m : boxes_weight v (Columns.emptied_boxes w.state.boxes) ≡ 0 = emptied-weight v w.state.boxes in
         omega (arith, e)
-
-pub ordinary-adds : (v : Weight) (p : Params) (body : List PlainNode) (w : Work) → Adds v (nodes_weight v body) w (Columns.ordinary p body w)
-ordinary-adds v p body w = record { waits = x.waits; classes = x.classes; goes = λ r. x.goes r; by = λ r s. let d = text-taken v p body w s in let e = x.by r tt d.0 in (e.0, sym (add-zero (work_weight v (Columns.ordinary p body w))) ∙ e.1 ∙ d.1) }
-  where
-    c : PlainColumn
-    c = text_column p w.state.floats body (footnotes w.state)
-
-    x : Weighs v (of_column c) (Columns.without_column_floats w) nothing (Columns.ordinary p body w)
-    x = goes-on (Weighs v) (λ h w. keeps v h w w (unchanged v w)) (weighs-then v) (λ h i a b m. column-weighs v m) (ordinary-columns p body w)

@@ -14,7 +14,7 @@ use Rattle.tb_float.specs.declared.Part.TheVariants as parts
 use Rattle.tb_float.specs.Lists.{FloatLists, floats_of, IsWaiting, wide_part, wide_waiting}
 use Rattle.tb_float.proofs.WaitingLemmas.{wide-waits}
 use Rattle.tb_float.specs.Rooms.{column_room_of}
-use Rattle.tb_column.specs.Column.{Notes, warned}
+use Rattle.tb_column.specs.Column.{text_column, PlainColumn, Notes, warned}
 use Rattle.tb_column.specs.declared.Warn.TheVariants as warnings
 use Rattle.tb_output.specs.State.{State, Work, begun, sends, with_floats, footnotes}
 use Rattle.tb_output.specs.Columns
@@ -22,10 +22,10 @@ use Rattle.tb_output.specs.Text
 use Rattle.tb_output.specs.Clear
 use Rattle.tb_output.specs.Output
 use Rattle.tb_laws.proofs.NothingLost.StateWeights.{Weighs, gives, keeps, weighs-then, all-added, floats_weight, lists_weight, left_weight, state_weight, sent_weight, work_weight, floats-append, Sound, Adds, then_kept, adds_if, unchanged, warns-adds}
-use Rattle.tb_laws.proofs.NothingLost.FloatWeights.{lists-adds, paired-with, lists-with}
-use Rattle.tb_output.proofs.StepLaws.Moves.{Hand, nothing, of_text, PageMove, by_column, takes_text, fills_text, keeps_front, gathers, gathers_wide, leaves_second, clears_again, goes-on}
-use Rattle.tb_output.proofs.StepLaws.FiringTree.{clear_by-moves}
-use Rattle.tb_laws.proofs.NothingLost.PutOutWeights.{column-weighs, text-taken, ordinary-adds}
+use Rattle.tb_laws.proofs.NothingLost.FloatWeights.{next-adds, lists-adds, paired-with, lists-with}
+use Rattle.tb_output.proofs.StepLaws.Moves.{Hand, nothing, of_text, of_column, PageMove, by_column, places_next, takes_text, fills_text, keeps_front, gathers, gathers_wide, leaves_second, clears_again, goes-on}
+use Rattle.tb_output.proofs.StepLaws.FiringTree.{ordinary-columns, clear_by-moves}
+use Rattle.tb_laws.proofs.NothingLost.PutOutWeights.{column-weighs, text-taken}
 use Rattle.tb_laws.proofs.NothingLost.TextWeights.{put-weighs, front-light, puts-nothing, float_or_note-adds}
 pub use Rattle.tb_laws.proofs.NothingLost.StateWeights.{Sound, class_numbers, BoxesFit, Paired, entries_weight, lists_weight, left_weight, state_weight, sheet_weight, sent_weight}
 
@@ -64,6 +64,7 @@ double_again-adds v p w =
 
 page-weighs : {p : Params} {h : Hand} {a : Work} {i : Hand} {b : Work} (v : Weight) → PageMove p h a i b → Weighs v h a i b
 page-weighs {p} v (by_column m) = column-weighs v m
+page-weighs {p} v (places_next a f before rest w c e i) = keeps v nothing w _ (next-adds v p a f before rest w e)
 page-weighs {p} v (takes_text body w) = record { waits = refl; classes = refl; goes = λ r. r; light = λ l. tt; by = λ r l s. text-taken v p body w s }
 page-weighs {p} v (fills_text body w) =
     let fill = made (skip filling_glue) ∷ [] in
@@ -80,6 +81,15 @@ clear_by-adds : (v : Weight) (p : Params) (body : List PlainNode) (w : Work) (o 
 clear_by-adds v p body w o light = all-added v (of_text body) w (Clear.clear_by p body w o) (goes-on (Weighs v) (λ h w. keeps v h w w (unchanged v w)) (weighs-then v) (λ h i a b m. page-weighs v m) (clear_by-moves p body w o)) light
 
 -- ---- a firing
+
+ordinary-adds : (v : Weight) (p : Params) (body : List PlainNode) (w : Work) → Adds v (nodes_weight v body) w (Columns.ordinary p body w)
+ordinary-adds v p body w = record { waits = x.waits; classes = x.classes; goes = λ r. x.goes r; by = λ r s. let d = text-taken v p body w s in let e = x.by r tt d.0 in (e.0, sym (add-zero (work_weight v (Columns.ordinary p body w))) ∙ e.1 ∙ d.1) }
+  where
+    c : PlainColumn
+    c = text_column p w.state.floats body (footnotes w.state)
+
+    x : Weighs v (of_column c) (Columns.without_column_floats w) nothing (Columns.ordinary p body w)
+    x = goes-on (Weighs v) (λ h w. keeps v h w w (unchanged v w)) (weighs-then v) (λ h i a b m. page-weighs v m) (ordinary-columns p body w)
 
 goal-adds : (v : Weight) (p : Params) (n : ℤ) (w : Work) → Adds v 0 w (Output.next_goal p n w)
 goal-adds v p n w = adds_if v 0 w (Output.is_int n Output.hold_penalty) (Output.with_goal max_dimen w) (Output.goal_by p room w) (goal max_dimen) (adds_if v 0 w (Output.is_crowded p room) (Output.leave_column w) (Output.with_goal room w) crowded (goal room))

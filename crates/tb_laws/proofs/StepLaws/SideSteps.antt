@@ -3,7 +3,6 @@ use Rattle.std.proofs.Common.{◌≡◌, sym, ap, subst, List, [], ◌∷◌, �
 use Rattle.std.specs.List.{AllByRecursion}
 use Rattle.tb_break.proofs.EachLemmas.{all-join}
 use Rattle.tb_node.specs.declared.Float.{Float}
-use Rattle.tb_node.specs.declared.Where.{Where}
 use Rattle.tb_node.specs.PlainNodes.{PlainNode}
 use Rattle.tb_param.specs.declared.Params.{Params}
 use Rattle.tb_float.specs.declared.Part.{Part}
@@ -15,11 +14,10 @@ use Rattle.tb_fpage.proofs.FirstLemmas.{company-leaves}
 use Rattle.tb_area.specs.Area.{where_of}
 use Rattle.tb_column.specs.Column.{Notes, PlainSheet, one, pair_sheet, wide, wide_floats_column}
 use Rattle.tb_output.specs.State.{Work, output, with_floats}
-use Rattle.tb_output.specs.FloatMoves
 use Rattle.tb_output.specs.Pages
 use Rattle.tb_output.specs.Columns
 use Rattle.tb_output.specs.Clear
-use Rattle.tb_output.proofs.StepLaws.Moves.{Hand, Waited, for_column, for_two, ColumnMove, takes_company, records_column, ships_column, ships_pair, ships_wide, places_waiting, PageMove, by_column, takes_text, gathers, gathers_wide, Moves, moves, holds-on}
+use Rattle.tb_output.proofs.StepLaws.Moves.{Hand, ColumnMove, takes_company, records_column, ships_column, ships_pair, ships_wide, places_double, PageMove, by_column, places_next, takes_text, gathers, gathers_wide, Moves, moves, holds-on}
 use Rattle.tb_output.proofs.StepLaws.FiringTree.{put_out_text-moves, ordinary-moves, clear_by-moves}
 use Rattle.tb_output.proofs.StepLaws.FollowLemmas.{records-state}
 use Rattle.tb_laws.proofs.DeadCycles.ColumnOutcomes.{area-single, ship-lists}
@@ -51,12 +49,6 @@ module _ (p : Params) where
   fits parts.Second l before f rest e h = middle Single before f rest (subst (AllByRecursion Single) e h.0.deferred)
   fits from l before f rest e h = tt
 
-  waiting-goes : {w : Work} {place : Where} {f : Float} {left : FloatLists} → Waited p w place f left → S w → Sides (wide_part p) (FloatMoves.joined_to place f left)
-  waiting-goes {w} (for_column a f before rest c e i) h =
-      joined-sides (wide_part p) (where_of a) f (record w.state.floats { deferred = before ++ rest }) (area-single a) (fits (wide_part p) w.state.floats before f rest e h)
-      (deferred-sides (wide_part p) (before ++ rest) w.state.floats (λ s. without-middle Single before f rest (subst (AllByRecursion Single) e s)) h)
-  waiting-goes {w} (for_two f before rest two e i) h = doubled-sides (wide_part p) f (with_wide_waiting p (before ++ rest) w.state.floats) (among-wide w.state.floats (before ++ rest) (λ s. without-middle Wide before f rest (subst (AllByRecursion Wide) e s)) h)
-
   column-sides : {h : Hand} {a : Work} {i : Hand} {b : Work} → ColumnMove p h a i b → S a → S b
   column-sides (takes_company clearing cs w e) h = deferred-sides (wide_part p) (left_floats cs) w.state.floats (λ s. company-leaves Single (Columns.single_wanted p w.state.floats clearing) w.state.floats.deferred cs e s) h
   column-sides (records_column c w) h = subst (λ s. Sides (wide_part p) s.floats) (sym (records-state (output c) w)) h
@@ -65,12 +57,15 @@ module _ (p : Params) where
   column-sides (ships_wide clearing cs w e) h =
       ship-sides (wide (wide_floats_column p p.textheight (chosen_floats cs))) (with_floats (with_wide_waiting p (left_floats cs) w.state.floats) w)
       (among-wide w.state.floats (left_floats cs) (λ s. company-leaves Wide (Pages.wide_wanted p clearing) (wide_waiting p w.state.floats) cs e s) h)
-  column-sides (places_waiting place f left w x) h = waiting-goes x h
+  column-sides (places_double f before rest w two e i) h = doubled-sides (wide_part p) f (with_wide_waiting p (before ++ rest) w.state.floats) (among-wide w.state.floats (before ++ rest) (λ s. without-middle Wide before f rest (subst (AllByRecursion Wide) e s)) h)
   column-sides m h = h
 
   -- the double floats, which wait again at a clear, are wide
   page-sides : {h : Hand} {a : Work} {i : Hand} {b : Work} → PageMove p h a i b → DoubleFits a.state → S a → S b
   page-sides (by_column m) d h = column-sides m h
+  page-sides (places_next a f before rest w c e i) d h =
+      joined-sides (wide_part p) (where_of a) f (record w.state.floats { deferred = before ++ rest }) (area-single a) (fits (wide_part p) w.state.floats before f rest e h)
+      (deferred-sides (wide_part p) (before ++ rest) w.state.floats (λ s. without-middle Single before f rest (subst (AllByRecursion Single) e s)) h)
   page-sides (takes_text body w) d h = text-sides (wide_part p) w.state.floats h
   page-sides (gathers w) d h = gathered-sides (wide_part p) w.state.floats h
   page-sides (gathers_wide w t f) d h =

@@ -4,21 +4,20 @@ use Rattle.std.specs.Prelude.{◌&&◌}
 use Rattle.std.specs.List.{AllByRecursion}
 use Rattle.tb_break.proofs.EachLemmas.{all-push}
 use Rattle.tb_node.specs.declared.Float.{Float}
-use Rattle.tb_node.specs.declared.Where.{Where}
-use Rattle.tb_node.specs.declared.Where.TheVariants as places
 use Rattle.tb_node.specs.PlainNodes.{PlainNode}
 use Rattle.tb_param.specs.declared.Params.{Params}
-use Rattle.tb_float.specs.Lists.{FloatLists, with_floats_of, wide_part, wide_waiting, with_wide_waiting}
+use Rattle.tb_float.specs.Lists.{with_floats_of, wide_part, wide_waiting, with_wide_waiting}
 use Rattle.tb_float.proofs.WaitingLemmas.{wide-waits}
 use Rattle.tb_fpage.specs.Company.{chosen_floats, left_floats}
-use Rattle.tb_area.specs.Area.{at_top, at_bottom, deferred}
+use Rattle.tb_area.specs.Area.{AreaPlace, deferred, where_of}
 use Rattle.tb_column.specs.Column.{Notes, one, wide, wide_floats_column}
 use Rattle.tb_output.specs.State.{State, Work, output, with_floats}
 use Rattle.tb_output.specs.FloatMoves
 use Rattle.tb_output.specs.Columns
 use Rattle.tb_output.specs.Clear
 use Rattle.tb_output.proofs.StepLaws.FollowLemmas.{records-state}
-use Rattle.tb_output.proofs.StepLaws.Moves.{Hand, Waited, for_column, for_two, ColumnMove, records_column, ships_column, ships_pair, ships_wide, places_waiting, PageMove, by_column, gathers_wide, Moves, goes-on}
+use Rattle.tb_output.proofs.StepLaws.ColumnSteps.{no_law, place_float-step, stays}
+use Rattle.tb_output.proofs.StepLaws.Moves.{Hand, ColumnMove, records_column, ships_column, ships_pair, ships_wide, places_double, IsInColumn, PageMove, by_column, places_next, gathers_wide, Moves, goes-on}
 use Rattle.tb_output.proofs.StepLaws.FiringTree.{two-stays, ordinary-moves, clear_by-moves}
 use Rattle.tb_laws.proofs.Closed.SparedLists.{waiting-double}
 use Rattle.tb_laws.proofs.DeadCycles.ColumnOutcomes.{ship-lists}
@@ -57,14 +56,6 @@ wide-of a b c d e h = grind (arith, h)
 -- ---- each move keeps them so
 
 module _ (p : Params) where
-  waiting-goes : {w : Work} {place : Where} {f : Float} {left : FloatLists} → Waited p w place f left → KeepsDouble w (FloatMoves.place_float p place f left w)
-  waiting-goes {w} (for_column at_top f before rest c e i) = same-double w _ refl (two-stays {p = p} (places_waiting places.Top f _ w (for_column at_top f before rest c e i)))
-  waiting-goes {w} (for_column at_bottom f before rest c e i) = same-double w _ refl (two-stays {p = p} (places_waiting places.Bottom f _ w (for_column at_bottom f before rest c e i)))
-  waiting-goes {w} (for_column deferred f before rest c e i) = absurd c
-  waiting-goes {w} (for_two f before rest t e i) =
-      two-columns w _ t (two-stays {p = p} (places_waiting places.Double f _ w (for_two f before rest t e i)))
-      (λ h. all-push Wide (with_floats_of (wide_part p) (before ++ rest) w.state.floats).double f (subst (AllByRecursion Wide) (sym (waiting-double (wide_part p) (wide-waits p) (before ++ rest) w.state.floats)) h) (wide-of f.places.t f.wide _ _ _ i))
-
   column-double : {h : Hand} {a : Work} {i : Hand} {b : Work} → ColumnMove p h a i b → KeepsDouble a b
   column-double (records_column c w) = let e = records-state (output c) w in same-double w _ (ap (λ s. s.floats.double) e) (ap (λ s. s.two_columns) e)
   column-double (ships_column c w t) = same-double w _ (ap (λ l. l.double) (ship-lists p (one c) w).0) (two-stays {p = p} (ships_column c w t))
@@ -72,11 +63,18 @@ module _ (p : Params) where
   column-double (ships_wide clearing cs w e) =
       let l = with_wide_waiting p (left_floats cs) w.state.floats in
       same-double w _ (ap (λ m. m.double) (ship-lists p (wide (wide_floats_column p p.textheight (chosen_floats cs))) (with_floats l w)).0 ∙ waiting-double (wide_part p) (wide-waits p) (left_floats cs) w.state.floats) (two-stays {p = p} (ships_wide clearing cs w e))
-  column-double (places_waiting place f left w x) = waiting-goes x
+  column-double (places_double f before rest w t e i) =
+      two-columns w _ t (two-stays {p = p} (places_double f before rest w t e i))
+      (λ h. all-push Wide (with_floats_of (wide_part p) (before ++ rest) w.state.floats).double f (subst (AllByRecursion Wide) (sym (waiting-double (wide_part p) (wide-waits p) (before ++ rest) w.state.floats)) h) (wide-of f.places.t f.wide _ _ _ i))
   column-double {a = a} {b = b} m = same-double a b refl refl
+
+  next-double : (a : AreaPlace) → IsInColumn (where_of a) → (f : Float) (before rest : List Float) (w : Work) → (FloatMoves.joined_to (where_of a) f (record w.state.floats { deferred = before ++ rest })).double ≡ w.state.floats.double
+  next-double deferred c f before rest w = absurd c
+  next-double a c f before rest w = refl
 
   page-double : {h : Hand} {a : Work} {i : Hand} {b : Work} → PageMove p h a i b → KeepsDouble a b
   page-double (by_column m) = column-double m
+  page-double (places_next a f before rest w c e i) = same-double w _ (next-double a c f before rest w) (stays (place_float-step p (no_law p) (where_of a) f (record w.state.floats { deferred = before ++ rest }) w tt)).columns
   page-double (gathers_wide w t f) = no-double w _ (waiting-double (wide_part p) (wide-waits p) (w.state.floats.double ++ wide_waiting p w.state.floats) (record w.state.floats { double = [] })) refl
   page-double {a = a} {b = b} m = same-double a b refl refl
 

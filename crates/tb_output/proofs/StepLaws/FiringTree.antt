@@ -32,7 +32,7 @@ use Rattle.tb_output.specs.Clear
 use Rattle.tb_output.specs.Output
 use Rattle.tb_output.specs.Firing.{page_work}
 use Rattle.tb_output.proofs.StepLaws.ColumnSteps.{no_law, records_one, ships_one, ship_wide-step, place_float-step, stays}
-use Rattle.tb_output.proofs.StepLaws.Moves.{Hand, nothing, of_text, of_column, of_float, of_note, deferred_float, for_column, for_two, ColumnMove, takes_company, records_column, ships_column, keeps_left, ships_pair, ends_column, ships_wide, places_waiting, PageMove, by_column, takes_text, fills_text, keeps_front, gathers, gathers_wide, leaves_second, clears_again, TextMove, goes_back, places_current, defers_current, takes_float, stands_here, takes_note, stands_beside, puts_penalty, warns, Move, by_page, by_text, holds_page, leaves_blank, sets_goal, Moves, rests, moves, in_turn, goes-on, widen}
+use Rattle.tb_output.proofs.StepLaws.Moves.{Hand, nothing, of_text, of_column, of_float, of_note, deferred_float, ColumnMove, takes_company, records_column, ships_column, keeps_left, ships_pair, ends_column, ships_wide, places_double, PageMove, by_column, places_next, takes_text, fills_text, keeps_front, gathers, gathers_wide, leaves_second, clears_again, TextMove, goes_back, places_current, defers_current, takes_float, stands_here, takes_note, stands_beside, puts_penalty, warns, Move, by_page, by_text, holds_page, leaves_blank, sets_goal, Moves, rests, moves, in_turn, goes-on, widen}
 
 -- the list of a place that was not taken still has its float
 still-waits : (before : List Float) (f : Float) (rest fs : List Float) → fs ≡ before ++ f ∷ rest → fs ≡ (before ++ f ∷ []) ++ rest
@@ -50,7 +50,7 @@ two-stays {p = p} (records_column c w) = (stays {p = p} {law = no_law p} (record
 two-stays {p = p} (ships_column c w t) = (stays {p = p} {law = no_law p} (ships_one (one c) w)).columns
 two-stays {p = p} (ships_pair c w t f) = (stays {p = p} {law = no_law p} (ships_one _ w)).columns
 two-stays {p = p} (ships_wide clearing cs w e) = (stays (ship_wide-step p (no_law p) cs w)).columns
-two-stays {p = p} (places_waiting place f left w x) = (stays (place_float-step p (no_law p) place f left w tt)).columns
+two-stays {p = p} (places_double f before rest w two e i) = (stays (place_float-step p (no_law p) places.Double f (with_floats_of (wide_part p) (before ++ rest) w.state.floats) w tt)).columns
 two-stays m = refl
 
 pub two-kept : {p : Params} {h i : Hand} {a b : Work} → Moves (ColumnMove p) h a i b → b.state.two_columns ≡ a.state.two_columns
@@ -82,16 +82,16 @@ module _ (p : Params) where
 
   -- ---- floats go to their places
 
-  next-moves : (before fs : List Float) (w : Work) → w.state.floats.deferred ≡ before ++ fs → OfColumn nothing w (FloatMoves.place_next p before fs w)
+  next-moves : (before fs : List Float) (w : Work) → w.state.floats.deferred ≡ before ++ fs → OfPage nothing w (FloatMoves.place_next p before fs w)
   next-moves before [] w e = rests
   next-moves before (f ∷ rest) w e =
       let a = next_area_place p w.state.floats w.state.suppress before f in
       let x = by_area a refl in
       in_turn x.0 (next-moves (FloatMoves.still_deferred (where_of a) f before) rest (FloatMoves.place_waiting parts.Deferred p (where_of a) f before rest w) x.1)
     where
-      by_area : (a : AreaPlace) → next_area_place p w.state.floats w.state.suppress before f ≡ a → OfColumn nothing w (FloatMoves.place_waiting parts.Deferred p (where_of a) f before rest w) × ((FloatMoves.place_waiting parts.Deferred p (where_of a) f before rest w).state.floats.deferred ≡ FloatMoves.still_deferred (where_of a) f before ++ rest)
-      by_area at_top i = (moves (places_waiting places.Top f _ w (for_column at_top f before rest tt e i)), refl)
-      by_area at_bottom i = (moves (places_waiting places.Bottom f _ w (for_column at_bottom f before rest tt e i)), refl)
+      by_area : (a : AreaPlace) → next_area_place p w.state.floats w.state.suppress before f ≡ a → OfPage nothing w (FloatMoves.place_waiting parts.Deferred p (where_of a) f before rest w) × ((FloatMoves.place_waiting parts.Deferred p (where_of a) f before rest w).state.floats.deferred ≡ FloatMoves.still_deferred (where_of a) f before ++ rest)
+      by_area at_top i = (moves (places_next at_top f before rest w tt e i), refl)
+      by_area at_bottom i = (moves (places_next at_bottom f before rest w tt e i), refl)
       by_area deferred i = (rests, still-waits before f rest w.state.floats.deferred e)
 
   double-moves : (before fs : List Float) (w : Work) → w.state.two_columns ≡ true → floats_of (wide_part p) w.state.floats ≡ before ++ fs → OfColumn nothing w (FloatMoves.place_double (wide_part p) p before fs w)
@@ -103,7 +103,7 @@ module _ (p : Params) where
       in_turn x.0 (double-moves (FloatMoves.still_deferred place f before) rest (FloatMoves.place_waiting (wide_part p) p place f before rest w) (two-kept x.0 ∙ two) x.1)
     where
       by_double : (t : Bool) → goes_double p w.state.floats w.state.suppress before f ≡ t → OfColumn nothing w (FloatMoves.place_waiting (wide_part p) p (if t then places.Double else places.Deferred) f before rest w) × (floats_of (wide_part p) (FloatMoves.place_waiting (wide_part p) p (if t then places.Double else places.Deferred) f before rest w).state.floats ≡ FloatMoves.still_deferred (if t then places.Double else places.Deferred) f before ++ rest)
-      by_double true i = (moves (places_waiting places.Double f _ w (for_two f before rest two e i)), double-leaves (wide_part p) (wide-waits p) f (before ++ rest) w.state.floats)
+      by_double true i = (moves (places_double f before rest w two e i), double-leaves (wide_part p) (wide-waits p) f (before ++ rest) w.state.floats)
       by_double false i = (rests, still-waits before f rest (floats_of (wide_part p) w.state.floats) e)
 
   -- ---- pages and columns
@@ -154,18 +154,18 @@ module _ (p : Params) where
   pub all_columns-moves : (clearing : Bool) (w : Work) → OfColumn nothing w (Columns.all_float_columns p clearing w)
   all_columns-moves clearing w = float_columns-moves clearing (length w.state.floats.deferred) w
 
-  pub fill_column-moves : (w : Work) → OfColumn nothing w (Columns.fill_column p w)
+  pub fill_column-moves : (w : Work) → OfPage nothing w (Columns.fill_column p w)
   fill_column-moves w = next-moves [] w.state.floats.deferred w refl
 
   -- an ordinary page once its text is made a column
-  pub ordinary-columns : (body : List PlainNode) (w : Work) → OfColumn (of_column (text_column p w.state.floats body (footnotes w.state))) (Columns.without_column_floats w) (Columns.ordinary p body w)
+  pub ordinary-columns : (body : List PlainNode) (w : Work) → OfPage (of_column (text_column p w.state.floats body (footnotes w.state))) (Columns.without_column_floats w) (Columns.ordinary p body w)
   ordinary-columns body w =
       let a = Columns.put_out_text p body w in
       let b = Columns.all_float_columns p false a in
-      in_turn (put_out-moves (text_column p w.state.floats body (footnotes w.state)) (Columns.without_column_floats w)) (in_turn (all_columns-moves false a) (fill_column-moves b))
+      in_turn (page (in_turn (put_out-moves (text_column p w.state.floats body (footnotes w.state)) (Columns.without_column_floats w)) (all_columns-moves false a))) (fill_column-moves b)
 
   pub ordinary-moves : (body : List PlainNode) (w : Work) → OfPage (of_text body) w (Columns.ordinary p body w)
-  ordinary-moves body w = in_turn (moves (takes_text body w)) (page (ordinary-columns body w))
+  ordinary-moves body w = in_turn (moves (takes_text body w)) (ordinary-columns body w)
 
   -- ---- floats and notes in the text
 

@@ -10,7 +10,7 @@ use Rattle.tb_node.specs.PlainNodes.{PlainNode, made, blank_box, skip}
 use Rattle.tb_param.specs.declared.Params.{Params}
 use Rattle.tb_float.specs.declared.Entry.{Entry}
 use Rattle.tb_float.specs.declared.Entry.TheVariants as entries
-use Rattle.tb_float.specs.Lists.{FloatLists, with_floats_of, floats_of, wide_part, wide_waiting}
+use Rattle.tb_float.specs.Lists.{with_floats_of, floats_of, wide_part, wide_waiting}
 use Rattle.tb_float.specs.Rooms.{column_height_of}
 use Rattle.tb_fpage.specs.Company.{Choice, company, chosen_floats, left_floats}
 use Rattle.tb_area.specs.Area.{AreaPlace, deferred, where_of, current_place, next_area_place, goes_double}
@@ -47,12 +47,7 @@ IsInColumn places.Deferred = ⊥
 abbrev pub deferred_float : Bool → Float → Float
 deferred_float t f = if t then Text.with_top f else f
 
--- a float that waits goes to this place, and these lists are left: it waited for a column, or for the top of two
-pub data Waited (p : Params) (w : Work) : Where → Float → FloatLists → Type 0 where
-  for_column : (a : AreaPlace) (f : Float) (before rest : List Float) → IsInColumn (where_of a) → w.state.floats.deferred ≡ before ++ f ∷ rest → next_area_place p w.state.floats w.state.suppress before f ≡ a → Waited p w (where_of a) f (record w.state.floats { deferred = before ++ rest })
-  for_two : (f : Float) (before rest : List Float) → w.state.two_columns ≡ true → floats_of (wide_part p) w.state.floats ≡ before ++ f ∷ rest → goes_double p w.state.floats w.state.suppress before f ≡ true → Waited p w places.Double f (with_floats_of (wide_part p) (before ++ rest) w.state.floats)
-
--- what is done about columns and pages once a column is in hand, and about the floats that wait
+-- what is done once a column is in hand: it is put out, pages of wide floats follow, and the space above the next two columns is filled; and columns of floats are made
 pub data ColumnMove (p : Params) : Hand → Work → Hand → Work → Type 0 where
   takes_company : (clearing : Bool) (cs : List Choice) (w : Work) → company (Columns.single_wanted p w.state.floats clearing) w.state.floats.deferred ≡ Some cs → ColumnMove p nothing w (of_column (single_floats_column p (column_height_of p w.state.floats) (chosen_floats cs))) (Pages.with_deferred (left_floats cs) w)
   records_column : (c : PlainColumn) (w : Work) → ColumnMove p (of_column c) w (of_column c) (records_also (output c) w)
@@ -61,12 +56,13 @@ pub data ColumnMove (p : Params) : Hand → Work → Hand → Work → Type 0 wh
   ships_pair : (c : PlainColumn) (w : Work) → w.state.two_columns ≡ true → w.state.first_column ≡ false → ColumnMove p (of_column c) w nothing (Pages.without_double (Pages.ship p (pair_sheet p w.state.floats (Pages.left_or c w.state.left_column) c) w))
   ends_column : (w : Work) → ColumnMove p nothing w nothing (Pages.after_column w)
   ships_wide : (clearing : Bool) (cs : List Choice) (w : Work) → company (Pages.wide_wanted p clearing) (wide_waiting p w.state.floats) ≡ Some cs → ColumnMove p nothing w nothing (Pages.ship_wide p cs w)
-  places_waiting : (place : Where) (f : Float) (left : FloatLists) (w : Work) → Waited p w place f left → ColumnMove p nothing w nothing (FloatMoves.place_float p place f left w)
+  places_double : (f : Float) (before rest : List Float) (w : Work) → w.state.two_columns ≡ true → floats_of (wide_part p) w.state.floats ≡ before ++ f ∷ rest → goes_double p w.state.floats w.state.suppress before f ≡ true → ColumnMove p nothing w nothing (FloatMoves.place_float p places.Double f (with_floats_of (wide_part p) (before ++ rest) w.state.floats) w)
 
--- what is done with a page at an ordinary break and at a clear
+-- what is done with a page at an ordinary break and at a clear: the above, the text is made a column, the next column is filled, and floats wait again
 pub data PageMove (p : Params) : Hand → Work → Hand → Work → Type 0 where
   by_column : {h i : Hand} {a b : Work} → ColumnMove p h a i b → PageMove p h a i b
   takes_text : (body : List PlainNode) (w : Work) → PageMove p (of_text body) w (of_column (text_column p w.state.floats body (footnotes w.state))) (Columns.without_column_floats w)
+  places_next : (a : AreaPlace) (f : Float) (before rest : List Float) (w : Work) → IsInColumn (where_of a) → w.state.floats.deferred ≡ before ++ f ∷ rest → next_area_place p w.state.floats w.state.suppress before f ≡ a → PageMove p nothing w nothing (FloatMoves.place_float p (where_of a) f (record w.state.floats { deferred = before ++ rest }) w)
   fills_text : (body : List PlainNode) (w : Work) → PageMove p (of_text body) w (of_text (body ++ made (skip filling_glue) ∷ [])) w
   keeps_front : (body : List PlainNode) (w : Work) → PageMove p (of_text body) w nothing (puts (Clear.cleared_front p body) w)
   gathers : (w : Work) → PageMove p nothing w nothing (with_floats (Clear.deferred_again w.state.floats) w)

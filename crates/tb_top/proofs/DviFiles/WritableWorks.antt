@@ -23,6 +23,7 @@ use Rattle.tb_float.specs.Rooms.{column_height_of}
 use Rattle.tb_fpage.proofs.FirstLemmas.{company-all}
 use Rattle.tb_fpage.specs.Company.{chosen_floats, left_floats}
 use Rattle.tb_column.specs.Column.{Notes, PlainColumn, PlainSheet, one, wide, pair_sheet, PlainSent, warned, shipped, wide_floats_column}
+use Rattle.tb_area.specs.Area.{where_of}
 use Rattle.tb_output.specs.State.{State, Work, Recorded, placed, output, puts, sends, records_also, with_floats, with_notes, notes_in, footnotes}
 use Rattle.tb_output.specs.FloatMoves.{joined_to, is_placed, place_float}
 use Rattle.tb_output.specs.Pages.{ship_now, ship, wide_wanted, left_or, without_double}
@@ -31,7 +32,7 @@ use Rattle.tb_output.specs.Text.{penalty_nodes, penalty_after, without_firing_bo
 use Rattle.tb_output.specs.Clear.{clear_again, cleared_front, deferred_again, double_again}
 use Rattle.tb_output.specs.Output.{blank_column, out}
 use Rattle.tb_output.specs.Firing.{page_work}
-use Rattle.tb_output.proofs.StepLaws.Moves.{Hand, nothing, of_text, of_column, of_float, of_note, deferred_float, Waited, for_column, for_two, ColumnMove, takes_company, records_column, ships_column, keeps_left, ships_pair, ends_column, ships_wide, places_waiting, PageMove, by_column, takes_text, fills_text, keeps_front, gathers, gathers_wide, leaves_second, clears_again, TextMove, goes_back, places_current, defers_current, takes_float, stands_here, takes_note, stands_beside, puts_penalty, warns, Move, by_page, by_text, holds_page, leaves_blank, sets_goal, holds-on}
+use Rattle.tb_output.proofs.StepLaws.Moves.{Hand, nothing, of_text, of_column, of_float, of_note, deferred_float, ColumnMove, takes_company, records_column, ships_column, keeps_left, ships_pair, ends_column, ships_wide, places_double, PageMove, by_column, places_next, takes_text, fills_text, keeps_front, gathers, gathers_wide, leaves_second, clears_again, TextMove, goes_back, places_current, defers_current, takes_float, stands_here, takes_note, stands_beside, puts_penalty, warns, Move, by_page, by_text, holds_page, leaves_blank, sets_goal, holds-on}
 use Rattle.tb_output.proofs.StepLaws.FiringTree.{page-moves}
 use Rattle.tb_top.proofs.DviFiles.WritableNodes.{WritableFloat, WritableFloats, WritableNote, WritableNodes, nodes-join, nodes-take, WritableContent, WritableBoxes, WritableFired, floats-column, WritableNotes, text-writable, pair-writable, WritableSheet}
 
@@ -157,10 +158,6 @@ module _ (p : Params) where
   current-taken : (e : Entry) (es : List Entry) (l : FloatLists) → l.current ≡ e ∷ es → WritableLists l → WritableEntry e × WritableEntries es
   current-taken e es l is h = subst WritableEntries is h.0
 
-  goes : {w : Work} {place : Where} {f : Float} {left : FloatLists} → Waited p w place f left → WritableLists w.state.floats → WritableFloat f × WritableLists left
-  goes {w} (for_column a f before rest c e i) h = let k = taken-out before f rest (subst WritableFloats e h.3) in (k.0, (h.0, h.1, h.2, k.1, h.4, h.5))
-  goes {w} (for_two f before rest two e i) h = let k = taken-out before f rest (subst WritableFloats e (waiting p w.state.floats h)) in (k.0, with-waiting p (before ++ rest) w.state.floats k.1 h)
-
   with-top : (t : Bool) (f : Float) → WritableFloat f → WritableFloat (deferred_float t f)
   with-top true f h = h
   with-top false f h = h
@@ -231,10 +228,16 @@ module _ (p : Params) where
       let c = company-all WritableFloat (wide_wanted p clearing) (wide_waiting p w.state.floats) cs e (waiting p w.state.floats k.1.0.3) in
       let l = with_wide_waiting p (left_floats cs) w.state.floats in
       (tt, ships (wide (wide_floats_column p p.textheight (chosen_floats cs))) (with_floats l w) (floats-column p.textheight p.dblfptop p.dblfpsep p.dblfpbot (chosen_floats cs) c.0) (has-floats l w (with-waiting p (left_floats cs) w.state.floats c.1 k.1.0.3) k.1))
-  column-writable (places_waiting place f left w x) k = let g = goes x k.1.0.3 in (tt, goes-to place f left w g.0 g.1 k.1)
+  column-writable (places_double f before rest w two e i) k =
+      let g = taken-out before f rest (subst WritableFloats e (waiting p w.state.floats k.1.0.3)) in
+      (tt, goes-to places.Double f (with_wide_waiting p (before ++ rest) w.state.floats) w g.0 (with-waiting p (before ++ rest) w.state.floats g.1 k.1.0.3) k.1)
 
   page-writable : {h : Hand} {a : Work} {i : Hand} {b : Work} → PageMove p h a i b → Writable h a → Writable i b
   page-writable (by_column m) k = column-writable m k
+  page-writable (places_next a f before rest w c e i) k =
+      let l = k.1.0.3 in
+      let g = taken-out before f rest (subst WritableFloats e l.3) in
+      (tt, goes-to (where_of a) f (record w.state.floats { deferred = before ++ rest }) w g.0 (l.0, l.1, l.2, g.1, l.4, l.5) k.1)
   page-writable (takes_text body w) k =
       let s = k.1.0 in
       (text-writable p w.state.floats body (footnotes w.state) s.3.1 s.3.2 k.0 (notes-of w.state.classes w.state.boxes s.1), ((s.0, emptied w.state.boxes, s.2, (s.3.0, tt, tt, s.3.3, s.3.4, s.3.5), s.4), k.1.1, k.1.2))
