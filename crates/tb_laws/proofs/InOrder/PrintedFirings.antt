@@ -20,7 +20,7 @@ use Rattle.tb_output.specs.Columns
 use Rattle.tb_output.specs.Text
 use Rattle.tb_output.specs.Output
 use Rattle.tb_output.specs.Clear
-use Rattle.tb_output.proofs.StepLaws.Moves.{Hand, nothing, of_text, of_column, of_float, of_note, ColumnMove, takes_company, records_column, ships_column, keeps_left, ships_pair, ends_column, ships_wide, places_double, PageMove, by_column, places_next, takes_text, fills_text, TextMove, places_current, defers_current, takes_float, puts_penalty, warns, Move, by_page, by_text, Moves, goes-on, widen}
+use Rattle.tb_output.proofs.StepLaws.Moves.{Hand, nothing, of_text, of_column, of_float, of_note, ColumnMove, takes_company, records_column, ships_column, keeps_left, ships_pair, ends_column, ships_wide, places_double, places_next, PageMove, by_column, by_fill, takes_text, fills_text, TextMove, places_current, defers_current, takes_float, puts_penalty, warns, Move, by_page, by_text, Moves, goes-on, widen}
 use Rattle.tb_output.proofs.StepLaws.FiringTree.{ordinary-columns, clear_by-moves, float_or_note-moves, goal-moves}
 use Rattle.tb_laws.proofs.NothingLost.StateWeights.{ColumnsFit, first-left, one-left}
 use Rattle.tb_laws.proofs.Closed.Closings.{never}
@@ -268,7 +268,7 @@ module _ (p : Params) where
 
   page-shown : {h : Hand} {a : Work} {i : Hand} {b : Work} → PageMove p h a i b → Shows h a i b
   page-shown (by_column m) = column-shows m
-  page-shown (places_next a f before rest w c e i) = placed-shows p nothing (where_of a) f _ w (λ k. k) (itself (shown w))
+  page-shown (by_fill (places_next a f before rest w c e i)) = placed-shows p nothing (where_of a) f _ w (λ k. k) (itself (shown w))
   page-shown (takes_text body w) =
       let c = text_column p w.state.floats body (footnotes w.state) in
       alike (of_text body) (of_column c) w _ refl refl refl (λ k. k) (λ s. text-plain p w.state.floats body (footnotes w.state) s) (within-front (shown w) (prints c.nodes))

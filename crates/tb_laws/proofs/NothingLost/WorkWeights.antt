@@ -23,7 +23,7 @@ use Rattle.tb_output.specs.Clear
 use Rattle.tb_output.specs.Output
 use Rattle.tb_laws.proofs.NothingLost.StateWeights.{Weighs, gives, keeps, weighs-then, all-added, floats_weight, lists_weight, left_weight, state_weight, sent_weight, work_weight, floats-append, Sound, Adds, then_kept, adds_if, unchanged, warns-adds}
 use Rattle.tb_laws.proofs.NothingLost.FloatWeights.{next-adds, lists-adds, paired-with, lists-with}
-use Rattle.tb_output.proofs.StepLaws.Moves.{Hand, nothing, of_text, of_column, PageMove, by_column, places_next, takes_text, fills_text, keeps_front, gathers, gathers_wide, leaves_second, clears_again, goes-on}
+use Rattle.tb_output.proofs.StepLaws.Moves.{Hand, nothing, of_text, of_column, places_next, PageMove, by_column, by_fill, takes_text, fills_text, keeps_front, gathers, gathers_wide, leaves_second, clears_again, goes-on}
 use Rattle.tb_output.proofs.StepLaws.FiringTree.{ordinary-columns, clear_by-moves}
 use Rattle.tb_laws.proofs.NothingLost.PutOutWeights.{column-weighs, text-taken}
 use Rattle.tb_laws.proofs.NothingLost.TextWeights.{put-weighs, front-light, puts-nothing, float_or_note-adds}
@@ -64,7 +64,7 @@ double_again-adds v p w =
 
 page-weighs : {p : Params} {h : Hand} {a : Work} {i : Hand} {b : Work} (v : Weight) → PageMove p h a i b → Weighs v h a i b
 page-weighs {p} v (by_column m) = column-weighs v m
-page-weighs {p} v (places_next a f before rest w c e i) = keeps v nothing w _ (next-adds v p a f before rest w e)
+page-weighs {p} v (by_fill (places_next a f before rest w c e i)) = keeps v nothing w _ (next-adds v p a f before rest w e)
 page-weighs {p} v (takes_text body w) = record { waits = refl; classes = refl; goes = λ r. r; light = λ l. tt; by = λ r l s. text-taken v p body w s }
 page-weighs {p} v (fills_text body w) =
     let fill = made (skip filling_glue) ∷ [] in

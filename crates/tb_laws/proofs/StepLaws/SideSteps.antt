@@ -17,7 +17,7 @@ use Rattle.tb_output.specs.State.{Work, output, with_floats}
 use Rattle.tb_output.specs.Pages
 use Rattle.tb_output.specs.Columns
 use Rattle.tb_output.specs.Clear
-use Rattle.tb_output.proofs.StepLaws.Moves.{Hand, ColumnMove, takes_company, records_column, ships_column, ships_pair, ships_wide, places_double, PageMove, by_column, places_next, takes_text, gathers, gathers_wide, Moves, moves, holds-on}
+use Rattle.tb_output.proofs.StepLaws.Moves.{Hand, ColumnMove, takes_company, records_column, ships_column, ships_pair, ships_wide, places_double, places_next, PageMove, by_column, by_fill, takes_text, gathers, gathers_wide, Moves, moves, holds-on}
 use Rattle.tb_output.proofs.StepLaws.FiringTree.{put_out_text-moves, ordinary-moves, clear_by-moves}
 use Rattle.tb_output.proofs.StepLaws.FollowLemmas.{records-state}
 use Rattle.tb_laws.proofs.DeadCycles.ColumnOutcomes.{area-single, ship-lists}
@@ -63,7 +63,7 @@ module _ (p : Params) where
   -- the double floats, which wait again at a clear, are wide
   page-sides : {h : Hand} {a : Work} {i : Hand} {b : Work} → PageMove p h a i b → DoubleFits a.state → S a → S b
   page-sides (by_column m) d h = column-sides m h
-  page-sides (places_next a f before rest w c e i) d h =
+  page-sides (by_fill (places_next a f before rest w c e i)) d h =
       joined-sides (wide_part p) (where_of a) f (record w.state.floats { deferred = before ++ rest }) (area-single a) (fits (wide_part p) w.state.floats before f rest e h)
       (deferred-sides (wide_part p) (before ++ rest) w.state.floats (λ s. without-middle Single before f rest (subst (AllByRecursion Single) e s)) h)
   page-sides (takes_text body w) d h = text-sides (wide_part p) w.state.floats h

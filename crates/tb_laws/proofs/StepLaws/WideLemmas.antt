@@ -17,7 +17,7 @@ use Rattle.tb_output.specs.Columns
 use Rattle.tb_output.specs.Clear
 use Rattle.tb_output.proofs.StepLaws.FollowLemmas.{records-state}
 use Rattle.tb_output.proofs.StepLaws.ColumnSteps.{no_law, place_float-step, stays}
-use Rattle.tb_output.proofs.StepLaws.Moves.{Hand, ColumnMove, records_column, ships_column, ships_pair, ships_wide, places_double, IsInColumn, PageMove, by_column, places_next, gathers_wide, Moves, goes-on}
+use Rattle.tb_output.proofs.StepLaws.Moves.{Hand, ColumnMove, records_column, ships_column, ships_pair, ships_wide, places_double, IsInColumn, places_next, PageMove, by_column, by_fill, gathers_wide, Moves, goes-on}
 use Rattle.tb_output.proofs.StepLaws.FiringTree.{two-stays, ordinary-moves, clear_by-moves}
 use Rattle.tb_laws.proofs.Closed.SparedLists.{waiting-double}
 use Rattle.tb_laws.proofs.DeadCycles.ColumnOutcomes.{ship-lists}
@@ -74,7 +74,7 @@ module _ (p : Params) where
 
   page-double : {h : Hand} {a : Work} {i : Hand} {b : Work} → PageMove p h a i b → KeepsDouble a b
   page-double (by_column m) = column-double m
-  page-double (places_next a f before rest w c e i) = same-double w _ (next-double a c f before rest w) (stays (place_float-step p (no_law p) (where_of a) f (record w.state.floats { deferred = before ++ rest }) w tt)).columns
+  page-double (by_fill (places_next a f before rest w c e i)) = same-double w _ (next-double a c f before rest w) (stays (place_float-step p (no_law p) (where_of a) f (record w.state.floats { deferred = before ++ rest }) w tt)).columns
   page-double (gathers_wide w t f) = no-double w _ (waiting-double (wide_part p) (wide-waits p) (w.state.floats.double ++ wide_waiting p w.state.floats) (record w.state.floats { double = [] })) refl
   page-double {a = a} {b = b} m = same-double a b refl refl
 

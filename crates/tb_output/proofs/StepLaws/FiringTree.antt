@@ -32,7 +32,7 @@ use Rattle.tb_output.specs.Clear
 use Rattle.tb_output.specs.Output
 use Rattle.tb_output.specs.Firing.{page_work}
 use Rattle.tb_output.proofs.StepLaws.ColumnSteps.{no_law, records_one, ships_one, ship_wide-step, place_float-step, stays}
-use Rattle.tb_output.proofs.StepLaws.Moves.{Hand, nothing, of_text, of_column, of_float, of_note, deferred_float, ColumnMove, takes_company, records_column, ships_column, keeps_left, ships_pair, ends_column, ships_wide, places_double, PageMove, by_column, places_next, takes_text, fills_text, keeps_front, gathers, gathers_wide, leaves_second, clears_again, TextMove, goes_back, places_current, defers_current, takes_float, stands_here, takes_note, stands_beside, puts_penalty, warns, Move, by_page, by_text, holds_page, leaves_blank, sets_goal, Moves, rests, moves, in_turn, goes-on, widen}
+use Rattle.tb_output.proofs.StepLaws.Moves.{Hand, nothing, of_text, of_column, of_float, of_note, deferred_float, ColumnMove, takes_company, records_column, ships_column, keeps_left, ships_pair, ends_column, ships_wide, places_double, FillMove, places_next, PageMove, by_column, by_fill, takes_text, fills_text, keeps_front, gathers, gathers_wide, leaves_second, clears_again, TextMove, goes_back, places_current, defers_current, takes_float, stands_here, takes_note, stands_beside, puts_penalty, warns, Move, by_page, by_text, holds_page, leaves_blank, sets_goal, Moves, rests, moves, in_turn, goes-on, widen}
 
 -- the list of a place that was not taken still has its float
 still-waits : (before : List Float) (f : Float) (rest fs : List Float) → fs ≡ before ++ f ∷ rest → fs ≡ (before ++ f ∷ []) ++ rest
@@ -68,6 +68,9 @@ module _ (p : Params) where
   abbrev OfColumn : Hand → Work → Work → Type 0
   OfColumn h a b = Moves (ColumnMove p) h a nothing b
 
+  abbrev OfFill : Work → Work → Type 0
+  OfFill a b = Moves (FillMove p) nothing a nothing b
+
   abbrev OfPage : Hand → Work → Work → Type 0
   OfPage h a b = Moves (PageMove p) h a nothing b
 
@@ -82,14 +85,14 @@ module _ (p : Params) where
 
   -- ---- floats go to their places
 
-  next-moves : (before fs : List Float) (w : Work) → w.state.floats.deferred ≡ before ++ fs → OfPage nothing w (FloatMoves.place_next p before fs w)
+  next-moves : (before fs : List Float) (w : Work) → w.state.floats.deferred ≡ before ++ fs → OfFill w (FloatMoves.place_next p before fs w)
   next-moves before [] w e = rests
   next-moves before (f ∷ rest) w e =
       let a = next_area_place p w.state.floats w.state.suppress before f in
       let x = by_area a refl in
       in_turn x.0 (next-moves (FloatMoves.still_deferred (where_of a) f before) rest (FloatMoves.place_waiting parts.Deferred p (where_of a) f before rest w) x.1)
     where
-      by_area : (a : AreaPlace) → next_area_place p w.state.floats w.state.suppress before f ≡ a → OfPage nothing w (FloatMoves.place_waiting parts.Deferred p (where_of a) f before rest w) × ((FloatMoves.place_waiting parts.Deferred p (where_of a) f before rest w).state.floats.deferred ≡ FloatMoves.still_deferred (where_of a) f before ++ rest)
+      by_area : (a : AreaPlace) → next_area_place p w.state.floats w.state.suppress before f ≡ a → OfFill w (FloatMoves.place_waiting parts.Deferred p (where_of a) f before rest w) × ((FloatMoves.place_waiting parts.Deferred p (where_of a) f before rest w).state.floats.deferred ≡ FloatMoves.still_deferred (where_of a) f before ++ rest)
       by_area at_top i = (moves (places_next at_top f before rest w tt e i), refl)
       by_area at_bottom i = (moves (places_next at_bottom f before rest w tt e i), refl)
       by_area deferred i = (rests, still-waits before f rest w.state.floats.deferred e)
@@ -154,15 +157,19 @@ module _ (p : Params) where
   pub all_columns-moves : (clearing : Bool) (w : Work) → OfColumn nothing w (Columns.all_float_columns p clearing w)
   all_columns-moves clearing w = float_columns-moves clearing (length w.state.floats.deferred) w
 
-  pub fill_column-moves : (w : Work) → OfPage nothing w (Columns.fill_column p w)
+  pub fill_column-moves : (w : Work) → OfFill w (Columns.fill_column p w)
   fill_column-moves w = next-moves [] w.state.floats.deferred w refl
+
+  -- a column in hand is put out, and columns of floats follow
+  pub text_columns-moves : (c : PlainColumn) (w : Work) → OfColumn (of_column c) w (Columns.all_float_columns p false (Pages.put_out p c w))
+  text_columns-moves c w = in_turn (put_out-moves c w) (all_columns-moves false (Pages.put_out p c w))
 
   -- an ordinary page once its text is made a column
   pub ordinary-columns : (body : List PlainNode) (w : Work) → OfPage (of_column (text_column p w.state.floats body (footnotes w.state))) (Columns.without_column_floats w) (Columns.ordinary p body w)
   ordinary-columns body w =
-      let a = Columns.put_out_text p body w in
-      let b = Columns.all_float_columns p false a in
-      in_turn (page (in_turn (put_out-moves (text_column p w.state.floats body (footnotes w.state)) (Columns.without_column_floats w)) (all_columns-moves false a))) (fill_column-moves b)
+      let c = text_column p w.state.floats body (footnotes w.state) in
+      let b = Columns.all_float_columns p false (Columns.put_out_text p body w) in
+      in_turn (page (text_columns-moves c (Columns.without_column_floats w))) (widen (λ h i a b m. by_fill m) (fill_column-moves b))
 
   pub ordinary-moves : (body : List PlainNode) (w : Work) → OfPage (of_text body) w (Columns.ordinary p body w)
   ordinary-moves body w = in_turn (moves (takes_text body w)) (ordinary-columns body w)

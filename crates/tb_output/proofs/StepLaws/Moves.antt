@@ -58,11 +58,15 @@ pub data ColumnMove (p : Params) : Hand → Work → Hand → Work → Type 0 wh
   ships_wide : (clearing : Bool) (cs : List Choice) (w : Work) → company (Pages.wide_wanted p clearing) (wide_waiting p w.state.floats) ≡ Some cs → ColumnMove p nothing w nothing (Pages.ship_wide p cs w)
   places_double : (f : Float) (before rest : List Float) (w : Work) → w.state.two_columns ≡ true → floats_of (wide_part p) w.state.floats ≡ before ++ f ∷ rest → goes_double p w.state.floats w.state.suppress before f ≡ true → ColumnMove p nothing w nothing (FloatMoves.place_float p places.Double f (with_floats_of (wide_part p) (before ++ rest) w.state.floats) w)
 
--- what is done with a page at an ordinary break and at a clear: the above, the text is made a column, the next column is filled, and floats wait again
+-- what is done when the next column is filled
+pub data FillMove (p : Params) : Hand → Work → Hand → Work → Type 0 where
+  places_next : (a : AreaPlace) (f : Float) (before rest : List Float) (w : Work) → IsInColumn (where_of a) → w.state.floats.deferred ≡ before ++ f ∷ rest → next_area_place p w.state.floats w.state.suppress before f ≡ a → FillMove p nothing w nothing (FloatMoves.place_float p (where_of a) f (record w.state.floats { deferred = before ++ rest }) w)
+
+-- what is done with a page at an ordinary break and at a clear: the above, the text is made a column, and floats wait again
 pub data PageMove (p : Params) : Hand → Work → Hand → Work → Type 0 where
   by_column : {h i : Hand} {a b : Work} → ColumnMove p h a i b → PageMove p h a i b
   takes_text : (body : List PlainNode) (w : Work) → PageMove p (of_text body) w (of_column (text_column p w.state.floats body (footnotes w.state))) (Columns.without_column_floats w)
-  places_next : (a : AreaPlace) (f : Float) (before rest : List Float) (w : Work) → IsInColumn (where_of a) → w.state.floats.deferred ≡ before ++ f ∷ rest → next_area_place p w.state.floats w.state.suppress before f ≡ a → PageMove p nothing w nothing (FloatMoves.place_float p (where_of a) f (record w.state.floats { deferred = before ++ rest }) w)
+  by_fill : {h i : Hand} {a b : Work} → FillMove p h a i b → PageMove p h a i b
   fills_text : (body : List PlainNode) (w : Work) → PageMove p (of_text body) w (of_text (body ++ made (skip filling_glue) ∷ [])) w
   keeps_front : (body : List PlainNode) (w : Work) → PageMove p (of_text body) w nothing (puts (Clear.cleared_front p body) w)
   gathers : (w : Work) → PageMove p nothing w nothing (with_floats (Clear.deferred_again w.state.floats) w)

@@ -32,7 +32,7 @@ use Rattle.tb_output.specs.Text.{penalty_nodes, penalty_after, without_firing_bo
 use Rattle.tb_output.specs.Clear.{clear_again, cleared_front, deferred_again, double_again}
 use Rattle.tb_output.specs.Output.{blank_column, out}
 use Rattle.tb_output.specs.Firing.{page_work}
-use Rattle.tb_output.proofs.StepLaws.Moves.{Hand, nothing, of_text, of_column, of_float, of_note, deferred_float, ColumnMove, takes_company, records_column, ships_column, keeps_left, ships_pair, ends_column, ships_wide, places_double, PageMove, by_column, places_next, takes_text, fills_text, keeps_front, gathers, gathers_wide, leaves_second, clears_again, TextMove, goes_back, places_current, defers_current, takes_float, stands_here, takes_note, stands_beside, puts_penalty, warns, Move, by_page, by_text, holds_page, leaves_blank, sets_goal, holds-on}
+use Rattle.tb_output.proofs.StepLaws.Moves.{Hand, nothing, of_text, of_column, of_float, of_note, deferred_float, ColumnMove, takes_company, records_column, ships_column, keeps_left, ships_pair, ends_column, ships_wide, places_double, places_next, PageMove, by_column, by_fill, takes_text, fills_text, keeps_front, gathers, gathers_wide, leaves_second, clears_again, TextMove, goes_back, places_current, defers_current, takes_float, stands_here, takes_note, stands_beside, puts_penalty, warns, Move, by_page, by_text, holds_page, leaves_blank, sets_goal, holds-on}
 use Rattle.tb_output.proofs.StepLaws.FiringTree.{page-moves}
 use Rattle.tb_top.proofs.DviFiles.WritableNodes.{WritableFloat, WritableFloats, WritableNote, WritableNodes, nodes-join, nodes-take, WritableContent, WritableBoxes, WritableFired, floats-column, WritableNotes, text-writable, pair-writable, WritableSheet}
 
@@ -234,7 +234,7 @@ module _ (p : Params) where
 
   page-writable : {h : Hand} {a : Work} {i : Hand} {b : Work} → PageMove p h a i b → Writable h a → Writable i b
   page-writable (by_column m) k = column-writable m k
-  page-writable (places_next a f before rest w c e i) k =
+  page-writable (by_fill (places_next a f before rest w c e i)) k =
       let l = k.1.0.3 in
       let g = taken-out before f rest (subst WritableFloats e l.3) in
       (tt, goes-to (where_of a) f (record w.state.floats { deferred = before ++ rest }) w g.0 (l.0, l.1, l.2, g.1, l.4, l.5) k.1)
