@@ -10,7 +10,6 @@ use Rattle.tb_float.specs.declared.Part.{Part}
 use Rattle.tb_float.specs.declared.Part.TheVariants as parts
 use Rattle.tb_float.specs.Lists.{FloatLists, with_floats_of, wide_part, wide_waiting, with_wide_waiting}
 use Rattle.tb_float.specs.Rooms.{column_height_of}
-use Rattle.tb_float.proofs.WaitingLemmas.{wide-waits}
 use Rattle.tb_fpage.specs.declared.Wanted.{Wanted}
 use Rattle.tb_fpage.specs.Company.{Choice, company, chosen_floats, left_floats}
 use Rattle.tb_area.specs.Area
@@ -19,7 +18,7 @@ use Rattle.tb_output.specs.State.{State, Work, Recorded, placed, output, records
 use Rattle.tb_output.specs.FloatMoves
 use Rattle.tb_output.specs.Pages
 use Rattle.tb_output.specs.Columns
-use Rattle.tb_output.proofs.StepLaws.FollowLemmas.{waiting_floats, AllWait, Follows, follows-then, follows-undoubled, follows-wide_pages, follows-double, follows-next, follows-put_out, follows-company, follows-float_columns, follows-pair_rest}
+use Rattle.tb_output.proofs.StepLaws.FollowLemmas.{waiting_floats, AllWait, Follows, follows-then, follows-undoubled, follows-next, follows-put_out, follows-company, follows-float_columns, follows-pair_rest}
 
 -- ---- a page that is shipped
 
@@ -174,19 +173,19 @@ abbrev pub IsLast : State → Type 0
 IsLast s = (s.two_columns ≡ false) ⊎ (s.first_column ≡ false)
 
 module _ (P : Float → Type 0) (p : Params) where
-  pair-cycles : (c : PlainColumn) (w : Work) → (Pages.ship_pair p c w).refused ≡ false → (Pages.ship_pair p c w).state.dead_cycles ≡ 0
-  pair-cycles c w h =
+  pair-cycles : (c : PlainColumn) (w : Work) → w.state.two_columns ≡ true → (Pages.ship_pair p c w).refused ≡ false → (Pages.ship_pair p c w).state.dead_cycles ≡ 0
+  pair-cycles c w t h =
       let a = Pages.ship p (pair_sheet p w.state.floats (Pages.left_or c w.state.left_column) c) w in
-      let x : Follows P (Pages.ship p (pair_sheet p w.state.floats (Pages.left_or c w.state.left_column) c) w) (Pages.ship_pair p c w) = follows-pair_rest P p c w in
+      let x : Follows P (Pages.without_double (Pages.ship p (pair_sheet p w.state.floats (Pages.left_or c w.state.left_column) c) w)) (Pages.ship_pair p c w) = follows-pair_rest P p c w t in
       stays-zero a.state.dead_cycles (Pages.ship_pair p c w).state.dead_cycles (ship-cycles p _ w (x.goes h)) (x.cycles h)
 
   -- the double floats leave with the pair, and a first column begins
-  pair-first : (c : PlainColumn) (w : Work) → ((Pages.ship_pair p c w).state.first_column ≡ true) × (waiting_floats (Pages.ship_pair p c w).state.floats + length w.state.floats.double ≤ waiting_floats w.state.floats)
-  pair-first c w =
+  pair-first : (c : PlainColumn) (w : Work) → w.state.two_columns ≡ true → ((Pages.ship_pair p c w).state.first_column ≡ true) × (waiting_floats (Pages.ship_pair p c w).state.floats + length w.state.floats.double ≤ waiting_floats w.state.floats)
+  pair-first c w t =
       let a = Pages.ship p (pair_sheet p w.state.floats (Pages.left_or c w.state.left_column) c) w in
       let b = Pages.without_double a in
       let d = Pages.all_wide_pages p false b in
-      let x : Follows P (Pages.without_double (Pages.ship p (pair_sheet p w.state.floats (Pages.left_or c w.state.left_column) c) w)) (Pages.ship_pair p c w) = follows-then P b d (Pages.ship_pair p c w) (follows-wide_pages P p false (length (wide_waiting p b.state.floats)) b) (follows-double P (wide_part p) (wide-waits p) p [] (wide_waiting p d.state.floats) d refl) in
+      let x : Follows P (Pages.without_double (Pages.ship p (pair_sheet p w.state.floats (Pages.left_or c w.state.left_column) c) w)) (Pages.ship_pair p c w) = follows-pair_rest P p c w t in
       let u : waiting_floats (Pages.without_double (Pages.ship p (pair_sheet p w.state.floats (Pages.left_or c w.state.left_column) c) w)).state.floats + length (Pages.ship p (pair_sheet p w.state.floats (Pages.left_or c w.state.left_column) c) w).state.floats.double ≤ waiting_floats (Pages.ship p (pair_sheet p w.state.floats (Pages.left_or c w.state.left_column) c) w).state.floats = (follows-undoubled P a).1 in
       let l = (ship-lists p (pair_sheet p w.state.floats (Pages.left_or c w.state.left_column) c) w).0 in (
         double-column (wide_part p) p [] (wide_waiting p d.state.floats) d ∙ wide-column p false (length (wide_waiting p b.state.floats)) b,
@@ -197,13 +196,13 @@ module _ (P : Float → Type 0) (p : Params) where
       sums w a b r d e h i j k = omega arith
 
   by-cycles : (c : PlainColumn) (a : Work) → IsLast a.state → (Pages.put_out_by p c a).refused ≡ false → (Pages.put_out_by p c a).state.dead_cycles ≡ 0
-  by-cycles c a l = by_columns a.state.two_columns a.state.first_column l
+  by-cycles c a l = by_columns a.state.two_columns a.state.first_column refl l
     where
-      by_columns : (t f : Bool) → (t ≡ false) ⊎ (f ≡ false) → (if not t then Pages.ship p (one c) a else (if f then Pages.keep_left c a else Pages.ship_pair p c a)).refused ≡ false → (if not t then Pages.ship p (one c) a else (if f then Pages.keep_left c a else Pages.ship_pair p c a)).state.dead_cycles ≡ 0
-      by_columns false f l h = ship-cycles p (one c) a h
-      by_columns true false l h = pair-cycles c a h
-      by_columns true true (inl e) h = let no : ⊥ = grind (arith, e) in absurd no
-      by_columns true true (inr e) h = let no : ⊥ = grind (arith, e) in absurd no
+      by_columns : (t f : Bool) → a.state.two_columns ≡ t → (t ≡ false) ⊎ (f ≡ false) → (if not t then Pages.ship p (one c) a else (if f then Pages.keep_left c a else Pages.ship_pair p c a)).refused ≡ false → (if not t then Pages.ship p (one c) a else (if f then Pages.keep_left c a else Pages.ship_pair p c a)).state.dead_cycles ≡ 0
+      by_columns false f t l h = ship-cycles p (one c) a h
+      by_columns true false t l h = pair-cycles c a t h
+      by_columns true true t (inl e) h = let no : ⊥ = grind (arith, e) in absurd no
+      by_columns true true t (inr e) h = let no : ⊥ = grind (arith, e) in absurd no
 
   pub last-ships : (c : PlainColumn) (w : Work) → IsLast w.state → (Pages.put_out p c w).refused ≡ false → (Pages.put_out p c w).state.dead_cycles ≡ 0
   last-ships c w l h = by-cycles c (records_also (output c) w) (subst IsLast (sym (records-column (output c) w).0) l) h
@@ -239,7 +238,7 @@ module _ (P : Float → Type 0) (p : Params) where
       by_columns : (x y : Bool) → x ≡ true → y ≡ false → IsPaired a (if not x then Pages.ship p (one c) a else (if y then Pages.keep_left c a else Pages.ship_pair p c a))
       by_columns false y h k = let no : ⊥ = grind (arith, h) in absurd no
       by_columns true true h k = let no : ⊥ = grind (arith, k) in absurd no
-      by_columns true false h k = record { first = (pair-first c a).0; floats = (pair-first c a).1 }
+      by_columns true false h k = record { first = (pair-first c a t).0; floats = (pair-first c a t).1 }
 
   pub second-pairs : (c : PlainColumn) (w : Work) → w.state.two_columns ≡ true → w.state.first_column ≡ false → IsPaired w (Pages.put_out p c w)
   second-pairs c w t f =

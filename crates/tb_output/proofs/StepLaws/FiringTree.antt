@@ -85,7 +85,7 @@ module _ (p : Params) where
 
   -- ---- floats go to their places
 
-  next-moves : (before fs : List Float) (w : Work) → w.state.floats.deferred ≡ before ++ fs → OfFill w (FloatMoves.place_next p before fs w)
+  pub next-moves : (before fs : List Float) (w : Work) → w.state.floats.deferred ≡ before ++ fs → OfFill w (FloatMoves.place_next p before fs w)
   next-moves before [] w e = rests
   next-moves before (f ∷ rest) w e =
       let a = next_area_place p w.state.floats w.state.suppress before f in
@@ -111,7 +111,7 @@ module _ (p : Params) where
 
   -- ---- pages and columns
 
-  wide-moves : (clearing : Bool) (n : ℕ) (w : Work) → OfColumn nothing w (Pages.wide_pages p clearing n w)
+  pub wide-moves : (clearing : Bool) (n : ℕ) (w : Work) → OfColumn nothing w (Pages.wide_pages p clearing n w)
   wide-moves clearing zero w = rests
   wide-moves clearing (suc n) w = by_company (λ v. wide-moves clearing n v) (company (Pages.wide_wanted p clearing) (wide_waiting p w.state.floats)) refl
     where
@@ -125,18 +125,21 @@ module _ (p : Params) where
   pub fill_double-moves : (w : Work) → w.state.two_columns ≡ true → OfColumn nothing w (Pages.fill_double p w)
   fill_double-moves w two = double-moves [] (wide_waiting p w.state.floats) w two refl
 
+  -- what follows the page of two columns
+  pub pair_rest-moves : (c : PlainColumn) (w : Work) → w.state.two_columns ≡ true → OfColumn nothing (Pages.without_double (Pages.ship p (pair_sheet p w.state.floats (Pages.left_or c w.state.left_column) c) w)) (Pages.ship_pair p c w)
+  pair_rest-moves c w t =
+      let sheet = pair_sheet p w.state.floats (Pages.left_or c w.state.left_column) c in
+      let b = Pages.without_double (Pages.ship p sheet w) in
+      let x = all_wide-moves false b in
+      in_turn x (fill_double-moves (Pages.all_wide_pages p false b) (two-kept x ∙ (stays {p = p} {law = no_law p} (ships_one sheet w)).columns ∙ t))
+
   put_out_by-moves : (c : PlainColumn) (w : Work) → OfColumn (of_column c) w (Pages.put_out_by p c w)
   put_out_by-moves c w = by_columns w.state.two_columns w.state.first_column refl refl
     where
-      pair : Work
-      pair = Pages.without_double (Pages.ship p (pair_sheet p w.state.floats (Pages.left_or c w.state.left_column) c) w)
-
       by_columns : (two first : Bool) → w.state.two_columns ≡ two → w.state.first_column ≡ first → OfColumn (of_column c) w (if not two then Pages.ship p (one c) w else (if first then Pages.keep_left c w else Pages.ship_pair p c w))
       by_columns false first t f = moves (ships_column c w t)
       by_columns true true t f = moves (keeps_left c w t f)
-      by_columns true false t f =
-          let x = in_turn (moves (ships_pair c w t f)) (all_wide-moves false pair) in
-          in_turn x (fill_double-moves (Pages.all_wide_pages p false pair) (two-kept x ∙ t))
+      by_columns true false t f = in_turn (moves (ships_pair c w t f)) (pair_rest-moves c w t)
 
   pub put_out-moves : (c : PlainColumn) (w : Work) → OfColumn (of_column c) w (Pages.put_out p c w)
   put_out-moves c w =
@@ -146,7 +149,7 @@ module _ (p : Params) where
   pub put_out_text-moves : (body : List PlainNode) (w : Work) → OfPage (of_text body) w (Columns.put_out_text p body w)
   put_out_text-moves body w = in_turn (moves (takes_text body w)) (page (put_out-moves (text_column p w.state.floats body (footnotes w.state)) (Columns.without_column_floats w)))
 
-  float_columns-moves : (clearing : Bool) (n : ℕ) (w : Work) → OfColumn nothing w (Columns.float_columns p clearing n w)
+  pub float_columns-moves : (clearing : Bool) (n : ℕ) (w : Work) → OfColumn nothing w (Columns.float_columns p clearing n w)
   float_columns-moves clearing zero w = rests
   float_columns-moves clearing (suc n) w = by_company (λ v. float_columns-moves clearing n v) (company (Columns.single_wanted p w.state.floats clearing) w.state.floats.deferred) refl
     where
