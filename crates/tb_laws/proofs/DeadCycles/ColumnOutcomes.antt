@@ -7,7 +7,6 @@ use Rattle.tb_node.specs.declared.Where.TheVariants as places
 use Rattle.tb_node.specs.PlainNodes.{PlainNode}
 use Rattle.tb_param.specs.declared.Params.{Params}
 use Rattle.tb_float.specs.declared.Part.{Part}
-use Rattle.tb_float.specs.declared.Part.TheVariants as parts
 use Rattle.tb_float.specs.Lists.{FloatLists, with_floats_of, wide_part, wide_waiting, with_wide_waiting}
 use Rattle.tb_float.specs.Rooms.{column_height_of}
 use Rattle.tb_fpage.specs.declared.Wanted.{Wanted}
@@ -19,6 +18,8 @@ use Rattle.tb_output.specs.FloatMoves
 use Rattle.tb_output.specs.Pages
 use Rattle.tb_output.specs.Columns
 use Rattle.tb_output.proofs.StepLaws.FollowLemmas.{waiting_floats, AllWait, Follows, follows-then, follows-undoubled, follows-next, follows-put_out, follows-company, follows-float_columns, follows-pair_rest}
+use Rattle.tb_output.proofs.StepLaws.Moves.{Hand, FillMove, places_next, goes-on}
+use Rattle.tb_output.proofs.StepLaws.FiringTree.{fill_column-moves}
 
 -- ---- a page that is shipped
 
@@ -89,13 +90,6 @@ double-column from p before (f ∷ rest) w =
     let w' = FloatMoves.place_waiting from p place f before rest w in
     double-column from p (FloatMoves.still_deferred place f before) rest w' ∙ waiting-column from p place f before rest w
 
-pub next-column : (p : Params) (before fs : List Float) (w : Work) → SameColumn w (FloatMoves.place_next p before fs w)
-next-column p before [] w = refl
-next-column p before (f ∷ rest) w =
-    let place = Area.next_place p w.state.floats w.state.suppress before f in
-    let w' = FloatMoves.place_waiting parts.Deferred p place f before rest w in
-    next-column p (FloatMoves.still_deferred place f before) rest w' ∙ waiting-column parts.Deferred p place f before rest w
-
 wide_by-column : (p : Params) (again : Work → Work) → ((w : Work) → SameColumn w (again w)) → (w : Work) (o : Option (List Choice)) → SameColumn w (Pages.wide_pages_by again p w o)
 wide_by-column p again h w None = refl
 wide_by-column p again h w (Some cs) = h (Pages.ship_wide p cs w) ∙ (ship-lists p _ (with_floats (with_wide_waiting p (left_floats cs) w.state.floats) w)).1
@@ -123,48 +117,28 @@ pub joined-single : (place : Where) (f : Float) (l : FloatLists) → NotDouble p
 joined-single places.Double f l h = absurd h
 joined-single place f l h = refl
 
-deferred-single : (p : Params) (place : Where) (f : Float) (before rest : List Float) (w : Work) → NotDouble place → (FloatMoves.place_waiting parts.Deferred p place f before rest w).state.floats.double ≡ w.state.floats.double
-deferred-single p place f before rest w h = by_place (FloatMoves.is_placed place)
-  where
-    l : FloatLists
-    l = record w.state.floats { deferred = before ++ rest }
+-- ---- what filling a column leaves as it is
 
-    by_place : (t : Bool) → (if t then FloatMoves.place_float p place f l w else w).state.floats.double ≡ w.state.floats.double
-    by_place true = joined-single place f l h
-    by_place false = refl
+record FillKeeps (a b : Work) : Type 0 where
+  column : SameColumn a b
+  double : b.state.floats.double ≡ a.state.floats.double
+  cycles : b.state.dead_cycles ≡ a.state.dead_cycles
 
-pub next-single : (p : Params) (before fs : List Float) (w : Work) → (FloatMoves.place_next p before fs w).state.floats.double ≡ w.state.floats.double
-next-single p before [] w = refl
-next-single p before (f ∷ rest) w =
-    let place = Area.next_place p w.state.floats w.state.suppress before f in
-    let w' = FloatMoves.place_waiting parts.Deferred p place f before rest w in
-    next-single p (FloatMoves.still_deferred place f before) rest w' ∙ deferred-single p place f before rest w (area-single (Area.next_area_place p w.state.floats w.state.suppress before f))
-
--- ---- placing floats is no firing
-
-placed-cycles : (p : Params) (place : Where) (f : Float) (before rest : List Float) (w : Work) → (FloatMoves.place_waiting parts.Deferred p place f before rest w).state.dead_cycles ≡ w.state.dead_cycles
-placed-cycles p place f before rest w = by_place (FloatMoves.is_placed place)
+fill-keeps : {p : Params} {h : Hand} {a : Work} {i : Hand} {b : Work} → FillMove p h a i b → FillKeeps a b
+fill-keeps {p} (places_next a f before rest w c e i) = by_record (FloatMoves.is_placed (Area.where_of a))
   where
     l : FloatLists
     l = record w.state.floats { deferred = before ++ rest }
 
     r : Recorded
-    r = placed f place w.state.floats (column_height_of p w.state.floats)
+    r = placed f (Area.where_of a) w.state.floats (column_height_of p w.state.floats)
 
-    by_record : (t : Bool) → (with_floats (FloatMoves.joined_to place f l) (if t then records_also r w else w)).state.dead_cycles ≡ w.state.dead_cycles
-    by_record true = ap (λ s. s.dead_cycles) (records-column r w).0
-    by_record false = refl
+    by_record : (t : Bool) → FillKeeps w (with_floats (FloatMoves.joined_to (Area.where_of a) f l) (if t then records_also r w else w))
+    by_record true = let k = (records-column r w).0 in record { column = ap (λ s. s.first_column) k; double = joined-single (Area.where_of a) f l (area-single a); cycles = ap (λ s. s.dead_cycles) k }
+    by_record false = record { column = refl; double = joined-single (Area.where_of a) f l (area-single a); cycles = refl }
 
-    by_place : (t : Bool) → (if t then FloatMoves.place_float p place f l w else w).state.dead_cycles ≡ w.state.dead_cycles
-    by_place true = by_record (FloatMoves.is_placed place)
-    by_place false = refl
-
-next-cycles : (p : Params) (before fs : List Float) (w : Work) → (FloatMoves.place_next p before fs w).state.dead_cycles ≡ w.state.dead_cycles
-next-cycles p before [] w = refl
-next-cycles p before (f ∷ rest) w =
-    let place = Area.next_place p w.state.floats w.state.suppress before f in
-    let w' = FloatMoves.place_waiting parts.Deferred p place f before rest w in
-    next-cycles p (FloatMoves.still_deferred place f before) rest w' ∙ placed-cycles p place f before rest w
+filled-keeps : (p : Params) (w : Work) → FillKeeps w (Columns.fill_column p w)
+filled-keeps p w = goes-on (λ h a i b. FillKeeps a b) (λ h w. record { column = refl; double = refl; cycles = refl }) (λ h i j a b c x y. record { column = y.column ∙ x.column; double = y.double ∙ x.double; cycles = y.cycles ∙ x.cycles }) (λ h i a b m. fill-keeps m) (fill_column-moves p w)
 
 -- ---- a column is put out
 
@@ -395,7 +369,7 @@ module _ (P : Float → Type 0) (p : Params) where
 
     -- without such a column the next one is that after the text
     same-column : columns_out ≡ out → fired.state.first_column ≡ out.state.first_column
-    same-column h = next-column p [] columns_out.state.floats.deferred columns_out ∙ ap (λ (z : Work). z.state.first_column) h
+    same-column h = (filled-keeps p columns_out).column ∙ ap (λ (z : Work). z.state.first_column) h
 
     pub last-out : IsLast w.state → LastOut w fired
     last-out l =
@@ -433,8 +407,8 @@ module _ (P : Float → Type 0) (p : Params) where
         by_columns : fired.refused ≡ false → Columned false out columns_out → ((fired.state.dead_cycles ≡ 0) × (waiting_floats fired.state.floats + 1 ≤ waiting_floats w.state.floats)) ⊎ ((fired.state.first_column ≡ false) × (fired.state.floats.double ≡ w.state.floats.double) × (waiting_floats fired.state.floats + areas ≤ waiting_floats w.state.floats) × (fired.state.dead_cycles ≡ w.state.dead_cycles))
         by_columns r (inl h) = inr (
           same-column h ∙ k.first,
-          next-single p [] columns_out.state.floats.deferred columns_out ∙ ap (λ (z : Work). z.state.floats.double) h ∙ ap (λ (l : FloatLists). l.double) k.floats,
+          (filled-keeps p columns_out).double ∙ ap (λ (z : Work). z.state.floats.double) h ∙ ap (λ (l : FloatLists). l.double) k.floats,
           areas-go,
-          next-cycles p [] columns_out.state.floats.deferred columns_out ∙ ap (λ (z : Work). z.state.dead_cycles) h ∙ k.cycles,
+          (filled-keeps p columns_out).cycles ∙ ap (λ (z : Work). z.state.dead_cycles) h ∙ k.cycles,
         )
         by_columns r (inr h) = inl (ships h.0 h.2 r, one-goes h.0 h.1 h.2)
