@@ -1,4 +1,5 @@
 -- What the steps of a firing are made of and leave, in reading order.
+pub mod RefusedSteps
 pub mod WorkSteps
 pub mod ColumnSteps
 pub mod FiringSteps

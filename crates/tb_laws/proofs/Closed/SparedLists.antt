@@ -1,6 +1,6 @@
 -- What shipping pages and putting out columns of floats leaves as it is.
-use Rattle.std.proofs.Common.{◌≡◌, refl, sym, ◌∙◌, ap, subst, ℕ, zero, suc, pos, ◌+◌, Bool, true, false, List, [], ◌∷◌, ◌++◌, length, Option, Some, None}
-use Rattle.std.specs.Prelude.{int_lt, if◌then◌else◌}
+use Rattle.std.proofs.Common.{◌≡◌, refl, sym, ◌∙◌, ap, subst, ℕ, zero, suc, Bool, true, false, List, [], ◌∷◌, ◌++◌, length, Option, Some, None}
+use Rattle.std.specs.Prelude.{if◌then◌else◌}
 use Rattle.tb_node.specs.declared.Float.{Float}
 use Rattle.tb_node.specs.declared.Where.{Where}
 use Rattle.tb_node.specs.declared.Where.TheVariants as places
@@ -13,12 +13,13 @@ use Rattle.tb_area.specs.Area.{at_top, at_bottom, deferred}
 use Rattle.tb_float.specs.declared.Part.{Part}
 use Rattle.tb_float.specs.declared.Part.TheVariants as parts
 use Rattle.tb_float.specs.Lists.{FloatLists, IsWaiting, with_floats_of, wide_part, wide_waiting, with_wide_waiting}
-use Rattle.tb_column.specs.Column.{PlainColumn, PlainSheet, PlainSent, shipped, one, wide, pair_sheet, wide_floats_column, text_column}
+use Rattle.tb_column.specs.Column.{PlainColumn, PlainSheet, one, wide, pair_sheet, wide_floats_column, text_column}
 use Rattle.tb_laws.proofs.Closed.Closings.{never}
-use Rattle.tb_output.specs.State.{State, Work, Recorded, placed, output, sends, records_also, with_floats, footnotes}
+use Rattle.tb_output.specs.State.{State, Work, Recorded, placed, output, records_also, with_floats, footnotes}
 use Rattle.tb_output.specs.FloatMoves
 use Rattle.tb_output.specs.Pages
 use Rattle.tb_output.specs.Columns
+use Rattle.tb_output.proofs.StepLaws.RefusedSteps.{by-records, by-any-ship}
 use Rattle.tb_output.proofs.StepLaws.Moves.{Hand, ColumnMove, records_column, ships_column, keeps_left, ships_pair, ships_wide, places_double, FillMove, places_next, Moves, holds-on, goes-on}
 use Rattle.tb_output.proofs.StepLaws.FiringTree.{all_wide-moves, all_columns-moves, put_out-moves, text_columns-moves, fill_column-moves}
 use Rattle.tb_laws.proofs.NothingLost.StateWeights.{ColumnsFit}
@@ -55,25 +56,14 @@ spared a c d x y = record {
   single = λ h. y.single (x.single h);
 }
 
-spares_if : (a : Work) (t : Bool) (c d : Work) → Spares a c → Spares a d → Spares a (if t then c else d)
-spares_if a true c d x y = x
-spares_if a false c d x y = y
-
 pub unchanged : (a : Work) → Spares a a
 unchanged a = record { current = refl; here = refl; top = refl; bottom = refl; boxes = refl; page = refl; columns = refl; put_back = refl; fit = λ h. h; single = λ h. h }
 
 records-spares : (r : Recorded) (w : Work) → Spares w (records_also r w)
-records-spares r w = spares_if w w.refused w (record w { records = w.records ++ r ∷ [] }) (unchanged w) (record { current = refl; here = refl; top = refl; bottom = refl; boxes = refl; page = refl; columns = refl; put_back = refl; fit = λ h. h; single = λ h. h })
-
-pub sends-spares : (e : PlainSent) (w : Work) → Spares w (sends e w)
-sends-spares e w = spares_if w w.refused w (record w { sent = w.sent ++ e ∷ [] }) (unchanged w) (record { current = refl; here = refl; top = refl; bottom = refl; boxes = refl; page = refl; columns = refl; put_back = refl; fit = λ h. h; single = λ h. h })
+records-spares r w = by-records (Spares w) r w (unchanged w) (record { current = refl; here = refl; top = refl; bottom = refl; boxes = refl; page = refl; columns = refl; put_back = refl; fit = λ h. h; single = λ h. h })
 
 ship-spares : (p : Params) (sheet : PlainSheet) (w : Work) → Spares w (Pages.ship p sheet w)
-ship-spares p sheet w =
-    let a : Work = record w { state = record w.state { page = w.state.page + 1; dead_cycles = 0 } } in
-    spares_if w w.refused w _ (unchanged w)
-    (spares_if w (int_lt p.maxpages (pos w.state.page)) (record w { refused = true }) (Pages.ship_now sheet w) (record { current = refl; here = refl; top = refl; bottom = refl; boxes = refl; page = refl; columns = refl; put_back = refl; fit = λ h. h; single = λ h. h })
-    (spared w a (Pages.ship_now sheet w) (record { current = refl; here = refl; top = refl; bottom = refl; boxes = refl; page = refl; columns = refl; put_back = refl; fit = λ h. h; single = λ h. h }) (sends-spares (shipped w.state.page sheet) a)))
+ship-spares p sheet w = by-any-ship (Spares w) p sheet w (unchanged w) (record { current = refl; here = refl; top = refl; bottom = refl; boxes = refl; page = refl; columns = refl; put_back = refl; fit = λ h. h; single = λ h. h }) (record { current = refl; here = refl; top = refl; bottom = refl; boxes = refl; page = refl; columns = refl; put_back = refl; fit = λ h. h; single = λ h. h })
 
 -- so when other floats wait in a list
 pub waiting-spares : (from : Part) → IsWaiting from → (fs : List Float) (w : Work) → Spares w (with_floats (with_floats_of from fs w.state.floats) w)

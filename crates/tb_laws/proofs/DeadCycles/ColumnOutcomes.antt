@@ -1,6 +1,6 @@
 -- What putting out a column leads to: a page, or the first of two columns that is kept.
-use Rattle.std.proofs.Common.{◌≡◌, refl, sym, ◌∙◌, ap, subst, ℕ, zero, suc, pos, ◌+◌, ◌≤◌, inl, inr, ◌⊎◌, Bool, true, false, List, [], ◌∷◌, ◌++◌, length, Option, Some, None, arith}
-use Rattle.std.specs.Prelude.{int_lt, not, if◌then◌else◌}
+use Rattle.std.proofs.Common.{◌≡◌, refl, sym, ◌∙◌, ap, subst, ℕ, zero, suc, ◌+◌, ◌≤◌, inl, inr, ◌⊎◌, Bool, true, false, List, [], ◌∷◌, ◌++◌, length, Option, Some, None, arith}
+use Rattle.std.specs.Prelude.{not, if◌then◌else◌}
 use Rattle.tb_node.specs.declared.Float.{Float}
 use Rattle.tb_node.specs.declared.Where.{Where}
 use Rattle.tb_node.specs.declared.Where.TheVariants as places
@@ -12,11 +12,12 @@ use Rattle.tb_float.specs.Rooms.{column_height_of}
 use Rattle.tb_fpage.specs.declared.Wanted.{Wanted}
 use Rattle.tb_fpage.specs.Company.{Choice, company, chosen_floats, left_floats}
 use Rattle.tb_area.specs.Area
-use Rattle.tb_column.specs.Column.{PlainColumn, PlainSheet, shipped, one, pair_sheet, text_column, single_floats_column}
+use Rattle.tb_column.specs.Column.{PlainColumn, PlainSheet, one, pair_sheet, text_column, single_floats_column}
 use Rattle.tb_output.specs.State.{State, Work, Recorded, placed, output, records_also, with_floats, footnotes}
 use Rattle.tb_output.specs.FloatMoves
 use Rattle.tb_output.specs.Pages
 use Rattle.tb_output.specs.Columns
+use Rattle.tb_output.proofs.StepLaws.RefusedSteps.{by-records, by-any-ship, by-ship}
 use Rattle.tb_output.proofs.StepLaws.FollowLemmas.{waiting_floats, AllWait, Follows, follows-then, follows-undoubled, follows-next, follows-put_out, follows-company, follows-float_columns, follows-pair_rest}
 use Rattle.tb_output.proofs.StepLaws.Moves.{Hand, FillMove, places_next, goes-on}
 use Rattle.tb_output.proofs.StepLaws.FiringTree.{fill_column-moves}
@@ -24,31 +25,11 @@ use Rattle.tb_output.proofs.StepLaws.FiringTree.{fill_column-moves}
 -- ---- a page that is shipped
 
 pub ship-cycles : (p : Params) (sheet : PlainSheet) (w : Work) → (Pages.ship p sheet w).refused ≡ false → (Pages.ship p sheet w).state.dead_cycles ≡ 0
-ship-cycles p sheet w = by_refused w.refused (int_lt p.maxpages (pos w.state.page)) refl
-  where
-    turned : Work
-    turned = record w { state = record w.state { page = w.state.page + 1; dead_cycles = 0 } }
-
-    by_sent : (x : Bool) → (if x then turned else record turned { sent = w.sent ++ shipped w.state.page sheet ∷ [] }).state.dead_cycles ≡ 0
-    by_sent true = refl
-    by_sent false = refl
-
-    by_refused : (t u : Bool) → w.refused ≡ t → (if t then w else (if u then record w { refused = true } else Pages.ship_now sheet w)).refused ≡ false → (if t then w else (if u then record w { refused = true } else Pages.ship_now sheet w)).state.dead_cycles ≡ 0
-    by_refused true u r h = let no : ⊥ = grind (arith, r, h) in absurd no
-    by_refused false true r h = let no : ⊥ = grind (arith, h) in absurd no
-    by_refused false false r h = by_sent w.refused
+ship-cycles p sheet w =
+    by-ship (λ v. v.refused ≡ false → v.state.dead_cycles ≡ 0) p sheet w (λ r h. let no : ⊥ = grind (arith, r, h) in absurd no) (λ r h. let no : ⊥ = grind (arith, h) in absurd no) (λ r e h. refl)
 
 pub ship-lists : (p : Params) (sheet : PlainSheet) (w : Work) → ((Pages.ship p sheet w).state.floats ≡ w.state.floats) × ((Pages.ship p sheet w).state.first_column ≡ w.state.first_column)
-ship-lists p sheet w = by_refused w.refused (int_lt p.maxpages (pos w.state.page)) w.refused
-  where
-    turned : Work
-    turned = record w { state = record w.state { page = w.state.page + 1; dead_cycles = 0 } }
-
-    by_refused : (t u x : Bool) → ((if t then w else (if u then record w { refused = true } else (if x then turned else record turned { sent = w.sent ++ shipped w.state.page sheet ∷ [] }))).state.floats ≡ w.state.floats) × ((if t then w else (if u then record w { refused = true } else (if x then turned else record turned { sent = w.sent ++ shipped w.state.page sheet ∷ [] }))).state.first_column ≡ w.state.first_column)
-    by_refused true u x = (refl, refl)
-    by_refused false true x = (refl, refl)
-    by_refused false false true = (refl, refl)
-    by_refused false false false = (refl, refl)
+ship-lists p sheet w = by-any-ship (λ v. (v.state.floats ≡ w.state.floats) × (v.state.first_column ≡ w.state.first_column)) p sheet w (refl, refl) (refl, refl) (refl, refl)
 
 pub stays-zero : (a b : ℕ) → a ≡ 0 → (b ≡ a) ⊎ (b ≡ 0) → b ≡ 0
 stays-zero a b h (inl e) = e ∙ h
@@ -60,11 +41,7 @@ abbrev pub SameColumn : Work → Work → Type 0
 SameColumn a b = b.state.first_column ≡ a.state.first_column
 
 records-column : (r : Recorded) (w : Work) → ((records_also r w).state ≡ w.state) × ((records_also r w).refused ≡ w.refused)
-records-column r w = by_refused w.refused
-  where
-    by_refused : (t : Bool) → ((if t then w else record w { records = w.records ++ r ∷ [] }).state ≡ w.state) × ((if t then w else record w { records = w.records ++ r ∷ [] }).refused ≡ w.refused)
-    by_refused true = (refl, refl)
-    by_refused false = (refl, refl)
+records-column r w = by-records (λ v. (v.state ≡ w.state) × (v.refused ≡ w.refused)) r w (refl, refl) (refl, refl)
 
 placed-column : (p : Params) (place : Where) (f : Float) (left : FloatLists) (w : Work) → SameColumn w (FloatMoves.place_float p place f left w)
 placed-column p place f left w = by_record (FloatMoves.is_placed place)

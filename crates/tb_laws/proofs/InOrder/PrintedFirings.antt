@@ -1,6 +1,6 @@
 -- A firing shows the boxes and rules of its page's list in their order, in what it sends and in the column that is kept.
-use Rattle.std.proofs.Common.{◌≡◌, refl, sym, ◌∙◌, ap, subst, ℕ, pos, ◌+◌, ℤ, Bool, true, false, List, [], ◌∷◌, ◌++◌, Option, Some, None, append-nil, append_assoc}
-use Rattle.std.specs.Prelude.{int_lt, if◌then◌else◌}
+use Rattle.std.proofs.Common.{◌≡◌, refl, sym, ◌∙◌, ap, subst, ℕ, ℤ, Bool, true, false, List, [], ◌∷◌, ◌++◌, Option, Some, None, append-nil, append_assoc}
+use Rattle.std.specs.Prelude.{if◌then◌else◌}
 use Rattle.tb_node.specs.declared.Float.{Float}
 use Rattle.tb_node.specs.declared.Where.{Where}
 use Rattle.tb_node.specs.declared.Where.TheVariants as places
@@ -20,6 +20,7 @@ use Rattle.tb_output.specs.Columns
 use Rattle.tb_output.specs.Text
 use Rattle.tb_output.specs.Output
 use Rattle.tb_output.specs.Clear
+use Rattle.tb_output.proofs.StepLaws.RefusedSteps.{by-sends, by-ship}
 use Rattle.tb_output.proofs.StepLaws.Moves.{Hand, nothing, of_text, of_column, of_float, of_note, ColumnMove, takes_company, records_column, ships_column, keeps_left, ships_pair, ends_column, ships_wide, places_double, places_next, PageMove, by_column, by_fill, takes_text, fills_text, TextMove, places_current, defers_current, takes_float, puts_penalty, warns, Move, by_page, by_text, Moves, goes-on, widen}
 use Rattle.tb_output.proofs.StepLaws.FiringTree.{ordinary-columns, clear_by-moves, float_or_note-moves, goal-moves}
 use Rattle.tb_laws.proofs.NothingLost.StateWeights.{ColumnsFit, first-left, one-left}
@@ -131,20 +132,12 @@ placed-shows p i place f left w k b = by_record (FloatMoves.is_placed place)
 
 -- a warning, whatever is in hand
 warns-shows : (h : Hand) (e : Warn) (w : Work) → Shows h w h (sends (warned e) w)
-warns-shows h e w = by_refused w.refused
+warns-shows h e w =
+    by-sends (Shows h w h) (warned e) w (rests-shows h w)
+    (record { goes = λ g. g; fit = λ g. g; hand = λ g. g; shows = λ g j. subst (λ m. Within (beside h (shown w)) (beside h m)) (sym told) (itself (beside h (shown w))); plain = λ g j. (sent-plain w.sent (warned e ∷ []) j.0 tt, j.1) })
   where
     told : shown (record w { sent = w.sent ++ warned e ∷ [] }) ≡ shown w
     told = ap (λ l. l ++ left_prints w.state.left_column) (sent-append w.sent (warned e ∷ []) ∙ append-nil (sent_prints w.sent))
-
-    by_refused : (t : Bool) → Shows h w h (if t then w else record w { sent = w.sent ++ warned e ∷ [] })
-    by_refused true = rests-shows h w
-    by_refused false = record {
-      goes = λ g. g;
-      fit = λ g. g;
-      hand = λ g. g;
-      shows = λ g j. subst (λ m. Within (beside h (shown w)) (beside h m)) (sym told) (itself (beside h (shown w)));
-      plain = λ g j. (sent-plain w.sent (warned e ∷ []) j.0 tt, j.1);
-    }
 
 -- ---- a page
 
@@ -157,15 +150,10 @@ record Shipped (sheet : PlainSheet) (a c : Work) : Type 0 where
   fit : Fits a → Fits c
 
 ship-shipped : (p : Params) (sheet : PlainSheet) (w : Work) → Shipped sheet w (Pages.ship p sheet w)
-ship-shipped p sheet w = by_refused w.refused (int_lt p.maxpages (pos w.state.page)) refl
-  where
-    turned : Work → Work
-    turned w = record w { state = record w.state { page = w.state.page + 1; dead_cycles = 0 } }
-
-    by_refused : (t u : Bool) → w.refused ≡ t → Shipped sheet w (if t then w else (if u then record w { refused = true } else (if t then record w { state = record w.state { page = w.state.page + 1; dead_cycles = 0 } } else record w { state = record w.state { page = w.state.page + 1; dead_cycles = 0 }; sent = w.sent ++ shipped w.state.page sheet ∷ [] })))
-    by_refused true u e = record { goes = λ h. h; sends_it = λ h. never (sym h ∙ e); plain = λ s h. h; left = refl; fit = λ h. h }
-    by_refused false true e = record { goes = λ h. never (sym h); sends_it = λ h. never (sym h); plain = λ s h. h; left = refl; fit = λ h. h }
-    by_refused false false e = record { goes = λ h. h; sends_it = λ h. (w.state.page, refl); plain = λ s h. sent-plain w.sent (shipped w.state.page sheet ∷ []) h (s, tt); left = refl; fit = λ h. h }
+ship-shipped p sheet w =
+    by-ship (Shipped sheet w) p sheet w (λ e. record { goes = λ h. h; sends_it = λ h. never (sym h ∙ e); plain = λ s h. h; left = refl; fit = λ h. h })
+    (λ e. record { goes = λ h. never (sym h); sends_it = λ h. never (sym h); plain = λ s h. h; left = refl; fit = λ h. h })
+    (λ e i. record { goes = λ h. h; sends_it = λ h. (w.state.page, refl); plain = λ s h. sent-plain w.sent (shipped w.state.page sheet ∷ []) h (s, tt); left = refl; fit = λ h. h })
 
 -- what was sent with one page more
 page-more : (es fs : List PlainSent) (n : ℕ) (sheet : PlainSheet) → fs ≡ es ++ shipped n sheet ∷ [] → sent_prints fs ≡ sent_prints es ++ sheet_prints sheet

@@ -1,6 +1,6 @@
 -- Putting out pages and columns loses nothing.
-use Rattle.std.proofs.Common.{add-zero, subst, ◌≡◌, refl, sym, ◌∙◌, ap, ℕ, suc, pos, ◌+◌, Bool, true, false, List, [], ◌∷◌, ◌++◌, Option, Some, None, arith}
-use Rattle.std.specs.Prelude.{◌==◌, int_lt, if◌then◌else◌}
+use Rattle.std.proofs.Common.{add-zero, subst, ◌≡◌, refl, sym, ◌∙◌, ap, ℕ, suc, ◌+◌, Bool, true, false, List, [], ◌∷◌, Option, Some, None, arith}
+use Rattle.std.specs.Prelude.{◌==◌, if◌then◌else◌}
 use Rattle.tb_node.specs.declared.Float.{Float}
 use Rattle.tb_node.specs.declared.Where.TheVariants as places
 use Rattle.tb_node.specs.PlainNodes.{Leaf, PlainNode}
@@ -17,10 +17,11 @@ use Rattle.tb_float.proofs.WaitingLemmas.{wide-waits}
 use Rattle.tb_float.specs.Rooms.{column_height_of}
 use Rattle.tb_fpage.specs.declared.Wanted.{Wanted}
 use Rattle.tb_fpage.specs.Company.{Choice, company, chosen_floats, left_floats}
-use Rattle.tb_column.specs.Column.{Notes, PlainColumn, PlainSheet, shipped, one, wide, floats_above, text_column, pair_sheet, single_floats_column, wide_floats_column}
+use Rattle.tb_column.specs.Column.{Notes, PlainColumn, PlainSheet, one, wide, floats_above, text_column, pair_sheet, single_floats_column, wide_floats_column}
 use Rattle.tb_output.specs.State.{Work, output, with_floats, with_notes, notes_in, footnotes}
 use Rattle.tb_output.specs.Pages
 use Rattle.tb_output.specs.Columns
+use Rattle.tb_output.proofs.StepLaws.RefusedSteps.{by-any-ship}
 use Rattle.tb_output.proofs.StepLaws.Moves.{Hand, nothing, of_column, ColumnMove, takes_company, records_column, ships_column, keeps_left, ships_pair, ends_column, ships_wide, places_double}
 use Rattle.tb_laws.proofs.NothingLost.StateWeights.{Paired, hand_weight, Light, Weighs, gives, keeps, weighs-then, class_numbers, BoxesFit, floats_weight, lists_weight, left_weight, sheet_weight, sent_weight, work_weight, ColumnsFit, Sound, Adds, records-adds, shipped-adds}
 use Rattle.tb_laws.proofs.NothingLost.ColumnWeights.{floats_above-weight, notes_weight, text_column-weight, floats_column-weight, CompanyOf, company-weight, parted-weight}
@@ -56,16 +57,7 @@ takes-weighs v i l w light h e = record {
 
 -- a page is shipped beside the lists and the left column
 pub ship-keeps : (p : Params) (sheet : PlainSheet) (w : Work) → ((Pages.ship p sheet w).state.floats ≡ w.state.floats) × ((Pages.ship p sheet w).state.left_column ≡ w.state.left_column)
-ship-keeps p sheet w = by_refused w.refused (int_lt p.maxpages (pos w.state.page)) w.refused
-  where
-    turned : Work
-    turned = record w { state = record w.state { page = w.state.page + 1; dead_cycles = 0 } }
-
-    by_refused : (t u x : Bool) → ((if t then w else (if u then record w { refused = true } else (if x then turned else record turned { sent = w.sent ++ shipped w.state.page sheet ∷ [] }))).state.floats ≡ w.state.floats) × ((if t then w else (if u then record w { refused = true } else (if x then turned else record turned { sent = w.sent ++ shipped w.state.page sheet ∷ [] }))).state.left_column ≡ w.state.left_column)
-    by_refused true u x = (refl, refl)
-    by_refused false true x = (refl, refl)
-    by_refused false false true = (refl, refl)
-    by_refused false false false = (refl, refl)
+ship-keeps p sheet w = by-any-ship (λ v. (v.state.floats ≡ w.state.floats) × (v.state.left_column ≡ w.state.left_column)) p sheet w (refl, refl) (refl, refl) (refl, refl)
 
 without-weight : (v : Weight) (a : Work) → work_weight v (Pages.without_double a) + (floats_weight v a.state.floats.double + left_weight v a.state.left_column) ≡ work_weight v a
 without-weight v a = omega arith

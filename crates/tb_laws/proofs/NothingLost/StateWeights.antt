@@ -1,6 +1,6 @@
 -- What the parts of a state weigh, and by how much a step of a firing adds to it.
-use Rattle.std.proofs.Common.{◌≡◌, refl, sym, ◌∙◌, ℕ, pos, ◌+◌, Bool, true, false, List, [], ◌∷◌, ◌++◌, map, Option, Some, None, add-zero, zero-add, arith}
-use Rattle.std.specs.Prelude.{int_lt, if◌then◌else◌}
+use Rattle.std.proofs.Common.{◌≡◌, refl, sym, ◌∙◌, ℕ, ◌+◌, Bool, true, false, List, [], ◌∷◌, ◌++◌, map, Option, Some, None, add-zero, zero-add, arith}
+use Rattle.std.specs.Prelude.{if◌then◌else◌}
 use Rattle.tb_node.specs.declared.Float.{Float}
 use Rattle.tb_node.specs.PlainNodes.{PlainNode}
 use Rattle.tb_node.proofs.Weights.{Weight, nodes_weight, weight-append}
@@ -13,6 +13,7 @@ use Rattle.tb_float.specs.declared.Entry.TheVariants as entries
 use Rattle.tb_float.specs.Lists.{FloatLists}
 use Rattle.tb_column.specs.Column.{PlainColumn, PlainSheet, warned, shipped}
 use Rattle.tb_column.specs.declared.Warn.{Warn}
+use Rattle.tb_output.proofs.StepLaws.RefusedSteps.{by-sends, by-records, by-ship}
 use Rattle.tb_output.proofs.StepLaws.Moves.{Hand, nothing, of_text, of_column, of_float, of_note}
 pub use Rattle.tb_column.proofs.PrintedLines.{sheet_weight, sent_weight}
 use Rattle.tb_column.proofs.PrintedLines.{sent_weight-append}
@@ -139,38 +140,23 @@ puts-adds v ns w =
     sums x p q y n e = omega arith
 
 pub records-adds : (v : Weight) (r : Recorded) (w : Work) → Adds v 0 w (records_also r w)
-records-adds v r w = adds_if v 0 w w.refused w (record w { records = w.records ++ r ∷ [] }) (unchanged v w) (record { waits = refl; classes = refl; goes = λ k. k; by = λ k s. (s, omega arith) })
+records-adds v r w = by-records (Adds v 0 w) r w (unchanged v w) (record { waits = refl; classes = refl; goes = λ k. k; by = λ k s. (s, omega arith) })
 
 pub warns-adds : (v : Weight) (e : Warn) (w : Work) → Adds v 0 w (sends (warned e) w)
-warns-adds v e w = adds_if v 0 w w.refused w (record w { sent = w.sent ++ warned e ∷ [] }) (unchanged v w) (record { waits = refl; classes = refl; goes = λ k. k; by = λ k s. (s, sums (state_weight v w.state + nodes_weight v w.put_back) (sent_weight v w.sent) (sent_weight v (w.sent ++ warned e ∷ [])) (sent_weight-append v w.sent (warned e ∷ []))) })
+warns-adds v e w = by-sends (Adds v 0 w) (warned e) w (unchanged v w) (record { waits = refl; classes = refl; goes = λ k. k; by = λ k s. (s, sums (state_weight v w.state + nodes_weight v w.put_back) (sent_weight v w.sent) (sent_weight v (w.sent ++ warned e ∷ [])) (sent_weight-append v w.sent (warned e ∷ []))) })
   where
     sums : (x y z : ℕ) → z ≡ y + 0 → x + z ≡ x + y + 0
     sums x y z e = omega arith
 
 -- a page that is shipped
 pub shipped-adds : (v : Weight) (p : Params) (sheet : PlainSheet) (w : Work) → Adds v (sheet_weight v sheet) w (Pages.ship p sheet w)
-shipped-adds v p sheet w = by_refused w.refused refl
+shipped-adds v p sheet w =
+    by-ship (Adds v (sheet_weight v sheet) w) p sheet w (λ h. record { waits = refl; classes = refl; goes = λ k. k; by = λ k s. let no : ⊥ = grind (arith, k, h) in absurd no })
+    (λ h. record { waits = refl; classes = refl; goes = λ k. let no : ⊥ = grind (arith, k) in absurd no; by = λ k s. let no : ⊥ = grind (arith, k) in absurd no })
+    (λ h e. record { waits = refl; classes = refl; goes = λ k. k; by = λ k s. (record { box = s.box; columns = s.columns; entries = s.entries }, sums (state_weight v w.state + nodes_weight v w.put_back) (sent_weight v w.sent) (sent_weight v (w.sent ++ shipped w.state.page sheet ∷ [])) (sheet_weight v sheet) (sent_weight-append v w.sent (shipped w.state.page sheet ∷ []))) })
   where
     sums : (x y z n : ℕ) → z ≡ y + (n + 0) → x + z ≡ x + y + n
     sums x y z n e = omega arith
-
-    turned : Work
-    turned = record w { state = record w.state { page = w.state.page + 1; dead_cycles = 0 } }
-
-    sent_now : Adds v (sheet_weight v sheet) w (record turned { sent = w.sent ++ shipped w.state.page sheet ∷ [] })
-    sent_now = record { waits = refl; classes = refl; goes = λ k. k; by = λ k s. (record { box = s.box; columns = s.columns; entries = s.entries }, sums (state_weight v w.state + nodes_weight v w.put_back) (sent_weight v w.sent) (sent_weight v (w.sent ++ shipped w.state.page sheet ∷ [])) (sheet_weight v sheet) (sent_weight-append v w.sent (shipped w.state.page sheet ∷ []))) }
-
-    now : (t : Bool) → w.refused ≡ t → t ≡ false → Adds v (sheet_weight v sheet) w (if t then turned else record turned { sent = w.sent ++ shipped w.state.page sheet ∷ [] })
-    now true r h = let no : ⊥ = grind (arith, h) in absurd no
-    now false r h = sent_now
-
-    by_limit : w.refused ≡ false → (u : Bool) → Adds v (sheet_weight v sheet) w (if u then record w { refused = true } else Pages.ship_now sheet w)
-    by_limit r true = record { waits = refl; classes = refl; goes = λ k. let no : ⊥ = grind (arith, k) in absurd no; by = λ k s. let no : ⊥ = grind (arith, k) in absurd no }
-    by_limit r false = now w.refused refl r
-
-    by_refused : (t : Bool) → w.refused ≡ t → Adds v (sheet_weight v sheet) w (if t then w else (if int_lt p.maxpages (pos w.state.page) then record w { refused = true } else Pages.ship_now sheet w))
-    by_refused true h = record { waits = refl; classes = refl; goes = λ k. k; by = λ k s. let no : ⊥ = grind (arith, k, h) in absurd no }
-    by_refused false h = by_limit h (int_lt p.maxpages (pos w.state.page))
 
 -- ---- with something in hand
 

@@ -19,6 +19,7 @@ use Rattle.tb_output.specs.State.{Work, Recorded, placed, output, emptied, recor
 use Rattle.tb_output.specs.FloatMoves
 use Rattle.tb_laws.proofs.ClassesRise.ClassLines.{FloatKind}
 use Rattle.tb_laws.proofs.ClassesRise.RecordLines.{column_lines, record_lines, records-append, IsPlacing, WasPlaced}
+use Rattle.tb_output.proofs.StepLaws.RefusedSteps.{by-records}
 
 -- a record of a float in an area
 abbrev pub IsQuiet : Recorded → Type 0
@@ -79,11 +80,7 @@ both-added a b c x y = record {
 }
 
 record-added : (r : Recorded) (w : Work) → IsQuiet r → AddsQuiet w (records_also r w)
-record-added r w q = by_refused w.refused
-  where
-    by_refused : (t : Bool) → AddsQuiet w (if t then w else record w { records = w.records ++ r ∷ [] })
-    by_refused true = none-added w w refl
-    by_refused false = record { more = r ∷ []; whole = refl; quiet = (q, tt) }
+record-added r w q = by-records (AddsQuiet w) r w (none-added w w refl) (record { more = r ∷ []; whole = refl; quiet = (q, tt) })
 
 gone-added : (p : Params) (a : AreaPlace) (f : Float) (before rest : List Float) (w : Work) → AddsQuiet w (FloatMoves.place_waiting parts.Deferred p (where_of a) f before rest w)
 gone-added p at_top f before rest w = let x = record-added (placed f places.Top w.state.floats (column_height_of p w.state.floats)) w tt in record { more = x.more; whole = x.whole; quiet = x.quiet }

@@ -1,6 +1,6 @@
 -- What the steps of a column do to the lists of floats, the columns and the dead cycles.
-use Rattle.std.proofs.Common.{◌≡◌, refl, sym, ◌∙◌, ap, subst, ℕ, suc, pos, ◌+◌, ◌≤◌, inl, inr, ◌⊎◌, Bool, true, false, List, [], ◌∷◌, ◌++◌, length, Some, length-append, arith}
-use Rattle.std.specs.Prelude.{int_lt, if◌then◌else◌}
+use Rattle.std.proofs.Common.{◌≡◌, refl, sym, ◌∙◌, ap, subst, ℕ, suc, ◌+◌, ◌≤◌, inl, inr, ◌⊎◌, Bool, true, false, List, [], ◌∷◌, ◌++◌, length, Some, length-append, arith}
+use Rattle.std.specs.Prelude.{if◌then◌else◌}
 use Rattle.std.specs.List.{AllByRecursion}
 use Rattle.tb_break.proofs.EachLemmas.{all-front, all-back, all-join, all-push}
 use Rattle.tb_node.specs.declared.Float.{Float}
@@ -15,12 +15,13 @@ use Rattle.tb_float.proofs.WaitingLemmas.{wide-waits}
 use Rattle.tb_fpage.specs.declared.Wanted.{Wanted}
 use Rattle.tb_fpage.specs.Company.{Choice, company, chosen_floats, left_floats}
 use Rattle.tb_fpage.proofs.FirstLemmas.{company-takes, company-leaves}
-use Rattle.tb_column.specs.Column.{PlainColumn, PlainSheet, PlainSent, shipped, one, wide, pair_sheet, wide_floats_column, single_floats_column}
-use Rattle.tb_output.specs.State.{State, Work, Recorded, placed, output, sends, records_also, with_floats}
+use Rattle.tb_column.specs.Column.{PlainColumn, PlainSheet, one, wide, pair_sheet, wide_floats_column, single_floats_column}
+use Rattle.tb_output.specs.State.{State, Work, Recorded, placed, output, records_also, with_floats}
 use Rattle.tb_output.specs.FloatMoves
 use Rattle.tb_output.specs.Pages
 use Rattle.tb_output.specs.Columns
 use Rattle.tb_area.specs.Area.{where_of}
+use Rattle.tb_output.proofs.StepLaws.RefusedSteps.{by-records, by-any-ship}
 use Rattle.tb_output.proofs.StepLaws.Moves.{Hand, ColumnMove, takes_company, records_column, ships_column, ships_pair, ships_wide, places_double, FillMove, places_next, Moves, goes-on}
 use Rattle.tb_output.proofs.StepLaws.FiringTree.{next-moves, wide-moves, pair_rest-moves, put_out-moves, float_columns-moves}
 
@@ -50,11 +51,7 @@ pub record Follows (P : Float → Type 0) (a b : Work) : Type 0 where
 
 -- what is recorded leaves the state as it is
 pub records-state : (r : Recorded) (w : Work) → (records_also r w).state ≡ w.state
-records-state r w = by_refused w.refused
-  where
-    by_refused : (t : Bool) → (if t then w else record w { records = w.records ++ r ∷ [] }).state ≡ w.state
-    by_refused true = refl
-    by_refused false = refl
+records-state r w = by-records (λ v. v.state ≡ w.state) r w refl refl
 
 -- the current list stays when a float joins a list
 pub joined-current : (place : Where) (f : Float) (l : FloatLists) → (FloatMoves.joined_to place f l).current ≡ l.current
@@ -92,25 +89,14 @@ module _ (P : Float → Type 0) where
     cycles = λ h. later-cycles a.state.dead_cycles b.state.dead_cycles c.state.dead_cycles (x.cycles (y.goes h)) (y.cycles h);
   }
 
-  follows_if : (a : Work) (t : Bool) (b c : Work) → Follows P a b → Follows P a c → Follows P a (if t then b else c)
-  follows_if a true b c x y = x
-  follows_if a false b c x y = y
-
   follows-records : (r : Recorded) (w : Work) → Follows P w (records_also r w)
-  follows-records r w = follows_if w w.refused w (record w { records = w.records ++ r ∷ [] }) (follows-same w) (record { goes = λ h. h; columns = refl; boxes = refl; back = refl; page = refl; current = refl; floats = omega arith; all = λ h. h; cycles = λ h. inl refl })
+  follows-records r w = by-records (Follows P w) r w (follows-same w) (record { goes = λ h. h; columns = refl; boxes = refl; back = refl; page = refl; current = refl; floats = omega arith; all = λ h. h; cycles = λ h. inl refl })
 
-  pub follows-sends : (e : PlainSent) (w : Work) → Follows P w (sends e w)
-  follows-sends e w = follows_if w w.refused w (record w { sent = w.sent ++ e ∷ [] }) (follows-same w) (record { goes = λ h. h; columns = refl; boxes = refl; back = refl; page = refl; current = refl; floats = omega arith; all = λ h. h; cycles = λ h. inl refl })
-
-  -- ---- shipping
-
-  pub follows-ship : (p : Params) (sheet : PlainSheet) (w : Work) → Follows P w (Pages.ship p sheet w)
+  follows-ship : (p : Params) (sheet : PlainSheet) (w : Work) → Follows P w (Pages.ship p sheet w)
   follows-ship p sheet w =
-      let a : Work = record w { state = record w.state { page = w.state.page + 1; dead_cycles = 0 } } in
-      follows_if w w.refused w (if int_lt p.maxpages (pos w.state.page) then record w { refused = true } else Pages.ship_now sheet w) (follows-same w)
-      (follows_if w (int_lt p.maxpages (pos w.state.page)) (record w { refused = true }) (Pages.ship_now sheet w)
+      by-any-ship (Follows P w) p sheet w (follows-same w)
       (record { goes = λ h. let no : ⊥ = grind (arith, h) in absurd no; columns = refl; boxes = refl; back = refl; page = refl; current = refl; floats = omega arith; all = λ h. h; cycles = λ h. inl refl })
-      (follows-then w a (Pages.ship_now sheet w) (record { goes = λ h. h; columns = refl; boxes = refl; back = refl; page = refl; current = refl; floats = omega arith; all = λ h. h; cycles = λ h. inr refl }) (follows-sends (shipped w.state.page sheet) a)))
+      (record { goes = λ h. h; columns = refl; boxes = refl; back = refl; page = refl; current = refl; floats = omega arith; all = λ h. h; cycles = λ h. inr refl })
 
   -- ---- floats
 

@@ -1,6 +1,6 @@
 -- The steps of a column leave the classes and how far down notes reach, or no note is in the next column.
-use Rattle.std.proofs.Common.{◌≡◌, refl, ◌∙◌, ◌+◌, ℤ, pos, inl, inr, ◌⊎◌, Bool, true, false, [], ◌∷◌, ◌++◌}
-use Rattle.std.specs.Prelude.{int_lt, if◌then◌else◌}
+use Rattle.std.proofs.Common.{◌≡◌, refl, ◌∙◌, ℤ, pos, inl, inr, ◌⊎◌, Bool, true, false, [], ◌∷◌, ◌++◌}
+use Rattle.std.specs.Prelude.{if◌then◌else◌}
 use Rattle.tb_node.specs.declared.Float.{Float}
 use Rattle.tb_node.specs.declared.Where.{Where}
 use Rattle.tb_node.specs.declared.Where.TheVariants as places
@@ -8,12 +8,13 @@ use Rattle.tb_param.specs.declared.Params.{Params}
 use Rattle.tb_float.specs.Lists.{FloatLists, with_floats_of, wide_part, with_wide_waiting}
 use Rattle.tb_float.specs.Rooms.{column_height_of}
 use Rattle.tb_fpage.specs.Company.{left_floats}
-use Rattle.tb_column.specs.Column.{PlainColumn, PlainSheet, PlainSent, shipped, one, pair_sheet}
+use Rattle.tb_column.specs.Column.{PlainColumn, PlainSheet, PlainSent, one, pair_sheet}
 use Rattle.tb_output.specs.State.{Work, Recorded, placed, output, sends, records_also, with_floats}
 use Rattle.tb_output.specs.FloatMoves
 use Rattle.tb_output.specs.Pages
 use Rattle.tb_output.specs.Columns
 use Rattle.tb_area.specs.Area.{where_of}
+use Rattle.tb_output.proofs.StepLaws.RefusedSteps.{by-records, by-any-ship}
 use Rattle.tb_output.proofs.StepLaws.Moves.{Hand, ColumnMove, records_column, ships_column, ships_pair, ends_column, ships_wide, places_double, FillMove, places_next, Moves, goes-on}
 use Rattle.tb_output.proofs.StepLaws.FiringTree.{all_wide-moves, put_out-moves, all_columns-moves, fill_column-moves}
 
@@ -37,7 +38,7 @@ pub eases-same : (a : Work) → Eases a a
 eases-same a = record { classes = refl; bottom = inl refl }
 
 records-eases : (r : Recorded) (w : Work) → Eases w (records_also r w)
-records-eases r w = eases-if w w.refused w (record w { records = w.records ++ r ∷ [] }) (eases-same w) (record { classes = refl; bottom = inl refl })
+records-eases r w = by-records (Eases w) r w (eases-same w) (record { classes = refl; bottom = inl refl })
 
 pub sends-eases : (e : PlainSent) (w : Work) → Eases w (sends e w)
 sends-eases e w = eases-if w w.refused w (record w { sent = w.sent ++ e ∷ [] }) (eases-same w) (record { classes = refl; bottom = inl refl })
@@ -46,11 +47,7 @@ pub floats-eases : (l : FloatLists) (w : Work) → Eases w (with_floats l w)
 floats-eases l w = record { classes = refl; bottom = inl refl }
 
 ship-eases : (p : Params) (sheet : PlainSheet) (w : Work) → Eases w (Pages.ship p sheet w)
-ship-eases p sheet w =
-    let a : Work = record w { state = record w.state { page = w.state.page + 1; dead_cycles = 0 } } in
-    eases-if w w.refused w _ (eases-same w)
-    (eases-if w (int_lt p.maxpages (pos w.state.page)) (record w { refused = true }) (Pages.ship_now sheet w) (record { classes = refl; bottom = inl refl })
-    (eases-then w a (Pages.ship_now sheet w) (record { classes = refl; bottom = inl refl }) (sends-eases (shipped w.state.page sheet) a)))
+ship-eases p sheet w = by-any-ship (Eases w) p sheet w (eases-same w) (record { classes = refl; bottom = inl refl }) (record { classes = refl; bottom = inl refl })
 
 -- ---- floats move
 

@@ -1,6 +1,6 @@
 -- A firing keeps the nodes and floats of the galley: what it sends and leaves has bytes in a DVI file, if what it began
 -- with has, and each page has a number up to the page limit.
-use Rattle.std.proofs.Common.{◌≡◌, refl, subst, ℕ, ◌+◌, ℤ, pos, Bool, true, false, List, [], ◌∷◌, ◌++◌, drop, Option, Some, None}
+use Rattle.std.proofs.Common.{◌≡◌, subst, ℕ, ℤ, pos, Bool, true, false, List, [], ◌∷◌, ◌++◌, drop, Option, Some, None}
 use Rattle.std.specs.Prelude.{◌==◌, int_lt, if◌then◌else◌}
 use Rattle.std.specs.List.{AllByRecursion}
 use Rattle.tb_break.proofs.EachLemmas.{all-join}
@@ -26,12 +26,13 @@ use Rattle.tb_column.specs.Column.{Notes, PlainColumn, PlainSheet, one, wide, pa
 use Rattle.tb_area.specs.Area.{where_of}
 use Rattle.tb_output.specs.State.{State, Work, Recorded, placed, output, puts, sends, records_also, with_floats, with_notes, notes_in, footnotes}
 use Rattle.tb_output.specs.FloatMoves.{joined_to, is_placed, place_float}
-use Rattle.tb_output.specs.Pages.{ship_now, ship, wide_wanted, left_or, without_double}
+use Rattle.tb_output.specs.Pages.{ship, wide_wanted, left_or, without_double}
 use Rattle.tb_output.specs.Columns.{emptied_boxes, single_wanted}
 use Rattle.tb_output.specs.Text.{penalty_nodes, penalty_after, without_firing_box, notes_nodes, here_nodes, note_nodes}
 use Rattle.tb_output.specs.Clear.{clear_again, cleared_front, deferred_again, double_again}
 use Rattle.tb_output.specs.Output.{blank_column, out}
 use Rattle.tb_output.specs.Firing.{page_work}
+use Rattle.tb_output.proofs.StepLaws.RefusedSteps.{by-sends, by-records, by-ship}
 use Rattle.tb_output.proofs.StepLaws.Moves.{Hand, nothing, of_text, of_column, of_float, of_note, deferred_float, ColumnMove, takes_company, records_column, ships_column, keeps_left, ships_pair, ends_column, ships_wide, places_double, places_next, PageMove, by_column, by_fill, takes_text, fills_text, keeps_front, gathers, gathers_wide, leaves_second, clears_again, TextMove, goes_back, places_current, defers_current, takes_float, stands_here, takes_note, stands_beside, puts_penalty, warns, Move, by_page, by_text, holds_page, leaves_blank, sets_goal, holds-on}
 use Rattle.tb_output.proofs.StepLaws.FiringTree.{page-moves}
 use Rattle.tb_top.proofs.DviFiles.WritableNodes.{WritableFloat, WritableFloats, WritableNote, WritableNodes, nodes-join, nodes-take, WritableContent, WritableBoxes, WritableFired, floats-column, WritableNotes, text-writable, pair-writable, WritableSheet}
@@ -136,10 +137,10 @@ module _ (p : Params) where
   puts-more ns w h k = (k.0, nodes-join w.put_back ns k.1 h, k.2)
 
   sends-more : (e : PlainSent) (w : Work) → WritableSent e → WritableWork w → WritableWork (sends e w)
-  sends-more e w h k = work-if w.refused w (record w { sent = w.sent ++ e ∷ [] }) k (k.0, k.1, all-join WritableSent w.sent (e ∷ []) k.2 (h, tt))
+  sends-more e w h k = by-sends WritableWork e w k (k.0, k.1, all-join WritableSent w.sent (e ∷ []) k.2 (h, tt))
 
   records-more : (r : Recorded) (w : Work) → WritableWork w → WritableWork (records_also r w)
-  records-more r w k = work-if w.refused w (record w { records = w.records ++ r ∷ [] }) k k
+  records-more r w k = by-records WritableWork r w k k
 
   has-floats : (l : FloatLists) (w : Work) → WritableLists l → WritableWork w → WritableWork (with_floats l w)
   has-floats l w h k = ((k.0.0, k.0.1, k.0.2, h, k.0.4), k.1, k.2)
@@ -176,11 +177,7 @@ module _ (p : Params) where
   -- ---- pages
 
   ships : (sheet : PlainSheet) (w : Work) → WritableSheet sheet → WritableWork w → WritableWork (ship p sheet w)
-  ships sheet w h k = work-if w.refused w _ k (by_limit (int_lt p.maxpages (pos w.state.page)) refl)
-    where
-      by_limit : (t : Bool) → int_lt p.maxpages (pos w.state.page) ≡ t → WritableWork (if t then record w { refused = true } else ship_now sheet w)
-      by_limit true e = k
-      by_limit false e = sends-more (shipped w.state.page sheet) (record w { state = record w.state { page = w.state.page + 1; dead_cycles = 0 } }) (e, h) k
+  ships sheet w h k = by-ship WritableWork p sheet w (λ r. k) (λ r. k) (λ r e. (k.0, k.1, all-join WritableSent w.sent (shipped w.state.page sheet ∷ []) k.2 ((e, h), tt)))
 
   left-column : (c : PlainColumn) (o : Option PlainColumn) → WritableNodes c.nodes → WritableLeft o → WritableNodes (left_or c o).nodes
   left-column c None h k = h
