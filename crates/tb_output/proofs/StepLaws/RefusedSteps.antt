@@ -8,7 +8,7 @@ use Rattle.tb_output.specs.Pages
 
 module _ (P : Work → Type 0) where
   -- a step that the limit may have stopped before
-  unless-stopped : (w next : Work) → (w.refused ≡ true → P w) → (w.refused ≡ false → P next) → P (if w.refused then w else next)
+  pub unless-stopped : (w next : Work) → (w.refused ≡ true → P w) → (w.refused ≡ false → P next) → P (if w.refused then w else next)
   unless-stopped w next x y = by_refused w.refused refl
     where
       by_refused : (t : Bool) → w.refused ≡ t → P (if t then w else next)
