@@ -332,5 +332,3 @@ fn sure_name(bytes: &[u8]) -> Name
     }
 }
 
-#[cfg(test)]
-mod tests;

@@ -1,2 +1,3 @@
 -- Limits of areas, in reading order.
 pub mod LimitLemmas
+pub mod LimitedRuns

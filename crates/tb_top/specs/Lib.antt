@@ -1,8 +1,5 @@
 pub mod Report
-pub mod Laws
-pub mod DeadCycles
 pub mod Pages
-pub mod Firings
 pub mod Status
 pub mod Answer
 pub mod Outcome
@@ -16,7 +13,6 @@ pub mod LinesRows
 pub mod MakeupRows
 pub mod Views
 pub mod PagesWritten
-pub mod DviPages
 pub mod DviRefusal
 pub mod DviFiles
 pub mod DviWritten

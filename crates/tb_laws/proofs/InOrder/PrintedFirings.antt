@@ -10,8 +10,9 @@ use Rattle.tb_param.specs.declared.Params.{Params}
 use Rattle.tb_float.specs.Lists.{FloatLists, with_wide_waiting}
 use Rattle.tb_float.specs.Rooms.{column_height_of}
 use Rattle.tb_fpage.specs.Company.{chosen_floats, left_floats}
-use Rattle.tb_column.specs.Column.{Notes, PlainColumn, PlainSheet, one, wide, PlainSent, warned, shipped, text_column, single_floats_column, wide_floats_column, pair_sheet, floats_above}
-use Rattle.tb_column.specs.declared.Warn.{Warn}
+use Rattle.tb_column.specs.Column.{Notes, PlainColumn, text_column, single_floats_column, wide_floats_column, floats_above}
+use Rattle.tb_sheet.specs.Sheet.{PlainSheet, one, wide, PlainSent, warned, shipped, pair_sheet}
+use Rattle.tb_sheet.specs.declared.Warn.{Warn}
 use Rattle.tb_area.specs.Area.{where_of}
 use Rattle.tb_output.specs.State.{Work, Recorded, placed, output, sends, records_also, with_floats, footnotes}
 use Rattle.tb_output.specs.FloatMoves
@@ -26,7 +27,8 @@ use Rattle.tb_output.proofs.StepLaws.FiringTree.{ordinary-columns, clear_by-move
 use Rattle.tb_laws.proofs.NothingLost.StateWeights.{ColumnsFit, first-left, one-left}
 use Rattle.tb_laws.proofs.Closed.Closings.{never}
 use Rattle.tb_column.proofs.Within.{Within, itself, within-same, within-within, both-within, within-front, within-end}
-use Rattle.tb_column.proofs.PrintedLines.{prints, sheet_prints, sent_prints, left_prints, sent-append, AllPlain, SheetPlain, SentPlain, LeftPlain, sent-plain, above-plain, text-plain, text-prints, floats-plain, plain-both}
+use Rattle.tb_column.proofs.PrintedLines.{prints, left_prints, AllPlain, LeftPlain, above-plain, text-plain, text-prints, floats-plain, plain-both}
+use Rattle.tb_sheet.proofs.PrintedSheets.{sheet_prints, sent_prints, sent-append, SheetPlain, SentPlain, sent-plain}
 
 -- what is sent and the column that is kept
 abbrev pub shown : Work → List ℕ
@@ -46,22 +48,6 @@ pub record Prints (t : List ℕ) (a c : Work) : Type 0 where
   pub fit : Fits a → Fits c
   pub shows : c.refused ≡ false → Fits a → Within (shown a ++ t) (shown c)
   pub plain : WorkPlain a → WorkPlain c
-
-pub kept_then : (t : List ℕ) (a b c : Work) → Prints [] a b → Prints t b c → Prints t a c
-kept_then t a b c x y = record {
-  goes = λ r. x.goes (y.goes r);
-  fit = λ h. y.fit (x.fit h);
-  shows = λ r h. within-within (shown a ++ t) (shown b ++ t) (shown c) (both-within (shown a) (shown b) t t (subst (λ l. Within l (shown b)) (append-nil (shown a)) (x.shows (y.goes r) h)) (itself t)) (y.shows r (x.fit h));
-  plain = λ h. y.plain (x.plain h);
-}
-
-pub then_kept : (t : List ℕ) (a b c : Work) → Prints t a b → Prints [] b c → Prints t a c
-then_kept t a b c x y = record {
-  goes = λ r. x.goes (y.goes r);
-  fit = λ h. y.fit (x.fit h);
-  shows = λ r h. within-within (shown a ++ t) (shown b) (shown c) (x.shows (y.goes r) h) (subst (λ l. Within l (shown c)) (append-nil (shown b)) (y.shows r (x.fit h)));
-  plain = λ h. y.plain (x.plain h);
-}
 
 -- fewer lines
 pub fewer : (t u : List ℕ) (a c : Work) → Within t u → Prints u a c → Prints t a c

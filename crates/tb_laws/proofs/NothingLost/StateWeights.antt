@@ -11,12 +11,13 @@ use Rattle.tb_builder.proofs.FiredPages.PageWeights.{boxes_weight, hits}
 use Rattle.tb_float.specs.declared.Entry.{Entry}
 use Rattle.tb_float.specs.declared.Entry.TheVariants as entries
 use Rattle.tb_float.specs.Lists.{FloatLists}
-use Rattle.tb_column.specs.Column.{PlainColumn, PlainSheet, warned, shipped}
-use Rattle.tb_column.specs.declared.Warn.{Warn}
+use Rattle.tb_column.specs.Column.{PlainColumn}
+use Rattle.tb_sheet.specs.Sheet.{PlainSheet, warned, shipped}
+use Rattle.tb_sheet.specs.declared.Warn.{Warn}
 use Rattle.tb_output.proofs.StepLaws.RefusedSteps.{by-sends, by-records, by-ship}
 use Rattle.tb_output.proofs.StepLaws.Moves.{Hand, nothing, of_text, of_column, of_float, of_note}
-pub use Rattle.tb_column.proofs.PrintedLines.{sheet_weight, sent_weight}
-use Rattle.tb_column.proofs.PrintedLines.{sent_weight-append}
+pub use Rattle.tb_sheet.proofs.PrintedSheets.{sheet_weight, sent_weight}
+use Rattle.tb_sheet.proofs.PrintedSheets.{sent_weight-append}
 use Rattle.tb_output.specs.State.{State, Work, Recorded, puts, sends, records_also}
 use Rattle.tb_output.specs.Pages
 
@@ -115,12 +116,9 @@ added v i j a b c x y = record { waits = y.waits ∙ x.waits; classes = y.classe
         sums : (x y z : ℕ) → y ≡ x + i → z ≡ y + j → z ≡ x + (i + j)
         sums x y z d e = omega arith
 
--- the same, if one of the two adds nothing
+-- the same, if the second adds nothing
 pub then_kept : (v : Weight) (n : ℕ) (a b c : Work) → Adds v n a b → Adds v 0 b c → Adds v n a c
 then_kept v n a b c x y = let h : Adds v (n + 0) a c = added v n 0 a b c x y in rw (add-zero n) at h
-
-pub kept_then : (v : Weight) (n : ℕ) (a b c : Work) → Adds v 0 a b → Adds v n b c → Adds v n a c
-kept_then v n a b c x y = let h : Adds v (0 + n) a c = added v 0 n a b c x y in rw (zero-add n) at h
 
 pub adds_if : (v : Weight) (n : ℕ) (a : Work) (t : Bool) (b c : Work) → Adds v n a b → Adds v n a c → Adds v n a (if t then b else c)
 adds_if v n a true b c x y = x

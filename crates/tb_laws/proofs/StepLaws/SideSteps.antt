@@ -12,7 +12,8 @@ use Rattle.tb_float.proofs.WaitingLemmas.{wide-waits}
 use Rattle.tb_fpage.specs.Company.{chosen_floats, left_floats}
 use Rattle.tb_fpage.proofs.FirstLemmas.{company-leaves}
 use Rattle.tb_area.specs.Area.{where_of}
-use Rattle.tb_column.specs.Column.{Notes, PlainSheet, one, pair_sheet, wide, wide_floats_column}
+use Rattle.tb_column.specs.Column.{Notes, wide_floats_column}
+use Rattle.tb_sheet.specs.Sheet.{PlainSheet, one, pair_sheet, wide}
 use Rattle.tb_output.specs.State.{Work, output, with_floats}
 use Rattle.tb_output.specs.Pages
 use Rattle.tb_output.specs.Columns

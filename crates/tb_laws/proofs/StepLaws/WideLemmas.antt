@@ -10,7 +10,8 @@ use Rattle.tb_float.specs.Lists.{with_floats_of, wide_part, wide_waiting, with_w
 use Rattle.tb_float.proofs.WaitingLemmas.{wide-waits}
 use Rattle.tb_fpage.specs.Company.{chosen_floats, left_floats}
 use Rattle.tb_area.specs.Area.{AreaPlace, deferred, where_of}
-use Rattle.tb_column.specs.Column.{Notes, one, wide, wide_floats_column}
+use Rattle.tb_column.specs.Column.{Notes, wide_floats_column}
+use Rattle.tb_sheet.specs.Sheet.{one, wide}
 use Rattle.tb_output.specs.State.{State, Work, output, with_floats}
 use Rattle.tb_output.specs.FloatMoves
 use Rattle.tb_output.specs.Columns

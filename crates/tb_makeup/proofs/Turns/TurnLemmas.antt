@@ -5,11 +5,10 @@ use Rattle.tb_pool.specs.Lists.{IsLive}
 use Rattle.tb_builder.specs.declared.Page.{Page}
 use Rattle.tb_builder.specs.Contents.{Contents, node_count, box_count}
 use Rattle.tb_builder.specs.Contributions.{with_void}
-use Rattle.tb_column.specs.Column.{PlainSent, shipped, one}
-use Rattle.tb_run.specs.declared.happenings.Happening.{Happening}
-use Rattle.tb_run.specs.Run.{sent}
-use Rattle.tb_run.specs.Happenings.{events_of}
-use Rattle.tb_run.specs.Routine.{ArePages}
+use Rattle.tb_sheet.specs.Sheet.{PlainSent, shipped, one}
+use Rattle.tb_items.specs.declared.happenings.Happening.{Happening}
+use Rattle.tb_items.specs.RunEvents.{sent}
+use Rattle.tb_items.specs.Happenings.{events_of, ArePages}
 use Rattle.tb_plain.specs.declared.Plain.{Plain}
 use Rattle.tb_plain.specs.Firing.{holds_any, makeup_column}
 use Rattle.tb_plain.specs.Run.{MakeupState, waiting_after}

@@ -21,14 +21,16 @@ use Rattle.tb_fpage.specs.Company.{Choice, company, left_floats}
 use Rattle.tb_area.specs.Area.{AreaPlace, at_top, at_bottom, deferred, where_of, current_place, next_area_place, goes_double}
 use Rattle.tb_margin.specs.declared.Placed.{Placed}
 use Rattle.tb_margin.specs.Margin.{placed_note}
-use Rattle.tb_column.specs.Column.{PlainColumn, Notes, one, pair_sheet, warned, text_column}
-use Rattle.tb_column.specs.declared.Warn.TheVariants as warnings
+use Rattle.tb_column.specs.Column.{PlainColumn, Notes, text_column}
+use Rattle.tb_sheet.specs.Sheet.{one, pair_sheet, warned}
+use Rattle.tb_sheet.specs.declared.Warn.TheVariants as warnings
 use Rattle.tb_output.specs.State.{State, Work, output, begun, puts, sends, records_also, with_floats, footnotes, has_floats}
 use Rattle.tb_output.specs.FloatMoves
 use Rattle.tb_output.specs.Pages
 use Rattle.tb_output.specs.Columns
 use Rattle.tb_output.specs.Text
 use Rattle.tb_output.specs.Clear
+use Rattle.tb_sheet.specs.Asked
 use Rattle.tb_output.specs.Output
 use Rattle.tb_output.specs.Firing.{page_work}
 use Rattle.tb_output.proofs.StepLaws.ColumnSteps.{no_law, records_one, ships_one, ship_wide-step, place_float-step, stays}
@@ -253,15 +255,15 @@ module _ (p : Params) where
   pub output-moves : (f : Fired) (w : Work) → Of (of_text f.body) w (Output.output_by p f w)
   output-moves f w =
       by_test (int_le eject_penalty f.penalty) (Columns.ordinary p f.body w) _ (λ e. widen (λ h i a b m. by_page m) (ordinary-moves f.body w))
-      (λ e. by_test (Output.is_int f.penalty Output.clear_penalty) (Clear.clear p f.body w) _ (λ e. widen (λ h i a b m. by_page m) (clear_by-moves f.body w (footnotes w.state)))
-      (λ e. by_test (Output.is_int f.penalty Output.par_penalty) (Text.float_or_note p false f.body w) _ (λ e. widen (λ h i a b m. by_text m) (float_or_note-moves false f.body w))
-      (λ e. by_test (Output.is_int f.penalty Output.vert_penalty) (Text.float_or_note p true f.body w) (Output.hold f.body w) (λ e. widen (λ h i a b m. by_text m) (float_or_note-moves true f.body w)) (λ e. moves (holds_page f.body w)))))
+      (λ e. by_test (Output.is_int f.penalty Asked.clear_penalty) (Clear.clear p f.body w) _ (λ e. widen (λ h i a b m. by_page m) (clear_by-moves f.body w (footnotes w.state)))
+      (λ e. by_test (Output.is_int f.penalty Asked.par_penalty) (Text.float_or_note p false f.body w) _ (λ e. widen (λ h i a b m. by_text m) (float_or_note-moves false f.body w))
+      (λ e. by_test (Output.is_int f.penalty Asked.vert_penalty) (Text.float_or_note p true f.body w) (Output.hold f.body w) (λ e. widen (λ h i a b m. by_text m) (float_or_note-moves true f.body w)) (λ e. moves (holds_page f.body w)))))
 
   pub goal-moves : (n : ℤ) (w : Work) → Of nothing w (Output.next_goal p n w)
   goal-moves n w =
       let room = column_room_of p w.state.floats in
       let told = sends (warned (warnings.Floats w.state.page)) w in
-      by_test (Output.is_int n Output.hold_penalty) (Output.with_goal max_dimen w) (Output.goal_by p room w) (λ e. moves (sets_goal max_dimen w))
+      by_test (Output.is_int n Asked.hold_penalty) (Output.with_goal max_dimen w) (Output.goal_by p room w) (λ e. moves (sets_goal max_dimen w))
       (λ e. by_test (Output.is_crowded p room) (Output.leave_column w) (Output.with_goal room w) (λ e. in_turn (moves (by_text (warns nothing (warnings.Floats w.state.page) w))) (moves (leaves_blank (w.state.two_columns && not w.state.first_column) told))) (λ e. moves (sets_goal room w)))
 
   -- a firing without what waits after it

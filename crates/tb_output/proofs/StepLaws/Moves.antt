@@ -16,8 +16,9 @@ use Rattle.tb_fpage.specs.Company.{Choice, company, chosen_floats, left_floats}
 use Rattle.tb_area.specs.Area.{AreaPlace, deferred, where_of, current_place, next_area_place, goes_double}
 use Rattle.tb_margin.specs.declared.Placed.{Placed}
 use Rattle.tb_margin.specs.Margin.{placed_note}
-use Rattle.tb_column.specs.Column.{PlainColumn, one, pair_sheet, warned, text_column, single_floats_column}
-use Rattle.tb_column.specs.declared.Warn.{Warn}
+use Rattle.tb_column.specs.Column.{PlainColumn, text_column, single_floats_column}
+use Rattle.tb_sheet.specs.Sheet.{one, pair_sheet, warned}
+use Rattle.tb_sheet.specs.declared.Warn.{Warn}
 use Rattle.tb_output.specs.State.{Work, output, puts, sends, records_also, with_floats, footnotes}
 use Rattle.tb_output.specs.FloatMoves
 use Rattle.tb_output.specs.Pages

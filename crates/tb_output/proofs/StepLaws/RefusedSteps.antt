@@ -2,7 +2,7 @@
 use Rattle.std.proofs.Common.{◌≡◌, refl, ◌+◌, pos, Bool, true, false, [], ◌∷◌, ◌++◌, arith}
 use Rattle.std.specs.Prelude.{int_lt, if◌then◌else◌}
 use Rattle.tb_param.specs.declared.Params.{Params}
-use Rattle.tb_column.specs.Column.{PlainSheet, PlainSent, shipped}
+use Rattle.tb_sheet.specs.Sheet.{PlainSheet, PlainSent, shipped}
 use Rattle.tb_output.specs.State.{Work, Recorded, sends, records_also}
 use Rattle.tb_output.specs.Pages
 

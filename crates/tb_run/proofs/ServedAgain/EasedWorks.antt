@@ -8,7 +8,8 @@ use Rattle.tb_param.specs.declared.Params.{Params}
 use Rattle.tb_float.specs.Lists.{FloatLists, with_floats_of, wide_part, with_wide_waiting}
 use Rattle.tb_float.specs.Rooms.{column_height_of}
 use Rattle.tb_fpage.specs.Company.{left_floats}
-use Rattle.tb_column.specs.Column.{PlainColumn, PlainSheet, PlainSent, one, pair_sheet}
+use Rattle.tb_column.specs.Column.{PlainColumn}
+use Rattle.tb_sheet.specs.Sheet.{PlainSheet, PlainSent, one, pair_sheet}
 use Rattle.tb_output.specs.State.{Work, Recorded, placed, output, sends, records_also, with_floats}
 use Rattle.tb_output.specs.FloatMoves
 use Rattle.tb_output.specs.Pages

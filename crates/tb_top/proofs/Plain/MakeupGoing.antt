@@ -7,14 +7,13 @@ use Rattle.std.proofs.KnownBytes.{Appends-trans}
 use Rattle.tb_io.proofs.Appended.{prefix_whole, prefix_longer, prefix_on}
 use Rattle.tb_param.specs.declared.Params.{Params}
 use Rattle.tb_builder.specs.Contents.{node_count}
-use Rattle.tb_column.specs.Column.{PlainSent}
+use Rattle.tb_sheet.specs.Sheet.{PlainSent}
 use Rattle.tb_report.specs.declared.Totals.{Totals}
 use Rattle.tb_report.specs.Lines.{sent_lines}
 use Rattle.tb_report.specs.RunTotals.{no_totals, AreCounts}
-use Rattle.tb_run.specs.declared.happenings.Happening.{Happening}
-use Rattle.tb_run.specs.Run.{sent}
-use Rattle.tb_run.specs.Happenings.{events_of}
-use Rattle.tb_run.specs.Routine.{ArePages}
+use Rattle.tb_items.specs.declared.happenings.Happening.{Happening}
+use Rattle.tb_items.specs.RunEvents.{sent}
+use Rattle.tb_items.specs.Happenings.{events_of, ArePages}
 use Rattle.tb_plain.specs.Run.{MakeupState, MakeupRun, MakeupEnd, node_limit, run_after}
 use Rattle.tb_plain.specs.Report.{all_lines as page_lines, closing_lines, makeup_report}
 use Rattle.tb_makeup.specs.declared.makeup.Makeup.{Makeup}

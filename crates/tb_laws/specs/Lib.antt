@@ -1,0 +1,6 @@
+pub mod Totals
+pub mod DviPages
+pub mod DviFiles
+pub mod Laws
+pub mod DeadCycles
+pub mod Firings

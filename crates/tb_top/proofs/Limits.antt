@@ -1,2 +1,0 @@
--- Limits of areas, in reading order.
-pub mod LimitedRuns
