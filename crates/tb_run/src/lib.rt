@@ -10,6 +10,6 @@ mod routine;
 mod spent_lists;
 
 pub use galley_nodes::{put, put_item};
-pub use happenings::{Event, Happening, note_sent};
+pub use happenings::{Event, Happening, note_sent, note_try};
 pub use routine::{Ending, Routine};
 pub use spent_lists::close_happened;

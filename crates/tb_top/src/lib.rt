@@ -20,8 +20,9 @@ mod top;
 mod views;
 
 pub use laws::{
-    classes_keep_their_order, dead_cycles_are_few, dvi_files_list_their_pages, each_makes_up_once,
-    each_ships_once, floats_keep_the_limits, lists_are_emptied, runs_are_defined,
+    classes_keep_their_order, dead_cycles_are_few,
+    dvi_files_list_their_pages, each_makes_up_once, each_ships_once, floats_keep_the_limits,
+    lists_are_emptied, runs_are_defined,
 };
 pub use makeup_pages::{PlainRunFault, paginate_plain};
 pub use pages::paginate;
@@ -32,7 +33,7 @@ pub use tb_makeup::first_unsuited;
 pub use tb_report::Totals;
 pub use top::run;
 
-/// What `paginate` writes of a run: its report, with the places that were tried or without, or nothing.
+/// What `paginate` and `paginate_plain` write of a run: its report, with the places that were tried or without, or nothing.
 #[derive(Clone, Copy, Debug, PartialEq, Eq)]
 pub enum View {
     /// The report: the header, the warnings and the pages, and what is left at the end.
