@@ -1,5 +1,6 @@
 pub mod Report
 pub mod Laws
+pub mod AreaNumbers
 pub mod DeadCycles
 pub mod Pages
 pub mod Firings
