@@ -1,7 +1,11 @@
 #!/usr/bin/env bash
 # Writes two galleys as DVI, a page with floats and one with marginal notes, and says which of the tools that are installed
 # take the files: dvitype, dvips, dvisvgm, dvipdfmx, dvipng. The program is that of `tools/program`.
+#
+# usage: bench/dvi.sh
 set -eu
+source "$(dirname "${BASH_SOURCE[0]}")/usage.sh"
+takes 0 0 "$@"
 top=$(cd "$(dirname "$0")/.." && pwd)
 work=$(mktemp -d)
 trap 'rm -rf "$work"' EXIT

@@ -7,9 +7,10 @@ with status 1 if they ever differ.
 
     bench/dvi_changes.py [PROGRAM]
 
-Without PROGRAM it is the one that `tools/program` proves and builds, or that the variable GALLEY_PAGES names.
+Without PROGRAM it is the one that `tools/program` finds or builds, or that the variable GALLEY_PAGES names.
 """
 
+import argparse
 import concurrent.futures
 import os
 import pathlib
@@ -205,9 +206,12 @@ def cases(file):
         yield "the first %d bytes" % length, file[:length]
 
 
-def main(words):
+def main():
+    parser = argparse.ArgumentParser(description=__doc__, formatter_class=argparse.RawDescriptionHelpFormatter)
+    parser.add_argument("program", nargs="?", metavar="PROGRAM", help="the program to try")
+    given = parser.parse_args()
     top = pathlib.Path(__file__).resolve().parent.parent
-    program = words[1] if len(words) > 1 else subprocess.check_output([str(top / "tools" / "program")], text=True).strip()
+    program = given.program or subprocess.check_output([str(top / "tools" / "program")], text=True).strip()
     run = subprocess.run([program, "--mode", "dvi"], input=GALLEY, capture_output=True, check=True)
 
     def compare(case):
@@ -226,4 +230,4 @@ def main(words):
 
 
 if __name__ == "__main__":
-    sys.exit(main(sys.argv))
+    sys.exit(main())

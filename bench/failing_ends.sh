@@ -1,8 +1,11 @@
 #!/usr/bin/env bash
 # Runs the program over ends that fail: a pipe that nobody reads, a full device, a directory, ends that are closed. Prints the
 # status of each run, and fails if a status, the line on standard error or what was written is not what docs/FORMATS.md says.
-# bench/failing_ends.sh [PROGRAM]   default crates/galley_pages/out/galley_pages, as `rt run` leaves it
+#
+# usage: bench/failing_ends.sh [PROGRAM]   default crates/galley_pages/out/galley_pages, as `rt run` leaves it
 set -eu
+source "$(dirname "${BASH_SOURCE[0]}")/usage.sh"
+takes 0 1 "$@"
 top=$(cd "$(dirname "$0")/.." && pwd)
 program=$(realpath "${1:-$top/crates/galley_pages/out/galley_pages}")
 work=$(mktemp -d)

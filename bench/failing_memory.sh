@@ -6,6 +6,8 @@
 #
 # usage: bench/failing_memory.sh
 set -euo pipefail
+source "$(dirname "${BASH_SOURCE[0]}")/usage.sh"
+takes 0 0 "$@"
 
 bench=$(cd "$(dirname "${BASH_SOURCE[0]}")" && pwd)
 crate=$(cd "$bench/../crates/galley_pages" && pwd)

@@ -5,6 +5,8 @@
 #
 # usage: bench/failing_tests.sh CRATE [MODULE]   the tests of a crate, or those of one of its modules
 set -euo pipefail
+source "$(dirname "${BASH_SOURCE[0]}")/usage.sh"
+takes 1 2 "$@"
 
 bench=$(cd "$(dirname "${BASH_SOURCE[0]}")" && pwd)
 crate=$(cd "$bench/../crates/$1" && pwd)

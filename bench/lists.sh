@@ -6,7 +6,11 @@
 # files that are no part of a crate in crates/. So it is made in a repository of its own, over copies of the crates that
 # it measures. `rt run` builds what it proved and nothing else: the proof takes some minutes if `rt check` kept
 # nothing, then the program runs for a second.
+#
+# usage: bench/lists.sh
 set -euo pipefail
+source "$(dirname "${BASH_SOURCE[0]}")/usage.sh"
+takes 0 0 "$@"
 
 top=$(cd "$(dirname "${BASH_SOURCE[0]}")/.." && pwd)
 work=$(mktemp -d)

@@ -3,9 +3,9 @@
 
 usage: make_inputs.py DIR
 """
+import argparse
 import os
 import random
-import sys
 
 
 def prelude(h):
@@ -86,7 +86,9 @@ def lines():
 
 
 def main():
-    where = sys.argv[1]
+    parser = argparse.ArgumentParser(description=__doc__.partition("\n")[0])
+    parser.add_argument("where", metavar="DIR", help="the directory, which is made if need be")
+    where = parser.parse_args().where
     os.makedirs(where, exist_ok=True)
     for name, body in (("text", text()), ("text_half", text(16666)), ("floats_one", floats(1)),
                        ("floats_one_half", floats(1, 6000)), ("floats_two", floats(2)),

@@ -2,16 +2,17 @@
 # Runs the program on the inputs of make_inputs.py and prints a table: the instructions (by valgrind), what a program without
 # proofs takes, the most memory (by GNU time), and how many times the instructions of half the input the whole takes. The
 # program is proved and built by LLVM first. It stops at a run that is refused.
-# bench/run.sh            all inputs
-# bench/run.sh text       one of them as a report, with the functions that cost most
+#
+# usage: bench/run.sh        all inputs
+#        bench/run.sh text   one of them as a report, with the functions that cost most
 set -eu
+source "$(dirname "${BASH_SOURCE[0]}")/usage.sh"
+takes 0 1 "$@"
 top=$(cd "$(dirname "$0")/.." && pwd)
 work=$(mktemp -d)
 trap 'rm -rf "$work"' EXIT
 python3 "$top/bench/make_inputs.py" "$work"
-cd "$top/crates/galley_pages"
-rt run < stdin > /dev/null
-program=$PWD/out/galley_pages
+program=$("$top/tools/program" --proved)
 
 # million INPUT WORDS..: the instructions of a run, in millions
 million() {

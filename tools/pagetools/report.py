@@ -1,4 +1,7 @@
-"""Page reports, with the lines of a trace where they have them (docs/FORMATS.md). All dimensions are sp."""
+"""Page reports, with the lines of a trace where they have them (docs/FORMATS.md). All dimensions are sp.
+
+`read` gives the report in a file, `data` the same as plain lists, dictionaries, texts and whole numbers, which is what
+`galley-pages --json` prints (docs/JSON.md), and `text` the lines of a report again, from these."""
 from dataclasses import dataclass, field
 from fractions import Fraction
 
@@ -89,6 +92,9 @@ class Report:
     pages: list = field(default_factory=list)
     warnings: list = field(default_factory=list)    # all of them
     end: str = ''                                   # the last line, '' where the run was refused
+    left: list = field(default_factory=list)        # notes and marks that are on no page
+    last_warnings: list = field(default_factory=list)   # lines without `warn`, that stand after the last page
+    last_tries: list = field(default_factory=list)      # places that stand after the last page
 
 
 def _column(words):
@@ -148,22 +154,153 @@ class _Reader:
         elif word in ('box', 'rule', 'footrule', 'mark', 'note', 'float', 'margin'):
             page = pages[-1]
             (page.columns[-1].items if page.columns else page.wide).append(_item(word, words))
-        elif word not in ('report', 'left'):
+        elif word == 'left':
+            self.report.left.append(Item(words[0], words[1]))
+        elif word != 'report':
             raise ValueError(word)
+
+    def finish(self):
+        self.report.last_warnings, self.report.last_tries = self.warnings, self.tries
+        return self.report
 
 
 def read(path):
-    """The report in a file. Comments (`#`), which galleyexport writes into its own reports, are passed over."""
-    reader = _Reader(path)
+    """The report in a file."""
     with open(path, encoding='latin-1') as lines:
-        for number, line in enumerate(lines, 1):
-            words = line.split()
-            if not words or words[0].startswith('#'):
-                continue
-            if number == 1 and words[0] != 'report':
-                raise ReportFault('%s is no page report: its first line is not `report 1`' % path)
-            try:
-                reader.take(words[0], words[1:])
-            except (ValueError, IndexError, ZeroDivisionError):
-                raise ReportFault('%s, line %d: no line of a page report: %s' % (path, number, line.strip())) from None
-    return reader.report
+        return read_lines(lines, path)
+
+
+def read_lines(lines, path):
+    """The report in some lines. Comments (`#`), which galleyexport writes into its own reports, are passed over."""
+    reader = _Reader(path)
+    for number, line in enumerate(lines, 1):
+        words = line.split()
+        if not words or words[0].startswith('#'):
+            continue
+        if number == 1 and words[0] != 'report':
+            raise ReportFault('%s is no page report: its first line is not `report 1`' % path)
+        try:
+            reader.take(words[0], words[1:])
+        except (ValueError, IndexError, ZeroDivisionError):
+            raise ReportFault('%s, line %d: no line of a page report: %s' % (path, number, line.strip())) from None
+    return reader.finish()
+
+
+def data(report):
+    """The report as plain data, in the shape of docs/JSON.md."""
+    return {
+        'report': 1,
+        'pages': [_page_data(page) for page in report.pages],
+        'after': {'warnings': [_warning_data(it) for it in report.last_warnings],
+                  'tries': [_try_data(it) for it in report.last_tries]},
+        'left': [{'kind': item.kind, 'name': item.name} for item in report.left],
+        'end': _end_data(report.end),
+    }
+
+
+def _page_data(page):
+    return {
+        'number': page.number, 'kind': page.kind, 'at': page.at,
+        'before': {'warnings': [_warning_data(it) for it in page.warnings],
+                   'tries': [_try_data(it) for it in page.tries]},
+        'floats': [_item_data(item) for item in page.wide],
+        'columns': [_column_data(column) for column in page.columns],
+    }
+
+
+def _column_data(column):
+    is_set = column.sign != 'none'
+    return {
+        'number': column.number, 'kind': column.kind, 'height': column.height, 'natural': column.natural,
+        'set': {'sign': column.sign, 'order': column.order if column.sign == 'stretch' else None,
+                'ratio': [column.amount, column.available] if is_set else None},
+        'overfull': column.overfull,
+        'items': [_item_data(item) for item in column.items],
+    }
+
+
+def _item_data(item):
+    out = {'kind': item.kind}
+    if item.kind != 'footrule':
+        out['name'] = item.name
+    if item.kind == 'float':
+        out['class'] = item.number
+    if item.kind == 'margin':
+        out['shift'] = item.number
+    if item.kind in ('float', 'margin'):
+        out['place'] = item.place
+    out['top'] = item.top
+    if item.kind not in ('mark', 'note'):
+        out['height'] = item.height
+    if item.kind not in ('mark', 'note', 'float'):
+        out['depth'] = item.depth
+    return out
+
+
+def _warning_data(line):
+    words = line.split()
+    kind = words[0]
+    if kind == 'floats':
+        return {'kind': kind, 'page': int(words[1])}
+    out = {'kind': kind, 'name': words[1]}
+    if kind != 'ht':
+        out['by'] = int(words[2])
+    return out
+
+
+def _try_data(place):
+    number = lambda word: None if word == '*' else int(word)
+    return {
+        'line': place.line, 'total': place.total, 'stretch': list(place.stretch), 'shrink': place.shrink,
+        'goal': place.goal, 'badness': number(place.badness), 'penalty': place.penalty, 'cost': number(place.cost),
+        'best': place.best,
+    }
+
+
+def _end_data(line):
+    words = line.split()[1:]
+    return dict(zip(words[::2], map(int, words[1::2]))) if words else None
+
+
+def text(data):
+    """The lines of the report that was made plain data."""
+    lines = ['report 1']
+    for page in data['pages']:
+        _put_before(lines, page['before'])
+        lines.append('page %d %s' % (page['number'], page['kind']) + ' at %d' % page['at'] * (page['kind'] == 'two'))
+        lines += map(_item_line, page['floats'])
+        for column in page['columns']:
+            lines.append(_column_line(column))
+            lines += map(_item_line, column['items'])
+    _put_before(lines, data['after'])
+    lines += ['left %s %s' % (it['kind'], it['name']) for it in data['left']]
+    if data['end']:
+        lines.append('end ' + ' '.join('%s %d' % pair for pair in data['end'].items()))
+    return ''.join(line + '\n' for line in lines)
+
+
+def _put_before(lines, data):
+    """Places and warnings are apart in the data, so the order of a trace with warnings is not kept: places come first."""
+    lines += map(_try_line, data['tries'])
+    lines += ['warn ' + ' '.join(str(it) for it in warning.values()) for warning in data['warnings']]
+
+
+def _column_line(column):
+    line = 'column %(number)d %(kind)s height %(height)d natural %(natural)d set ' % column + column['set']['sign']
+    if column['set']['order']:
+        line += ' ' + column['set']['order']
+    if column['set']['ratio']:
+        line += ' %d/%d' % tuple(column['set']['ratio'])
+    return line + ' overfull %d' % column['overfull'] * (column['overfull'] > 0)
+
+
+def _item_line(item):
+    order = ('kind', 'name', 'class', 'place', 'shift', 'top', 'height', 'depth')
+    return ' '.join(str(item[key]) for key in order if key in item)
+
+
+def _try_line(place):
+    word = lambda value: '*' if value is None else str(value)
+    return 'try %d t %d s %s z %d g %d b %s p %d c %s' % (
+        place['line'], place['total'], ' '.join(map(str, place['stretch'])), place['shrink'], place['goal'],
+        word(place['badness']), place['penalty'], word(place['cost'])) + ' #' * place['best']

@@ -7,3 +7,4 @@ pub mod RelistLemmas
 pub mod SpareLemmas
 pub mod FrameLemmas
 pub mod NewLemmas
+pub mod LackLemmas

@@ -23,8 +23,8 @@ use Rattle.tb_builder.specs.FiredPages.{Boxed}
 use Rattle.tb_builder.specs.Contents.{Contents, contents_of, box_count, nothing_yet}
 use Rattle.tb_builder.specs.Ownership.{Lacks, ClassesFit, ids_of, owned}
 use Rattle.tb_builder.specs.Contributions.{NoPage}
-use Rattle.tb_column.specs.declared.Sent.{Sent}
-use Rattle.tb_column.specs.declared.Warn.{Warn}
+use Rattle.tb_sheet.specs.declared.Sent.{Sent}
+use Rattle.tb_sheet.specs.declared.Warn.{Warn}
 use Rattle.tb_column.specs.Notes.{AreDistinct}
 use Rattle.tb_column.specs.Ranges.{IsSizedGlue}
 use Rattle.tb_column.specs.FloatColumns.{made_node}
@@ -33,11 +33,16 @@ use Rattle.tb_column.proofs.FloatLemmas.{leaves-append}
 use Rattle.tb_output.specs.State.{State, Recorded}
 use Rattle.tb_output.specs.Act.{went, full}
 use Rattle.tb_output.specs.ActCalls.{IsActed, acted_in}
-use Rattle.tb_output.specs.Machine.{MachineView, left_lists, sent_lists, event_lists, machine_lists, AreClassesFrom}
-use Rattle.tb_output.specs.Firing.{builder_lists, AreSizedBoxes, CanFire}
+use Rattle.tb_output.specs.Machine.{MachineView, left_lists, event_lists, machine_lists, AreClassesFrom}
+use Rattle.tb_sheet.specs.StoredSheets.{sent_lists}
+use Rattle.tb_builder.specs.BuilderLists.{builder_lists}
+use Rattle.tb_output.specs.Firing.{AreSizedBoxes, CanFire}
 use Rattle.tb_calls.specs.Scenes.{scene_classes, IsScene, IsReady, IsTextKind, LeavesAll}
-use Rattle.tb_output.proofs.FiringWork.ApartLemmas.{apart-back, distinct-front, distinct-back, distinct-apart, distinct-join, fresh-none, lacks-none}
-use Rattle.tb_output.proofs.FiringWork.StandLemmas.{Stands, list-same, live-same, list-stands, machine-live, stands-shown}
+use Rattle.tb_sheet.proofs.ListsApart.{apart-back, distinct-front, distinct-back, distinct-apart, distinct-join}
+use Rattle.tb_output.proofs.FiringWork.ApartLemmas.{fresh-none}
+use Rattle.tb_builder.proofs.Ownership.LackLemmas.{lacks-none}
+use Rattle.tb_sheet.proofs.StandLemmas.{Stands, list-same, live-same, list-stands}
+use Rattle.tb_output.proofs.FiringWork.StandLemmas.{machine-live, stands-shown}
 
 -- a scene whose lists are as before is one
 pub scene-stays : (m : MachineView) (store new : Lists Node) → IsScene m store → LeavesAll store new → IsScene m new

@@ -9,7 +9,7 @@ use Rattle.tb_scaled.specs.Glue.{fixed_glue}
 use Rattle.tb_insert.specs.declared.Class.{Class}
 use Rattle.tb_column.specs.FloatColumns.{made_node}
 use Rattle.tb_column.specs.Page.{is_leaf_kind}
-use Rattle.tb_output.specs.Output.{hold_penalty}
+use Rattle.tb_sheet.specs.Asked.{hold_penalty}
 use Rattle.tb_output.specs.Machine.{MachineView, IsMachine}
 use Rattle.tb_output.specs.Firing.{IsReach}
 

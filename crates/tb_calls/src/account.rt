@@ -12,7 +12,7 @@ use tb_node::{Insertion, Kind, Node, What};
 use tb_pool::{ListId, Lists};
 use tb_scaled::fixed;
 
-fn make_box(height: i64) -> Node
+pub(crate) fn make_box(height: i64) -> Node
     ensures { result ≡ worked_box height }
 {
     let kind = Kind::Hbox {
@@ -23,7 +23,7 @@ fn make_box(height: i64) -> Node
     Node { line: 7, kind }
 }
 
-fn no_glue() -> Node
+pub(crate) fn no_glue() -> Node
     ensures { result ≡ worked_glue }
 {
     Node {

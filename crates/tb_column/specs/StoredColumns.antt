@@ -1,36 +1,10 @@
--- Columns, pages and events as the definitions see them, in a store that holds their lists.
-use Rattle.tb_pool.specs.Lists.{Lists, IsLive}
+-- Columns as the definitions see them, in a store that holds their lists.
+use Rattle.tb_pool.specs.Lists.{Lists}
 use Rattle.tb_node.specs.declared.Node.{Node}
 use Rattle.tb_node.specs.PlainNodes.{plain_list}
 use Rattle.tb_column.specs.declared.Column.{Column}
-use Rattle.tb_column.specs.declared.Sheet.{Sheet}
-use Rattle.tb_column.specs.declared.Sheet.TheVariants as sheets
-use Rattle.tb_column.specs.declared.Sent.{Sent}
-use Rattle.tb_column.specs.declared.Sent.TheVariants as events
-use Rattle.tb_column.specs.Column.{PlainColumn, PlainSheet, one, wide, two, PlainSent, warned, shipped}
+use Rattle.tb_column.specs.Column.{PlainColumn}
 
 -- a column with the nodes of its list
 abbrev pub column_shown : Lists Node → Column → PlainColumn
 column_shown store c = record { kind = c.kind; nodes = plain_list store c.list; set = c.set }
-
--- a page with its columns, and the wide floats above two of them
-abbrev pub sheet_shown : Lists Node → Sheet → PlainSheet
-sheet_shown store (sheets.One c) = one (column_shown store c)
-sheet_shown store (sheets.Wide c) = wide (column_shown store c)
-sheet_shown store (sheets.Two tops at left right) = two (plain_list store tops) at (column_shown store left) (column_shown store right)
-
--- a warning, or a page under its number
-abbrev pub sent_shown : Lists Node → Sent → PlainSent
-sent_shown store (events.Warn w) = warned w
-sent_shown store (events.Ship page sheet) = shipped page (sheet_shown store sheet)
-
--- all lists of a page are live
-abbrev pub IsLiveSheet : Lists Node → Sheet → Type 0
-IsLiveSheet store (sheets.One c) = IsLive store c.list
-IsLiveSheet store (sheets.Wide c) = IsLive store c.list
-IsLiveSheet store (sheets.Two tops at left right) = IsLive store tops × IsLive store left.list × IsLive store right.list
-
--- all lists of the page of an event are live
-abbrev pub IsLiveSent : Lists Node → Sent → Type 0
-IsLiveSent store (events.Warn w) = Unit {0}
-IsLiveSent store (events.Ship page sheet) = IsLiveSheet store sheet

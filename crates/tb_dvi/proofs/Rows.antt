@@ -7,7 +7,8 @@ use Rattle.tb_scaled.specs.declared.Order.TheVariants.{Normal}
 use Rattle.tb_node.specs.declared.What.TheVariants as what
 use Rattle.tb_node.specs.PlainNodes.{hbox, skip, PlainNode, made}
 use Rattle.tb_column.specs.declared.ColumnKind.TheVariants as kinds
-use Rattle.tb_column.specs.Column.{PlainSheet, one, column_of}
+use Rattle.tb_sheet.specs.Sheet.{PlainSheet, one}
+use Rattle.tb_column.specs.Column.{column_of}
 use Rattle.tb_dvi.specs.declared.DviCause.TheVariants as causes
 use Rattle.tb_dvi.specs.Placement.{sheet_placed}
 use Rattle.tb_dvi.specs.File.{Page, file_bytes}

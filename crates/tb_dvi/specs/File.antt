@@ -2,7 +2,7 @@
 use Rattle.std.specs.Prelude.{ℕ, ◌+◌, ◌-◌, ◌%◌, ◌<◌, ℤ, pos, negsuc, Bool, false, not, ◌||◌, nat_lt, int_le, if◌then◌else◌, List, [], ◌∷◌, ◌++◌, length, drop, replicate, flat_map, Option, Some, None, IfSome, FitsSigned, All, codes}
 use Rattle.std.specs.Int.{w16, w32, w128, to_be_bytes, cast_unsigned}
 use Rattle.std.specs.List.{list_any}
-use Rattle.tb_column.specs.Column.{PlainSheet}
+use Rattle.tb_sheet.specs.Sheet.{PlainSheet}
 use Rattle.tb_dvi.specs.Placement.{Placement, sheet_placed}
 
 -- a number with a sign in four bytes

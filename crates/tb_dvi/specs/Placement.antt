@@ -6,7 +6,8 @@ use Rattle.tb_node.specs.declared.What.TheVariants as what
 use Rattle.tb_node.specs.PlainNodes.{Matter, hbox, rule, skip, kerned, pen, mark, note, whatsit, PlainKind, plain, ins, act, PlainNode, node_shape}
 use Rattle.tb_pack.specs.declared.Set.{Set}
 use Rattle.tb_pack.specs.Pack.{top_after}
-use Rattle.tb_column.specs.Column.{PlainColumn, PlainSheet, one, wide, two}
+use Rattle.tb_column.specs.Column.{PlainColumn}
+use Rattle.tb_sheet.specs.Sheet.{PlainSheet, one, wide, two}
 use Rattle.tb_report.specs.Lines.{where_text, side_text, unset}
 use Rattle.tb_text.specs.Fields.{and_count, and_text}
 

@@ -1,6 +1,6 @@
 -- How far a DVI file is written.
 use Rattle.std.specs.Prelude.{◌≡◌, ℕ, ◌+◌, ◌≤◌, ◌≤ℤ◌, ℤ, pos, negsuc, Bool, true, false, Option, Some, None, ◌||◌, nat_lt, List, [], ◌∷◌, length}
-use Rattle.tb_column.specs.Column.{PlainSent, warned, shipped}
+use Rattle.tb_sheet.specs.Sheet.{PlainSent, warned, shipped}
 use Rattle.tb_dvi.specs.declared.progress.Progress.{Progress}
 use Rattle.tb_dvi.specs.File.{Page, sheet_page, page_bytes, last_begin, has_any, post_place, file_front, file_bytes, is_too_far, first_too_far, pages_in_range}
 

@@ -14,8 +14,6 @@ mod progress;
 mod refusal;
 mod runs;
 mod stack;
-#[cfg(test)]
-mod tests;
 
 pub use file::{post_bytes, pre_bytes, put_post};
 pub use law::lists_its_pages;

@@ -1,7 +1,8 @@
 //! The bytes of a page.
 ghost use Rattle.std.specs.Prelude.{◌≡◌, ◌≤◌, ◌<◌, ◌++◌, pos, negsuc, ◌≤ℤ◌, All, false, IfOk, OnOk, IfErr};
-ghost use Rattle.tb_column.specs.Column.{one};
-ghost use Rattle.tb_column.specs.StoredColumns.{column_shown, sheet_shown};
+ghost use Rattle.tb_sheet.specs.Sheet.{one};
+ghost use Rattle.tb_column.specs.StoredColumns.{column_shown};
+ghost use Rattle.tb_sheet.specs.StoredSheets.{sheet_shown};
 ghost use Rattle.tb_report.specs.Printable.{IsPrintable, IsPrintableSheet};
 ghost use Rattle.tb_dvi.specs.Placement.{part_placed, parts_placed};
 ghost use Rattle.tb_dvi.specs.Page.{Writes, part_shown, parts_shown, parts_page, IsShowable, WritesPage, PutsPage, MissesPage};
@@ -10,11 +11,12 @@ ghost use Rattle.tb_dvi.specs.File.{sheet_page, page_start, page_bytes, is_too_f
 use crate::file::{put_four, put_signed};
 use crate::placement::{PlaceFault, put_node};
 use std::alloc::{AllocError, Global};
-use tb_column::{Column, Sheet};
+use tb_column::Column;
 use tb_node::Node;
 use tb_pack::{Set, Tops};
 use tb_pool::{ListId, Lists};
 use tb_report::unset;
+use tb_sheet::Sheet;
 use tb_text::put;
 
 /// A part of a page: a list that begins `at` scaled points from the page's top and `h` from its left side, and how its

@@ -1,7 +1,7 @@
 //! A file that is written page by page.
 ghost use Rattle.std.specs.Prelude.{◌≡◌, ◌≤◌, ◌<◌, ◌+◌, ◌++◌, ◌||◌, nat_lt, pos, FitsSigned, OnOk, OnErr};
 ghost use Rattle.std.specs.Int.{w32};
-ghost use Rattle.tb_column.specs.StoredColumns.{sheet_shown};
+ghost use Rattle.tb_sheet.specs.StoredSheets.{sheet_shown};
 ghost use Rattle.tb_report.specs.Printable.{IsPrintableSheet};
 ghost use Rattle.tb_dvi.specs.File.{sheet_page, post_bytes};
 ghost use Rattle.tb_dvi.specs.Page.{PutsPage};
@@ -9,10 +9,10 @@ ghost use Rattle.tb_dvi.specs.Page.{PutsPage};
 use crate::file::put_post;
 use crate::page::{DviFault, put_sheet};
 use std::alloc::{AllocError, Global};
-use tb_column::Sheet;
 use tb_node::Node;
 use tb_param::Params;
 use tb_pool::Lists;
+use tb_sheet::Sheet;
 
 /// How far a DVI file is written. Its bytes go elsewhere page by page, so more pages take no more memory.
 #[derive(Clone, Copy)]

@@ -331,6 +331,3 @@ fn sure_name(bytes: &[u8]) -> Name
         }
     }
 }
-
-#[cfg(test)]
-mod tests;

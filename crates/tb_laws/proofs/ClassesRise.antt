@@ -13,3 +13,9 @@ pub mod SpreadFirings
 pub mod TakenOrder
 pub mod OutOrder
 pub mod FiringOrder
+pub mod NamedLines
+pub mod GalleyLines
+pub mod FloatlessNodes
+pub mod OrderTests
+pub mod OrderedRuns
+pub mod OrderedGalleys

@@ -17,3 +17,11 @@ pub mod CycleEnds
 pub mod CycleFirings
 pub mod HighStates
 pub mod HighFirings
+pub mod ValidPenalties
+pub mod CyclePages
+pub mod CycleStarts
+pub mod LowGoing
+pub mod HighPages
+pub mod HighGoing
+pub mod CycleRuns
+pub mod CycleBound

@@ -1,8 +1,11 @@
 pub mod PageBreaks
 pub mod StepLaws
+pub mod Defined
 pub mod NothingLost
 pub mod Closed
 pub mod InOrder
+pub mod OnceEach
 pub mod Limits
 pub mod ClassesRise
 pub mod DeadCycles
+pub mod DviFiles

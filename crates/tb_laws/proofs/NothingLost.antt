@@ -5,3 +5,10 @@ pub mod FloatWeights
 pub mod PutOutWeights
 pub mod TextWeights
 pub mod WorkWeights
+pub mod StartLemmas
+pub mod RunWeights
+pub mod ClosingStarts
+pub mod ClosingActs
+pub mod ClosingRuns
+pub mod ClassLemmas
+pub mod ShippedRuns

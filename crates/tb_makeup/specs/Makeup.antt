@@ -7,12 +7,11 @@ use Rattle.tb_builder.specs.Courses.{IsSound}
 use Rattle.tb_builder.specs.Pageable.{IsSizedOnPage}
 use Rattle.tb_builder.specs.LegalPlaces.{NoActs}
 use Rattle.tb_column.specs.Notes.{AreDistinct}
-use Rattle.tb_output.specs.Firing.{builder_lists}
-use Rattle.tb_output.specs.MachineFrame.{AreNoneOf}
-use Rattle.tb_run.specs.declared.happenings.Happening.{Happening}
-use Rattle.tb_run.specs.Run.{RunEvent, offered, sent}
-use Rattle.tb_run.specs.Happenings.{events_of, noted, happened_lists}
-use Rattle.tb_run.specs.Routine.{ArePages}
+use Rattle.tb_builder.specs.BuilderLists.{builder_lists}
+use Rattle.tb_sheet.specs.ApartLists.{AreNoneOf}
+use Rattle.tb_items.specs.declared.happenings.Happening.{Happening}
+use Rattle.tb_items.specs.RunEvents.{RunEvent, offered, sent}
+use Rattle.tb_items.specs.Happenings.{events_of, noted, happened_lists, ArePages}
 use Rattle.tb_plain.specs.Firing.{holds_any}
 use Rattle.tb_plain.specs.Run.{MakeupEvent, offers, sends, sent_among, MakeupState, MakeupRun, MakeupEnd, done, page_limit, node_limit, builder_holds, makeup_ask, makeup_from, steps_left, act_count, run_after, ejecting_nodes, waiting_after}
 use Rattle.tb_plain.specs.MakeupCalls.{AreMakeupParams, IsPlain}

@@ -8,11 +8,11 @@ use Rattle.tb_builder.specs.Contents.{node_count}
 use Rattle.tb_builder.specs.PageCalls.{PassedOver, ComesBy}
 use Rattle.tb_builder.specs.Contributions.{with_void}
 use Rattle.tb_builder.specs.Courses.{IsSound}
-use Rattle.tb_column.specs.Column.{shipped, one}
-use Rattle.tb_run.specs.declared.happenings.Happening.{Happening}
-use Rattle.tb_run.specs.declared.happenings.Happening.TheVariants as happenings
-use Rattle.tb_run.specs.Run.{sent}
-use Rattle.tb_run.specs.Happenings.{events_of}
+use Rattle.tb_sheet.specs.Sheet.{shipped, one}
+use Rattle.tb_items.specs.declared.happenings.Happening.{Happening}
+use Rattle.tb_items.specs.declared.happenings.Happening.TheVariants as happenings
+use Rattle.tb_items.specs.RunEvents.{sent}
+use Rattle.tb_items.specs.Happenings.{events_of}
 use Rattle.tb_plain.specs.MakeupCalls.{CanFire, fired_with}
 use Rattle.tb_plain.specs.Firing.{holds_any, makeup_column}
 use Rattle.tb_plain.specs.Run.{MakeupState, try_events, run_after, step_tries, makeup_step, firing_step, last_step, builder_holds, void_boxes, act_count, ejecting_nodes, waiting_after}

@@ -3,7 +3,7 @@
 ghost use Rattle.std.specs.Prelude.{◌≡◌, ◌≤◌, ℕ, ◌∷◌, [], OnOk};
 ghost use Rattle.tb_node.specs.PlainNodes.{whatsit, plain, act, on_line};
 ghost use Rattle.tb_builder.specs.Contents.{contents_of};
-ghost use Rattle.tb_run.specs.WaitingNodes.{CanTake, Waits, IsItem, AreItems};
+ghost use Rattle.tb_items.specs.WaitingNodes.{CanTake, Waits, IsItem, AreItems};
 ghost use Rattle.tb_plain.specs.GalleyNodes.{clearing_kinds, makeup_kinds, makeup_nodes, made_up};
 ghost use Rattle.tb_param.specs.declared.Params.{Params};
 ghost use Rattle.tb_plain.specs.Run.{act_count};
@@ -11,11 +11,11 @@ ghost use Rattle.tb_plain.specs.Run.{act_count};
 use std::alloc::AllocError;
 use tb_builder::Builder;
 use tb_galley::{Galley, Item, ItemKind};
+use tb_items::{put, put_item};
 use tb_node::{Act, Float, Kind, Node};
 use tb_param::Params;
 use tb_plain::{CLEARING_PENALTY, clearing_glue};
 use tb_pool::Lists;
-use tb_run::{put, put_item};
 
 /// Hands over the nodes of a galley: those of its items in order, and those of a clear with the line of its end. The page
 /// is empty, and the builder has the class of each footnote.

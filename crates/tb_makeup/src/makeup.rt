@@ -10,9 +10,8 @@ ghost use Rattle.tb_builder.specs.Courses.{IsSound};
 ghost use Rattle.tb_builder.specs.PageEvents.{NextFits};
 ghost use Rattle.tb_builder.specs.Ownership.{Lacks, ids_of, inner_ids, inner_of, owned};
 ghost use Rattle.tb_builder.specs.Contributions.{ListJoins, MayWait, NoPage, with_void};
-ghost use Rattle.tb_run.specs.WaitingNodes.{lone, AreItems};
-ghost use Rattle.tb_run.specs.Happenings.{happened_lists};
-ghost use Rattle.tb_run.specs.Routine.{ArePages};
+ghost use Rattle.tb_items.specs.WaitingNodes.{lone, AreItems};
+ghost use Rattle.tb_items.specs.Happenings.{happened_lists, ArePages};
 ghost use Rattle.tb_plain.specs.GalleyNodes.{made_up};
 ghost use Rattle.tb_plain.specs.MakeupCalls.{IsPlain, CanFire, fired_with};
 ghost use Rattle.tb_plain.specs.Run.{makeup_ask, makeup_classes, first_makeup, waiting_after};
@@ -22,15 +21,15 @@ ghost use Rattle.tb_makeup.specs.MakeupPages.{HasComeTo, Fills, AreTries, IsBoun
 use crate::galley_nodes::{act_count, expand};
 use std::alloc::{AllocError, Global};
 use tb_builder::{Ask, Builder, Event, Page, new_builder};
-use tb_column::{Sent, Sheet};
 use tb_galley::Galley;
 use tb_insert::Class;
+use tb_items::{Happening, close_happened, note_sent, note_try};
 use tb_node::{FOOTNOTES, Kind, Node, What};
 use tb_param::{Params, exceeds};
 use tb_plain::{Plain, PlainFault, PlainPage, TOP_FLOATS, clearing_glue, new_plain};
 use tb_pool::{ListId, Lists};
-use tb_run::{Happening, close_happened, note_sent, note_try};
 use tb_scaled::{MAX_DIMEN, fixed};
+use tb_sheet::{Sent, Sheet};
 
 /// Between two firings: one store, the page builder with the nodes that wait, and the state of the page makeup.
 #[derive(Drop)]

@@ -6,8 +6,6 @@ mod node_sums;
 mod roles;
 mod signals;
 mod sizes;
-#[cfg(test)]
-mod tests;
 
 pub use names::name_of;
 pub use node_sums::{add, add_box, add_glue, list_sums, stretch_sums};

@@ -8,7 +8,6 @@ use Rattle.tb_node.specs.declared.Area.{Area}
 use Rattle.tb_node.specs.declared.Float.{Float}
 use Rattle.tb_node.specs.declared.Margin.{Margin}
 use Rattle.tb_node.specs.declared.Node.{Node}
-use Rattle.tb_node.specs.Fit.{IsExtent}
 use Rattle.tb_node.specs.PlainNodes.{PlainNode}
 use Rattle.tb_builder.specs.FiredPages.{Boxed}
 use Rattle.tb_param.specs.declared.Params.{Params}
@@ -16,24 +15,14 @@ use Rattle.tb_param.specs.Release.{has_second}
 use Rattle.tb_float.specs.declared.Entry.TheVariants as entries
 use Rattle.tb_float.specs.Lists.{live_count}
 use Rattle.tb_float.specs.Pool.{FloatPool, HasNoMarks, with_current}
-use Rattle.tb_float.specs.Ranges.{IsSizedMargin}
 use Rattle.tb_column.specs.declared.Column.{Column}
-use Rattle.tb_column.specs.declared.Sent.{Sent}
-use Rattle.tb_column.specs.declared.Sent.TheVariants as events
-use Rattle.tb_column.specs.declared.Warn.{Warn}
+use Rattle.tb_sheet.specs.declared.Sent.{Sent}
+use Rattle.tb_sheet.specs.declared.Sent.TheVariants as events
+use Rattle.tb_sheet.specs.declared.Warn.{Warn}
 use Rattle.tb_output.specs.State.{State, no_suppress}
 use Rattle.tb_output.specs.Act.{Acted, went, full, lists_with_taken, large_warning, suppressed, act_on}
 use Rattle.tb_pool.specs.Frame.{IsNoneOf}
 use Rattle.tb_output.specs.Machine.{MachineView, state_shown, left_lists, machine_lists}
-
--- ---- what is required
-
--- the amounts of an act are in their ranges
-abbrev pub IsSizedAct : Act → Type 0
-IsSizedAct (acts.Take f) = IsExtent f.height
-IsSizedAct (acts.TakeMargin m) = IsSizedMargin m
-IsSizedAct (acts.Suppress area) = Unit {0}
-IsSizedAct (acts.Columns two) = Unit {0}
 
 -- ---- what holds after an act
 

@@ -2,7 +2,7 @@
 use Rattle.std.specs.Prelude.{ℕ, ◌+◌, ◌≤◌, List}
 use Rattle.tb_float.specs.Lists.{live_count}
 use Rattle.tb_float.specs.Pool.{FloatPool}
-use Rattle.tb_column.specs.declared.Sent.{Sent}
+use Rattle.tb_sheet.specs.declared.Sent.{Sent}
 
 -- the events that were not taken yet, the oldest first, and for how many more there is room
 pub record EventQueue : Type 0 where

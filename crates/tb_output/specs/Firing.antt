@@ -11,7 +11,8 @@ use Rattle.tb_builder.specs.declared.Builder.{Builder}
 use Rattle.tb_builder.specs.declared.Page.{Page}
 use Rattle.tb_builder.specs.FiredPages.{Boxed, Fired, content_of}
 use Rattle.tb_builder.specs.Contents.{contents_of, box_count}
-use Rattle.tb_builder.specs.Ownership.{ids_of, owned}
+use Rattle.tb_builder.specs.Ownership.{ids_of}
+use Rattle.tb_builder.specs.BuilderLists.{builder_lists}
 use Rattle.tb_builder.specs.Courses.{IsSound}
 use Rattle.tb_builder.specs.Contributions.{ListJoins, NoPage}
 use Rattle.tb_column.specs.Page.{IsPageList}
@@ -19,9 +20,11 @@ use Rattle.tb_output.specs.declared.Turn.{Turn}
 use Rattle.tb_output.specs.declared.RunFault.{RunFault}
 use Rattle.tb_output.specs.declared.RunFault.TheVariants as faults
 use Rattle.tb_output.specs.State.{State, Work, begun}
-use Rattle.tb_output.specs.Output.{hold_penalty, output_by, next_goal, after_page, out}
+use Rattle.tb_sheet.specs.Asked.{hold_penalty}
+use Rattle.tb_output.specs.Output.{output_by, next_goal, after_page, out}
 use Rattle.tb_output.specs.Machine.{MachineView, state_shown, events_shown, machine_lists, IsMachine}
-use Rattle.tb_output.specs.MachineFrame.{AreNoneOf, KeepsFields, IsBack, back_lists}
+use Rattle.tb_sheet.specs.ApartLists.{AreNoneOf}
+use Rattle.tb_output.specs.MachineFrame.{KeepsFields, IsBack, back_lists}
 
 -- ---- the work of a firing
 
@@ -56,10 +59,6 @@ whole_work m b store page = out m.params (state_in m b store) (fired_in b store 
 pub record IsReach (z : ℤ) : Type 0 where
   pub low : neg_ℤ (pos 18014394214514688) <ℤ z
   pub high : z <ℤ pos 18014394214514688
-
--- the lists of a builder
-abbrev pub builder_lists : Builder → Lists Node → List ℕ
-builder_lists b store = owned (ids_of b) store
 
 -- the nodes of each box are sized
 abbrev pub AreSizedBoxes : List Boxed → Type 0

@@ -29,8 +29,9 @@ use Rattle.tb_output.specs.Clear.{clear_again, clear}
 use Rattle.tb_output.specs.FloatMoves.{joined_to}
 use Rattle.tb_output.specs.Text.{notes_height, float_or_note, float_goes, note_at, first_goes, with_top}
 use Rattle.tb_builder.specs.FiredPages.{Fired}
-use Rattle.tb_output.specs.Output.{clear_penalty, par_penalty, is_int, output_by, next_goal}
-use Rattle.tb_column.specs.declared.Warn.TheVariants as warnings
+use Rattle.tb_sheet.specs.Asked.{clear_penalty, par_penalty}
+use Rattle.tb_output.specs.Output.{is_int, output_by, next_goal}
+use Rattle.tb_sheet.specs.declared.Warn.TheVariants as warnings
 use Rattle.tb_output.specs.Machine.{MachineView}
 use Rattle.tb_output.specs.PageChanges.{with_warning}
 use Rattle.tb_output.specs.MachineFrame.{HasFloats}

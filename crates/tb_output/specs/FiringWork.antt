@@ -6,7 +6,7 @@ use Rattle.tb_node.specs.PlainNodes.{plain_list}
 use Rattle.tb_builder.specs.declared.Builder.{Builder}
 use Rattle.tb_builder.specs.Contents.{contents_of}
 use Rattle.tb_column.specs.declared.NoteBox.{NoteBox}
-use Rattle.tb_column.specs.Column.{PlainSent}
+use Rattle.tb_sheet.specs.Sheet.{PlainSent}
 use Rattle.tb_column.specs.Notes.{notes_shown}
 use Rattle.tb_output.specs.declared.RunFault.{RunFault}
 use Rattle.tb_output.specs.declared.RunFault.TheVariants as faults

@@ -15,12 +15,11 @@ use Rattle.tb_float.specs.Lists.{no_floats}
 use Rattle.tb_float.specs.Pool.{FloatPool, HasNoMarks}
 use Rattle.tb_float.specs.Ranges.{IsShare}
 use Rattle.tb_column.specs.declared.Column.{Column}
-use Rattle.tb_column.specs.declared.Sheet.{Sheet}
-use Rattle.tb_column.specs.declared.Sheet.TheVariants as sheets
-use Rattle.tb_column.specs.declared.Sent.{Sent}
-use Rattle.tb_column.specs.declared.Sent.TheVariants as events
-use Rattle.tb_column.specs.Column.{PlainColumn, PlainSent}
-use Rattle.tb_column.specs.StoredColumns.{column_shown, sent_shown}
+use Rattle.tb_sheet.specs.declared.Sent.{Sent}
+use Rattle.tb_column.specs.Column.{PlainColumn}
+use Rattle.tb_sheet.specs.Sheet.{PlainSent}
+use Rattle.tb_column.specs.StoredColumns.{column_shown}
+use Rattle.tb_sheet.specs.StoredSheets.{sent_shown, sent_lists, IsPageSent}
 use Rattle.tb_column.specs.Notes.{AreDistinct}
 use Rattle.tb_column.specs.Page.{IsPageList, IsPageColumn}
 use Rattle.tb_column.specs.Ranges.{IsSizedGlue, AreColumnParams}
@@ -96,17 +95,6 @@ events_shown store es = map (sent_shown store) es
 
 -- ---- its lists
 
--- the lists of a page
-abbrev pub sheet_lists : Sheet → List ℕ
-sheet_lists (sheets.One c) = c.list ∷ []
-sheet_lists (sheets.Wide c) = c.list ∷ []
-sheet_lists (sheets.Two tops at left right) = tops ∷ left.list ∷ right.list ∷ []
-
--- the lists of an event
-abbrev pub sent_lists : Sent → List ℕ
-sent_lists (events.Warn w) = []
-sent_lists (events.Ship page sheet) = sheet_lists sheet
-
 -- the lists of events
 abbrev pub event_lists : List Sent → List ℕ
 event_lists [] = []
@@ -120,17 +108,6 @@ left_lists (Some c) = c.list ∷ []
 -- all lists of a machine: the held page, the left column, and those of the events
 abbrev pub machine_lists : MachineView → List ℕ
 machine_lists m = m.held_page ∷ left_lists m.left_column ++ event_lists m.events
-
--- all lists of a page may be on one
-abbrev pub IsPageSheet : Lists Node → Sheet → Type 0
-IsPageSheet store (sheets.One c) = IsPageColumn store c
-IsPageSheet store (sheets.Wide c) = IsPageColumn store c
-IsPageSheet store (sheets.Two tops at left right) = IsPageList store tops × IsPageColumn store left × IsPageColumn store right
-
--- all lists of an event may be on a page
-abbrev pub IsPageSent : Lists Node → Sent → Type 0
-IsPageSent store (events.Warn w) = Unit {0}
-IsPageSent store (events.Ship page sheet) = IsPageSheet store sheet
 
 -- the list of the left column may be on a page, if there is one
 abbrev pub IsPageLeft : Lists Node → Option Column → Type 0

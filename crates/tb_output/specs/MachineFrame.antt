@@ -12,11 +12,8 @@ use Rattle.tb_float.specs.Pool.{HasNoMarks}
 use Rattle.tb_column.specs.declared.NoteBox.{NoteBox}
 use Rattle.tb_column.specs.Notes.{AreDistinct, AreNotes, note_lists, note_count}
 use Rattle.tb_column.specs.Page.{IsPageList}
+use Rattle.tb_sheet.specs.ApartLists.{AreNoneOf}
 use Rattle.tb_output.specs.Machine.{MachineView, machine_lists, IsMachine}
-
--- none of these is any of those
-abbrev pub AreNoneOf : List ℕ → List ℕ → Type 0
-AreNoneOf ls ms = AllByRecursion (λ l. IsNoneOf l ms) ls
 
 -- ---- the machine
 

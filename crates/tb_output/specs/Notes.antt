@@ -17,8 +17,8 @@ use Rattle.tb_output.specs.declared.notes.TakenNotes.{TakenNotes}
 use Rattle.tb_output.specs.declared.notes.TakenNotes.TheVariants.{Empty, One, Many}
 use Rattle.tb_output.specs.State.{notes_in}
 use Rattle.tb_output.specs.Columns.{emptied_boxes}
-use Rattle.tb_output.specs.Firing.{builder_lists}
-use Rattle.tb_output.specs.MachineFrame.{AreNoneOf}
+use Rattle.tb_builder.specs.BuilderLists.{builder_lists}
+use Rattle.tb_sheet.specs.ApartLists.{AreNoneOf}
 
 -- the boxes that were taken
 abbrev pub boxes_held : TakenNotes → List NoteBox

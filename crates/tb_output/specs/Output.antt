@@ -1,32 +1,17 @@
 -- What the output routine does at a firing (ltoutput.dtx, \output and \@specialoutput; TeX: The Program §1012).
-use Rattle.std.specs.Prelude.{ℤ, pos, negsuc, ◌+◌, ◌+ℤ◌, ◌-ℤ◌, Bool, true, false, not, ◌&&◌, List, [], ◌∷◌, ◌++◌, int_le, int_lt, int_div, if◌then◌else◌}
+use Rattle.std.specs.Prelude.{ℤ, pos, ◌+◌, ◌+ℤ◌, ◌-ℤ◌, Bool, true, false, not, ◌&&◌, List, [], ◌∷◌, ◌++◌, int_le, int_lt, int_div, if◌then◌else◌}
 use Rattle.tb_scaled.specs.Scaled.{is_zero, eject_penalty, max_dimen}
 use Rattle.tb_node.specs.PlainNodes.{PlainNode, pen, made, blank_box}
 use Rattle.tb_param.specs.declared.Params.{Params}
 use Rattle.tb_builder.specs.FiredPages.{Fired}
 use Rattle.tb_float.specs.Rooms.{column_room_of}
-use Rattle.tb_column.specs.declared.Warn.TheVariants as warnings
-use Rattle.tb_column.specs.Column.{warned}
+use Rattle.tb_sheet.specs.declared.Warn.TheVariants as warnings
+use Rattle.tb_sheet.specs.Sheet.{warned}
+use Rattle.tb_sheet.specs.Asked.{clear_penalty, par_penalty, vert_penalty, hold_penalty}
 use Rattle.tb_output.specs.State.{State, Work, begun, puts, sends}
 use Rattle.tb_output.specs.Columns.{ordinary}
 use Rattle.tb_output.specs.Text.{float_or_note}
 use Rattle.tb_output.specs.Clear.{clear}
-
--- the penalty of a clear
-abbrev pub clear_penalty : ℤ
-clear_penalty = negsuc 10000
-
--- the penalty of a float or note in a paragraph
-abbrev pub par_penalty : ℤ
-par_penalty = negsuc 10001
-
--- the penalty of a float or note between paragraphs
-abbrev pub vert_penalty : ℤ
-vert_penalty = negsuc 10002
-
--- the penalty of the page before it, which is held
-abbrev pub hold_penalty : ℤ
-hold_penalty = negsuc 10003
 
 -- two numbers are the same
 abbrev pub is_int : ℤ → ℤ → Bool

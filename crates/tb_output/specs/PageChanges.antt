@@ -6,9 +6,9 @@ use Rattle.tb_float.specs.Lists.{FloatLists, wide_part, wide_waiting}
 use Rattle.tb_float.specs.Pool.{without_entries}
 use Rattle.tb_area.specs.Deferred.{filled, doubled}
 use Rattle.tb_column.specs.declared.Column.{Column}
-use Rattle.tb_column.specs.declared.Sheet.{Sheet}
-use Rattle.tb_column.specs.declared.Warn.{Warn}
-use Rattle.tb_column.specs.declared.Sent.TheVariants as events
+use Rattle.tb_sheet.specs.declared.Sheet.{Sheet}
+use Rattle.tb_sheet.specs.declared.Warn.{Warn}
+use Rattle.tb_sheet.specs.declared.Sent.TheVariants as events
 use Rattle.tb_output.specs.declared.RunFault.{RunFault}
 use Rattle.tb_output.specs.declared.RunFault.TheVariants as faults
 use Rattle.tb_output.specs.State.{no_suppress}

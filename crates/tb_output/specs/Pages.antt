@@ -6,7 +6,8 @@ use Rattle.tb_param.specs.declared.Params.{Params}
 use Rattle.tb_float.specs.Lists.{wide_part, wide_waiting, with_wide_waiting}
 use Rattle.tb_fpage.specs.declared.Wanted.{Wanted}
 use Rattle.tb_fpage.specs.Company.{Choice, company, chosen_floats, left_floats}
-use Rattle.tb_column.specs.Column.{PlainColumn, PlainSheet, one, wide, shipped, pair_sheet, wide_floats_column}
+use Rattle.tb_column.specs.Column.{PlainColumn, wide_floats_column}
+use Rattle.tb_sheet.specs.Sheet.{PlainSheet, one, wide, shipped, pair_sheet}
 use Rattle.tb_output.specs.State.{Work, unless_refused, sends, records_also, output, no_suppress, with_floats}
 use Rattle.tb_output.specs.FloatMoves.{place_double}
 

@@ -13,17 +13,18 @@ ghost use Rattle.tb_float.specs.Lists.{live_count};
 ghost use Rattle.tb_float.specs.Pool.{HasNoMarks};
 ghost use Rattle.tb_float.specs.Ranges.{IsSizedMargin};
 ghost use Rattle.tb_output.specs.Act.{full, large_warning, suppressed};
-ghost use Rattle.tb_output.specs.MachineFrame.{AreNoneOf};
+ghost use Rattle.tb_sheet.specs.ApartLists.{AreNoneOf};
 ghost use Rattle.tb_output.specs.Machine.{AreOutputParams, IsMachine, machine_lists};
-ghost use Rattle.tb_output.specs.ActCalls.{IsSizedAct, IsActed, acted_in, line_of, TakesNoList, dropped_lists, HasTaken, HasNoRoom, clipped, taken_into, with_float, with_note, with_suppressed, with_columns};
+ghost use Rattle.tb_sheet.specs.Asked.{IsSizedAct};
+ghost use Rattle.tb_output.specs.ActCalls.{IsActed, acted_in, line_of, TakesNoList, dropped_lists, HasTaken, HasNoRoom, clipped, taken_into, with_float, with_note, with_suppressed, with_columns};
 
 use crate::Machine;
 use crate::state::no_suppress;
-use tb_column::Warn;
 use tb_float::{Full, Part, Pool, Suppress};
 use tb_node::{Act, Area, Float, Margin};
 use tb_param::Params;
 use tb_pool::ListId;
+use tb_sheet::Warn;
 
 impl Machine {
     /// Does what an act says, when the page builder reaches it. It allocates nothing: room is kept for the warning that

@@ -28,11 +28,12 @@ ghost use Rattle.tb_output.specs.FiringParts.{column_done, NoColumn, ChoosesNone
 use crate::state::{no_suppress, pool_size};
 use crate::{Machine, RunFault};
 use std::alloc::AllocError;
-use tb_column::{Column, NoteBox, Sheet, float_column, make_column};
+use tb_column::{Column, NoteBox, float_column, make_column};
 use tb_float::{Part, share_of};
 use tb_fpage::choose;
 use tb_node::Node;
 use tb_pool::{ListId, Lists};
+use tb_sheet::Sheet;
 
 impl Machine {
     /// An ordinary page: puts out its text column, then columns of floats while there are some, and gives the next text

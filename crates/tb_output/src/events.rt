@@ -6,7 +6,7 @@ ghost use Rattle.tb_output.specs.ActCalls.{warnings_sent};
 use std::alloc::{AllocError, Global};
 use std::collections::VecDeque;
 use std::marker::Model;
-use tb_column::{Sent, Warn};
+use tb_sheet::{Sent, Warn};
 
 // An event in the queue: a type of this crate, since the checker does not find the modules of what a `Sent` holds when
 // it fills in a type parameter.
@@ -16,7 +16,7 @@ struct Event {
 }
 
 impl Model for Event {
-    ghost use Rattle.tb_column.specs.declared.Sent.{Sent};
+    ghost use Rattle.tb_sheet.specs.declared.Sent.{Sent};
 
     ghost Value = { Sent };
 

@@ -12,13 +12,15 @@ ghost use Rattle.tb_builder.specs.Contributions.{NoPage};
 ghost use Rattle.tb_builder.specs.Courses.{IsSound};
 ghost use Rattle.tb_column.specs.Notes.{note_lists, note_count};
 ghost use Rattle.tb_column.specs.Page.{IsPageList};
-ghost use Rattle.tb_output.specs.Output.{hold_penalty, hold, output_by};
+ghost use Rattle.tb_sheet.specs.Asked.{hold_penalty};
+ghost use Rattle.tb_output.specs.Output.{hold, output_by};
 ghost use Rattle.tb_output.specs.Machine.{machine_lists, AreOutputParams, AreClassesFrom, IsMachine};
 ghost use Rattle.tb_output.specs.PageChanges.{with_held};
 ghost use Rattle.tb_output.specs.Notes.{boxes_held, AreKnownNotes, NotesTaken};
 ghost use Rattle.tb_output.specs.FiringWork.{shows, shows_back, shows_boxes, shows_page, shows_all, IsCutShort, Does};
 ghost use Rattle.tb_output.specs.MachineFrame.{AreTextLists, IsBack, back_lists, KeepsMachine, KeepsBack};
-ghost use Rattle.tb_output.specs.Firing.{whole_work, fired_in, builder_lists, refusal_of, IsReach, AreSizedBoxes, CanFire, CanGoBack, IsFired, IsRefusal, IsUntouched, KeepsAll, KeepsServing};
+ghost use Rattle.tb_output.specs.Firing.{whole_work, fired_in, refusal_of, IsReach, AreSizedBoxes, CanFire, CanGoBack, IsFired, IsRefusal, IsUntouched, KeepsAll, KeepsServing};
+ghost use Rattle.tb_builder.specs.BuilderLists.{builder_lists};
 ghost use Rattle.tb_output.specs.FiringParts.{page_output, served};
 
 use crate::back_list::drop_list;

@@ -14,10 +14,10 @@ ghost use Rattle.tb_output.specs.PageChanges.{with_warning};
 use crate::back_list::push_blanks;
 use crate::{Machine, RunFault};
 use std::alloc::AllocError;
-use tb_column::Warn;
 use tb_node::{HOLD_PENALTY, Node};
 use tb_pool::{ListId, Lists};
 use tb_scaled::MAX_DIMEN;
+use tb_sheet::Warn;
 
 /// Whether the penalty of a break is this one.
 pub(crate) fn is_signal(penalty: i64, signal: i64) -> bool

@@ -19,11 +19,12 @@ use crate::state::pool_size;
 use crate::texts::TextSize;
 use crate::{Machine, RunFault};
 use std::alloc::AllocError;
-use tb_column::{Warn, push_made};
+use tb_column::push_made;
 use tb_float::{Entry, Part};
 use tb_margin::{Placed, place_note};
 use tb_node::{Kind, Margin, Name, Node, Side, What};
 use tb_pool::{ListId, Lists};
+use tb_sheet::Warn;
 
 impl Machine {
     /// Puts a marginal note beside the text; its boxes leave the pool.

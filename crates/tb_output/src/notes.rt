@@ -7,7 +7,8 @@ ghost use Rattle.tb_builder.specs.Courses.{IsSound};
 ghost use Rattle.tb_builder.specs.Contributions.{NoPage};
 ghost use Rattle.tb_builder.specs.Ownership.{has_class};
 ghost use Rattle.tb_output.specs.Machine.{AreClassesFrom};
-ghost use Rattle.tb_output.specs.Firing.{builder_lists, AreSizedBoxes};
+ghost use Rattle.tb_builder.specs.BuilderLists.{builder_lists};
+ghost use Rattle.tb_output.specs.Firing.{AreSizedBoxes};
 ghost use Rattle.tb_output.specs.Notes.{boxes_held, BoxesTaken, NotesTaken};
 
 use crate::classes::Classes;

@@ -23,12 +23,13 @@ ghost use Rattle.tb_output.specs.FiringParts.{wide_done, NoWidePage, ChoosesNone
 use crate::state::pool_size;
 use crate::{Machine, RunFault};
 use std::alloc::AllocError;
-use tb_column::{Column, Sent, Sheet, pair_tops};
+use tb_column::{Column, pair_tops};
 use tb_float::{Part, share_of};
 use tb_fpage::choose;
 use tb_node::Node;
 use tb_param::{Params, exceeds};
 use tb_pool::{ListId, Lists};
+use tb_sheet::{Sent, Sheet};
 
 /// The list in which wide floats wait.
 pub(crate) fn wide_part(p: &Params) -> Part

@@ -15,12 +15,12 @@ use crate::classes::copied;
 use crate::events::Events;
 use std::alloc::{AllocError, Global};
 use tb_builder::Ask;
-use tb_column::Sent;
 use tb_float::{Part, Suppress, new_pool};
 use tb_insert::Class;
 use tb_node::Node;
 use tb_param::Params;
 use tb_pool::{ListId, Lists};
+use tb_sheet::Sent;
 
 /// Nothing is kept out of the areas of floats.
 pub(crate) fn no_suppress() -> Suppress

@@ -24,12 +24,13 @@ use crate::texts::TextSize;
 use crate::{Machine, RunFault};
 use std::alloc::AllocError;
 use tb_area::add_current;
-use tb_column::{Warn, push_made};
+use tb_column::push_made;
 use tb_float::{Entry, Part};
 use tb_node::{Float, Kind, Node, Places, What, Where};
 use tb_param::Params;
 use tb_pool::{ListId, Lists};
 use tb_scaled::negate;
+use tb_sheet::Warn;
 
 impl Machine {
     /// The first of the current floats and notes gets its place, below a text of this size.

@@ -5,7 +5,7 @@ ghost use Rattle.tb_output.specs.PageChanges.{with_warning};
 
 use crate::Machine;
 use std::alloc::AllocError;
-use tb_column::{Sent, Warn};
+use tb_sheet::{Sent, Warn};
 
 impl Machine {
     /// Sends a warning. If there is no memory, all is as before.

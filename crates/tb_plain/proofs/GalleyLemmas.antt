@@ -18,7 +18,8 @@ use Rattle.tb_builder.proofs.Cutting.CutLemmas.{class-both}
 use Rattle.tb_plain.proofs.OurLemmas.{ours, AllOurs}
 use Rattle.tb_plain.proofs.WeightLemmas.{NoMargin, run-keeps}
 use Rattle.tb_column.proofs.Within.{Within}
-use Rattle.tb_column.proofs.PrintedLines.{prints, sent_prints, sent_weight}
+use Rattle.tb_column.proofs.PrintedLines.{prints}
+use Rattle.tb_sheet.proofs.PrintedSheets.{sent_prints, sent_weight}
 use Rattle.tb_plain.proofs.OrderLemmas.{run-shows}
 
 -- ---- the nodes of a galley

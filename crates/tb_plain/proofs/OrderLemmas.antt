@@ -18,7 +18,8 @@ use Rattle.tb_plain.specs.GalleyNodes.{clearing_penalty}
 use Rattle.tb_plain.specs.TakenFloats.{top_insertion, top_leaves, page_leaves, here_nodes, with_float, taken_nodes, act_nodes}
 use Rattle.tb_plain.specs.Firing.{feet_below, holds_any, ragged_end, makeup_column_nodes, page_for_held, put_back_after}
 use Rattle.tb_plain.specs.Run.{MakeupState, done, MakeupRun, MakeupStep, ends, goes_on, makeup_ask, makeup_classes, void_boxes, builder_holds, makeup_reach, AtAct, no_act, at_act, after_node, first_act_by, first_act, act_step, waiting_after, firing_step, last_step, makeup_step, step_tries, sent_of, makeup_from}
-use Rattle.tb_column.proofs.PrintedLines.{printed, prints, sent_prints, prints-append, prints-acts, prints-insertions, sent-append}
+use Rattle.tb_column.proofs.PrintedLines.{printed, prints, prints-append, prints-acts, prints-insertions}
+use Rattle.tb_sheet.proofs.PrintedSheets.{sent_prints, sent-append}
 use Rattle.tb_column.proofs.Within.{Within, within-same, both-within, before-within, within-front, within-within}
 use Rattle.tb_plain.proofs.SentLemmas.{StepBy, run-sends}
 use Rattle.tb_plain.proofs.ReachLemmas.{fired_here, makeup-cut, firing-cases, step-cases}

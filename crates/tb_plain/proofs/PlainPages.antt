@@ -9,8 +9,10 @@ use Rattle.tb_builder.specs.Reach.{Reach, laid_out}
 use Rattle.tb_builder.specs.FiredPages.{Fired, page_break, box_content, content_of}
 use Rattle.tb_builder.specs.Contents.{node_count}
 use Rattle.tb_builder.proofs.Cutting.CutLemmas.{ActFree, AllFree, acts-free, CutAt}
-use Rattle.tb_column.specs.Column.{PlainSent, one, shipped, is_ragged}
-use Rattle.tb_column.proofs.PrintedLines.{AllPlain, SentPlain, body-plain, plain-both, sent-plain, leaves-plain}
+use Rattle.tb_sheet.specs.Sheet.{PlainSent, one, shipped}
+use Rattle.tb_column.specs.Column.{is_ragged}
+use Rattle.tb_column.proofs.PrintedLines.{AllPlain, body-plain, plain-both, leaves-plain}
+use Rattle.tb_sheet.proofs.PrintedSheets.{SentPlain, sent-plain}
 use Rattle.tb_plain.specs.GalleyNodes.{made_up}
 use Rattle.tb_plain.specs.Firing.{feet_below, ragged_end, makeup_column_nodes, makeup_column}
 use Rattle.tb_plain.specs.Run.{MakeupState, MakeupRun, MakeupStep, ends, goes_on, page_limit, node_limit, makeup_reach, AtAct, no_act, at_act, first_act, meets_act, act_step, waiting_after, firing_step, last_step, makeup_step, step_tries, sent_of, makeup_from, steps_left, first_makeup, makeup_of}

@@ -7,7 +7,7 @@ use Rattle.tb_builder.specs.Reach.{Reach, laid_out}
 use Rattle.tb_builder.specs.FiredPages.{Fired, frozen_for, fired_of}
 use Rattle.tb_builder.specs.Contents.{node_count}
 use Rattle.tb_builder.proofs.Cutting.CutLemmas.{CutAt, reach-cut}
-use Rattle.tb_column.specs.Column.{PlainSent, shipped, one}
+use Rattle.tb_sheet.specs.Sheet.{PlainSent, shipped, one}
 use Rattle.tb_plain.specs.Firing.{makeup_column}
 use Rattle.tb_plain.specs.Run.{MakeupState, page_limit, node_limit, MakeupStep, ends, goes_on, makeup_ask, makeup_classes, void_boxes, makeup_reach, first_act, meets_act, act_step, waiting_after, firing_step, last_step, makeup_step}
 

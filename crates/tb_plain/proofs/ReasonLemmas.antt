@@ -11,7 +11,7 @@ use Rattle.tb_insert.specs.Account.{terms_after}
 use Rattle.tb_builder.specs.Reach.{tried, Reach, also_reached, laid_out, page_place, stopped_at, reach_at_place, reach_at, reach_node, reach_from}
 use Rattle.tb_builder.specs.FiredPages.{Fired, frozen_for}
 use Rattle.tb_builder.specs.Contents.{node_count}
-use Rattle.tb_column.specs.Column.{PlainSent}
+use Rattle.tb_sheet.specs.Sheet.{PlainSent}
 use Rattle.tb_plain.specs.GalleyNodes.{made_up}
 use Rattle.tb_plain.specs.Run.{MakeupState, MakeupEnd, done, page_limit, node_limit, MakeupRun, MakeupStep, ends, goes_on, makeup_ask, makeup_classes, void_boxes, makeup_reach, AtAct, no_act, at_act, after_node, first_act_by, first_act, meets_act, act_step, waiting_after, firing_step, last_step, makeup_step, step_tries, sent_of, makeup_from, one_act, act_count, steps_left, first_makeup, makeup_of}
 use Rattle.tb_plain.specs.RunSteps.{HasReason, EndsHaveReasons}

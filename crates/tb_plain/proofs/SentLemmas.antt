@@ -1,7 +1,7 @@
 -- What a run sends, step by step: the places that it tries are left out.
 use Rattle.std.proofs.Common.{◌≡◌, refl, sym, subst, ◌∙◌, ap, List, [], ◌∷◌, ◌++◌, map}
 use Rattle.tb_builder.specs.declared.Try.{Try}
-use Rattle.tb_column.specs.Column.{PlainSent}
+use Rattle.tb_sheet.specs.Sheet.{PlainSent}
 use Rattle.tb_plain.specs.Run.{MakeupEvent, offers, sends, MakeupEnd, MakeupRun, MakeupState, MakeupStep, ends, goes_on, sent_among, sent_of, step_events, run_by}
 
 pub among-append : (es fs : List MakeupEvent) → sent_among (es ++ fs) ≡ sent_among es ++ sent_among fs

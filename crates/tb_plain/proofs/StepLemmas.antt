@@ -19,7 +19,7 @@ use Rattle.tb_builder.specs.Reach.{tried, Reach, also_reached, holds_box, laid_o
 use Rattle.tb_builder.specs.FiredPages.{Fired, page_break, spent_kind, with_spent_break, held_of, unless_empty, held_insertions, frozen_for, reach_of}
 use Rattle.tb_builder.specs.PageSums.{page_sums_of}
 use Rattle.tb_builder.specs.Contents.{node_count}
-use Rattle.tb_column.specs.Column.{PlainSent, shipped, one}
+use Rattle.tb_sheet.specs.Sheet.{PlainSent, shipped, one}
 use Rattle.tb_plain.specs.GalleyNodes.{clearing_glue}
 use Rattle.tb_plain.specs.TakenFloats.{top_insertion, top_leaves, page_leaves, here_nodes, with_float, taken_nodes, act_nodes}
 use Rattle.tb_plain.specs.Firing.{holds_any, makeup_column, page_for_held, put_back_after}

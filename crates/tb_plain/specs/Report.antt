@@ -3,7 +3,7 @@ use Rattle.std.specs.Prelude.{ℕ, List, [], ◌∷◌, ◌++◌, codes, decimal
 use Rattle.tb_report.specs.declared.Totals.{Totals}
 use Rattle.tb_report.specs.RunTotals.{no_totals, with_sent}
 use Rattle.tb_report.specs.Lines.{sent_lines, end_lines}
-use Rattle.tb_column.specs.Column.{PlainSent}
+use Rattle.tb_sheet.specs.Sheet.{PlainSent}
 use Rattle.tb_plain.specs.Run.{MakeupRun, MakeupEnd, done, sent_of}
 
 -- the totals of what a run shipped

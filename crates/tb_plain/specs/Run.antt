@@ -14,7 +14,7 @@ use Rattle.tb_builder.specs.FiredPages.{Boxed, Fired, reach_of, fired_of}
 use Rattle.tb_builder.specs.Contents.{Contents, places_of, reach_ahead, node_count}
 use Rattle.tb_builder.specs.Courses.{freezes}
 use Rattle.tb_builder.specs.PageSums.{page_sums_of}
-use Rattle.tb_column.specs.Column.{PlainSent, shipped, one}
+use Rattle.tb_sheet.specs.Sheet.{PlainSent, shipped, one}
 use Rattle.tb_plain.specs.GalleyNodes.{clearing_glue, made_up}
 use Rattle.tb_plain.specs.TakenFloats.{top_class, act_nodes}
 use Rattle.tb_plain.specs.Firing.{holds_any, makeup_column, put_back_after}

@@ -1,7 +1,8 @@
 -- Counts over a list that is joined of two.
 use Rattle.std.proofs.Common.{◌≡◌, ◌∙◌, ap, sym, ℕ, ◌+◌, ◌<◌, ◌≤◌, ◌^◌, Bool, true, false, List, [], ◌∷◌, ◌++◌, length, add_assoc, zero-add, arith}
 use Rattle.tb_node.specs.PlainNodes.{PlainKind, PlainNode}
-use Rattle.tb_column.specs.Column.{PlainColumn, one, shipped}
+use Rattle.tb_column.specs.Column.{PlainColumn}
+use Rattle.tb_sheet.specs.Sheet.{one, shipped}
 use Rattle.tb_report.specs.declared.Totals.{Totals}
 use Rattle.tb_report.specs.RunTotals.{one_if, count_kinds, is_item_box, is_float_box, with_sent, AreCounts}
 

@@ -4,10 +4,10 @@ use Rattle.tb_pool.specs.Lists.{Lists, IsLive}
 use Rattle.tb_node.specs.declared.Node.{Node}
 use Rattle.tb_node.specs.Fit.{shapes, NodesFit, SumsFit}
 use Rattle.tb_column.specs.declared.Column.{Column}
-use Rattle.tb_column.specs.declared.Sheet.{Sheet}
-use Rattle.tb_column.specs.declared.Sheet.TheVariants as sheets
-use Rattle.tb_column.specs.declared.Sent.{Sent}
-use Rattle.tb_column.specs.declared.Sent.TheVariants as events
+use Rattle.tb_sheet.specs.declared.Sheet.{Sheet}
+use Rattle.tb_sheet.specs.declared.Sheet.TheVariants as sheets
+use Rattle.tb_sheet.specs.declared.Sent.{Sent}
+use Rattle.tb_sheet.specs.declared.Sent.TheVariants as events
 
 -- the list is live, and its nodes and sums fit under some depth limit
 pub record IsPrintableList (store : Lists Node) (l : ℕ) : Type 0 where

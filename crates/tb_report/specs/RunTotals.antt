@@ -2,7 +2,7 @@
 use Rattle.std.specs.Prelude.{ℕ, ◌+◌, ◌<◌, ◌^◌, Bool, true, false, List, [], ◌∷◌, ◌++◌, Some}
 use Rattle.tb_node.specs.declared.What.TheVariants as what
 use Rattle.tb_node.specs.PlainNodes.{hbox, rule, PlainKind, plain, PlainNode}
-use Rattle.tb_column.specs.Column.{PlainSheet, one, wide, two, PlainSent, warned, shipped}
+use Rattle.tb_sheet.specs.Sheet.{PlainSheet, one, wide, two, PlainSent, warned, shipped}
 use Rattle.tb_report.specs.declared.Totals.{Totals}
 
 -- a box of text, or a rule with a name: what came from a box or rule item

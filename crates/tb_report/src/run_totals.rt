@@ -5,15 +5,15 @@ ghost use Rattle.tb_node.specs.PlainNodes.{plain, matter_of};
 ghost use Rattle.tb_report.specs.RunTotals.{is_item_box, is_float_box};
 
 use crate::Totals;
-use tb_column::{Sent, Sheet};
 use tb_node::{Kind, Node, What};
 use tb_pool::{ListId, Lists};
+use tb_sheet::{Sent, Sheet};
 
 impl Totals {
     ghost use Rattle.std.specs.Prelude.{◌≡◌};
     ghost use Rattle.tb_pool.specs.Lists.{IsLive};
     ghost use Rattle.tb_node.specs.PlainNodes.{plain, matter_of, plain_list};
-    ghost use Rattle.tb_column.specs.StoredColumns.{sheet_shown, sent_shown, IsLiveSheet, IsLiveSent};
+    ghost use Rattle.tb_sheet.specs.StoredSheets.{sheet_shown, sent_shown, IsLiveSheet, IsLiveSent};
     ghost use Rattle.tb_report.specs.RunTotals.{with_kind, with_nodes, with_sent, no_totals, sheet_nodes, AreCounts};
 
     /// Nothing is shipped yet.

@@ -5,7 +5,8 @@ ghost use Rattle.tb_node.specs.Shape.{Shape};
 ghost use Rattle.tb_pack.specs.declared.Set.{Set as SetOf};
 ghost use Rattle.tb_pack.specs.Pack.{top_after};
 ghost use Rattle.tb_pack.specs.Position.{HasPassed};
-ghost use Rattle.tb_column.specs.StoredColumns.{column_shown, sheet_shown, sent_shown};
+ghost use Rattle.tb_column.specs.StoredColumns.{column_shown};
+ghost use Rattle.tb_sheet.specs.StoredSheets.{sheet_shown, sent_shown};
 ghost use Rattle.tb_report.specs.Printable.{IsPrintableList, IsPrintable, IsPrintableSheet, IsPrintableSent};
 ghost use Rattle.tb_report.specs.Lines.{matter_line, item_lines, column_lines, unset, sheet_lines, sent_lines};
 ghost use Rattle.tb_text.specs.Fields.{and_number, and_count, line};
@@ -15,11 +16,12 @@ use crate::heads::put_head;
 use crate::items::put_node;
 use crate::warnings::put_warning;
 use std::alloc::{AllocError, Global};
-use tb_column::{Column, Sent, Sheet};
+use tb_column::Column;
 use tb_node::{Kind, Node};
 use tb_pack::{Set, Sign, Tops};
 use tb_pool::{ListId, Lists};
 use tb_scaled::Order;
+use tb_sheet::{Sent, Sheet};
 use tb_text::{end_line, put};
 
 // The lines of a list's nodes, whose glue is set like this.

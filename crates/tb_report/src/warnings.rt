@@ -5,8 +5,8 @@ ghost use Rattle.tb_text.specs.Fields.{and_number, and_count, line};
 
 use crate::fields::{put_line, put_named, put_total};
 use std::alloc::AllocError;
-use tb_column::Warn;
 use tb_node::Name;
+use tb_sheet::Warn;
 use tb_text::{end_line, put_amount};
 
 // A line of a word, a name and an amount.

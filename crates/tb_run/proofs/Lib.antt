@@ -1,4 +1,3 @@
-pub mod FromGalley
 pub mod Filled
 pub mod ServedAgain
 pub mod Turns

@@ -1,4 +1,5 @@
 -- What can be served again, in reading order.
+pub mod GalleyRuns
 pub mod BackNodes
 pub mod FiredNodes
 pub mod EasedWorks

@@ -1,27 +1,26 @@
 -- The routine between two firings, and what one of its turns shows.
 use Rattle.std.specs.Prelude.{◌≡◌, ℕ, ◌≤◌, pos, Bool, false, List, [], Option, Some, None, int_lt, if◌then◌else◌}
 use Rattle.std.specs.List.{AllByRecursion}
-use Rattle.tb_pool.specs.Lists.{Lists, IsLive}
-use Rattle.tb_node.specs.declared.Node.{Node}
+use Rattle.tb_pool.specs.Lists.{IsLive}
 use Rattle.tb_param.specs.declared.Params.{Params}
 use Rattle.tb_builder.specs.Contents.{Contents, contents_of}
 use Rattle.tb_builder.specs.Courses.{IsSound}
-use Rattle.tb_column.specs.declared.Sent.{Sent}
+use Rattle.tb_sheet.specs.declared.Sent.{Sent}
 use Rattle.tb_column.specs.Notes.{AreDistinct}
 use Rattle.tb_output.specs.declared.RunFault.{RunFault}
 use Rattle.tb_output.specs.declared.RunFault.TheVariants as faults
 use Rattle.tb_output.specs.State.{State}
-use Rattle.tb_output.specs.Machine.{state_shown, machine_lists, IsPageSent, IsMachine}
-use Rattle.tb_output.specs.Firing.{builder_lists}
-use Rattle.tb_output.specs.MachineFrame.{AreNoneOf}
-use Rattle.tb_run.specs.declared.happenings.Happening.{Happening}
-use Rattle.tb_run.specs.declared.happenings.Happening.TheVariants as happenings
+use Rattle.tb_output.specs.Machine.{state_shown, machine_lists, IsMachine}
+use Rattle.tb_builder.specs.BuilderLists.{builder_lists}
+use Rattle.tb_sheet.specs.ApartLists.{AreNoneOf}
+use Rattle.tb_items.specs.declared.happenings.Happening.{Happening}
 use Rattle.tb_run.specs.declared.routine.Routine.{Routine}
 use Rattle.tb_run.specs.declared.routine.Ending.{Ending}
 use Rattle.tb_run.specs.declared.routine.Ending.TheVariants as endings
-use Rattle.tb_run.specs.Run.{End, done, pool_full, dead_cycles, page_limit, node_limit, Step, ends, goes_on, step, held_count}
-use Rattle.tb_run.specs.ServedStates.{AreRunnable, AreRunClasses, IsServed}
-use Rattle.tb_run.specs.Happenings.{events_of, noted, step_events, happened_lists}
+use Rattle.tb_steps.specs.Run.{End, done, pool_full, dead_cycles, page_limit, node_limit, Step, ends, goes_on, step, held_count, step_events}
+use Rattle.tb_steps.specs.Runnable.{AreRunnable, AreRunClasses}
+use Rattle.tb_run.specs.ServedStates.{IsServed}
+use Rattle.tb_items.specs.Happenings.{events_of, noted, happened_lists, ArePages}
 
 -- what the builder holds
 abbrev pub held_in : Routine → Contents
@@ -104,15 +103,6 @@ pub record IsEnded (r : Routine) : Type 0 where
   pub page : IsLive r.store r.builder.page
 
 -- ---- what was sent
-
--- the lists of a page that was sent may be on a page
-abbrev pub IsPage : Lists Node → Happening → Type 0
-IsPage store (happenings.Tried t) = Unit {0}
-IsPage store (happenings.Sent e) = IsPageSent store e
-
--- the lists of all that was sent may be on a page
-abbrev pub ArePages : Lists Node → List Happening → Type 0
-ArePages store hs = AllByRecursion (IsPage store) hs
 
 -- the lists of what was sent: no two of them the same, and none the machine's or the builder's
 pub record AreHappened (r : Routine) (hs : List Happening) : Type 0 where

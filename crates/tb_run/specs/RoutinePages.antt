@@ -14,7 +14,7 @@ use Rattle.tb_builder.specs.PageEvents.{fired_room}
 use Rattle.tb_builder.specs.FiredPages.{Boxed}
 use Rattle.tb_builder.specs.SizedContents.{fired_count}
 use Rattle.tb_builder.specs.Contents.{node_count}
-use Rattle.tb_column.specs.declared.Sent.{Sent}
+use Rattle.tb_sheet.specs.declared.Sent.{Sent}
 use Rattle.tb_output.specs.declared.RunFault.{RunFault}
 use Rattle.tb_output.specs.declared.RunFault.TheVariants as faults
 use Rattle.tb_output.specs.State.{Recorded}
@@ -22,16 +22,18 @@ use Rattle.tb_output.specs.Act.{Acted, went, full, act_on}
 use Rattle.tb_output.specs.ActCalls.{line_of, warnings_sent}
 use Rattle.tb_output.specs.Machine.{state_shown, events_shown}
 use Rattle.tb_output.specs.Firing.{CanFire, fired_in, whole_work}
-use Rattle.tb_run.specs.declared.happenings.Happening.{Happening}
-use Rattle.tb_run.specs.declared.happenings.Happening.TheVariants as happenings
+use Rattle.tb_items.specs.declared.happenings.Happening.{Happening}
+use Rattle.tb_items.specs.declared.happenings.Happening.TheVariants as happenings
 use Rattle.tb_run.specs.declared.routine.Routine.{Routine}
 use Rattle.tb_run.specs.declared.routine.Ending.{Ending}
 use Rattle.tb_run.specs.declared.routine.Ending.TheVariants as endings
 use Rattle.tb_run.specs.declared.routine.Filled.{Filled}
 use Rattle.tb_run.specs.declared.routine.Filled.TheVariants as filled
-use Rattle.tb_run.specs.Run.{RunEvent, dead_cycles, held_count, step, firing_step}
-use Rattle.tb_run.specs.ServedStates.{AreRunClasses, IsServed, IsServedPage}
-use Rattle.tb_run.specs.Happenings.{events_of, noted, step_events, happened_lists}
+use Rattle.tb_items.specs.RunEvents.{RunEvent}
+use Rattle.tb_steps.specs.Run.{dead_cycles, held_count, step, firing_step, step_events}
+use Rattle.tb_steps.specs.Runnable.{AreRunClasses}
+use Rattle.tb_run.specs.ServedStates.{IsServed, IsServedPage}
+use Rattle.tb_items.specs.Happenings.{events_of, noted, happened_lists}
 use Rattle.tb_run.specs.Routine.{held_in, state_of, IsConsistent, IsBounded, between_pages, EndsAs, IsEnded}
 
 -- what was sent, as happenings

@@ -3,39 +3,15 @@ use Rattle.std.specs.Prelude.{ℕ, ◌+◌, ◌-◌, ◌*◌, ◌≤◌, ◌≤�
 use Rattle.std.specs.List.{AllByRecursion}
 use Rattle.tb_node.specs.declared.Act.{Act}
 use Rattle.tb_node.specs.declared.Act.TheVariants as acts
-use Rattle.tb_node.specs.Fit.{IsExtent, IsPenalty}
 use Rattle.tb_node.specs.PlainNodes.{PlainKind, plain, ins, act, PlainNode}
-use Rattle.tb_param.specs.declared.Params.{Params}
-use Rattle.tb_insert.specs.declared.Class.{Class}
 use Rattle.tb_builder.specs.FiredPages.{Fired}
 use Rattle.tb_builder.specs.SizedContents.{AreBoxesOf}
-use Rattle.tb_builder.specs.Ownership.{ClassesFit}
-use Rattle.tb_builder.specs.Pageable.{IsSizedOnPage, IsSizedClass, IsSizedBox}
+use Rattle.tb_builder.specs.Pageable.{IsSizedOnPage, IsSizedBox}
 use Rattle.tb_float.specs.declared.Entry.{Entry}
 use Rattle.tb_float.specs.declared.Entry.TheVariants as entries
 use Rattle.tb_float.specs.Ranges.{IsWithin, IsSizedEntry}
 use Rattle.tb_output.specs.State.{State}
-use Rattle.tb_output.specs.Machine.{IsLimit, AreOutputParams, AreClassesFrom}
-use Rattle.tb_output.specs.Output.{hold_penalty}
-use Rattle.tb_run.specs.GalleyNodes.{IsMild, IsGalleyNode, AreFootParams}
-
--- ---- what is asked of a galley
-
--- the parameters that a run looks at are in their ranges
-pub record AreRunnable (p : Params) : Type 0 where
-  pub output : AreOutputParams p
-  pub topskip : IsExtent p.topskip
-  pub maxnodes : IsLimit p.maxnodes
-  pub splittopskip : IsExtent p.splittopskip
-  pub floatingpenalty : IsPenalty p.floatingpenalty
-  pub interline : hold_penalty ≤ℤ p.interlinepenalty
-  pub foot : AreFootParams p
-
--- classes that a page builder and an output routine take
-pub record AreRunClasses (cs : List Class) : Type 0 where
-  pub rising : AreClassesFrom 0 cs
-  pub fit : ClassesFit cs
-  pub sized : All IsSizedClass cs
+use Rattle.tb_items.specs.GalleyNodes.{IsMild, IsGalleyNode}
 
 -- ---- marginal notes that have no place yet
 

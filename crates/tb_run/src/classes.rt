@@ -1,8 +1,7 @@
 //! The classes of a galley.
 
 ghost use Rattle.std.specs.Prelude.{◌≡◌, IfOk};
-ghost use Rattle.tb_output.specs.State.{foot_class};
-ghost use Rattle.tb_run.specs.Run.{class_of, classes_of};
+ghost use Rattle.tb_items.specs.Classes.{foot_class, class_of, classes_of};
 
 use std::alloc::{AllocError, Global};
 use tb_galley::{ClassLine, Galley};

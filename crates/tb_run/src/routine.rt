@@ -1,9 +1,8 @@
 //! The output routine over one store: the page builder fills a page, and the machine serves it.
 
-ghost use Rattle.std.specs.Prelude.{◌≡◌, ◌≤◌, ◌≤ℤ◌, ◌+◌, ◌++◌, [], pos, IfOk, IfErr, IfNone, OnOk};
+ghost use Rattle.std.specs.Prelude.{◌≡◌, ◌≤◌, ◌≤ℤ◌, ◌+◌, ◌++◌, [], pos, IfOk, IfErr, IfNone, OnOk, List, None};
 ghost use Rattle.std.specs.List.{AllByRecursion};
 ghost use Rattle.std.specs.FinMap.{get};
-ghost use Rattle.std.specs.Prelude.{List, None};
 ghost use Rattle.tb_node.specs.PlainNodes.{PlainNode, plain_list};
 ghost use Rattle.tb_node.specs.Fit.{shapes};
 ghost use Rattle.tb_node.specs.Sums.{size_of};
@@ -14,26 +13,26 @@ ghost use Rattle.tb_builder.specs.Ownership.{ClassesFit};
 ghost use Rattle.tb_builder.specs.Courses.{IsSound};
 ghost use Rattle.tb_galley.specs.GalleyNodes.{expanded};
 ghost use Rattle.tb_output.specs.State.{first_state};
-ghost use Rattle.tb_output.specs.ActCalls.{IsSizedAct, line_of};
+ghost use Rattle.tb_sheet.specs.Asked.{IsSizedAct};
+ghost use Rattle.tb_output.specs.ActCalls.{line_of};
 ghost use Rattle.tb_output.specs.Machine.{events_shown, state_shown};
 ghost use Rattle.tb_output.specs.Firing.{CanFire, CanGoBack, fired_in};
-ghost use Rattle.tb_run.specs.GalleyNodes.{AreGalleyNodes};
-ghost use Rattle.tb_run.specs.ServedStates.{AreRunnable, AreRunClasses, IsServedPage};
-ghost use Rattle.tb_run.specs.WaitingNodes.{AreItems};
-ghost use Rattle.tb_run.specs.Run.{classes_of, held_count};
-ghost use Rattle.tb_run.specs.Happenings.{happened_lists};
-ghost use Rattle.tb_run.specs.Routine.{held_in, state_of, IsConsistent, IsBounded, IsReady, AreHappened, ArePages, IsTurned, IsEnded, over_limit, with_events};
+ghost use Rattle.tb_items.specs.GalleyNodes.{AreGalleyNodes};
+ghost use Rattle.tb_steps.specs.Runnable.{AreRunnable, AreRunClasses};
+ghost use Rattle.tb_run.specs.ServedStates.{IsServedPage};
+ghost use Rattle.tb_items.specs.WaitingNodes.{AreItems};
+ghost use Rattle.tb_items.specs.Classes.{classes_of};
+ghost use Rattle.tb_steps.specs.Run.{held_count};
+ghost use Rattle.tb_items.specs.Happenings.{happened_lists, ArePages};
+ghost use Rattle.tb_run.specs.Routine.{held_in, state_of, IsConsistent, IsBounded, IsReady, AreHappened, IsTurned, IsEnded, over_limit, with_events};
 ghost use Rattle.tb_run.specs.RoutinePages.{HasComeTo, Fills, Serves, IsBoundedPage, HasActed, HasNotActed, sent_happenings};
 
-use crate::Happening;
 use crate::classes::classes_of;
-use crate::galley_nodes::expand;
-use crate::happenings::{note_sent, note_try};
-use crate::spent_lists::{close_happened, close_list};
 use std::alloc::{AllocError, Global};
 use tb_builder::{Ask, Builder, Event, Page, new_builder};
 use tb_galley::Galley;
 use tb_insert::Class;
+use tb_items::{Happening, close_happened, close_list, expand, note_sent, note_try};
 use tb_node::{Act, Node};
 use tb_output::{Full, Machine, RunFault, new_machine};
 use tb_param::exceeds;

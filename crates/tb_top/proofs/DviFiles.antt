@@ -2,7 +2,3 @@
 pub mod DviSending
 pub mod DviGoing
 pub mod DviOutcomes
-pub mod WritableNodes
-pub mod WritableWorks
-pub mod WritableRuns
-pub mod WritablePages

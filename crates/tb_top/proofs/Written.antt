@@ -1,11 +1,8 @@
 -- A run is written, in reading order.
-pub mod RunParams
-pub mod ClassLemmas
 pub mod EventCounts
 pub mod TallyLemmas
 pub mod PrintablePages
 pub mod GoingLemmas
 pub mod TurnLemmas
 pub mod FinishLemmas
-pub mod FuelLemmas
 pub mod FirstRuns

@@ -18,7 +18,6 @@ use Rattle.tb_plain.specs.Report.{makeup_report, unsuited_text}
 use Rattle.tb_plain.specs.Suitability.{first_unsuited}
 use Rattle.tb_dvi.specs.declared.DviCause.{DviCause}
 use Rattle.tb_dvi.specs.File.{first_too_far}
-use Rattle.tb_dvi.specs.Progress.{run_bytes}
 use Rattle.tb_dvi.specs.Machine.{Item, Fault as Failure, listed}
 use Rattle.tb_dvi.specs.Listing.{listing}
 use Rattle.tb_dvi.specs.Refusal.{cause_line, far_line}
@@ -26,9 +25,11 @@ use Rattle.tb_words.specs.declared.Mode.{Mode}
 use Rattle.tb_words.specs.declared.Mode.TheVariants as modes
 use Rattle.tb_top.specs.declared.status.Status.{Status}
 use Rattle.tb_top.specs.declared.status.Status.TheVariants as answers
-use Rattle.tb_run.specs.Run.{Run, End, done, pool_full, dead_cycles, page_limit, node_limit, run_of}
-use Rattle.tb_top.specs.Report.{report, trace, totals_of}
-use Rattle.tb_top.specs.DviPages.{run_pages}
+use Rattle.tb_steps.specs.Run.{Run, End, done, pool_full, dead_cycles, page_limit, node_limit, run_of}
+use Rattle.tb_top.specs.Report.{report, trace}
+use Rattle.tb_laws.specs.Totals.{totals_of}
+use Rattle.tb_laws.specs.DviPages.{run_pages}
+use Rattle.tb_laws.specs.DviFiles.{is_done, dvi_file}
 
 -- ---- the status
 
@@ -146,11 +147,6 @@ abbrev pub summary_at : ℕ → Totals → End → List ℕ
 summary_at n t (done left) = summary_line n t
 summary_at n t _ = []
 
--- the run ends well
-abbrev pub is_done : End → Bool
-is_done (done left) = true
-is_done _ = false
-
 -- the reply of the run of a generated galley
 abbrev pub summary_reply : ℕ → Run → Reply
 summary_reply n r = record { answer = answer_at r.end; written = summary_at n (totals_of r.events) r.end; line = line_at r.end; writes = is_done r.end }
@@ -168,10 +164,6 @@ no_lines_reply why = record { answer = answer_without why; written = []; line = 
 abbrev pub lines_reply : Result (List ℕ) NoGalley → Reply
 lines_reply (Ok galley) = text_reply galley
 lines_reply (Err why) = no_lines_reply why
-
--- the DVI file of a run: the pages before the first out of range, if there is one; else all, and the end of the file if the run ended well
-abbrev pub dvi_file : ℤ → Run → List ℕ
-dvi_file textheight r = run_bytes textheight (run_pages r) (is_done r.end)
 
 -- the reply of a run whose first page out of range is this one, if there is one
 abbrev pub dvi_reply_by : Option ℕ → ℤ → Run → Reply

@@ -3,29 +3,13 @@ use Rattle.std.specs.Prelude.{◌≡◌, ◌≤◌, ℕ, List, length, Option, S
 use Rattle.std.specs.Io.KnownBytes.{Appends}
 use Rattle.tb_io.specs.Sink.{AppendsPrefix}
 use Rattle.tb_galley.specs.declared.Galley.{Galley}
-use Rattle.tb_dvi.specs.File.{first_too_far}
-use Rattle.tb_dvi.specs.Machine.{listed}
-use Rattle.tb_dvi.specs.Listing.{pages_items}
-use Rattle.tb_run.specs.Run.{run_of}
+use Rattle.tb_steps.specs.Run.{run_of}
 use Rattle.tb_top.specs.declared.PageFault.{PageFault}
 use Rattle.tb_top.specs.declared.PageFault.TheVariants as faults
 use Rattle.tb_top.specs.declared.dvi_pages.DviRunFault.{DviRunFault}
 use Rattle.tb_top.specs.declared.dvi_pages.DviRunFault.TheVariants as refused
 use Rattle.tb_top.specs.Pages.{end_fault}
-use Rattle.tb_top.specs.DviPages.{run_pages}
-use Rattle.tb_top.specs.Answer.{dvi_file}
-
--- the number of the first page out of range, if there is one
-abbrev pub far_page : Galley → Option ℕ
-far_page g = first_too_far 27 (run_pages (run_of g))
-
--- what is written of a galley's run
-abbrev pub galley_file : Galley → List ℕ
-galley_file g = dvi_file g.params.textheight (run_of g)
-
--- if each page is in range and the file has at most 8388608 bytes, it lists exactly the placements of the run, page by page
-abbrev pub FileListsPages : Galley → Type 0
-FileListsPages g = far_page g ≡ None → length (galley_file g) ≤ 8388608 → listed (galley_file g) ≡ Ok (pages_items (run_pages (run_of g)))
+use Rattle.tb_laws.specs.DviFiles.{far_page, galley_file}
 
 -- the run ended like this, each page is in range, and its file is written
 pub record Writes (g : Galley) (old new : Option (List ℕ)) (end : Option PageFault) : Type 0 where

@@ -1,9 +1,5 @@
 pub mod Report
-pub mod Laws
-pub mod AreaNumbers
-pub mod DeadCycles
 pub mod Pages
-pub mod Firings
 pub mod Status
 pub mod Answer
 pub mod Outcome
@@ -18,7 +14,6 @@ pub mod MakeupRows
 pub mod MakeupTraceRows
 pub mod Views
 pub mod PagesWritten
-pub mod DviPages
 pub mod DviRefusal
 pub mod DviFiles
 pub mod DviWritten

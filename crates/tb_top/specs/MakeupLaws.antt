@@ -3,12 +3,12 @@ use Rattle.std.specs.Prelude.{◌≡◌, not, List, [], ◌∷◌, ◌++◌, fil
 use Rattle.tb_node.specs.PlainNodes.{PlainNode}
 use Rattle.tb_galley.specs.declared.Galley.{Galley}
 use Rattle.tb_galley.specs.Valid.{IsValid}
-use Rattle.tb_column.specs.Column.{PlainSent, warned, shipped}
+use Rattle.tb_sheet.specs.Sheet.{PlainSent, warned, shipped}
 use Rattle.tb_report.specs.RunTotals.{sheet_nodes}
 use Rattle.tb_plain.specs.Suitability.{IsSuited}
 use Rattle.tb_plain.specs.Run.{MakeupRun, sent_of, done, makeup_of}
 use Rattle.tb_plain.specs.Report.{sent_totals}
-use Rattle.tb_top.specs.Laws.{text_line, foot_line, lines_by, galley_floats, float_lines, box_lines_of, float_lines_of, node_lines, is_in, HasTotals}
+use Rattle.tb_laws.specs.Laws.{text_line, foot_line, lines_by, galley_floats, float_lines, box_lines_of, float_lines_of, node_lines, is_in, HasTotals}
 
 -- the nodes of the pages that are shipped, in order
 abbrev pub sent_nodes : List PlainSent → List PlainNode

@@ -7,8 +7,9 @@ use Rattle.tb_top.specs.declared.View.{View}
 use Rattle.tb_top.specs.declared.View.TheVariants as views
 use Rattle.tb_top.specs.declared.PageFault.{PageFault}
 use Rattle.tb_top.specs.declared.PageFault.TheVariants as faults
-use Rattle.tb_run.specs.Run.{Run, End, done, pool_full, dead_cycles, page_limit, node_limit}
-use Rattle.tb_top.specs.Report.{report, trace, totals_of}
+use Rattle.tb_steps.specs.Run.{Run, End, done, pool_full, dead_cycles, page_limit, node_limit}
+use Rattle.tb_top.specs.Report.{report, trace}
+use Rattle.tb_laws.specs.Totals.{totals_of}
 
 -- what a view shows of a run
 abbrev pub view_text : View → Run → List ℕ

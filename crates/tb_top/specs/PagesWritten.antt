@@ -4,7 +4,7 @@ use Rattle.std.specs.Io.KnownBytes.{Appends}
 use Rattle.tb_node.specs.PlainNodes.{plain_list}
 use Rattle.tb_io.specs.declared.sink.SinkFault.{SinkFault}
 use Rattle.tb_io.specs.declared.sink.SinkFault.TheVariants as outputs
-use Rattle.tb_column.specs.Column.{PlainSent, warned, shipped}
+use Rattle.tb_sheet.specs.Sheet.{PlainSent, warned, shipped}
 use Rattle.tb_report.specs.declared.Totals.{Totals}
 use Rattle.tb_report.specs.Lines.{end_lines}
 use Rattle.tb_report.specs.RunTotals.{sheet_nodes}
@@ -16,7 +16,7 @@ use Rattle.tb_output.specs.declared.RunFault.TheVariants as refused
 use Rattle.tb_run.specs.declared.routine.Routine.{Routine}
 use Rattle.tb_run.specs.declared.routine.Ending.{Ending}
 use Rattle.tb_run.specs.declared.routine.Ending.TheVariants as endings
-use Rattle.tb_run.specs.Run.{Run, run_of_state}
+use Rattle.tb_steps.specs.Run.{Run, run_of_state}
 use Rattle.tb_run.specs.Routine.{state_of}
 use Rattle.tb_top.specs.Views.{viewed, FailsToShow}
 

@@ -5,10 +5,9 @@ use Rattle.tb_io.specs.Faults.{Rose}
 use Rattle.tb_io.specs.Sink.{AppendsPrefix}
 use Rattle.tb_io.specs.declared.sink.SinkFault.{SinkFault}
 use Rattle.tb_io.specs.declared.sink.SinkFault.TheVariants as outputs
-use Rattle.tb_column.specs.Column.{PlainSent}
 use Rattle.tb_report.specs.declared.Totals.{Totals}
 use Rattle.tb_report.specs.RunTotals.{with_sent}
-use Rattle.tb_run.specs.Run.{RunEvent, offered, sent}
+use Rattle.tb_items.specs.RunEvents.{RunEvent, offered, sent}
 use Rattle.tb_top.specs.declared.View.{View}
 use Rattle.tb_top.specs.declared.View.TheVariants as views
 
@@ -35,12 +34,6 @@ abbrev pub with_events : List RunEvent → Totals → Totals
 with_events [] t = t
 with_events (offered a ∷ es) t = with_events es t
 with_events (sent e ∷ es) t = with_events es (with_sent e t)
-
--- what is sent among events
-abbrev pub sent_among : List RunEvent → List PlainSent
-sent_among [] = []
-sent_among (offered t ∷ es) = sent_among es
-sent_among (sent e ∷ es) = e ∷ sent_among es
 
 -- the sink failed only if its faults rose, and a silent view asks nothing of it
 abbrev pub IsWriteFault : View → ℕ → ℕ → SinkFault → Type 0

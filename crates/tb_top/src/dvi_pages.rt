@@ -5,29 +5,29 @@ ghost use Rattle.std.specs.Int.{w32};
 ghost use Rattle.tb_io.specs.Faults.{Rose};
 ghost use Rattle.tb_galley.specs.Valid.{IsValid};
 ghost use Rattle.tb_galley.specs.GalleyNodes.{expanded};
-ghost use Rattle.tb_column.specs.StoredColumns.{sheet_shown};
-ghost use Rattle.tb_output.specs.Machine.{IsPageSheet};
+ghost use Rattle.tb_sheet.specs.StoredSheets.{sheet_shown, IsPageSheet};
 ghost use Rattle.tb_output.specs.State.{first_state};
 ghost use Rattle.tb_dvi.specs.File.{Page, sheet_page};
 ghost use Rattle.tb_dvi.specs.Progress.{IsInFile};
-ghost use Rattle.tb_run.specs.Happenings.{event_of, events_of};
-ghost use Rattle.tb_run.specs.Run.{classes_of};
-ghost use Rattle.tb_run.specs.Routine.{IsReady, IsPage, ArePages, state_of};
-ghost use Rattle.tb_top.specs.DviPages.{event_pages};
+ghost use Rattle.tb_items.specs.Happenings.{event_of, events_of, IsPage, ArePages};
+ghost use Rattle.tb_items.specs.Classes.{classes_of};
+ghost use Rattle.tb_run.specs.Routine.{IsReady, state_of};
+ghost use Rattle.tb_laws.specs.DviPages.{event_pages};
 ghost use Rattle.tb_top.specs.DviFiles.{WritesFile, RefusesFile};
 ghost use Rattle.tb_top.specs.DviWritten.{HoldsPages, SendsPages, IsWriteFailure, EndsFile, StopsFile};
 
 use crate::PageFault;
 use crate::pages::fault_of;
 use std::alloc::{AllocError, Global};
-use tb_column::{Sent, Sheet};
 use tb_dvi::{DviFault, Progress, pre_bytes};
 use tb_galley::Galley;
 use tb_io::{Sink, SinkFault, write_all};
+use tb_items::Happening;
 use tb_node::Node;
 use tb_param::Params;
 use tb_pool::Lists;
-use tb_run::{Ending, Happening, Routine};
+use tb_run::{Ending, Routine};
+use tb_sheet::{Sent, Sheet};
 
 /// Why a galley's pages have no whole DVI file.
 #[derive(Clone, Copy)]
@@ -50,7 +50,6 @@ impl From<AllocError> for DviRunFault {
 }
 
 impl From<SinkFault> for DviRunFault {
-    ghost use Rattle.tb_top.specs.declared.dvi_pages.DviRunFault.TheVariants.{Pages};
     ghost use Rattle.tb_top.specs.PagesWritten.{write_fault};
 
     ghost from_gives = { λ fault e. e ≡ Pages (write_fault fault) };

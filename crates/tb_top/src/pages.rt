@@ -5,10 +5,10 @@ ghost use Rattle.tb_io.specs.Faults.{Rose};
 ghost use Rattle.tb_galley.specs.Valid.{IsValid};
 ghost use Rattle.tb_pool.specs.Lists.{IsLive};
 ghost use Rattle.tb_param.specs.Ranges.{are_params};
-ghost use Rattle.tb_run.specs.Run.{run_of};
+ghost use Rattle.tb_steps.specs.Run.{run_of};
 ghost use Rattle.tb_run.specs.Routine.{IsReady, state_of};
-ghost use Rattle.tb_top.specs.Laws.{KeepsLaws, WithinLimits};
-ghost use Rattle.tb_top.specs.DeadCycles.{HasRoomForCycles};
+ghost use Rattle.tb_laws.specs.Laws.{KeepsLaws, WithinLimits};
+ghost use Rattle.tb_laws.specs.DeadCycles.{HasRoomForCycles};
 ghost use Rattle.tb_top.specs.Pages.{Paginates, Refuses, IsNoCycleFault};
 ghost use Rattle.tb_top.specs.PagesWritten.{write_fault, run_on, EndsWell, StopsWith, IsRefusalOf, IsFaultRefusal};
 

@@ -2,18 +2,17 @@
 
 ghost use Rattle.std.specs.Prelude.{◌≡◌, ◌∷◌, [], ◌++◌, OnOk};
 ghost use Rattle.tb_report.specs.RunTotals.{AreCounts};
-ghost use Rattle.tb_run.specs.Happenings.{event_of, events_of};
-ghost use Rattle.tb_run.specs.Routine.{IsPage, ArePages};
+ghost use Rattle.tb_items.specs.Happenings.{event_of, events_of, IsPage, ArePages};
 ghost use Rattle.tb_top.specs.Report.{traced_lines, all_lines};
 ghost use Rattle.tb_top.specs.Views.{Shows, viewed, with_events, is_traced};
 
 use crate::View;
 use std::alloc::AllocError;
 use tb_io::{Sink, SinkFault, write_all};
+use tb_items::Happening;
 use tb_node::Node;
 use tb_pool::Lists;
 use tb_report::{Totals, put_sent};
-use tb_run::Happening;
 use tb_trace::put_try;
 
 // Whether a view shows the places that were tried.

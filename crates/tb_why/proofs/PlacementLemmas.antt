@@ -27,17 +27,19 @@ use Rattle.tb_fpage.specs.Company.{Choice, company, chosen_floats, left_floats}
 use Rattle.tb_told.specs.ColumnTold.{ToldColumn, told_column as told_of_column}
 use Rattle.tb_margin.specs.declared.Placed.{Placed}
 use Rattle.tb_margin.specs.Margin.{placed_note}
-use Rattle.tb_column.specs.Column.{PlainColumn, PlainSheet, PlainSent, Notes, warned, shipped, one, wide, text_column, single_floats_column, wide_floats_column, pair_sheet}
-use Rattle.tb_column.specs.declared.Warn.TheVariants as warnings
+use Rattle.tb_column.specs.Column.{PlainColumn, Notes, text_column, single_floats_column, wide_floats_column}
+use Rattle.tb_sheet.specs.Sheet.{PlainSheet, PlainSent, warned, shipped, one, wide, pair_sheet}
+use Rattle.tb_sheet.specs.declared.Warn.TheVariants as warnings
 use Rattle.tb_output.specs.State.{State, Work, Recorded, placed, output, emptied, begun, footnotes, puts, sends, records_also, with_floats}
 use Rattle.tb_output.specs.FloatMoves.{is_placed, place_float, still_deferred, place_waiting, place_next, place_double}
 use Rattle.tb_output.specs.Pages.{ship_now, ship, wide_wanted, ship_wide, wide_pages, wide_pages_by, all_wide_pages, keep_left, left_or, without_double, with_deferred, fill_double, ship_pair, put_out_by, put_out}
 use Rattle.tb_output.specs.Columns.{put_out_text, put_out_company, single_wanted, float_columns, float_columns_by, all_float_columns, fill_column, ordinary, without_column_floats}
 use Rattle.tb_output.specs.Clear.{cleared_front, deferred_again, double_again, clear_wide, clear_rest, clear_floats, clear_by, clear, clear_again}
 use Rattle.tb_output.specs.Text.{without_firing_box, notes_height, list_back, puts_interline, only_here, with_top, defer, float_goes, note_goes, note_at, moved_warning, with_note_bottom, first_goes, float_or_note}
-use Rattle.tb_output.specs.Output.{clear_penalty, par_penalty, vert_penalty, is_int, hold, output_by, leave_column, goal_by, next_goal, is_crowded, hold_penalty, after_page, waiting_again, out}
+use Rattle.tb_sheet.specs.Asked.{clear_penalty, par_penalty, vert_penalty, hold_penalty}
+use Rattle.tb_output.specs.Output.{is_int, hold, output_by, leave_column, next_goal, is_crowded, after_page, out}
 use Rattle.tb_told.specs.declared.Spot.{Spot}
-use Rattle.tb_told.specs.Tales.{Tale, put_out as puts_out, decides, in_column, back, decisions, has_width, column_tales, back_tales}
+use Rattle.tb_told.specs.Tales.{Tale, put_out as puts_out, in_column, decisions, has_width, column_tales, back_tales}
 use Rattle.tb_why.specs.Firing
 use Rattle.tb_why.specs.Firing.{spot_of, Piece, tale, next_sent, tales, unless_over}
 use Rattle.tb_why.specs.Placements.{placements_of, placement_if, placement_in, placements_told}

@@ -8,7 +8,7 @@ use Rattle.tb_param.specs.Table.{row_of}
 use Rattle.tb_galley.specs.GalleyNodes.{expanded}
 use Rattle.tb_break.specs.Cost.{page_badness, cost_of_badness}
 use Rattle.tb_output.specs.Output.{out}
-use Rattle.tb_run.specs.Run.{run_of, run_from, step}
+use Rattle.tb_steps.specs.Run.{run_of, run_from, step}
 use Rattle.tb_why.specs.Firing.{firing_pieces}
 use Rattle.tb_why.specs.WhyRun.{step_shown, shown_from, shown_run}
 use Rattle.tb_why.specs.ShownLines.{told_text}

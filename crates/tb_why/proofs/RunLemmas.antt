@@ -9,11 +9,12 @@ use Rattle.tb_galley.specs.declared.Galley.{Galley}
 use Rattle.tb_galley.specs.GalleyNodes.{expanded}
 use Rattle.tb_builder.specs.FiredPages.{Fired, reach_of, fired_of}
 use Rattle.tb_builder.specs.Reach.{Reach}
-use Rattle.tb_column.specs.Column.{PlainSent}
+use Rattle.tb_sheet.specs.Sheet.{PlainSent}
 use Rattle.tb_output.specs.State.{State, Recorded, emptied, first_state, ask_of}
 use Rattle.tb_output.specs.Output.{out}
-use Rattle.tb_run.specs.Run.{RunEvent, sent, End, done, dead_cycles, page_limit, node_limit, Progress, progress, Step, ends, goes_on, step, step_of, after_progress, fire, firing_step, after_firing, Run, run_by, run_from, run_of, firings_left, held_count, classes_of}
-use Rattle.tb_run.specs.Happenings.{step_events}
+use Rattle.tb_items.specs.RunEvents.{RunEvent, sent}
+use Rattle.tb_steps.specs.Run.{End, done, dead_cycles, page_limit, node_limit, Progress, progress, Step, ends, goes_on, step, step_of, after_progress, fire, firing_step, after_firing, Run, run_by, run_from, run_of, firings_left, held_count, step_events}
+use Rattle.tb_items.specs.Classes.{classes_of}
 use Rattle.tb_told.specs.Tales.{Tale}
 use Rattle.tb_why.specs.Firing.{Piece, tale, next_sent, firing_pieces, all_sent, woven}
 use Rattle.tb_why.specs.ShownLines.{all_event_lines}

@@ -18,15 +18,16 @@ use Rattle.tb_area.specs.Area.{next_place, double_place}
 use Rattle.tb_told.specs.AreaTold.{told_call, told_next, told_wide}
 use Rattle.tb_fpage.specs.Company.{Choice, company, chosen_floats, left_floats}
 use Rattle.tb_margin.specs.Margin.{placed_note}
-use Rattle.tb_column.specs.Column.{PlainColumn, Notes, text_column, single_floats_column, wide_floats_column, pair_sheet}
-use Rattle.tb_column.specs.Column.{PlainSent}
+use Rattle.tb_column.specs.Column.{PlainColumn, Notes, text_column, single_floats_column, wide_floats_column}
+use Rattle.tb_sheet.specs.Sheet.{pair_sheet, PlainSent}
 use Rattle.tb_output.specs.State.{State, Work, begun, footnotes, puts, records_also, output, with_floats}
 use Rattle.tb_output.specs.FloatMoves.{still_deferred, place_waiting}
 use Rattle.tb_output.specs.Pages.{ship, wide_wanted, ship_wide, all_wide_pages, left_or, without_double, with_deferred}
 use Rattle.tb_output.specs.Columns.{put_out_text, put_out_company, single_wanted, all_float_columns, without_column_floats}
 use Rattle.tb_output.specs.Clear.{cleared_front, deferred_again, double_again}
 use Rattle.tb_output.specs.Text.{without_firing_box, notes_height, list_back}
-use Rattle.tb_output.specs.Output.{clear_penalty, par_penalty, vert_penalty, is_int, after_page}
+use Rattle.tb_sheet.specs.Asked.{clear_penalty, par_penalty, vert_penalty}
+use Rattle.tb_output.specs.Output.{is_int, after_page}
 use Rattle.tb_float.specs.Rooms.{column_height_of}
 use Rattle.tb_told.specs.declared.Spot.{Spot}
 use Rattle.tb_told.specs.Tales.{Tale, calls, beside, put_out as puts_out, decisions, column_tales, back_tales}

@@ -2,7 +2,7 @@
 use Rattle.std.specs.Prelude.{ℕ, List, [], ◌∷◌, ◌++◌}
 use Rattle.tb_report.specs.Lines.{sent_lines}
 use Rattle.tb_trace.specs.Lines.{try_line}
-use Rattle.tb_run.specs.Run.{RunEvent, offered, sent}
+use Rattle.tb_items.specs.RunEvents.{RunEvent, offered, sent}
 use Rattle.tb_told.specs.Lines.{tale_line}
 use Rattle.tb_why.specs.WhyRun.{Shown, happens, tells, shown_run}
 use Rattle.tb_why.specs.Summary.{summary_lines}

@@ -14,9 +14,10 @@ use Rattle.tb_told.specs.declared.Alone.{Alone}
 use Rattle.tb_told.specs.declared.Joining.{Joining}
 use Rattle.tb_told.specs.declared.Made.{Made}
 use Rattle.tb_told.specs.ColumnTold.{ToldColumn, heads, joining, companied, takes}
-use Rattle.tb_column.specs.Column.{PlainColumn, PlainSheet, one, wide, two, warned, shipped}
+use Rattle.tb_column.specs.Column.{PlainColumn}
+use Rattle.tb_sheet.specs.Sheet.{PlainSheet, one, wide, two, warned, shipped}
 use Rattle.tb_report.specs.Lines.{where_text}
-use Rattle.tb_run.specs.Run.{RunEvent, offered, sent}
+use Rattle.tb_items.specs.RunEvents.{RunEvent, offered, sent}
 use Rattle.tb_told.specs.Lines.{test_text}
 use Rattle.tb_told.specs.Tales.{Tale, waits, calls, decides, begins, in_column, back, beside, put_out}
 use Rattle.tb_why.specs.WhyRun.{Shown, happens, tells}

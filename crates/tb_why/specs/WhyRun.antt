@@ -8,7 +8,9 @@ use Rattle.tb_builder.specs.FiredPages.{Fired, reach_of, fired_of}
 use Rattle.tb_builder.specs.Reach.{Reach}
 use Rattle.tb_output.specs.State.{State, first_state, ask_of}
 use Rattle.tb_output.specs.Output.{out}
-use Rattle.tb_run.specs.Run.{RunEvent, sent, Progress, progress, Step, ends, goes_on, step, firings_left, held_count, classes_of}
+use Rattle.tb_items.specs.RunEvents.{RunEvent, sent}
+use Rattle.tb_steps.specs.Run.{Progress, progress, Step, ends, goes_on, step, firings_left, held_count}
+use Rattle.tb_items.specs.Classes.{classes_of}
 use Rattle.tb_told.specs.Tales.{Tale, waits}
 use Rattle.tb_why.specs.Firing.{spot_of, firing_pieces, WhyEvent, told, sends, woven}
 

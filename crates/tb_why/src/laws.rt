@@ -6,7 +6,7 @@ ghost use Rattle.tb_galley.specs.declared.Galley.{Galley};
 ghost use Rattle.tb_builder.specs.FiredPages.{Fired};
 ghost use Rattle.tb_output.specs.State.{State};
 ghost use Rattle.tb_output.specs.Output.{out};
-ghost use Rattle.tb_run.specs.Run.{run_of};
+ghost use Rattle.tb_steps.specs.Run.{run_of};
 ghost use Rattle.tb_why.specs.Firing.{firing_pieces};
 ghost use Rattle.tb_why.specs.WhyRun.{happened_among, shown_run};
 ghost use Rattle.tb_why.specs.ShownLines.{all_event_lines};

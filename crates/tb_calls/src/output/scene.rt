@@ -7,7 +7,7 @@ ghost use Rattle.tb_pool.specs.Lists.{IsLive, list_at};
 ghost use Rattle.tb_param.specs.Ranges.{are_params};
 ghost use Rattle.tb_column.specs.Page.{IsPageList};
 ghost use Rattle.tb_builder.specs.Courses.{IsSound};
-ghost use Rattle.tb_output.specs.ActCalls.{IsSizedAct};
+ghost use Rattle.tb_sheet.specs.Asked.{IsSizedAct};
 ghost use Rattle.tb_output.specs.Firing.{CanFire};
 ghost use Rattle.tb_calls.specs.Scenes.{scene_classes, IsScene, IsReady, IsTextKind, LeavesAll};
 

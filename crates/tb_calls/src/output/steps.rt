@@ -2,7 +2,7 @@
 
 ghost use Rattle.std.specs.Prelude.{IsTrue};
 ghost use Rattle.tb_param.specs.Ranges.{are_params};
-ghost use Rattle.tb_output.specs.ActCalls.{IsSizedAct};
+ghost use Rattle.tb_sheet.specs.Asked.{IsSizedAct};
 
 use super::given::{float, note};
 use super::scene::{Scene, Text, boxes, open};

@@ -2,7 +2,7 @@
 
 ghost use Rattle.tb_pool.specs.Lists.{IsLive};
 ghost use Rattle.tb_column.specs.Page.{IsPageColumn};
-ghost use Rattle.tb_output.specs.Machine.{IsPageSheet, IsPageSent};
+ghost use Rattle.tb_sheet.specs.StoredSheets.{IsPageSheet, IsPageSent};
 
 use std::alloc::{AllocError, Global};
 use tb_column::Column;

@@ -19,7 +19,8 @@ use Rattle.tb_area.proofs.OrderLemmas.{fill-order, double-order}
 use Rattle.tb_fpage.specs.declared.Wanted.{Wanted}
 use Rattle.tb_fpage.specs.Company.{Choice, company, chosen_floats, left_floats}
 use Rattle.tb_fpage.proofs.LawLemmas.{order-company}
-use Rattle.tb_column.specs.Column.{Notes, notes_under_rule, class_below, PlainColumn, PlainSheet, PlainSent, warned, shipped, one, wide, two, floats_with, floats_above, floats_below, notes_below, text_nodes, text_column, floats_after, floats_column}
+use Rattle.tb_column.specs.Column.{Notes, notes_under_rule, class_below, PlainColumn, floats_with, floats_above, floats_below, notes_below, text_nodes, text_column, floats_after, floats_column}
+use Rattle.tb_sheet.specs.Sheet.{PlainSheet, PlainSent, warned, shipped, one, wide, two}
 
 -- by where they wait: in release 2015 all wait among the deferred ones; in release 2014 the wide ones wait in the second list, and the others do not
 pub data Side : Type 0 where

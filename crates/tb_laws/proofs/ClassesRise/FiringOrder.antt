@@ -27,9 +27,10 @@ use Rattle.tb_area.specs.Laws.{HasNone, PassesNone}
 use Rattle.tb_area.proofs.LawLemmas.{current-laws}
 use Rattle.tb_margin.specs.declared.Placed.{Placed}
 use Rattle.tb_margin.specs.Margin.{placed_note}
-use Rattle.tb_column.specs.declared.Warn.{Warn}
-use Rattle.tb_column.specs.declared.Warn.TheVariants as warnings
-use Rattle.tb_column.specs.Column.{Notes, PlainColumn, warned, text_column}
+use Rattle.tb_sheet.specs.declared.Warn.{Warn}
+use Rattle.tb_sheet.specs.declared.Warn.TheVariants as warnings
+use Rattle.tb_column.specs.Column.{Notes, PlainColumn, text_column}
+use Rattle.tb_sheet.specs.Sheet.{warned}
 use Rattle.tb_output.specs.State.{State, Work, Recorded, placed, output, puts, sends, records_also, with_floats, with_notes, notes_in, footnotes, has_floats}
 use Rattle.tb_output.specs.FloatMoves
 use Rattle.tb_output.specs.Pages

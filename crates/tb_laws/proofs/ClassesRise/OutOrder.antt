@@ -12,14 +12,16 @@ use Rattle.tb_break.specs.Split.{split_of}
 use Rattle.tb_param.specs.declared.Params.{Params}
 use Rattle.tb_builder.specs.FiredPages.{Fired}
 use Rattle.tb_float.specs.Rooms.{column_room_of}
-use Rattle.tb_column.specs.declared.Warn.TheVariants as warnings
-use Rattle.tb_column.specs.Column.{Notes, warned, text_column}
+use Rattle.tb_sheet.specs.declared.Warn.TheVariants as warnings
+use Rattle.tb_column.specs.Column.{Notes, text_column}
+use Rattle.tb_sheet.specs.Sheet.{warned}
 use Rattle.tb_output.specs.State.{State, Work, Recorded, begun, puts, sends, with_floats, footnotes, has_floats}
 use Rattle.tb_output.specs.Pages
 use Rattle.tb_output.specs.Columns
 use Rattle.tb_output.specs.Text
 use Rattle.tb_output.specs.Clear
 use Rattle.tb_output.specs.Output
+use Rattle.tb_sheet.specs.Asked
 use Rattle.tb_laws.proofs.NothingLost.StateWeights.{Paired}
 use Rattle.tb_laws.proofs.NothingLost.WorkWeights.{is_serving}
 use Rattle.tb_laws.proofs.ClassesRise.ClassLines.{FloatKind, Side, alike, narrow, wider, is_of, IsReleased, class_lines, sent_lines, lines-append}
@@ -159,7 +161,7 @@ module _ (k : FloatKind) (Known : ℕ → Type 0) (takes past : List ℕ) (old :
     pub ended : int_lt f.penalty eject_penalty ≡ true → class_lines k f.rest ≡ []
     pub serving : int_le eject_penalty f.penalty ≡ false → is_serving f.penalty ≡ true → class_lines k f.body ≡ []
     pub holding : int_le eject_penalty f.penalty ≡ false → is_serving f.penalty ≡ false → class_lines k w.state.held_page ≡ []
-    pub clearing : int_le eject_penalty f.penalty ≡ false → Output.is_int f.penalty Output.clear_penalty ≡ true → class_lines k w.state.held_page ≡ []
+    pub clearing : int_le eject_penalty f.penalty ≡ false → Output.is_int f.penalty Asked.clear_penalty ≡ true → class_lines k w.state.held_page ≡ []
     pub ordered : Ordered k Known takes past old (class_lines k w.state.held_page ++ (class_lines k f.body ++ class_lines k f.rest)) w
 
   module _ (b : Begins) where
@@ -182,7 +184,7 @@ module _ (k : FloatKind) (Known : ℕ → Type 0) (takes past : List ℕ) (old :
           boxes = subst (BoxesFloatless k) (sym s.boxes) (emptied-floatless k w.state.boxes);
         }
 
-    at_clear : int_le eject_penalty f.penalty ≡ false → Output.is_int f.penalty Output.clear_penalty ≡ true → class_lines k f.body ≡ [] → (Clear.clear p f.body w).refused ≡ false → Settled k Known takes past old f.rest (Clear.clear p f.body w)
+    at_clear : int_le eject_penalty f.penalty ≡ false → Output.is_int f.penalty Asked.clear_penalty ≡ true → class_lines k f.body ≡ [] → (Clear.clear p f.body w).refused ≡ false → Settled k Known takes past old f.rest (Clear.clear p f.body w)
     at_clear h e none ok =
         let c = Clear.clear p f.body w in
         let x = clear-none k p f.body w (footnotes w.state) b.body none in
@@ -256,7 +258,7 @@ module _ (k : FloatKind) (Known : ℕ → Type 0) (takes past : List ℕ) (old :
 
     -- a firing settles, whatever its penalty is
     output-settled : (Output.output_by p f w).refused ≡ false → Settled k Known takes past old f.rest (Output.output_by p f w)
-    output-settled ok = by_penalty (int_le eject_penalty f.penalty) (Output.is_int f.penalty Output.clear_penalty) (Output.is_int f.penalty Output.par_penalty) (Output.is_int f.penalty Output.vert_penalty)
+    output-settled ok = by_penalty (int_le eject_penalty f.penalty) (Output.is_int f.penalty Asked.clear_penalty) (Output.is_int f.penalty Asked.par_penalty) (Output.is_int f.penalty Asked.vert_penalty)
         at_ordinary (λ h e n. at_clear h e n) (λ vert h n ok. at_serve vert h n ok) (λ h e. at_hold h e) b.serving refl refl ok
       where
         by_penalty : (t c x y : Bool)
@@ -265,7 +267,7 @@ module _ (k : FloatKind) (Known : ℕ → Type 0) (takes past : List ℕ) (old :
             → ((vert : Bool) → t ≡ false → class_lines k f.body ≡ [] → (Text.float_or_note p vert f.body w).refused ≡ false → Settled k Known takes past old f.rest (Text.float_or_note p vert f.body w))
             → (t ≡ false → (c || (x || y)) ≡ false → Settled k Known takes past old f.rest (Output.hold f.body w))
             → (t ≡ false → (c || (x || y)) ≡ true → class_lines k f.body ≡ [])
-            → int_le eject_penalty f.penalty ≡ t → Output.is_int f.penalty Output.clear_penalty ≡ c
+            → int_le eject_penalty f.penalty ≡ t → Output.is_int f.penalty Asked.clear_penalty ≡ c
             → (if t then Columns.ordinary p f.body w else (if c then Clear.clear p f.body w else (if x then Text.float_or_note p false f.body w else (if y then Text.float_or_note p true f.body w else Output.hold f.body w)))).refused ≡ false
             → Settled k Known takes past old f.rest (if t then Columns.ordinary p f.body w else (if c then Clear.clear p f.body w else (if x then Text.float_or_note p false f.body w else (if y then Text.float_or_note p true f.body w else Output.hold f.body w))))
         by_penalty true c x y o l s h none t_is c_is ok = o ok
@@ -320,7 +322,7 @@ module _ (k : FloatKind) (Known : ℕ → Type 0) (takes past : List ℕ) (old :
   }
 
   goal-settled : (p : Params) (n : ℤ) (w : Work) → w.refused ≡ false → Settled k Known takes past old rest w → Settled k Known takes past old rest (Output.next_goal p n w)
-  goal-settled p n w ok s = by_hold (Output.is_int n Output.hold_penalty)
+  goal-settled p n w ok s = by_hold (Output.is_int n Asked.hold_penalty)
     where
       room : ℤ
       room = column_room_of p w.state.floats
@@ -354,7 +356,7 @@ pub record FiresInOrder (k : FloatKind) (Known : ℕ → Type 0) (past : List �
   pub ended : int_lt f.penalty eject_penalty ≡ true → class_lines k f.rest ≡ []
   pub serving : int_le eject_penalty f.penalty ≡ false → is_serving f.penalty ≡ true → class_lines k f.body ≡ []
   pub holding : int_le eject_penalty f.penalty ≡ false → is_serving f.penalty ≡ false → class_lines k s.held_page ≡ []
-  pub clearing : int_le eject_penalty f.penalty ≡ false → Output.is_int f.penalty Output.clear_penalty ≡ true → class_lines k s.held_page ≡ []
+  pub clearing : int_le eject_penalty f.penalty ≡ false → Output.is_int f.penalty Asked.clear_penalty ≡ true → class_lines k s.held_page ≡ []
   pub again : AreLight k f.held
   pub again_lines : class_lines k f.held ≡ []
   pub rest_feet : HoldFloatless k f.rest

@@ -12,7 +12,8 @@ use Rattle.tb_float.specs.Rooms.{column_height_of}
 use Rattle.tb_area.specs.Deferred.{doubled}
 use Rattle.tb_fpage.specs.declared.Wanted.{Wanted}
 use Rattle.tb_fpage.specs.Company.{Choice, company, chosen_floats, left_floats}
-use Rattle.tb_column.specs.Column.{PlainColumn, PlainSheet, PlainSent, shipped, one, wide, pair_sheet, wide_floats_column, single_floats_column}
+use Rattle.tb_column.specs.Column.{PlainColumn, wide_floats_column, single_floats_column}
+use Rattle.tb_sheet.specs.Sheet.{PlainSheet, PlainSent, shipped, one, wide, pair_sheet}
 use Rattle.tb_output.specs.State.{State, Work, Recorded, output, records_also, sends, with_floats}
 use Rattle.tb_output.specs.Pages
 use Rattle.tb_output.specs.Columns

@@ -17,6 +17,7 @@ use Rattle.tb_laws.proofs.PageBreaks.FittingFired.{Topmost, AllTopmost, flat_box
 use Rattle.tb_laws.proofs.PageBreaks.PausedPages.{Paused, calm-both}
 use Rattle.tb_output.specs.Clear
 use Rattle.tb_output.specs.Output
+use Rattle.tb_sheet.specs.Asked
 use Rattle.tb_output.proofs.Firings.GoalLemmas.{zero-is}
 use Rattle.tb_laws.proofs.Closed.Sorts.{kind_sort, sorts, sorts-calm, none, one, seen_all}
 use Rattle.tb_laws.proofs.Closed.SortLemmas.{never-one, behind-one}
@@ -63,11 +64,11 @@ one-flat [] c f e z = let no : false ≡ true = z in cc
 one-flat (n ∷ ns) c f e z = one-kind n.line n.kind ns c.1 f.1 c.0 f.0 e z (λ e z. one-flat ns c.1 f.1 e z)
 
 -- a clear that the list begins with has a flat box before it
-pub clear-ended : (b : Bool) (ns : List PlainNode) → Output.is_int (penalty_at ns) Output.clear_penalty ≡ true → Ended b ns → b ≡ true
+pub clear-ended : (b : Bool) (ns : List PlainNode) → Output.is_int (penalty_at ns) Asked.clear_penalty ≡ true → Ended b ns → b ≡ true
 clear-ended b [] h e = let no : false ≡ true = h in cc
 clear-ended b (n ∷ ns) h e = at n.kind h e.0
   where
-    at : (k : PlainKind) → Output.is_int (penalty_at (record { line = n.line; kind = k } ∷ ns)) Output.clear_penalty ≡ true → EndsAt b k → b ≡ true
+    at : (k : PlainKind) → Output.is_int (penalty_at (record { line = n.line; kind = k } ∷ ns)) Asked.clear_penalty ≡ true → EndsAt b k → b ≡ true
     at (plain (pen p)) h e = e h
     at k h e = let no : false ≡ true = h in cc
 
@@ -120,20 +121,20 @@ abbrev behind_front : List PlainNode → List PlainNode
 behind_front rest = made blank_box ∷ Clear.clear_again ++ rest
 
 abbrev behind_break : List PlainNode → List PlainNode
-behind_break rest = made whatsit ∷ made blank_box ∷ made (pen Output.clear_penalty) ∷ rest
+behind_break rest = made whatsit ∷ made blank_box ∷ made (pen Asked.clear_penalty) ∷ rest
 
 pub record FrontFits (front : List PlainNode) : Type 0 where
-  pub fits : (rest : List PlainNode) → Fitted eject_penalty (made whatsit ∷ made blank_box ∷ made (pen Output.clear_penalty) ∷ rest) (front ++ (made blank_box ∷ Clear.clear_again ++ rest)) × Paused (front ++ (made blank_box ∷ Clear.clear_again ++ rest))
+  pub fits : (rest : List PlainNode) → Fitted eject_penalty (made whatsit ∷ made blank_box ∷ made (pen Asked.clear_penalty) ∷ rest) (front ++ (made blank_box ∷ Clear.clear_again ++ rest)) × Paused (front ++ (made blank_box ∷ Clear.clear_again ++ rest))
   pub idle : AllByRecursion Idle (sorts front)
   pub cost : wait_cost front ≡ 0
 
 front-paused : (front rest : List PlainNode) → AllCalm front → Paused (front ++ (made blank_box ∷ Clear.clear_again ++ rest))
 front-paused front rest c = record { front = front; box_line = 0; what = what.Blank; height = pos 0; depth = pos 0; behind = made (skip filling_glue) ∷ []; line = 0; tail = behind_break rest; whole = sym (append_assoc front (made blank_box ∷ made (skip filling_glue) ∷ []) (made (pen eject_penalty) ∷ behind_break rest)); calm = c; calm_behind = (tt, tt) }
 
-front-fitted : (front rest : List PlainNode) → AllTopmost front → Fitted eject_penalty (made whatsit ∷ made blank_box ∷ made (pen Output.clear_penalty) ∷ rest) (front ++ (made blank_box ∷ Clear.clear_again ++ rest))
+front-fitted : (front rest : List PlainNode) → AllTopmost front → Fitted eject_penalty (made whatsit ∷ made blank_box ∷ made (pen Asked.clear_penalty) ∷ rest) (front ++ (made blank_box ∷ Clear.clear_again ++ rest))
 front-fitted front rest t = record { top = front; box_line = 0; what = what.Blank; behind = made (skip filling_glue) ∷ []; line = 0; whole = sym (append_assoc front (made blank_box ∷ made (skip filling_glue) ∷ []) (made (pen eject_penalty) ∷ behind_break rest)); vanish = t; slim = ((grind (arith, ints), refl, refl), tt); flat = refl }
 
-flat-fitted : (front rest : List PlainNode) (l : ℕ) → AllTopmost front → Fitted eject_penalty (made whatsit ∷ made blank_box ∷ made (pen Output.clear_penalty) ∷ rest) ((front ++ flat_box l what.Blank ∷ []) ++ (made blank_box ∷ Clear.clear_again ++ rest))
+flat-fitted : (front rest : List PlainNode) (l : ℕ) → AllTopmost front → Fitted eject_penalty (made whatsit ∷ made blank_box ∷ made (pen Asked.clear_penalty) ∷ rest) ((front ++ flat_box l what.Blank ∷ []) ++ (made blank_box ∷ Clear.clear_again ++ rest))
 flat-fitted front rest l t = record { top = front; box_line = l; what = what.Blank; behind = made blank_box ∷ made (skip filling_glue) ∷ []; line = 0; whole = append_assoc front (flat_box l what.Blank ∷ []) (behind_front rest) ∙ sym (append_assoc front (flat_box l what.Blank ∷ made blank_box ∷ made (skip filling_glue) ∷ []) (made (pen eject_penalty) ∷ behind_break rest)); vanish = t; slim = ((refl, refl), ((grind (arith, ints), refl, refl), tt)); flat = refl }
 
 pub front-fits : (p : Params) (body : List PlainNode) → OneFlat body → FrontFits (Clear.cleared_front p body)

@@ -15,6 +15,7 @@ use Rattle.tb_output.specs.Columns
 use Rattle.tb_output.specs.Text
 use Rattle.tb_output.specs.Clear
 use Rattle.tb_output.specs.Output
+use Rattle.tb_sheet.specs.Asked
 use Rattle.tb_laws.proofs.NothingLost.StateWeights.{Paired, ColumnsFit}
 use Rattle.tb_laws.proofs.Closed.Sorts.{sorts-calm, seen_all}
 use Rattle.tb_laws.proofs.Closed.SortLemmas.{Sort, hold, serve, clear, none, one, BreakStands, pen_sort, sorts, sorts-append}
@@ -71,7 +72,7 @@ module _ (p : Params) (calm : int_le p.interlinepenalty eject_penalty ≡ false)
   held-real : b ≡ false → HasReal (sorts w.state.held_page) → ⊥
   held-real e h = subst (λ l. HasReal (sorts l)) (free e) h
 
-  hold-closed : int_le eject_penalty f.penalty ≡ false → Output.is_int f.penalty Output.clear_penalty ≡ false → (Output.is_int f.penalty Output.par_penalty || Output.is_int f.penalty Output.vert_penalty) ≡ false → Closed z f d w (Output.hold f.body w)
+  hold-closed : int_le eject_penalty f.penalty ≡ false → Output.is_int f.penalty Asked.clear_penalty ≡ false → (Output.is_int f.penalty Asked.par_penalty || Output.is_int f.penalty Asked.vert_penalty) ≡ false → Closed z f d w (Output.hold f.body w)
   hold-closed h k l = at-hold (Closed z f d w (Output.hold f.body w)) Broken f.penalty h k l at_hold (λ x. absurd x.0) (stands, breaks, here)
     where
       by_here : b ≡ false → (w.state.floats.here ≡ []) ⊎ (HasReal (sorts w.state.held_page) ⊎ BreakReal (sorts before) hold) → (w.state.floats.here ≡ []) ⊎ HereFits (sorts f.body) (sorts w.put_back)
@@ -91,7 +92,7 @@ module _ (p : Params) (calm : int_le p.interlinepenalty eject_penalty ≡ false)
         clean = λ e. never e;
       }
 
-  serve-closed : (vert : Bool) → int_le eject_penalty f.penalty ≡ false → Output.is_int f.penalty Output.clear_penalty ≡ false → (Output.is_int f.penalty Output.par_penalty || Output.is_int f.penalty Output.vert_penalty) ≡ true → Closed z f d w (Text.float_or_note p vert f.body w)
+  serve-closed : (vert : Bool) → int_le eject_penalty f.penalty ≡ false → Output.is_int f.penalty Asked.clear_penalty ≡ false → (Output.is_int f.penalty Asked.par_penalty || Output.is_int f.penalty Asked.vert_penalty) ≡ true → Closed z f d w (Text.float_or_note p vert f.body w)
   serve-closed vert h k l = at-serve (Closed z f d w (Text.float_or_note p vert f.body w)) Broken f.penalty h k l at_serve (stands, breaks, here)
     where
       text : List PlainNode
@@ -132,7 +133,7 @@ module _ (p : Params) (calm : int_le p.interlinepenalty eject_penalty ≡ false)
             clean = λ e. never e;
           }
 
-  clear-closed : int_le eject_penalty f.penalty ≡ false → Output.is_int f.penalty Output.clear_penalty ≡ true → Closed z f d w (Clear.clear p f.body w)
+  clear-closed : int_le eject_penalty f.penalty ≡ false → Output.is_int f.penalty Asked.clear_penalty ≡ true → Closed z f d w (Clear.clear p f.body w)
   clear-closed h k = at-clear (Closed z f d w (Clear.clear p f.body w)) Broken f.penalty h k at_it (stands, breaks, here)
     where
       by_here : seen_all none (sorts before) ≡ one → b ≡ false → (w.state.floats.here ≡ []) ⊎ (HasReal (sorts w.state.held_page) ⊎ BreakReal (sorts before) clear) → w.state.floats.here ≡ []
@@ -182,7 +183,7 @@ module _ (p : Params) (calm : int_le p.interlinepenalty eject_penalty ≡ false)
       at_it x = by_notes (footnotes w.state) refl x.0.1 x.0.0 (no-items w.state.floats.current paired (subst (λ n. entry_items w.state.floats.current ≤ n) x.1.0 items)) (by_here x.0.0 x.0.1 x.2) x.1.1
 
   pub output-closed : Closed z f d w (Output.output_by p f w)
-  output-closed = by_penalty (int_le eject_penalty f.penalty) (Output.is_int f.penalty Output.clear_penalty) (Output.is_int f.penalty Output.par_penalty) (Output.is_int f.penalty Output.vert_penalty) ordinary-closed clear-closed (serve-closed false) (serve-closed true) hold-closed
+  output-closed = by_penalty (int_le eject_penalty f.penalty) (Output.is_int f.penalty Asked.clear_penalty) (Output.is_int f.penalty Asked.par_penalty) (Output.is_int f.penalty Asked.vert_penalty) ordinary-closed clear-closed (serve-closed false) (serve-closed true) hold-closed
     where
       by_penalty : (t c x y : Bool) → (t ≡ true → Closed z f d w (Columns.ordinary p f.body w)) → (t ≡ false → c ≡ true → Closed z f d w (Clear.clear p f.body w)) → (t ≡ false → c ≡ false → (x || y) ≡ true → Closed z f d w (Text.float_or_note p false f.body w)) → (t ≡ false → c ≡ false → (x || y) ≡ true → Closed z f d w (Text.float_or_note p true f.body w)) → (t ≡ false → c ≡ false → (x || y) ≡ false → Closed z f d w (Output.hold f.body w)) → Closed z f d w (if t then Columns.ordinary p f.body w else (if c then Clear.clear p f.body w else (if x then Text.float_or_note p false f.body w else (if y then Text.float_or_note p true f.body w else Output.hold f.body w))))
       by_penalty true c x y h i j k l = h refl

@@ -12,10 +12,11 @@ use Rattle.tb_builder.specs.FiredPages.{Fired}
 use Rattle.tb_builder.proofs.FiredPages.PageWeights.{boxes_weight}
 use Rattle.tb_builder.proofs.Cutting.CutLemmas.{AllCalm, AllFree, IsIns, AllIns}
 use Rattle.tb_float.specs.Rooms.{column_room_of}
-use Rattle.tb_column.specs.Column.{PlainSent, warned}
-use Rattle.tb_column.specs.declared.Warn.TheVariants as warnings
+use Rattle.tb_sheet.specs.Sheet.{PlainSent, warned}
+use Rattle.tb_sheet.specs.declared.Warn.TheVariants as warnings
 use Rattle.tb_output.specs.State.{State, Work, begun, puts, sends, notes_in}
 use Rattle.tb_output.specs.Output
+use Rattle.tb_sheet.specs.Asked
 use Rattle.tb_laws.proofs.NothingLost.StateWeights.{BoxesFit, Paired, ColumnsFit, lists_weight, left_weight}
 use Rattle.tb_laws.proofs.NothingLost.PutOutWeights.{box-weight}
 use Rattle.tb_laws.proofs.NothingLost.ColumnWeights.{notes_weight}
@@ -82,7 +83,7 @@ warned-told e ns w q = by_refused w.refused
 
 goal-told : (p : Params) (n : ℤ) (w : Work) → Told w (Output.next_goal p n w)
 goal-told p n w =
-    told_if w (Output.is_int n Output.hold_penalty) (Output.with_goal max_dimen w) (Output.goal_by p (column_room_of p w.state.floats) w) (with_goal-told max_dimen w)
+    told_if w (Output.is_int n Asked.hold_penalty) (Output.with_goal max_dimen w) (Output.goal_by p (column_room_of p w.state.floats) w) (with_goal-told max_dimen w)
     (told_if w (Output.is_crowded p (column_room_of p w.state.floats)) (Output.leave_column w) (Output.with_goal (column_room_of p w.state.floats) w) (crowded (w.state.two_columns && not w.state.first_column)) (with_goal-told (column_room_of p w.state.floats) w))
   where
     crowded : (t : Bool) → Told w (puts (if t then Output.blank_column ++ Output.blank_column else Output.blank_column) (sends (warned (warnings.Floats w.state.page)) w))

@@ -14,6 +14,7 @@ use Rattle.tb_output.specs.Columns
 use Rattle.tb_output.specs.Text
 use Rattle.tb_output.specs.Clear
 use Rattle.tb_output.specs.Output
+use Rattle.tb_sheet.specs.Asked
 use Rattle.tb_laws.proofs.StepLaws.BreakSorts.{at-ordinary, at-clear, at-serve, at-hold}
 use Rattle.tb_laws.proofs.Closed.SortLemmas.{Sort, Seen, none, many, Stands, Steady, BreakStands, pen_sort, kind_sort, sorts, sorts-append, kind-steady, fewer}
 use Rattle.tb_laws.proofs.NothingLost.StateWeights.{class_numbers}
@@ -61,13 +62,13 @@ body-class ks (n ∷ ns) = none-more ks n.line n.kind ns (body-class ks ns)
 ordinary-rest : (b : Bool) (s : Seen) (rest : List PlainNode) (q : ℤ) → int_le eject_penalty q ≡ true → BreakStands b s rest (pen_sort q) → Stands none b (sorts rest)
 ordinary-rest b s rest q h r = at-ordinary (Stands none b (sorts rest)) (BreakStands b s rest) q h (λ r. r) (λ r. r) r
 
-clear-rest : (b : Bool) (s : Seen) (rest : List PlainNode) (q : ℤ) → int_le eject_penalty q ≡ false → Output.is_int q Output.clear_penalty ≡ true → BreakStands b s rest (pen_sort q) → (b ≡ false) × Stands many false (sorts rest)
+clear-rest : (b : Bool) (s : Seen) (rest : List PlainNode) (q : ℤ) → int_le eject_penalty q ≡ false → Output.is_int q Asked.clear_penalty ≡ true → BreakStands b s rest (pen_sort q) → (b ≡ false) × Stands many false (sorts rest)
 clear-rest b s rest q h k r = at-clear ((b ≡ false) × Stands many false (sorts rest)) (BreakStands b s rest) q h k (λ r. (r.1, r.2)) r
 
-serve-rest : (b : Bool) (s : Seen) (rest : List PlainNode) (q : ℤ) → int_le eject_penalty q ≡ false → Output.is_int q Output.clear_penalty ≡ false → (Output.is_int q Output.par_penalty || Output.is_int q Output.vert_penalty) ≡ true → BreakStands b s rest (pen_sort q) → Stands many false (sorts rest)
+serve-rest : (b : Bool) (s : Seen) (rest : List PlainNode) (q : ℤ) → int_le eject_penalty q ≡ false → Output.is_int q Asked.clear_penalty ≡ false → (Output.is_int q Asked.par_penalty || Output.is_int q Asked.vert_penalty) ≡ true → BreakStands b s rest (pen_sort q) → Stands many false (sorts rest)
 serve-rest b s rest q h k l r = at-serve (Stands many false (sorts rest)) (BreakStands b s rest) q h k l (λ r. r.1) r
 
-hold-rest : (b : Bool) (s : Seen) (rest : List PlainNode) (q : ℤ) → int_le eject_penalty q ≡ false → Output.is_int q Output.clear_penalty ≡ false → (Output.is_int q Output.par_penalty || Output.is_int q Output.vert_penalty) ≡ false → BreakStands b s rest (pen_sort q) → Stands none true (sorts rest)
+hold-rest : (b : Bool) (s : Seen) (rest : List PlainNode) (q : ℤ) → int_le eject_penalty q ≡ false → Output.is_int q Asked.clear_penalty ≡ false → (Output.is_int q Asked.par_penalty || Output.is_int q Asked.vert_penalty) ≡ false → BreakStands b s rest (pen_sort q) → Stands none true (sorts rest)
 hold-rest b s rest q h k l r = at-hold (Stands none true (sorts rest)) (BreakStands b s rest) q h k l (λ r. r.1) (λ r. absurd r) r
 
 -- ---- a firing
@@ -103,7 +104,7 @@ module _ (ks : List ℕ) (p : Params) (calm : int_le p.interlinepenalty eject_pe
         classes = ap class_numbers x.classes ∙ numbers;
       }
 
-  at_clear : int_le eject_penalty f.penalty ≡ false → Output.is_int f.penalty Output.clear_penalty ≡ true → Ready ks (Clear.clear p f.body w) f.rest
+  at_clear : int_le eject_penalty f.penalty ≡ false → Output.is_int f.penalty Asked.clear_penalty ≡ true → Ready ks (Clear.clear p f.body w) f.rest
   at_clear h k =
       let r : (b ≡ false) × Stands many false (sorts f.rest) = clear-rest b s f.rest f.penalty h k rest in
       let x : Puts ks many false w (Clear.clear p f.body w) = clear_by-puts ks p f.body w (footnotes w.state) (steady-extends ks (Clear.cleared_front p f.body) (take-steady (split_of (pos 0) p.splitmaxdepth (map node_shape f.body)).index f.body body) (class-take ks (split_of (pos 0) p.splitmaxdepth (map node_shape f.body)).index f.body body_feet)) in
@@ -119,7 +120,7 @@ module _ (ks : List ℕ) (p : Params) (calm : int_le p.interlinepenalty eject_pe
         classes = ap class_numbers x.classes ∙ numbers;
       }
 
-  at_serve : (vert : Bool) → int_le eject_penalty f.penalty ≡ false → Output.is_int f.penalty Output.clear_penalty ≡ false → (Output.is_int f.penalty Output.par_penalty || Output.is_int f.penalty Output.vert_penalty) ≡ true → Ready ks (Text.float_or_note p vert f.body w) f.rest
+  at_serve : (vert : Bool) → int_le eject_penalty f.penalty ≡ false → Output.is_int f.penalty Asked.clear_penalty ≡ false → (Output.is_int f.penalty Asked.par_penalty || Output.is_int f.penalty Asked.vert_penalty) ≡ true → Ready ks (Text.float_or_note p vert f.body w) f.rest
   at_serve vert h k l =
       let x = serve-puts ks p calm vert f.body w among (steady-extends ks w.state.held_page steady held_feet) (steady-extends ks (Text.without_firing_box f.body) (take-steady (length f.body - 2) f.body body) (class-take ks (length f.body - 2) f.body body_feet)) (opens many false (λ ys k. fewer none false ys k)) in
       record {
@@ -134,7 +135,7 @@ module _ (ks : List ℕ) (p : Params) (calm : int_le p.interlinepenalty eject_pe
         classes = ap class_numbers x.2 ∙ numbers;
       }
 
-  at_hold : int_le eject_penalty f.penalty ≡ false → Output.is_int f.penalty Output.clear_penalty ≡ false → (Output.is_int f.penalty Output.par_penalty || Output.is_int f.penalty Output.vert_penalty) ≡ false → Ready ks (Output.hold f.body w) f.rest
+  at_hold : int_le eject_penalty f.penalty ≡ false → Output.is_int f.penalty Asked.clear_penalty ≡ false → (Output.is_int f.penalty Asked.par_penalty || Output.is_int f.penalty Asked.vert_penalty) ≡ false → Ready ks (Output.hold f.body w) f.rest
   at_hold h k l =
       record {
         held = true;
@@ -149,7 +150,7 @@ module _ (ks : List ℕ) (p : Params) (calm : int_le p.interlinepenalty eject_pe
       }
 
   output-ready : Ready ks (Output.output_by p f w) f.rest
-  output-ready = by_penalty (int_le eject_penalty f.penalty) (Output.is_int f.penalty Output.clear_penalty) (Output.is_int f.penalty Output.par_penalty) (Output.is_int f.penalty Output.vert_penalty) at_ordinary at_clear (at_serve false) (at_serve true) at_hold
+  output-ready = by_penalty (int_le eject_penalty f.penalty) (Output.is_int f.penalty Asked.clear_penalty) (Output.is_int f.penalty Asked.par_penalty) (Output.is_int f.penalty Asked.vert_penalty) at_ordinary at_clear (at_serve false) (at_serve true) at_hold
     where
       by_penalty : (t c x y : Bool) → (t ≡ true → Ready ks (Columns.ordinary p f.body w) f.rest) → (t ≡ false → c ≡ true → Ready ks (Clear.clear p f.body w) f.rest) → (t ≡ false → c ≡ false → (x || y) ≡ true → Ready ks (Text.float_or_note p false f.body w) f.rest) → (t ≡ false → c ≡ false → (x || y) ≡ true → Ready ks (Text.float_or_note p true f.body w) f.rest) → (t ≡ false → c ≡ false → (x || y) ≡ false → Ready ks (Output.hold f.body w) f.rest) → Ready ks (if t then Columns.ordinary p f.body w else (if c then Clear.clear p f.body w else (if x then Text.float_or_note p false f.body w else (if y then Text.float_or_note p true f.body w else Output.hold f.body w)))) f.rest
       by_penalty true c x y h i j k l = h refl

@@ -22,8 +22,9 @@ use Rattle.tb_float.specs.declared.Entry.TheVariants as entries
 use Rattle.tb_float.specs.Lists.{FloatLists}
 use Rattle.tb_float.specs.Rooms.{column_room_of}
 use Rattle.tb_margin.specs.declared.Placed.{Placed}
-use Rattle.tb_column.specs.Column.{Notes, warned, text_column, PlainSent}
-use Rattle.tb_column.specs.declared.Warn.TheVariants as warnings
+use Rattle.tb_column.specs.Column.{Notes, text_column}
+use Rattle.tb_sheet.specs.Sheet.{warned, PlainSent}
+use Rattle.tb_sheet.specs.declared.Warn.TheVariants as warnings
 use Rattle.tb_output.specs.State.{Work, puts, sends, with_floats, with_notes, notes_in, footnotes, has_floats}
 use Rattle.tb_output.specs.FloatMoves
 use Rattle.tb_output.specs.Pages
@@ -31,6 +32,7 @@ use Rattle.tb_output.specs.Columns
 use Rattle.tb_output.specs.Text
 use Rattle.tb_output.specs.Clear
 use Rattle.tb_output.specs.Output
+use Rattle.tb_sheet.specs.Asked
 use Rattle.tb_output.proofs.StepLaws.ColumnSteps.{RecordLaw, no_law, ColumnStep, in_turn, Stays, sends-stays, place_float-step, place_next-step, all_wide_pages-step, put_out-step, float_columns-step, stays}
 use Rattle.tb_output.proofs.StepLaws.FiringSteps.{defer-stays}
 use Rattle.tb_output.proofs.StepLaws.WorkSteps.{continues-sends, column-continues, continues-defer}
@@ -110,7 +112,7 @@ blank-extends ks one b k = absurd k
 blank-extends ks many b k = record { by = λ ys h. (tt, (tt, fewer none b ys h)); feet = (tt, (tt, tt)) }
 
 pub goal-puts : (ks : List ℕ) (t : Seen) (b : Bool) → Begins t → (p : Params) (n : ℤ) (w : Work) → Puts ks t b w (Output.next_goal p n w)
-goal-puts ks t b k p n w = puts_if ks t b p w (Output.is_int n Output.hold_penalty) (Output.with_goal max_dimen w) (Output.goal_by p room w) (same ks t b refl refl refl) (puts_if ks t b p w (Output.is_crowded p room) (Output.leave_column w) (Output.with_goal room w) crowded (same ks t b refl refl refl))
+goal-puts ks t b k p n w = puts_if ks t b p w (Output.is_int n Asked.hold_penalty) (Output.with_goal max_dimen w) (Output.goal_by p room w) (same ks t b refl refl refl) (puts_if ks t b p w (Output.is_crowded p room) (Output.leave_column w) (Output.with_goal room w) crowded (same ks t b refl refl refl))
   where
     room : ℤ
     room = column_room_of p w.state.floats

@@ -13,7 +13,8 @@ use Rattle.tb_insert.specs.Account.{Labelled}
 use Rattle.tb_builder.specs.FiredPages.{Boxed, page_break, from_break, fired_by, with_spent_break, penalty_at}
 use Rattle.tb_builder.specs.Reach.{Reach}
 use Rattle.tb_builder.proofs.Cutting.CutLemmas.{Calm, AllCalm, ActFree, FirstFree, AllFree, CutAt, acts-free}
-use Rattle.tb_output.specs.Output.{is_int, clear_penalty, par_penalty, vert_penalty, hold_penalty}
+use Rattle.tb_output.specs.Output.{is_int}
+use Rattle.tb_sheet.specs.Asked.{clear_penalty, par_penalty, vert_penalty, hold_penalty}
 use Rattle.tb_laws.proofs.NothingLost.WorkWeights.{is_serving, Careful}
 use Rattle.tb_laws.proofs.Closed.Sorts.{Sort, pen_sort, box_sort, kind_sort, sorts, Seen, Stands, pen-sorts, CalmSort, sorts-calm, seen_all, stands-after, acts-silent, from-none, box-steady, light, blank, real, silent, pause, hold, serve, clear, odd, none, one, many}
 use Rattle.tb_laws.proofs.PageBreaks.PausedPages.{calm-acts}

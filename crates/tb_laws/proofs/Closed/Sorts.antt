@@ -8,7 +8,8 @@ use Rattle.tb_node.specs.declared.What.TheVariants as what
 use Rattle.tb_node.specs.PlainNodes.{hbox, rule, skip, kerned, pen, mark, note, whatsit, PlainKind, plain, ins, act, PlainNode, without_acts}
 use Rattle.tb_break.specs.PageTop.{pruned_nodes}
 use Rattle.tb_builder.proofs.Cutting.CutLemmas.{Calm, AllCalm, ActFree}
-use Rattle.tb_output.specs.Output.{is_int, clear_penalty, par_penalty, vert_penalty, hold_penalty}
+use Rattle.tb_output.specs.Output.{is_int}
+use Rattle.tb_sheet.specs.Asked.{clear_penalty, par_penalty, vert_penalty, hold_penalty}
 
 -- what stops nothing and is no box, a blank box, another box, an act, the end of a page, the page before a float or note, its own penalty, a clear, and any other forced break
 pub data Sort : Type 0 where

@@ -13,7 +13,8 @@ use Rattle.tb_area.specs.Area.{AreaPlace, at_top, at_bottom, deferred, where_of,
 use Rattle.tb_float.specs.declared.Part.{Part}
 use Rattle.tb_float.specs.declared.Part.TheVariants as parts
 use Rattle.tb_float.specs.Lists.{FloatLists, IsWaiting, with_floats_of, wide_part, wide_waiting, with_wide_waiting}
-use Rattle.tb_column.specs.Column.{PlainColumn, PlainSheet, PlainSent, shipped, one, wide, pair_sheet, wide_floats_column}
+use Rattle.tb_column.specs.Column.{PlainColumn, wide_floats_column}
+use Rattle.tb_sheet.specs.Sheet.{PlainSheet, PlainSent, shipped, one, wide, pair_sheet}
 use Rattle.tb_laws.proofs.Closed.Closings.{never}
 use Rattle.tb_output.specs.State.{State, Work, Recorded, placed, output, sends, records_also, with_floats}
 use Rattle.tb_output.specs.FloatMoves

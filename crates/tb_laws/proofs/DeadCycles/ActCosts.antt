@@ -20,7 +20,7 @@ use Rattle.tb_float.specs.declared.Suppress.{Suppress}
 use Rattle.tb_float.specs.declared.Part.{Part}
 use Rattle.tb_float.specs.declared.Part.TheVariants as parts
 use Rattle.tb_float.specs.Lists.{FloatLists, live_count, wide_part}
-use Rattle.tb_column.specs.declared.Warn.{Warn}
+use Rattle.tb_sheet.specs.declared.Warn.{Warn}
 use Rattle.tb_column.specs.Column.{PlainColumn}
 use Rattle.tb_output.specs.State.{State, Recorded}
 use Rattle.tb_output.specs.Act.{Acted, went, full, act_on, taken_float}

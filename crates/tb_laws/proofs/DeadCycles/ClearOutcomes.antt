@@ -17,7 +17,8 @@ use Rattle.tb_float.specs.Rooms.{column_height_of}
 use Rattle.tb_float.proofs.WaitingLemmas.{wide-waits}
 use Rattle.tb_fpage.specs.Company.{Choice, suits, company, chosen_floats, left_floats}
 use Rattle.tb_fpage.proofs.FirstLemmas.{none-suits}
-use Rattle.tb_column.specs.Column.{wide, wide_floats_column}
+use Rattle.tb_sheet.specs.Sheet.{wide}
+use Rattle.tb_column.specs.Column.{wide_floats_column}
 use Rattle.tb_output.specs.State.{State, Work, puts, with_floats, has_floats}
 use Rattle.tb_output.specs.Pages
 use Rattle.tb_output.specs.Columns

@@ -14,7 +14,8 @@ use Rattle.tb_float.proofs.WaitingLemmas.{wide-waits}
 use Rattle.tb_fpage.specs.declared.Wanted.{Wanted}
 use Rattle.tb_fpage.specs.Company.{Choice, company, chosen_floats, left_floats}
 use Rattle.tb_area.specs.Area
-use Rattle.tb_column.specs.Column.{PlainColumn, PlainSheet, shipped, one, pair_sheet, text_column, single_floats_column}
+use Rattle.tb_column.specs.Column.{PlainColumn, text_column, single_floats_column}
+use Rattle.tb_sheet.specs.Sheet.{PlainSheet, shipped, one, pair_sheet}
 use Rattle.tb_output.specs.State.{State, Work, Recorded, placed, output, records_also, with_floats, footnotes}
 use Rattle.tb_output.specs.FloatMoves
 use Rattle.tb_output.specs.Pages

@@ -19,27 +19,28 @@ use Rattle.tb_output.specs.Columns
 use Rattle.tb_output.specs.Clear
 use Rattle.tb_output.specs.Text
 use Rattle.tb_output.specs.Output
+use Rattle.tb_sheet.specs.Asked
 use Rattle.tb_laws.proofs.Closed.Sorts.{Sort, hold, serve, clear, odd, pen_sort, kind_sort, sorts}
 use Rattle.tb_laws.proofs.Closed.SortLemmas.{sorts-append}
 use Rattle.tb_laws.proofs.DeadCycles.AgainLemmas.{Again, Idle, BreakAgain, again-idle}
 use Rattle.tb_laws.proofs.DeadCycles.WaitCosts.{sort_cost, wait_cost, cost-append, IsInserted, AllInserted, ins-free}
 use Rattle.tb_output.proofs.StepLaws.FollowLemmas.{waiting_floats, AllWait}
 use Rattle.tb_laws.proofs.DeadCycles.ClearOutcomes.{NoneWait, Fits, Single, Wide}
-pub use Rattle.tb_laws.proofs.DeadCycles.ClearOutcomes.{none-left}
 use Rattle.tb_laws.proofs.StepLaws.SideLemmas.{Sides}
 use Rattle.tb_laws.proofs.DeadCycles.ServeOutcomes.{AllCurrent, way_floats}
 use Rattle.tb_laws.proofs.DeadCycles.CycleStates.{Kind, once, ready, halted, credit, Holds, Phase, starting, ending, phase_cost, PhaseHolds, FloatsFit, Bounded, GoalOut, goal-out}
 use Rattle.tb_laws.proofs.StepLaws.BreakSorts as breaks
+pub use Rattle.tb_laws.proofs.DeadCycles.ClearOutcomes.{none-left}
 
 -- ---- the sort of the penalty, by the routine's tests
 
-pub clear-sort : (q : ℤ) → int_le eject_penalty q ≡ false → Output.is_int q Output.clear_penalty ≡ true → pen_sort q ≡ clear
+pub clear-sort : (q : ℤ) → int_le eject_penalty q ≡ false → Output.is_int q Asked.clear_penalty ≡ true → pen_sort q ≡ clear
 clear-sort q h k = breaks.at-clear (pen_sort q ≡ clear) (λ x. pen_sort q ≡ x) q h k (λ e. e) refl
 
-pub serve-sort : (q : ℤ) → int_le eject_penalty q ≡ false → Output.is_int q Output.clear_penalty ≡ false → (Output.is_int q Output.par_penalty || Output.is_int q Output.vert_penalty) ≡ true → pen_sort q ≡ serve
+pub serve-sort : (q : ℤ) → int_le eject_penalty q ≡ false → Output.is_int q Asked.clear_penalty ≡ false → (Output.is_int q Asked.par_penalty || Output.is_int q Asked.vert_penalty) ≡ true → pen_sort q ≡ serve
 serve-sort q h k l = breaks.at-serve (pen_sort q ≡ serve) (λ x. pen_sort q ≡ x) q h k l (λ e. e) refl
 
-pub hold-sort : (q : ℤ) → int_le eject_penalty q ≡ false → Output.is_int q Output.clear_penalty ≡ false → (Output.is_int q Output.par_penalty || Output.is_int q Output.vert_penalty) ≡ false → (pen_sort q ≡ odd → ⊥) → pen_sort q ≡ hold
+pub hold-sort : (q : ℤ) → int_le eject_penalty q ≡ false → Output.is_int q Asked.clear_penalty ≡ false → (Output.is_int q Asked.par_penalty || Output.is_int q Asked.vert_penalty) ≡ false → (pen_sort q ≡ odd → ⊥) → pen_sort q ≡ hold
 hold-sort q h k l no_odd = breaks.at-hold (pen_sort q ≡ hold) (λ x. pen_sort q ≡ x) q h k l (λ e. e) (λ e. absurd (no_odd e)) refl
 
 pub ordinary-again : (n : ℕ) (rest : List PlainNode) (q : ℤ) → int_le eject_penalty q ≡ true → BreakAgain n rest (pen_sort q) → Again n (sorts rest)
@@ -49,18 +50,18 @@ ordinary-again n rest q h r = breaks.at-ordinary (Again n (sorts rest)) (BreakAg
 
 pub output-cases : (p : Params) (f : Fired) (w : Work) (R : Work → Type 0) → (pen_sort f.penalty ≡ odd → ⊥)
     → (int_le eject_penalty f.penalty ≡ true → R (Columns.ordinary p f.body w))
-    → (int_le eject_penalty f.penalty ≡ false → Output.is_int f.penalty Output.clear_penalty ≡ true → R (Clear.clear p f.body w))
+    → (int_le eject_penalty f.penalty ≡ false → Output.is_int f.penalty Asked.clear_penalty ≡ true → R (Clear.clear p f.body w))
     → ((vert : Bool) → int_le eject_penalty f.penalty ≡ false → pen_sort f.penalty ≡ serve → R (Text.float_or_note p vert f.body w))
     → (int_le eject_penalty f.penalty ≡ false → pen_sort f.penalty ≡ hold → R (Output.hold f.body w))
     → R (Output.output_by p f w)
-output-cases p f w R regular at_ordinary at_clear at_serve at_hold = by_tests (int_le eject_penalty f.penalty) (Output.is_int f.penalty Output.clear_penalty) (Output.is_int f.penalty Output.par_penalty) (Output.is_int f.penalty Output.vert_penalty) refl refl refl refl
+output-cases p f w R regular at_ordinary at_clear at_serve at_hold = by_tests (int_le eject_penalty f.penalty) (Output.is_int f.penalty Asked.clear_penalty) (Output.is_int f.penalty Asked.par_penalty) (Output.is_int f.penalty Asked.vert_penalty) refl refl refl refl
   where
-    by_tests : (t k x y : Bool) → int_le eject_penalty f.penalty ≡ t → Output.is_int f.penalty Output.clear_penalty ≡ k → Output.is_int f.penalty Output.par_penalty ≡ x → Output.is_int f.penalty Output.vert_penalty ≡ y → R (if t then Columns.ordinary p f.body w else (if k then Clear.clear p f.body w else (if x then Text.float_or_note p false f.body w else (if y then Text.float_or_note p true f.body w else Output.hold f.body w))))
+    by_tests : (t k x y : Bool) → int_le eject_penalty f.penalty ≡ t → Output.is_int f.penalty Asked.clear_penalty ≡ k → Output.is_int f.penalty Asked.par_penalty ≡ x → Output.is_int f.penalty Asked.vert_penalty ≡ y → R (if t then Columns.ordinary p f.body w else (if k then Clear.clear p f.body w else (if x then Text.float_or_note p false f.body w else (if y then Text.float_or_note p true f.body w else Output.hold f.body w))))
     by_tests true k x y e g i j = at_ordinary e
     by_tests false true x y e g i j = at_clear e g
-    by_tests false false true y e g i j = at_serve false e (serve-sort f.penalty e g (or_left (Output.is_int f.penalty Output.par_penalty) (Output.is_int f.penalty Output.vert_penalty) i))
-    by_tests false false false true e g i j = at_serve true e (serve-sort f.penalty e g (or_right (Output.is_int f.penalty Output.par_penalty) (Output.is_int f.penalty Output.vert_penalty) j))
-    by_tests false false false false e g i j = at_hold e (hold-sort f.penalty e g (or_from (Output.is_int f.penalty Output.par_penalty) (Output.is_int f.penalty Output.vert_penalty) i j) regular)
+    by_tests false false true y e g i j = at_serve false e (serve-sort f.penalty e g (or_left (Output.is_int f.penalty Asked.par_penalty) (Output.is_int f.penalty Asked.vert_penalty) i))
+    by_tests false false false true e g i j = at_serve true e (serve-sort f.penalty e g (or_right (Output.is_int f.penalty Asked.par_penalty) (Output.is_int f.penalty Asked.vert_penalty) j))
+    by_tests false false false false e g i j = at_hold e (hold-sort f.penalty e g (or_from (Output.is_int f.penalty Asked.par_penalty) (Output.is_int f.penalty Asked.vert_penalty) i j) regular)
 
 -- ---- what is known of a page that fires
 
@@ -75,11 +76,11 @@ pub record FiresWell (p : Params) (s : State) (total : ℕ) (n : ℕ) (kind : Ki
   pub ending : phase ≡ ending → int_le eject_penalty f.penalty ≡ true
   pub halted : kind ≡ halted → int_le eject_penalty f.penalty ≡ true
   -- after a blank column a clear comes, and the page in between fits
-  pub once : kind ≡ once → (int_le eject_penalty f.penalty ≡ true) × (f.held ≡ []) × ((rest : List PlainNode) × Fitted Output.clear_penalty rest f.rest)
+  pub once : kind ≡ once → (int_le eject_penalty f.penalty ≡ true) × (f.held ≡ []) × ((rest : List PlainNode) × Fitted Asked.clear_penalty rest f.rest)
   -- a clear without footnotes comes next
-  pub ready : kind ≡ ready → (Output.is_int f.penalty Output.clear_penalty ≡ true) × (footnotes (record s { boxes = f.boxes }) ≡ [])
+  pub ready : kind ≡ ready → (Output.is_int f.penalty Asked.clear_penalty ≡ true) × (footnotes (record s { boxes = f.boxes }) ≡ [])
   -- the page of a clear without footnotes has no insertions, and is light but for its blank box, so a blank column and a clear may come after its front
-  pub blank : Output.is_int f.penalty Output.clear_penalty ≡ true → footnotes (record s { boxes = f.boxes }) ≡ [] → (f.held ≡ []) × ((rest : List PlainNode) → Fitted eject_penalty (made whatsit ∷ made blank_box ∷ made (pen Output.clear_penalty) ∷ rest) (Clear.cleared_front p f.body ++ (made blank_box ∷ Clear.clear_again ++ rest)) × Paused (Clear.cleared_front p f.body ++ (made blank_box ∷ Clear.clear_again ++ rest))) × AllByRecursion Idle (sorts (Clear.cleared_front p f.body)) × (wait_cost (Clear.cleared_front p f.body) ≡ 0)
+  pub blank : Output.is_int f.penalty Asked.clear_penalty ≡ true → footnotes (record s { boxes = f.boxes }) ≡ [] → (f.held ≡ []) × ((rest : List PlainNode) → Fitted eject_penalty (made whatsit ∷ made blank_box ∷ made (pen Asked.clear_penalty) ∷ rest) (Clear.cleared_front p f.body ++ (made blank_box ∷ Clear.clear_again ++ rest)) × Paused (Clear.cleared_front p f.body ++ (made blank_box ∷ Clear.clear_again ++ rest))) × AllByRecursion Idle (sorts (Clear.cleared_front p f.body)) × (wait_cost (Clear.cleared_front p f.body) ≡ 0)
 
 -- ---- the state after the goal is set
 
@@ -192,13 +193,13 @@ notes-emptied [] bs = refl
 notes-emptied (c ∷ cs) bs = ap (λ o. with_notes c o (notes_in cs (Columns.emptied_boxes bs))) (emptied-none bs c.number) ∙ notes-emptied cs bs
 
 -- an ordinary firing is at no penalty of the routine
-pub no-hold : (q : ℤ) → int_le eject_penalty q ≡ true → Output.is_int q Output.hold_penalty ≡ false
+pub no-hold : (q : ℤ) → int_le eject_penalty q ≡ true → Output.is_int q Asked.hold_penalty ≡ false
 no-hold q h = grind (arith, ints, h)
 
-pub no-clear : (q : ℤ) → int_le eject_penalty q ≡ true → Output.is_int q Output.clear_penalty ≡ false
+pub no-clear : (q : ℤ) → int_le eject_penalty q ≡ true → Output.is_int q Asked.clear_penalty ≡ false
 no-clear q h = grind (arith, ints, h)
 
-pub clear-no-hold : (q : ℤ) → Output.is_int q Output.clear_penalty ≡ true → Output.is_int q Output.hold_penalty ≡ false
+pub clear-no-hold : (q : ℤ) → Output.is_int q Asked.clear_penalty ≡ true → Output.is_int q Asked.hold_penalty ≡ false
 clear-no-hold q h = grind (arith, ints, h)
 
 -- a list has a float, or none

@@ -12,6 +12,7 @@ use Rattle.tb_output.specs.Columns
 use Rattle.tb_output.specs.Text
 use Rattle.tb_output.specs.Clear
 use Rattle.tb_output.specs.Output
+use Rattle.tb_sheet.specs.Asked
 use Rattle.tb_laws.proofs.DeadCycles.WaitCosts.{ins-free}
 use Rattle.tb_output.proofs.StepLaws.FollowLemmas.{follows-same}
 use Rattle.tb_laws.proofs.DeadCycles.ColumnOutcomes.{ordinary-out, text-out}
@@ -57,7 +58,7 @@ module _ (p : Params) (m : ℕ) (s : State) (total a : ℕ) (kind : Kind) (phase
       let x : Served (Fits p) (record begins { state = record begins.state { held_page = []; boxes = Columns.emptied_boxes begins.state.boxes } }) (Text.float_or_note p vert f.body begins) = served (Fits p) (λ f h. h) p calm vert f.body begins well.body in
       keeps (Text.float_or_note p vert f.body begins) (free-ended false (Text.float_or_note p vert f.body begins).put_back x.cost)
 
-  keeps-clear : int_le eject_penalty f.penalty ≡ false → Output.is_int f.penalty Output.clear_penalty ≡ true → Keeps (Clear.clear p f.body begins)
+  keeps-clear : int_le eject_penalty f.penalty ≡ false → Output.is_int f.penalty Asked.clear_penalty ≡ true → Keeps (Clear.clear p f.body begins)
   keeps-clear h k = by_notes (footnotes (record s { boxes = f.boxes })) refl
     where
       by_notes : (o : List Notes) → footnotes (record s { boxes = f.boxes }) ≡ o → Keeps (Clear.clear_by p f.body begins o)

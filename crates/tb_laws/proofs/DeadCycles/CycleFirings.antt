@@ -15,6 +15,7 @@ use Rattle.tb_output.specs.State.{State, Work, begun, notes_in}
 use Rattle.tb_output.specs.Columns
 use Rattle.tb_output.specs.Text
 use Rattle.tb_output.specs.Output
+use Rattle.tb_sheet.specs.Asked
 use Rattle.tb_laws.proofs.Closed.Sorts.{Sort, hold, serve, pen_sort, sorts}
 use Rattle.tb_laws.proofs.DeadCycles.AgainLemmas.{Again, Idle, BreakAgain, again-idle}
 use Rattle.tb_laws.proofs.DeadCycles.WaitCosts.{sort_cost, wait_cost}
@@ -228,7 +229,7 @@ module _ (p : Params) (m : ℕ) (s : State) (total a : ℕ) (kind : Kind) (phase
               goal = q.1;
               void = ap (λ bs. notes_in done.classes bs) (ordinary-goal.boxes ∙ out-fit.boxes) ∙ notes-emptied done.classes w0.state.boxes;
               rest = z.2.0;
-              fit = subst (Fitted Output.clear_penalty z.2.0) (sym waits) z.2.1;
+              fit = subst (Fitted Asked.clear_penalty z.2.0) (sym waits) z.2.1;
             },
           ) d (one ready (omega arith))
 
@@ -311,7 +312,7 @@ module _ (p : Params) (m : ℕ) (s : State) (total a : ℕ) (kind : Kind) (phase
       by_kind doubled e i first double n d = kept-by z t c first doubled (subst (λ (fs : List Float). 1 ≤ length fs) (sym (ap (λ (l : FloatLists). l.double) ordinary-goal.floats ∙ double)) i) d (least doubled 1 refl out-fit.floats doubled (omega arith) e)
       by_kind once e i first double n d = true-false s.first_column c i.0.first
       by_kind topped e i first double n d = kept-by z t c first any tt d (two-less (way_floats o.state.floats) (way_floats s.floats) (credit kind) (o-way 1 0 (plus-zero (waiting_floats o.state.floats) (waiting_floats s.floats) (one-less (waiting_floats o.state.floats) (waiting_floats s.floats) (length s.floats.top + length s.floats.bottom) i.1 n))))
-      by_kind ready e i first double n d = true-false (Output.is_int f.penalty Output.clear_penalty) (well.ready (sym e)).0 (no-clear f.penalty h)
+      by_kind ready e i first double n d = true-false (Output.is_int f.penalty Asked.clear_penalty) (well.ready (sym e)).0 (no-clear f.penalty h)
       by_kind halted e i first double n d = true-false s.first_column c i.0.first
       by_kind clean e i first double n d = kept-by z t c first clean (subst NoneWait (sym ordinary-goal.floats) (none-left o.state.floats (subst (λ (x : ℕ). waiting_floats o.state.floats ≤ x) (none-count s.floats i) out-fit.floats))) d (least clean 0 refl out-fit.floats clean (omega arith) e)
       by_kind single e i first double n d = true-false s.two_columns t i

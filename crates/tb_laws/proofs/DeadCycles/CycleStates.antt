@@ -11,12 +11,13 @@ use Rattle.tb_param.specs.declared.Params.{Params}
 use Rattle.tb_param.specs.Release.{has_second}
 use Rattle.tb_float.specs.Lists.{FloatLists, wide_part}
 use Rattle.tb_float.specs.Rooms.{column_room_of}
-use Rattle.tb_column.specs.Column.{warned}
-use Rattle.tb_column.specs.declared.Warn.TheVariants as warnings
+use Rattle.tb_sheet.specs.Sheet.{warned}
+use Rattle.tb_sheet.specs.declared.Warn.TheVariants as warnings
 use Rattle.tb_laws.proofs.PageBreaks.FittingFired.{Fitted}
 use Rattle.tb_laws.proofs.PageBreaks.PausedPages.{Paused}
 use Rattle.tb_output.specs.State.{State, Work, footnotes}
 use Rattle.tb_output.specs.Output
+use Rattle.tb_sheet.specs.Asked
 use Rattle.tb_laws.proofs.Closed.Sorts.{sorts}
 use Rattle.tb_laws.proofs.DeadCycles.AgainLemmas.{Again, Idle}
 use Rattle.tb_laws.proofs.DeadCycles.WaitCosts.{wait_cost}
@@ -54,14 +55,14 @@ credit closed = 0
 pub record Once (p : Params) (s : State) : Type 0 where
   pub goal : s.goal ≡ p.textheight
   pub rest : List PlainNode
-  pub fit : Fitted eject_penalty (made whatsit ∷ made blank_box ∷ made (pen Output.clear_penalty) ∷ rest) s.waiting
+  pub fit : Fitted eject_penalty (made whatsit ∷ made blank_box ∷ made (pen Asked.clear_penalty) ∷ rest) s.waiting
 
 -- the next page fits up to a clear, and there are no footnotes
 pub record Ready (p : Params) (s : State) : Type 0 where
   pub goal : s.goal ≡ p.textheight
   pub void : footnotes s ≡ []
   pub rest : List PlainNode
-  pub fit : Fitted Output.clear_penalty rest s.waiting
+  pub fit : Fitted Asked.clear_penalty rest s.waiting
 
 -- the column that is made next is the second of two
 pub record IsSecond (s : State) : Type 0 where
@@ -130,7 +131,7 @@ pub record GoalOut (p : Params) (n : ℤ) (a b : Work) : Type 0 where
   pub back : b.put_back ≡ a.put_back ++ blanks
   pub idle : AllByRecursion Idle (sorts blanks)
   pub cost : wait_cost blanks ≡ 0
-  pub quiet : Output.is_int n Output.hold_penalty ≡ false → a.state.floats.top ≡ [] → a.state.floats.bottom ≡ [] → a.state.floats.double ≡ [] → (blanks ≡ []) × (b.state.goal ≡ p.textheight)
+  pub quiet : Output.is_int n Asked.hold_penalty ≡ false → a.state.floats.top ≡ [] → a.state.floats.bottom ≡ [] → a.state.floats.double ≡ [] → (blanks ≡ []) × (b.state.goal ≡ p.textheight)
 
 -- if no area has a float, all of the page is left, and that is enough
 full-room : (p : Params) (l : FloatLists) → l.top ≡ [] → l.bottom ≡ [] → l.double ≡ [] → column_room_of p l ≡ p.textheight
@@ -146,7 +147,7 @@ not-crowded : (p : Params) (r : ℤ) → r ≡ p.textheight → Output.is_crowde
 not-crowded p r e = and_right _ (int_lt r p.textheight) (grind (arith, ints, e))
 
 pub goal-out : (p : Params) (n : ℤ) (w : Work) → GoalOut p n w (Output.next_goal p n w)
-goal-out p n w = by_hold (Output.is_int n Output.hold_penalty) refl
+goal-out p n w = by_hold (Output.is_int n Asked.hold_penalty) refl
   where
     room : ℤ
     room = column_room_of p w.state.floats
@@ -154,7 +155,7 @@ goal-out p n w = by_hold (Output.is_int n Output.hold_penalty) refl
     told : Bool → Work
     told t = if t then w else record w { sent = w.sent ++ warned (warnings.Floats w.state.page) ∷ [] }
 
-    held : Output.is_int n Output.hold_penalty ≡ true → GoalOut p n w (Output.with_goal max_dimen w)
+    held : Output.is_int n Asked.hold_penalty ≡ true → GoalOut p n w (Output.with_goal max_dimen w)
     held h = record { refused = refl; floats = refl; columns = refl; first = refl; cycles = refl; boxes = refl; blanks = []; back = sym (append-nil w.put_back); idle = tt; cost = refl; quiet = λ k. let no : ⊥ = grind (arith, h, k) in absurd no }
 
     roomy : GoalOut p n w (Output.with_goal (column_room_of p w.state.floats) w)
@@ -176,6 +177,6 @@ goal-out p n w = by_hold (Output.is_int n Output.hold_penalty) refl
     by_crowd true e = crowded e
     by_crowd false e = roomy
 
-    by_hold : (t : Bool) → Output.is_int n Output.hold_penalty ≡ t → GoalOut p n w (if t then Output.with_goal max_dimen w else Output.goal_by p (column_room_of p w.state.floats) w)
+    by_hold : (t : Bool) → Output.is_int n Asked.hold_penalty ≡ t → GoalOut p n w (if t then Output.with_goal max_dimen w else Output.goal_by p (column_room_of p w.state.floats) w)
     by_hold true e = held e
     by_hold false e = by_crowd (Output.is_crowded p (column_room_of p w.state.floats)) refl

@@ -15,6 +15,7 @@ use Rattle.tb_column.specs.Column.{Notes}
 use Rattle.tb_output.specs.State.{State, Work, begun, footnotes, has_floats}
 use Rattle.tb_output.specs.Clear
 use Rattle.tb_output.specs.Output
+use Rattle.tb_sheet.specs.Asked
 use Rattle.tb_laws.proofs.Closed.Sorts.{Sort, clear, sorts}
 use Rattle.tb_laws.proofs.Closed.SortLemmas.{sorts-append}
 use Rattle.tb_laws.proofs.Closed.ClearedLists.{no-float}
@@ -76,7 +77,7 @@ module _ (p : Params) (m : ℕ) (s : State) (total a : ℕ) (kind : Kind) (phase
     (weight : total + 2 * way_floats s.floats + credit kind ≤ m + 2 * a)
     (bound : s.dead_cycles + total + 2 * way_floats s.floats + credit kind + phase_cost phase ≤ m + 2 + 2 * a)
     (well : FiresWell p s total a kind phase f)
-    (special : int_le eject_penalty f.penalty ≡ false) (clears : Output.is_int f.penalty Output.clear_penalty ≡ true) (void : footnotes (record s { boxes = f.boxes }) ≡ []) where
+    (special : int_le eject_penalty f.penalty ≡ false) (clears : Output.is_int f.penalty Asked.clear_penalty ≡ true) (void : footnotes (record s { boxes = f.boxes }) ≡ []) where
   abbrev w0 : Work
   w0 = begun (Output.after_page s f)
 
@@ -293,7 +294,7 @@ module _ (p : Params) (m : ℕ) (s : State) (total a : ℕ) (kind : Kind) (phase
       record {
         goal = (v-goal.quiet (clear-no-hold f.penalty clears) top bottom e).1;
         rest = tail;
-        fit = subst (Fitted eject_penalty (made whatsit ∷ made blank_box ∷ made (pen Output.clear_penalty) ∷ tail)) (sym waiting) ((well.blank clears void).1 tail).0;
+        fit = subst (Fitted eject_penalty (made whatsit ∷ made blank_box ∷ made (pen Asked.clear_penalty) ∷ tail)) (sym waiting) ((well.blank clears void).1 tail).0;
       },
     )
 
@@ -429,7 +430,7 @@ module _ (p : Params) (m : ℕ) (s : State) (total a : ℕ) (kind : Kind) (phase
   abbrev Result : Work → Type 0
   Result w = w.refused ≡ false → Bounded p m (Output.waiting_again f (Output.next_goal p f.penalty w)).state
 
-  at-clear : int_le eject_penalty f.penalty ≡ false → Output.is_int f.penalty Output.clear_penalty ≡ true → Result (Clear.clear p f.body started)
+  at-clear : int_le eject_penalty f.penalty ≡ false → Output.is_int f.penalty Asked.clear_penalty ≡ true → Result (Clear.clear p f.body started)
   at-clear h k = by_notes (footnotes (record s { boxes = f.boxes })) refl
     where
       by_notes : (o : List Notes) → footnotes (record s { boxes = f.boxes }) ≡ o → Result (Clear.clear_by p f.body started o)

@@ -7,7 +7,8 @@ use Rattle.tb_node.specs.declared.What.TheVariants as what
 use Rattle.tb_node.specs.PlainNodes.{hbox, rule, skip, kerned, pen, mark, note, whatsit, PlainKind, plain, ins, act, PlainNode, without_acts}
 use Rattle.tb_break.specs.PageTop.{pruned_nodes}
 use Rattle.tb_builder.specs.FiredPages.{with_spent_break}
-use Rattle.tb_output.specs.Output.{is_int, clear_penalty, par_penalty, vert_penalty, hold_penalty}
+use Rattle.tb_output.specs.Output.{is_int}
+use Rattle.tb_sheet.specs.Asked.{clear_penalty, par_penalty, vert_penalty, hold_penalty}
 use Rattle.tb_laws.proofs.Closed.Sorts.{light, pause, hold, serve, clear, odd, pen_sort}
 use Rattle.tb_laws.proofs.DeadCycles.WaitCosts.{sort_cost, kind_cost, wait_cost}
 

@@ -13,6 +13,7 @@ use Rattle.tb_output.specs.Columns
 use Rattle.tb_output.specs.Clear
 use Rattle.tb_output.specs.Text
 use Rattle.tb_output.specs.Output
+use Rattle.tb_sheet.specs.Asked
 use Rattle.tb_laws.proofs.Closed.Sorts.{Sort, hold, serve, clear, pen_sort, sorts}
 use Rattle.tb_laws.proofs.DeadCycles.AgainLemmas.{Again, Idle, left_after}
 use Rattle.tb_laws.proofs.DeadCycles.WaitCosts.{sort_cost, wait_cost}
@@ -34,8 +35,8 @@ use Rattle.tb_laws.proofs.DeadCycles.HighStates.{Stage, loose, guarded, cleared,
 pub record FiresHigh (p : Params) (s : State) (total n : ℕ) (stage : Stage) (f : Fired) : Type 0 where
   pub well : FiresWell p s total n any (phase_of stage) f
   pub spaced : Spaced true f.rest
-  pub behind : Output.is_int f.penalty Output.clear_penalty ≡ true → Spaced false f.rest
-  pub guard : stage ≡ guarded → Output.is_int f.penalty Output.clear_penalty ≡ true → footnotes (record s { boxes = f.boxes }) ≡ [] → ⊥
+  pub behind : Output.is_int f.penalty Asked.clear_penalty ≡ true → Spaced false f.rest
+  pub guard : stage ≡ guarded → Output.is_int f.penalty Asked.clear_penalty ≡ true → footnotes (record s { boxes = f.boxes }) ≡ [] → ⊥
 
 again-spaced : (b : Bool) → Spaced b Clear.clear_again
 again-spaced b = (tt, (λ h. cc, (tt, (tt, (λ h. refl, tt)))))
@@ -203,7 +204,7 @@ module _ (p : Params) (m : ℕ) (s : State) (total a : ℕ) (stage : Stage) (f :
 
   -- ---- a clear
 
-  module _ (special : int_le eject_penalty f.penalty ≡ false) (clears : Output.is_int f.penalty Output.clear_penalty ≡ true) where
+  module _ (special : int_le eject_penalty f.penalty ≡ false) (clears : Output.is_int f.penalty Asked.clear_penalty ≡ true) where
     abbrev d : ℕ
     d = left_after a clear
 

@@ -5,7 +5,8 @@ use Rattle.std.proofs.lemmas.List.{append-nil}
 use Rattle.tb_node.specs.PlainNodes.{hbox, rule, skip, kerned, pen, mark, note, whatsit, PlainKind, plain, ins, act, PlainNode, without_acts}
 use Rattle.tb_break.specs.PageTop.{pruned_nodes}
 use Rattle.tb_builder.specs.FiredPages.{with_spent_break, penalty_at}
-use Rattle.tb_output.specs.Output.{is_int, clear_penalty}
+use Rattle.tb_output.specs.Output.{is_int}
+use Rattle.tb_sheet.specs.Asked.{clear_penalty}
 use Rattle.tb_laws.proofs.DeadCycles.WaitCosts.{kind_cost, wait_cost}
 use Rattle.tb_laws.proofs.DeadCycles.EndedLemmas.{EndsAt, ends-looser, free-kind}
 

@@ -16,9 +16,10 @@ use Rattle.tb_float.specs.Rooms.{column_height_of}
 use Rattle.tb_fpage.specs.Company.{Choice, company, chosen_floats, left_floats}
 use Rattle.tb_area.specs.Area.{next_place, double_place, current_place}
 use Rattle.tb_margin.specs.declared.Placed.{Placed}
-use Rattle.tb_column.specs.Column.{PlainColumn, PlainSheet, one, wide, PlainSent, warned, shipped, text_column, single_floats_column, wide_floats_column, pair_sheet, floats_above}
-use Rattle.tb_column.specs.declared.Warn.{Warn}
-use Rattle.tb_column.specs.declared.Warn.TheVariants as warnings
+use Rattle.tb_column.specs.Column.{PlainColumn, text_column, single_floats_column, wide_floats_column, floats_above}
+use Rattle.tb_sheet.specs.Sheet.{PlainSheet, one, wide, PlainSent, warned, shipped, pair_sheet}
+use Rattle.tb_sheet.specs.declared.Warn.{Warn}
+use Rattle.tb_sheet.specs.declared.Warn.TheVariants as warnings
 use Rattle.tb_output.specs.State.{Work, Recorded, placed, output, sends, records_also, with_floats, footnotes}
 use Rattle.tb_output.specs.FloatMoves
 use Rattle.tb_output.specs.Pages
@@ -27,7 +28,8 @@ use Rattle.tb_output.specs.Text
 use Rattle.tb_laws.proofs.NothingLost.StateWeights.{ColumnsFit, first-left, one-left}
 use Rattle.tb_laws.proofs.Closed.Closings.{never}
 use Rattle.tb_column.proofs.Within.{Within, itself, within-same, within-within, both-within, within-front, within-end}
-use Rattle.tb_column.proofs.PrintedLines.{prints, sheet_prints, sent_prints, left_prints, sent-append, AllPlain, SheetPlain, SentPlain, LeftPlain, sent-plain, above-plain, text-plain, text-prints, floats-plain}
+use Rattle.tb_column.proofs.PrintedLines.{prints, left_prints, AllPlain, LeftPlain, above-plain, text-plain, text-prints, floats-plain}
+use Rattle.tb_sheet.proofs.PrintedSheets.{sheet_prints, sent_prints, sent-append, SheetPlain, SentPlain, sent-plain}
 
 -- what is sent and the column that is kept
 abbrev pub shown : Work → List ℕ

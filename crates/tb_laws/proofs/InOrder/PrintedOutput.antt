@@ -11,14 +11,16 @@ use Rattle.tb_break.specs.PageTop.{pruned_nodes}
 use Rattle.tb_builder.specs.FiredPages.{Fired, spent_kind, with_spent_break}
 use Rattle.tb_builder.proofs.Cutting.CutLemmas.{AllCalm, AllFree, ActFree}
 use Rattle.tb_float.specs.Rooms.{column_room_of}
-use Rattle.tb_column.specs.Column.{Notes, warned}
-use Rattle.tb_column.specs.declared.Warn.TheVariants as warnings
+use Rattle.tb_column.specs.Column.{Notes}
+use Rattle.tb_sheet.specs.Sheet.{warned}
+use Rattle.tb_sheet.specs.declared.Warn.TheVariants as warnings
 use Rattle.tb_output.specs.State.{State, Work, begun, puts, sends, with_floats, footnotes, has_floats}
 use Rattle.tb_output.specs.Pages
 use Rattle.tb_output.specs.Columns
 use Rattle.tb_output.specs.Text
 use Rattle.tb_output.specs.Clear
 use Rattle.tb_output.specs.Output
+use Rattle.tb_sheet.specs.Asked
 use Rattle.tb_laws.proofs.NothingLost.StateWeights.{Paired}
 use Rattle.tb_laws.proofs.Closed.Sorts.{sorts-calm, seen_all}
 use Rattle.tb_laws.proofs.Closed.SortLemmas.{none, one, BreakStands, pen_sort, sorts}
@@ -28,7 +30,8 @@ use Rattle.tb_laws.proofs.DeadCycles.BoxesFirst.{HasReal, one-unreal, unreal-qui
 use Rattle.tb_laws.proofs.Closed.SparedLists.{ordinary-takes}
 use Rattle.tb_laws.proofs.Closed.ServedLists.{float_or_note-serves}
 use Rattle.tb_column.proofs.Within.{Within, itself, within-same, within-within, both-within, within-front, before-within}
-use Rattle.tb_column.proofs.PrintedLines.{printed, prints, left_prints, sent_prints, prints-append, AllPlain, body-plain, plain-both}
+use Rattle.tb_column.proofs.PrintedLines.{printed, prints, left_prints, prints-append, AllPlain, body-plain, plain-both}
+use Rattle.tb_sheet.proofs.PrintedSheets.{sent_prints}
 use Rattle.tb_laws.proofs.InOrder.PrintedFirings.{shown, Fits, WorkPlain, Prints, then_kept, fewer, prints_if, same, unchanged, warns-prints, all_wide-prints, put_out_text-prints, float_columns-prints, ordinary-prints, float_or_note-prints}
 
 -- ---- what the steps of a page show
@@ -148,7 +151,7 @@ module _ (p : Params) (calm : int_le p.interlinepenalty eject_penalty ≡ false)
       by_held true e = shows-none (Columns.ordinary p f.body w) (fewer [] (prints f.body) w (Columns.ordinary p f.body w) tt (ordinary-prints p f.body w plain_body fits)) (no-body (unreal e)) (subst (λ l. Within (prints w.state.held_page) (prints l ++ prints (Columns.ordinary p f.body w).put_back)) (sym (ordinary-takes p f.body w).page) (within-front (prints w.state.held_page) (prints (Columns.ordinary p f.body w).put_back)))
       by_held false e = shows-all (prints f.body) (Columns.ordinary p f.body w) (ordinary-prints p f.body w plain_body fits) (within-same ((shown w ++ prints w.state.held_page) ++ prints f.body) (shown w ++ prints f.body) (ap (λ l. (shown w ++ l) ++ prints f.body) (no-page e) ∙ ap (λ l. l ++ prints f.body) (append-nil (shown w))))
 
-  hold-reads : int_le eject_penalty f.penalty ≡ false → Output.is_int f.penalty Output.clear_penalty ≡ false → (Output.is_int f.penalty Output.par_penalty || Output.is_int f.penalty Output.vert_penalty) ≡ false → Reads f w (Output.hold f.body w)
+  hold-reads : int_le eject_penalty f.penalty ≡ false → Output.is_int f.penalty Asked.clear_penalty ≡ false → (Output.is_int f.penalty Asked.par_penalty || Output.is_int f.penalty Asked.vert_penalty) ≡ false → Reads f w (Output.hold f.body w)
   hold-reads h k l = at-hold (Reads f w (Output.hold f.body w)) (BreakStands b (seen_all none (sorts before)) f.rest) f.penalty h k l (λ x. held x.0) (λ x. absurd x) stands
     where
       held : b ≡ false → Reads f w (Output.hold f.body w)
@@ -159,7 +162,7 @@ module _ (p : Params) (calm : int_le p.interlinepenalty eject_penalty ≡ false)
         plain = λ h. h;
       }
 
-  serve-reads : (vert : Bool) → int_le eject_penalty f.penalty ≡ false → Output.is_int f.penalty Output.clear_penalty ≡ false → (Output.is_int f.penalty Output.par_penalty || Output.is_int f.penalty Output.vert_penalty) ≡ true → Reads f w (Text.float_or_note p vert f.body w)
+  serve-reads : (vert : Bool) → int_le eject_penalty f.penalty ≡ false → Output.is_int f.penalty Asked.clear_penalty ≡ false → (Output.is_int f.penalty Asked.par_penalty || Output.is_int f.penalty Asked.vert_penalty) ≡ true → Reads f w (Text.float_or_note p vert f.body w)
   serve-reads vert h k l = at-serve (Reads f w (Text.float_or_note p vert f.body w)) (BreakStands b (seen_all none (sorts before)) f.rest) f.penalty h k l (λ x. served x.0) stands
     where
       back : (c : Work) (ms ns : List PlainNode) → c.put_back ≡ (w.state.held_page ++ ms) ++ ns → Within (prints w.state.held_page) (prints c.state.held_page ++ prints c.put_back)
@@ -171,14 +174,14 @@ module _ (p : Params) (calm : int_le p.interlinepenalty eject_penalty ≡ false)
           let y = float_or_note-serves p calm vert f.body w paired in
           shows-none c (float_or_note-prints p vert f.body w) (one-body e) (back c (Text.without_firing_box f.body) y.ns (y.back ∙ ap (λ l. l ++ ((w.state.held_page ++ Text.without_firing_box f.body) ++ y.ns)) begun))
 
-  clear-reads : int_le eject_penalty f.penalty ≡ false → Output.is_int f.penalty Output.clear_penalty ≡ true → Reads f w (Clear.clear p f.body w)
+  clear-reads : int_le eject_penalty f.penalty ≡ false → Output.is_int f.penalty Asked.clear_penalty ≡ true → Reads f w (Clear.clear p f.body w)
   clear-reads h k = at-clear (Reads f w (Clear.clear p f.body w)) (BreakStands b (seen_all none (sorts before)) f.rest) f.penalty h k (λ x. cleared x.0 x.1) stands
     where
       cleared : seen_all none (sorts before) ≡ one → b ≡ false → Reads f w (Clear.clear p f.body w)
       cleared e g = shows-none (Clear.clear p f.body w) (clear_by-prints p f.body w (footnotes w.state) plain_body fits) (one-body e) (subst (λ l. Within l (prints (Clear.clear p f.body w).state.held_page ++ prints (Clear.clear p f.body w).put_back)) (sym (no-page g)) tt)
 
   pub output-reads : Reads f w (Output.output_by p f w)
-  output-reads = by_penalty (int_le eject_penalty f.penalty) (Output.is_int f.penalty Output.clear_penalty) (Output.is_int f.penalty Output.par_penalty) (Output.is_int f.penalty Output.vert_penalty) ordinary-reads clear-reads (serve-reads false) (serve-reads true) hold-reads
+  output-reads = by_penalty (int_le eject_penalty f.penalty) (Output.is_int f.penalty Asked.clear_penalty) (Output.is_int f.penalty Asked.par_penalty) (Output.is_int f.penalty Asked.vert_penalty) ordinary-reads clear-reads (serve-reads false) (serve-reads true) hold-reads
     where
       by_penalty : (t c x y : Bool) → Reads f w (Columns.ordinary p f.body w) → (t ≡ false → c ≡ true → Reads f w (Clear.clear p f.body w)) → (t ≡ false → c ≡ false → (x || y) ≡ true → Reads f w (Text.float_or_note p false f.body w)) → (t ≡ false → c ≡ false → (x || y) ≡ true → Reads f w (Text.float_or_note p true f.body w)) → (t ≡ false → c ≡ false → (x || y) ≡ false → Reads f w (Output.hold f.body w)) → Reads f w (if t then Columns.ordinary p f.body w else (if c then Clear.clear p f.body w else (if x then Text.float_or_note p false f.body w else (if y then Text.float_or_note p true f.body w else Output.hold f.body w))))
       by_penalty true c x y h i j k l = h
@@ -205,7 +208,7 @@ with_goal-tells g w = record { prints_on = same w (Output.with_goal g w) refl re
 
 goal-tells : (p : Params) (n : ℤ) (w : Work) → Tells w (Output.next_goal p n w)
 goal-tells p n w =
-    tells_if w (Output.is_int n Output.hold_penalty) (Output.with_goal max_dimen w) (Output.goal_by p (column_room_of p w.state.floats) w) (with_goal-tells max_dimen w)
+    tells_if w (Output.is_int n Asked.hold_penalty) (Output.with_goal max_dimen w) (Output.goal_by p (column_room_of p w.state.floats) w) (with_goal-tells max_dimen w)
     (tells_if w (Output.is_crowded p (column_room_of p w.state.floats)) (Output.leave_column w) (Output.with_goal (column_room_of p w.state.floats) w) crowded (with_goal-tells (column_room_of p w.state.floats) w))
   where
     blank : List PlainNode

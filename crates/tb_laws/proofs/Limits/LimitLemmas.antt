@@ -7,7 +7,7 @@ use Rattle.tb_param.specs.declared.Params.{Params}
 use Rattle.tb_builder.specs.FiredPages.{Fired}
 use Rattle.tb_float.specs.Rooms.{column_height_of}
 use Rattle.tb_area.specs.Laws.{KeepsLimits}
-use Rattle.tb_column.specs.Column.{PlainSheet, PlainSent, warned, shipped}
+use Rattle.tb_sheet.specs.Sheet.{PlainSheet, PlainSent, warned, shipped}
 use Rattle.tb_output.specs.State.{State, Work, Recorded, placed, output, emptied, sends, records_also}
 use Rattle.tb_output.specs.Pages
 use Rattle.tb_output.specs.Output

@@ -16,7 +16,8 @@ use Rattle.tb_float.specs.Lists.{FloatLists, floats_of, with_floats_of, IsWaitin
 use Rattle.tb_float.proofs.WaitingLemmas.{wide-waits}
 use Rattle.tb_float.specs.Rooms.{column_height_of}
 use Rattle.tb_fpage.specs.Company.{Choice, company, chosen_floats, left_floats}
-use Rattle.tb_column.specs.Column.{Notes, PlainColumn, PlainSheet, shipped, one, wide, floats_above, text_column, pair_sheet, single_floats_column, wide_floats_column}
+use Rattle.tb_column.specs.Column.{Notes, PlainColumn, floats_above, text_column, single_floats_column, wide_floats_column}
+use Rattle.tb_sheet.specs.Sheet.{PlainSheet, shipped, one, wide, pair_sheet}
 use Rattle.tb_output.specs.State.{Work, output, records_also, with_floats, with_notes, notes_in, footnotes}
 use Rattle.tb_output.specs.Pages
 use Rattle.tb_output.specs.Columns

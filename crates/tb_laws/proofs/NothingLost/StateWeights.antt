@@ -11,10 +11,11 @@ use Rattle.tb_builder.proofs.FiredPages.PageWeights.{boxes_weight, hits}
 use Rattle.tb_float.specs.declared.Entry.{Entry}
 use Rattle.tb_float.specs.declared.Entry.TheVariants as entries
 use Rattle.tb_float.specs.Lists.{FloatLists}
-use Rattle.tb_column.specs.Column.{PlainColumn, PlainSheet, warned, shipped}
-use Rattle.tb_column.specs.declared.Warn.{Warn}
-pub use Rattle.tb_column.proofs.PrintedLines.{sheet_weight, sent_weight}
-use Rattle.tb_column.proofs.PrintedLines.{sent_weight-append}
+use Rattle.tb_column.specs.Column.{PlainColumn}
+use Rattle.tb_sheet.specs.Sheet.{PlainSheet, warned, shipped}
+use Rattle.tb_sheet.specs.declared.Warn.{Warn}
+pub use Rattle.tb_sheet.proofs.PrintedSheets.{sheet_weight, sent_weight}
+use Rattle.tb_sheet.proofs.PrintedSheets.{sent_weight-append}
 use Rattle.tb_output.specs.State.{State, Work, Recorded, puts, sends, records_also}
 use Rattle.tb_output.specs.Pages
 

@@ -14,14 +14,16 @@ use Rattle.tb_float.specs.declared.Part.TheVariants as parts
 use Rattle.tb_float.specs.Lists.{FloatLists, floats_of, IsWaiting, wide_part, wide_waiting}
 use Rattle.tb_float.proofs.WaitingLemmas.{wide-waits}
 use Rattle.tb_float.specs.Rooms.{column_room_of}
-use Rattle.tb_column.specs.Column.{Notes, warned}
-use Rattle.tb_column.specs.declared.Warn.TheVariants as warnings
+use Rattle.tb_column.specs.Column.{Notes}
+use Rattle.tb_sheet.specs.Sheet.{warned}
+use Rattle.tb_sheet.specs.declared.Warn.TheVariants as warnings
 use Rattle.tb_output.specs.State.{State, Work, begun, puts, sends, with_floats, footnotes, has_floats}
 use Rattle.tb_output.specs.Pages
 use Rattle.tb_output.specs.Columns
 use Rattle.tb_output.specs.Text
 use Rattle.tb_output.specs.Clear
 use Rattle.tb_output.specs.Output
+use Rattle.tb_sheet.specs.Asked
 use Rattle.tb_laws.proofs.NothingLost.StateWeights.{floats_weight, lists_weight, left_weight, state_weight, sent_weight, work_weight, floats-append, Sound, Adds, then_kept, adds_if, unchanged, puts-adds, warns-adds}
 use Rattle.tb_laws.proofs.NothingLost.FloatWeights.{lists-adds, paired-with, lists-with}
 use Rattle.tb_laws.proofs.NothingLost.PutOutWeights.{all_wide-adds, put_out_text-adds, float_columns-adds, ordinary-adds}
@@ -109,7 +111,7 @@ clear_by-adds v p body w (n ∷ notes) h =
 -- ---- a firing
 
 goal-adds : (v : Weight) (p : Params) (n : ℤ) (w : Work) → Adds v 0 w (Output.next_goal p n w)
-goal-adds v p n w = adds_if v 0 w (Output.is_int n Output.hold_penalty) (Output.with_goal max_dimen w) (Output.goal_by p room w) (goal max_dimen) (adds_if v 0 w (Output.is_crowded p room) (Output.leave_column w) (Output.with_goal room w) crowded (goal room))
+goal-adds v p n w = adds_if v 0 w (Output.is_int n Asked.hold_penalty) (Output.with_goal max_dimen w) (Output.goal_by p room w) (goal max_dimen) (adds_if v 0 w (Output.is_crowded p room) (Output.leave_column w) (Output.with_goal room w) crowded (goal room))
   where
     room : ℤ
     room = column_room_of p w.state.floats
@@ -129,7 +131,7 @@ goal-adds v p n w = adds_if v 0 w (Output.is_int n Output.hold_penalty) (Output.
 
 -- the break is that of a clear, of a float or of a note
 abbrev pub is_serving : ℤ → Bool
-is_serving n = Output.is_int n Output.clear_penalty || (Output.is_int n Output.par_penalty || Output.is_int n Output.vert_penalty)
+is_serving n = Output.is_int n Asked.clear_penalty || (Output.is_int n Asked.par_penalty || Output.is_int n Asked.vert_penalty)
 
 -- what has to weigh nothing at a firing, by the penalty of its break: the page's list at a clear, a float or a note, and the held page if it is replaced
 pub record Careful (v : Weight) (held : List PlainNode) (f : Fired) : Type 0 where
@@ -146,7 +148,7 @@ serve-adds v p vert body w h =
     none a b c e h = omega arith
 
 output-adds : (v : Weight) (p : Params) (f : Fired) (w : Work) → Careful v w.state.held_page f → Adds v (nodes_weight v f.body) w (Output.output_by p f w)
-output-adds v p f w h = by_penalty (int_le eject_penalty f.penalty) (Output.is_int f.penalty Output.clear_penalty) (Output.is_int f.penalty Output.par_penalty) (Output.is_int f.penalty Output.vert_penalty) h.list h.page
+output-adds v p f w h = by_penalty (int_le eject_penalty f.penalty) (Output.is_int f.penalty Asked.clear_penalty) (Output.is_int f.penalty Asked.par_penalty) (Output.is_int f.penalty Asked.vert_penalty) h.list h.page
   where
     held : nodes_weight v w.state.held_page ≡ 0 → Adds v (nodes_weight v f.body) w (Output.hold f.body w)
     held e = record { waits = refl; classes = refl; goes = λ r. r; by = λ r s. (record { box = s.box; columns = s.columns; entries = s.entries }, omega (arith, e)) }

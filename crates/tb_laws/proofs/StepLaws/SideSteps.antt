@@ -17,7 +17,8 @@ use Rattle.tb_float.proofs.WaitingLemmas.{wide-waits}
 use Rattle.tb_fpage.specs.Company.{Choice, company, chosen_floats, left_floats}
 use Rattle.tb_fpage.proofs.FirstLemmas.{company-leaves}
 use Rattle.tb_area.specs.Area
-use Rattle.tb_column.specs.Column.{Notes, PlainColumn, PlainSheet, one, pair_sheet, text_column, single_floats_column, wide, wide_floats_column}
+use Rattle.tb_column.specs.Column.{Notes, PlainColumn, text_column, single_floats_column, wide_floats_column}
+use Rattle.tb_sheet.specs.Sheet.{PlainSheet, one, pair_sheet, wide}
 use Rattle.tb_output.specs.State.{Work, Recorded, output, records_also, with_floats, footnotes, puts, has_floats}
 use Rattle.tb_output.specs.FloatMoves
 use Rattle.tb_output.specs.Pages

@@ -7,8 +7,8 @@ use Rattle.tb_builder.specs.declared.Event.TheVariants as events
 use Rattle.tb_builder.specs.declared.Page.{Page}
 use Rattle.tb_builder.specs.declared.Try.{Try}
 use Rattle.tb_builder.specs.PageCalls.{IsNext, PassedOver, ComesBy}
-use Rattle.tb_run.specs.declared.happenings.Happening.{Happening}
-use Rattle.tb_run.specs.Happenings.{noted_try}
+use Rattle.tb_items.specs.declared.happenings.Happening.{Happening}
+use Rattle.tb_items.specs.Happenings.{noted_try}
 use Rattle.tb_plain.specs.MakeupCalls.{IsTake, CanAct, HasActed}
 use Rattle.tb_makeup.specs.declared.makeup.Makeup.{Makeup}
 use Rattle.tb_makeup.specs.Makeup.{IsReady}

@@ -1,7 +1,7 @@
 -- The run from a state by its first step.
 use Rattle.std.proofs.Common.{◌≡◌, refl, sym, ◌∙◌, ap, ℕ, suc, ◌+◌, ◌≤◌, List, ◌++◌, append_assoc, arith}
 use Rattle.tb_param.specs.declared.Params.{Params}
-use Rattle.tb_column.specs.Column.{PlainSent}
+use Rattle.tb_sheet.specs.Sheet.{PlainSent}
 use Rattle.tb_plain.specs.Run.{MakeupEvent, MakeupRun, MakeupState, MakeupEnd, ends, goes_on, makeup_step, step_tries, step_events, makeup_from, steps_left, run_after, run_by}
 use Rattle.tb_plain.proofs.StepLemmas.{steps_agree}
 use Rattle.tb_makeup.specs.Makeup.{run_at}

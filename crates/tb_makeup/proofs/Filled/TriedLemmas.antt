@@ -11,13 +11,12 @@ use Rattle.tb_break.proofs.BestLemmas.{least-append}
 use Rattle.tb_builder.specs.declared.Try.{Try}
 use Rattle.tb_builder.specs.Reach.{Reached, acted, tried, breakpoints, try_of}
 use Rattle.tb_builder.proofs.Events.SoFarLemmas.{AllTried}
-use Rattle.tb_column.specs.Column.{PlainSent}
-use Rattle.tb_run.specs.declared.happenings.Happening.{Happening}
-use Rattle.tb_run.specs.declared.happenings.Happening.TheVariants as happenings
-use Rattle.tb_run.specs.Run.{RunEvent, sent}
-use Rattle.tb_run.specs.Happenings.{events_of, noted_try, noted, happened_lists}
-use Rattle.tb_run.specs.Routine.{ArePages}
-use Rattle.tb_run.proofs.Turns.HappenedLemmas.{noted-append}
+use Rattle.tb_sheet.specs.Sheet.{PlainSent}
+use Rattle.tb_items.specs.declared.happenings.Happening.{Happening}
+use Rattle.tb_items.specs.declared.happenings.Happening.TheVariants as happenings
+use Rattle.tb_items.specs.RunEvents.{RunEvent, sent}
+use Rattle.tb_items.specs.Happenings.{events_of, noted_try, noted, happened_lists, ArePages}
+use Rattle.tb_items.proofs.HappenedLemmas.{noted-append}
 use Rattle.tb_plain.specs.Run.{MakeupEvent, offers, sends, sent_among, try_events, step_events, tries_first}
 use Rattle.tb_plain.proofs.SentLemmas.{among-append, among-step}
 use Rattle.tb_makeup.specs.Makeup.{run_event, run_events}

@@ -35,8 +35,8 @@ use Rattle.tb_builder.proofs.Ownership.StoreSized.{list-back, list-length}
 use Rattle.tb_builder.proofs.Events.PagingLemmas.{calls_left}
 use Rattle.tb_builder.proofs.Events.WholeLemmas.{IsMatterKind, AreMatter}
 use Rattle.tb_column.specs.Page.{is_leaf_kind, AreLeaves}
-use Rattle.tb_run.specs.declared.happenings.Happening.{Happening}
-use Rattle.tb_run.specs.Happenings.{noted_try}
+use Rattle.tb_items.specs.declared.happenings.Happening.{Happening}
+use Rattle.tb_items.specs.Happenings.{noted_try}
 use Rattle.tb_plain.specs.declared.Plain.{Plain}
 use Rattle.tb_plain.specs.TakenFloats.{act_nodes}
 use Rattle.tb_plain.specs.Run.{MakeupState, try_events, step_tries, step_events, run_after, firing_step, builder_holds, makeup_ask, makeup_classes, act_count, ejecting_nodes, waiting_after}

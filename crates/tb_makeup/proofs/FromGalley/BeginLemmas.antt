@@ -7,7 +7,7 @@ use Rattle.tb_param.specs.declared.Params.{Params}
 use Rattle.tb_builder.specs.declared.Ask.{Ask}
 use Rattle.tb_builder.specs.declared.Builder.{Builder}
 use Rattle.tb_builder.specs.Contents.{Contents, contents_of, nothing_yet}
-use Rattle.tb_run.specs.WaitingNodes.{Waits}
+use Rattle.tb_items.specs.WaitingNodes.{Waits}
 use Rattle.tb_plain.specs.declared.Plain.{Plain}
 use Rattle.tb_plain.specs.MakeupCalls.{IsPlain}
 use Rattle.tb_plain.specs.Run.{makeup_ask, makeup_classes, builder_holds, act_count, first_makeup}

@@ -12,8 +12,8 @@ use Rattle.tb_galley.specs.declared.ItemKind.{ItemKind}
 use Rattle.tb_galley.specs.declared.ItemKind.TheVariants as items
 use Rattle.tb_galley.specs.declared.Galley.{Galley}
 use Rattle.tb_galley.specs.GalleyNodes.{item_kinds}
-use Rattle.tb_run.specs.WaitingNodes.{Waits}
-use Rattle.tb_run.proofs.FromGalley.WaitsLemmas.{waits-then}
+use Rattle.tb_items.specs.WaitingNodes.{Waits}
+use Rattle.tb_items.proofs.WaitsLemmas.{waits-then}
 use Rattle.tb_plain.specs.GalleyNodes.{clearing_kinds, makeup_kinds, makeup_nodes, made_up}
 use Rattle.tb_plain.specs.Run.{act_count}
 use Rattle.tb_plain.proofs.StepLemmas.{acts-append}

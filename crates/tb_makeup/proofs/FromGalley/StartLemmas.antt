@@ -24,12 +24,12 @@ use Rattle.tb_galley.specs.declared.ItemKind.TheVariants as items
 use Rattle.tb_galley.specs.declared.Galley.{Galley}
 use Rattle.tb_galley.specs.GalleyNodes.{plain_leaf, with_firings, item_kinds, item_nodes, two_after}
 use Rattle.tb_galley.specs.Valid.{weight_of, weight, IsValid}
-use Rattle.tb_run.specs.WaitingNodes.{IsItem, AreItems}
-use Rattle.tb_run.specs.GalleyNodes.{IsGalleyNode, AreFootParams}
-use Rattle.tb_run.specs.Run.{classes_of}
-use Rattle.tb_run.proofs.FromGalley.GalleyItems.{galley-items, most}
-use Rattle.tb_run.proofs.FromGalley.GalleyNodeLemmas.{galley-nodes}
-use Rattle.tb_run.proofs.FromGalley.ItemLemmas.{expanded-is}
+use Rattle.tb_items.specs.WaitingNodes.{IsItem, AreItems}
+use Rattle.tb_items.specs.GalleyNodes.{IsGalleyNode, AreFootParams}
+use Rattle.tb_items.specs.Classes.{classes_of}
+use Rattle.tb_items.proofs.GalleyItems.{galley-items, most}
+use Rattle.tb_items.proofs.GalleyNodeLemmas.{galley-nodes}
+use Rattle.tb_items.proofs.ItemLemmas.{expanded-is}
 use Rattle.tb_plain.specs.GalleyNodes.{clearing_kinds, makeup_kinds, makeup_nodes, made_up}
 use Rattle.tb_plain.specs.Suitability.{is_suited, unsuited_among, IsSuited}
 use Rattle.tb_plain.specs.Run.{act_count, makeup_classes, first_makeup}

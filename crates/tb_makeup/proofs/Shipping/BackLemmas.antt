@@ -17,7 +17,7 @@ use Rattle.tb_builder.specs.Courses.{IsSound}
 use Rattle.tb_builder.specs.Contributions.{ListJoins}
 use Rattle.tb_builder.proofs.Ownership.FrameLemmas.{frame_owned, frame_contents, frame_sound}
 use Rattle.tb_builder.proofs.Ownership.OwnedLemmas.{AllSame}
-use Rattle.tb_run.proofs.Turns.WholeLemmas.{closed-other, all-other}
+use Rattle.tb_items.proofs.ClosedLists.{closed-other, all-other}
 use Rattle.tb_plain.specs.Firing.{holds_any, page_for_held, put_back_after}
 
 -- ---- no insertions

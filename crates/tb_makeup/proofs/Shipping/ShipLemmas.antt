@@ -17,20 +17,19 @@ use Rattle.tb_builder.specs.Courses.{IsSound}
 use Rattle.tb_builder.specs.Contributions.{NoPage, with_void}
 use Rattle.tb_builder.proofs.Ownership.FrameLemmas.{frame_sound, live_all_same}
 use Rattle.tb_builder.proofs.Ownership.OwnedLemmas.{lacks-append}
-use Rattle.tb_column.specs.declared.Sent.TheVariants as sents
-use Rattle.tb_column.specs.declared.Sheet.TheVariants as sheets
-use Rattle.tb_column.specs.Column.{shipped, one}
+use Rattle.tb_sheet.specs.declared.Sent.TheVariants as sents
+use Rattle.tb_sheet.specs.declared.Sheet.TheVariants as sheets
+use Rattle.tb_sheet.specs.Sheet.{shipped, one}
 use Rattle.tb_column.specs.Notes.{AreDistinct}
-use Rattle.tb_output.specs.Firing.{builder_lists}
-use Rattle.tb_output.specs.MachineFrame.{AreNoneOf}
-use Rattle.tb_output.proofs.FiringWork.ApartLemmas.{lacks-none}
-use Rattle.tb_output.proofs.FiringWork.StandLemmas.{column-stands, column-shows}
-use Rattle.tb_run.specs.declared.happenings.Happening.{Happening}
-use Rattle.tb_run.specs.declared.happenings.Happening.TheVariants as happenings
-use Rattle.tb_run.specs.Run.{sent}
-use Rattle.tb_run.specs.Happenings.{events_of, happened_lists}
-use Rattle.tb_run.specs.Routine.{IsPage, ArePages}
-use Rattle.tb_run.proofs.Turns.HappenedLemmas.{lists-append, events-append}
+use Rattle.tb_builder.specs.BuilderLists.{builder_lists}
+use Rattle.tb_sheet.specs.ApartLists.{AreNoneOf}
+use Rattle.tb_builder.proofs.Ownership.LackLemmas.{lacks-none}
+use Rattle.tb_sheet.proofs.StandLemmas.{column-stands, column-shows}
+use Rattle.tb_items.specs.declared.happenings.Happening.{Happening}
+use Rattle.tb_items.specs.declared.happenings.Happening.TheVariants as happenings
+use Rattle.tb_items.specs.RunEvents.{sent}
+use Rattle.tb_items.specs.Happenings.{events_of, happened_lists, IsPage, ArePages}
+use Rattle.tb_items.proofs.HappenedLemmas.{lists-append, events-append}
 use Rattle.tb_plain.specs.declared.Plain.{Plain}
 use Rattle.tb_plain.specs.declared.PlainPage.{PlainPage}
 use Rattle.tb_plain.specs.MakeupCalls.{CanFire, HasFired, fired_with}

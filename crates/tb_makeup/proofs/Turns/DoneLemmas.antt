@@ -4,9 +4,9 @@ use Rattle.std.specs.FinMap.{get}
 use Rattle.tb_pool.specs.Lists.{Lists}
 use Rattle.tb_pool.specs.Frame.{IsNoneOf}
 use Rattle.tb_node.specs.declared.Node.{Node}
-use Rattle.tb_run.specs.declared.happenings.Happening.{Happening}
-use Rattle.tb_run.specs.Happenings.{happened_lists}
-use Rattle.tb_run.proofs.Turns.WholeLemmas.{closed-contents, closed-sound}
+use Rattle.tb_items.specs.declared.happenings.Happening.{Happening}
+use Rattle.tb_items.specs.Happenings.{happened_lists}
+use Rattle.tb_items.proofs.ClosedLists.{closed-contents, closed-sound}
 use Rattle.tb_plain.specs.Run.{builder_holds}
 use Rattle.tb_makeup.specs.declared.makeup.Makeup.{Makeup}
 use Rattle.tb_makeup.specs.Makeup.{held_in, state_of, AreRunNodes, Phase, IsBounded, unsaid_nodes, IsReady, AreHappened}

@@ -5,14 +5,13 @@ use Rattle.tb_pool.specs.Lists.{IsLive}
 use Rattle.tb_builder.specs.declared.Page.{Page}
 use Rattle.tb_builder.specs.Contents.{Contents, node_count, box_count}
 use Rattle.tb_builder.specs.Contributions.{with_void}
-use Rattle.tb_column.specs.Column.{PlainSent, shipped, one}
+use Rattle.tb_sheet.specs.Sheet.{PlainSent, shipped, one}
 use Rattle.tb_column.specs.Notes.{AreDistinct}
-use Rattle.tb_output.specs.Firing.{builder_lists}
-use Rattle.tb_output.specs.MachineFrame.{AreNoneOf}
-use Rattle.tb_run.specs.declared.happenings.Happening.{Happening}
-use Rattle.tb_run.specs.Run.{sent}
-use Rattle.tb_run.specs.Happenings.{events_of, noted, happened_lists}
-use Rattle.tb_run.specs.Routine.{ArePages}
+use Rattle.tb_builder.specs.BuilderLists.{builder_lists}
+use Rattle.tb_sheet.specs.ApartLists.{AreNoneOf}
+use Rattle.tb_items.specs.declared.happenings.Happening.{Happening}
+use Rattle.tb_items.specs.RunEvents.{sent}
+use Rattle.tb_items.specs.Happenings.{events_of, noted, happened_lists, ArePages}
 use Rattle.tb_plain.specs.declared.Plain.{Plain}
 use Rattle.tb_plain.specs.Firing.{holds_any, makeup_column}
 use Rattle.tb_plain.specs.Run.{MakeupEvent, sent_among, MakeupState, step_tries, waiting_after}

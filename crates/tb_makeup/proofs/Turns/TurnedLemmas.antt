@@ -3,7 +3,7 @@ use Rattle.std.proofs.Common.{◌≡◌, refl, sym, ◌∙◌, ap, subst, ℕ, �
 use Rattle.std.specs.Prelude.{pred, nat_abs, int_lt, ◌≤ℤ◌, ◌<ℤ◌, if◌then◌else◌}
 use Rattle.std.proofs.lemmas.Int.{ints}
 use Rattle.std.proofs.lemmas.List.Elements.{All-nil}
-use Rattle.tb_run.proofs.Turns.TurnLemmas.{pred-is}
+use Rattle.tb_items.proofs.PageNumbers.{pred-is}
 use Rattle.tb_node.specs.PlainNodes.{PlainNode}
 use Rattle.tb_param.specs.declared.Params.{Params}
 use Rattle.tb_builder.specs.declared.Page.{Page}
@@ -14,11 +14,11 @@ use Rattle.tb_builder.specs.Contents.{Contents, node_count}
 use Rattle.tb_builder.specs.Contributions.{with_void}
 use Rattle.tb_builder.specs.Pageable.{IsSizedOnPage}
 use Rattle.tb_builder.specs.Courses.{IsSound, freezes}
-use Rattle.tb_column.specs.Column.{PlainSent, shipped, one}
+use Rattle.tb_sheet.specs.Sheet.{PlainSent, shipped, one}
 use Rattle.tb_plain.specs.Firing.{holds_any, makeup_column}
 use Rattle.tb_plain.specs.Run.{MakeupRun, MakeupEnd, MakeupState, try_events, step_tries, step_events, ends, goes_on, done, page_limit, node_limit, shipping_step, firing_step, builder_holds, makeup_ask, makeup_classes, void_boxes, run_after, ejecting_nodes, waiting_after}
 use Rattle.tb_plain.specs.MakeupCalls.{AreMakeupParams, IsPlain, fired_with}
-use Rattle.tb_run.specs.declared.happenings.Happening.{Happening}
+use Rattle.tb_items.specs.declared.happenings.Happening.{Happening}
 use Rattle.tb_plain.specs.declared.Plain.{Plain}
 use Rattle.tb_plain.proofs.StepLemmas.{page-less}
 use Rattle.tb_makeup.specs.declared.makeup.Makeup.{Makeup}

@@ -9,16 +9,17 @@ use Rattle.tb_node.specs.declared.Node.{Node}
 use Rattle.tb_param.specs.declared.Params.{Params}
 use Rattle.tb_float.specs.declared.Full.{Full}
 use Rattle.tb_float.specs.Pool.{FloatPool, HasNoMarks}
-use Rattle.tb_column.specs.declared.Sent.{Sent}
-use Rattle.tb_column.specs.declared.Warn.{Warn}
+use Rattle.tb_sheet.specs.declared.Sent.{Sent}
+use Rattle.tb_sheet.specs.declared.Warn.{Warn}
 use Rattle.tb_output.specs.Act.{large_warning}
-use Rattle.tb_output.specs.Machine.{MachineView, sent_lists, event_lists, left_lists, machine_lists, IsPageSent, IsMachine}
+use Rattle.tb_output.specs.Machine.{MachineView, event_lists, left_lists, machine_lists, IsMachine}
+use Rattle.tb_sheet.specs.StoredSheets.{sent_lists, IsPageSent}
 use Rattle.tb_pool.specs.Frame.{IsNoneOf}
 use Rattle.tb_column.specs.Notes.{AreDistinct}
 use Rattle.tb_output.specs.ActCalls.{warnings_sent, TakesNoList, clipped, taken_into, with_float, with_columns, HasTaken, HasNoRoom}
-use Rattle.tb_output.specs.MachineFrame.{AreNoneOf}
+use Rattle.tb_sheet.specs.ApartLists.{AreNoneOf}
 use Rattle.tb_pool.proofs.FrameLemmas.{none-front}
-use Rattle.tb_output.proofs.FiringWork.ApartLemmas.{apart-cons, distinct-apart}
+use Rattle.tb_sheet.proofs.ListsApart.{apart-cons, distinct-apart}
 use Rattle.tb_output.proofs.FiringWork.BesideLemmas.{machine-with}
 use Rattle.tb_output.proofs.FiringWork.ResultLemmas.{either-way}
 

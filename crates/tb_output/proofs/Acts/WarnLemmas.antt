@@ -4,13 +4,13 @@ use Rattle.std.proofs.lemmas.List.{map-append}
 use Rattle.tb_break.proofs.EachLemmas.{all-join}
 use Rattle.tb_pool.specs.Lists.{Lists}
 use Rattle.tb_node.specs.declared.Node.{Node}
-use Rattle.tb_column.specs.declared.Warn.{Warn}
-use Rattle.tb_column.specs.declared.Sent.{Sent}
-use Rattle.tb_column.specs.declared.Sent.TheVariants as events
-use Rattle.tb_column.specs.Column.{PlainSent}
+use Rattle.tb_sheet.specs.declared.Warn.{Warn}
+use Rattle.tb_sheet.specs.declared.Sent.{Sent}
+use Rattle.tb_sheet.specs.declared.Sent.TheVariants as events
+use Rattle.tb_sheet.specs.Sheet.{PlainSent}
 use Rattle.tb_column.specs.Notes.{AreDistinct}
-use Rattle.tb_column.specs.StoredColumns.{sent_shown}
-use Rattle.tb_output.specs.Machine.{MachineView, events_shown, sent_lists, event_lists, left_lists, machine_lists, IsPageSent, IsMachine}
+use Rattle.tb_sheet.specs.StoredSheets.{sent_shown, sent_lists, IsPageSent}
+use Rattle.tb_output.specs.Machine.{MachineView, events_shown, event_lists, left_lists, machine_lists, IsMachine}
 use Rattle.tb_output.specs.PageChanges.{with_warning}
 use Rattle.tb_output.specs.MachineFrame.{KeepsFields, IsBack, KeepsBack}
 use Rattle.tb_output.proofs.FiringWork.KeepLemmas.{keeps-back_alone}

@@ -26,8 +26,9 @@ use Rattle.tb_output.specs.Clear.{clear_again, deferred_again, double_again, cle
 use Rattle.tb_output.specs.BackList.{clear_list, blank_clear_list}
 use Rattle.tb_output.specs.Machine.{MachineView, machine_lists, IsMachine}
 use Rattle.tb_output.specs.FiringWork.{ShowsBack, shows, shows_back, IsCutShort, Does}
-use Rattle.tb_output.specs.MachineFrame.{AreNoneOf, HasFloats, HasGrown, IsBack, back_lists, KeepsMachine, KeepsBack}
-use Rattle.tb_output.proofs.FiringWork.ApartLemmas.{apart-none, apart-swap}
+use Rattle.tb_sheet.specs.ApartLists.{AreNoneOf}
+use Rattle.tb_output.specs.MachineFrame.{HasFloats, HasGrown, IsBack, back_lists, KeepsMachine, KeepsBack}
+use Rattle.tb_sheet.proofs.ListsApart.{apart-none, apart-swap}
 use Rattle.tb_output.proofs.FiringWork.StandLemmas.{IsShownBy}
 use Rattle.tb_output.proofs.FiringWork.KeepLemmas.{MayGoBack, beside-shows, keeps-beside, keeps-back_same, keeps-back_then, grown-machine, grown-shows, grown-keeps}
 use Rattle.tb_output.proofs.FiringWork.WorkingLemmas.{does-then, does-shown_with}

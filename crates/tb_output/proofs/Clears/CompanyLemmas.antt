@@ -15,7 +15,8 @@ use Rattle.tb_float.proofs.WaitingLemmas.{wide-waits}
 use Rattle.tb_fpage.specs.declared.Wanted.{Wanted}
 use Rattle.tb_fpage.specs.Company.{Choice, company, chosen_floats, left_floats}
 use Rattle.tb_fpage.specs.Choice.{IsChosen}
-use Rattle.tb_column.specs.Column.{PlainColumn, PlainSent, wide, single_floats_column, wide_floats_column, float_column_of}
+use Rattle.tb_column.specs.Column.{PlainColumn, single_floats_column, wide_floats_column, float_column_of}
+use Rattle.tb_sheet.specs.Sheet.{PlainSent, wide}
 use Rattle.tb_output.specs.State.{State, Work, with_floats}
 use Rattle.tb_output.specs.Machine.{MachineView}
 use Rattle.tb_output.specs.FiringWork.{ShowsWork, shows, Does, Continues}

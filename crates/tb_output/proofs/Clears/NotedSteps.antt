@@ -32,9 +32,11 @@ use Rattle.tb_output.specs.BackList.{clear_list}
 use Rattle.tb_output.specs.FiringParts.{clear_noted}
 use Rattle.tb_output.specs.Machine.{MachineView, machine_lists, IsMachine}
 use Rattle.tb_output.specs.FiringWork.{shows, shows_back, shows_notes, shows_page, IsCutShort, Does}
-use Rattle.tb_output.specs.MachineFrame.{AreNoneOf, AreTextLists, HasGrown, IsBack, back_lists, KeepsMachine, KeepsBack}
-use Rattle.tb_output.proofs.FiringWork.ApartLemmas.{apart-back, apart-swap}
-use Rattle.tb_output.proofs.FiringWork.StandLemmas.{Stands, notes-same, count-same, notes-stay, leaves-shown, IsShownBy, stands-shown, lists-shown}
+use Rattle.tb_sheet.specs.ApartLists.{AreNoneOf}
+use Rattle.tb_output.specs.MachineFrame.{AreTextLists, HasGrown, IsBack, back_lists, KeepsMachine, KeepsBack}
+use Rattle.tb_sheet.proofs.ListsApart.{apart-back, apart-swap}
+use Rattle.tb_sheet.proofs.StandLemmas.{Stands, leaves-shown}
+use Rattle.tb_output.proofs.FiringWork.StandLemmas.{notes-same, count-same, notes-stay, IsShownBy, stands-shown, lists-shown}
 use Rattle.tb_output.proofs.FiringWork.KeepLemmas.{fields-same, keeps-then, keeps-more, keeps-beside, beside-shows, keeps-back_same, keeps-back_then}
 use Rattle.tb_output.proofs.InText.PushLemmas.{pushed-first, grown-of}
 use Rattle.tb_output.proofs.FiringWork.WorkingLemmas.{Fact, does-then, shows-moved, cut-then, no-memory_given}

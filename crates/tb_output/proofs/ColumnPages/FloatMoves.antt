@@ -17,7 +17,7 @@ use Rattle.tb_float.specs.Lists.{FloatLists, live_count, floats_of, IsWaiting, w
 use Rattle.tb_float.specs.Pool.{FloatPool, HasNoMarks, without_marks}
 use Rattle.tb_area.specs.Area.{AreaPlace, at_top, at_bottom, deferred, next_area_place, goes_double}
 use Rattle.tb_area.specs.Deferred.{gone_to, still_before, filled, gone_double, still_single, doubled}
-use Rattle.tb_column.specs.declared.Sent.{Sent}
+use Rattle.tb_sheet.specs.declared.Sent.{Sent}
 use Rattle.tb_column.specs.ColumnChanges.{IsOpened}
 use Rattle.tb_output.specs.State.{State, Work}
 use Rattle.tb_output.specs.Events.{HasRoomFor}
@@ -28,7 +28,8 @@ use Rattle.tb_output.specs.PageChanges.{filled_lists, doubled_lists}
 use Rattle.tb_output.specs.Columns
 use Rattle.tb_output.specs.Pages
 use Rattle.tb_output.proofs.ColumnPages.FillLemmas.{HasLists, fill_column-lists, fill_double-lists}
-use Rattle.tb_output.proofs.FiringWork.StandLemmas.{Stands, machine-live, IsShownBy, stands-shown}
+use Rattle.tb_sheet.proofs.StandLemmas.{Stands}
+use Rattle.tb_output.proofs.FiringWork.StandLemmas.{machine-live, IsShownBy, stands-shown}
 use Rattle.tb_output.proofs.FiringWork.ApartLemmas.{fresh-none}
 use Rattle.tb_output.proofs.FiringWork.BesideLemmas.{machine-with}
 

@@ -14,8 +14,9 @@ use Rattle.tb_float.proofs.WaitingLemmas.{wide-waits}
 use Rattle.tb_fpage.specs.declared.Wanted.{Wanted}
 use Rattle.tb_fpage.specs.Choice.{IsChosen}
 use Rattle.tb_column.specs.declared.Column.{Column}
-use Rattle.tb_column.specs.declared.Sheet.TheVariants as sheets
-use Rattle.tb_column.specs.Column.{float_column_of, wide}
+use Rattle.tb_sheet.specs.declared.Sheet.TheVariants as sheets
+use Rattle.tb_column.specs.Column.{float_column_of}
+use Rattle.tb_sheet.specs.Sheet.{wide}
 use Rattle.tb_column.specs.StoredColumns.{column_shown}
 use Rattle.tb_column.specs.Page.{IsPageColumn}
 use Rattle.tb_column.specs.ColumnChanges.{IsOpened}

@@ -5,7 +5,7 @@ use Rattle.tb_pool.specs.Lists.{Lists}
 use Rattle.tb_node.specs.declared.Node.{Node}
 use Rattle.tb_float.specs.Lists.{FloatLists, wide_waiting}
 use Rattle.tb_fpage.specs.Company.{company}
-use Rattle.tb_column.specs.Column.{PlainSent}
+use Rattle.tb_sheet.specs.Sheet.{PlainSent}
 use Rattle.tb_output.specs.declared.RunFault.{RunFault}
 use Rattle.tb_output.specs.State.{Work}
 use Rattle.tb_output.specs.Columns

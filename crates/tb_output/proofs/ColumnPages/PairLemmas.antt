@@ -11,26 +11,30 @@ use Rattle.tb_node.specs.declared.Node.{Node}
 use Rattle.tb_node.specs.PlainNodes.{plain_list}
 use Rattle.tb_float.specs.Rooms.{column_height_of}
 use Rattle.tb_column.specs.declared.Column.{Column}
-use Rattle.tb_column.specs.declared.Sheet.{Sheet}
-use Rattle.tb_column.specs.declared.Sheet.TheVariants as sheets
-use Rattle.tb_column.specs.declared.Sent.TheVariants as events
-use Rattle.tb_column.specs.Column.{PlainColumn, two, pair_floats, pair_sheet}
-use Rattle.tb_column.specs.StoredColumns.{column_shown, sheet_shown}
+use Rattle.tb_sheet.specs.declared.Sheet.{Sheet}
+use Rattle.tb_sheet.specs.declared.Sheet.TheVariants as sheets
+use Rattle.tb_sheet.specs.declared.Sent.TheVariants as events
+use Rattle.tb_column.specs.Column.{PlainColumn, pair_floats}
+use Rattle.tb_sheet.specs.Sheet.{two, pair_sheet}
+use Rattle.tb_column.specs.StoredColumns.{column_shown}
+use Rattle.tb_sheet.specs.StoredSheets.{sheet_shown, IsPageSent}
 use Rattle.tb_column.specs.Notes.{AreDistinct}
 use Rattle.tb_column.specs.Page.{IsPageList, IsPageColumn}
 use Rattle.tb_column.specs.ColumnChanges.{IsOpened}
 use Rattle.tb_output.specs.declared.RunFault.{RunFault}
 use Rattle.tb_output.specs.declared.RunFault.TheVariants as faults
 use Rattle.tb_output.specs.State.{Work}
-use Rattle.tb_output.specs.Machine.{MachineView, left_shown, events_shown, machine_lists, left_lists, event_lists, IsPageLeft, IsPageSent, IsMachine}
+use Rattle.tb_output.specs.Machine.{MachineView, left_shown, events_shown, machine_lists, left_lists, event_lists, IsPageLeft, IsMachine}
 use Rattle.tb_output.specs.FiringWork.{ShowsWork, shows, IsCutShort, Does, Continues}
 use Rattle.tb_output.specs.MachineFrame.{KeepsMachine}
 use Rattle.tb_output.specs.PageChanges.{HasShipped, HasNotShipped, without_doubles, without_left, shipped_machine}
 use Rattle.tb_output.specs.Pages
 use Rattle.tb_output.proofs.StepLaws.WorkSteps.{continues-same, continues-then, continues-ship, continues-all_wide_pages, continues-fill_double}
 use Rattle.tb_output.proofs.FiringWork.WorkingLemmas.{Fact, does-shown, shown_work, no-memory, cut-then}
-use Rattle.tb_output.proofs.FiringWork.StandLemmas.{machine-live, IsShownBy, column-stands, column-shows}
-use Rattle.tb_output.proofs.FiringWork.ApartLemmas.{apart-swap, distinct-join, fresh-none}
+use Rattle.tb_output.proofs.FiringWork.StandLemmas.{machine-live, IsShownBy}
+use Rattle.tb_sheet.proofs.StandLemmas.{column-stands, column-shows}
+use Rattle.tb_sheet.proofs.ListsApart.{apart-swap, distinct-join}
+use Rattle.tb_output.proofs.FiringWork.ApartLemmas.{fresh-none}
 use Rattle.tb_output.proofs.ColumnPages.ShipLemmas.{shipped_work, ship-is, full-is, shipped-shows, event_lists-after, last-page}
 use Rattle.tb_output.proofs.ColumnPages.FloatMoves.{opened-shown, opened-keeps}
 use Rattle.tb_output.proofs.FiringWork.KeepLemmas.{keeps-more}

@@ -6,7 +6,8 @@ use Rattle.tb_pool.specs.Frame.{IsNoneOf}
 use Rattle.tb_pool.proofs.FrameLemmas.{none-back}
 use Rattle.tb_node.specs.declared.Node.{Node}
 use Rattle.tb_column.specs.declared.Column.{Column}
-use Rattle.tb_column.specs.Column.{PlainColumn, PlainSent, one}
+use Rattle.tb_column.specs.Column.{PlainColumn}
+use Rattle.tb_sheet.specs.Sheet.{PlainSent, one}
 use Rattle.tb_column.specs.StoredColumns.{column_shown}
 use Rattle.tb_column.specs.Page.{IsPageColumn}
 use Rattle.tb_output.specs.declared.RunFault.{RunFault}
@@ -20,7 +21,7 @@ use Rattle.tb_output.proofs.StepLaws.WorkSteps.{continues-after_column}
 use Rattle.tb_output.proofs.FiringWork.WorkingLemmas.{Fact, cut-then, shows-moved}
 use Rattle.tb_output.proofs.FiringWork.StandLemmas.{IsShownBy}
 use Rattle.tb_output.proofs.FiringWork.BesideLemmas.{machine-with}
-use Rattle.tb_output.proofs.FiringWork.ApartLemmas.{distinct-back}
+use Rattle.tb_sheet.proofs.ListsApart.{distinct-back}
 
 -- ---- the work
 

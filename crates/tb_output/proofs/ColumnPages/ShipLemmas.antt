@@ -9,23 +9,24 @@ use Rattle.tb_pool.specs.Frame.{IsNoneOf}
 use Rattle.tb_pool.proofs.FrameLemmas.{none-front, none-back, none-join}
 use Rattle.tb_node.specs.declared.Node.{Node}
 use Rattle.tb_param.specs.declared.Params.{Params}
-use Rattle.tb_column.specs.declared.Sheet.{Sheet}
-use Rattle.tb_column.specs.declared.Sent.{Sent}
-use Rattle.tb_column.specs.declared.Sent.TheVariants as events
-use Rattle.tb_column.specs.Column.{PlainSent, shipped}
-use Rattle.tb_column.specs.StoredColumns.{sheet_shown, sent_shown}
+use Rattle.tb_sheet.specs.declared.Sheet.{Sheet}
+use Rattle.tb_sheet.specs.declared.Sent.{Sent}
+use Rattle.tb_sheet.specs.declared.Sent.TheVariants as events
+use Rattle.tb_sheet.specs.Sheet.{PlainSent, shipped}
+use Rattle.tb_sheet.specs.StoredSheets.{sheet_shown, sent_shown, sent_lists, sheet_lists, IsPageSheet, IsPageSent}
 use Rattle.tb_column.specs.Notes.{AreDistinct}
 use Rattle.tb_output.specs.declared.RunFault.{RunFault}
 use Rattle.tb_output.specs.declared.RunFault.TheVariants as faults
 use Rattle.tb_output.specs.State.{Work}
-use Rattle.tb_output.specs.Machine.{MachineView, state_shown, events_shown, machine_lists, left_lists, event_lists, sent_lists, sheet_lists, IsPageSheet, IsPageSent, IsMachine}
+use Rattle.tb_output.specs.Machine.{MachineView, state_shown, events_shown, machine_lists, left_lists, event_lists, IsMachine}
 use Rattle.tb_output.specs.FiringWork.{ShowsWork, shows, IsCutShort, Does}
-use Rattle.tb_output.specs.MachineFrame.{AreNoneOf, KeepsMachine}
+use Rattle.tb_sheet.specs.ApartLists.{AreNoneOf}
+use Rattle.tb_output.specs.MachineFrame.{KeepsMachine}
 use Rattle.tb_output.specs.PageChanges.{shipped_machine, HasShipped, HasNotShipped, IsFull}
 use Rattle.tb_output.specs.Pages
 use Rattle.tb_output.proofs.StepLaws.WorkSteps.{continues-ship}
 use Rattle.tb_output.proofs.FiringWork.WorkingLemmas.{does-shown, shown_work, no-memory}
-use Rattle.tb_output.proofs.FiringWork.ApartLemmas.{apart-swap, distinct-join}
+use Rattle.tb_sheet.proofs.ListsApart.{apart-swap, distinct-join}
 
 -- ---- the work
 

@@ -20,10 +20,12 @@ use Rattle.tb_output.specs.Columns
 use Rattle.tb_output.specs.Pages
 use Rattle.tb_output.specs.Machine.{MachineView, events_shown, machine_lists, IsMachine}
 use Rattle.tb_output.specs.FiringWork.{shows, shows_notes, IsCutShort, Does, Continues}
-use Rattle.tb_output.specs.MachineFrame.{AreNoneOf, AreTextLists, KeepsMachine}
+use Rattle.tb_sheet.specs.ApartLists.{AreNoneOf}
+use Rattle.tb_output.specs.MachineFrame.{AreTextLists, KeepsMachine}
 use Rattle.tb_output.proofs.FiringWork.WorkingLemmas.{Fact, no-memory}
-use Rattle.tb_output.proofs.FiringWork.StandLemmas.{Stands, IsShownBy, stands-shown, lists-shown, column-stands, column-shows}
-use Rattle.tb_output.proofs.FiringWork.ApartLemmas.{apart-swap}
+use Rattle.tb_sheet.proofs.StandLemmas.{Stands, column-stands, column-shows}
+use Rattle.tb_output.proofs.FiringWork.StandLemmas.{IsShownBy, stands-shown, lists-shown}
+use Rattle.tb_sheet.proofs.ListsApart.{apart-swap}
 use Rattle.tb_output.proofs.ColumnPages.FloatMoves.{pooled-lists, pooled-fields, pooled-state, pooled-machine}
 
 module _ (m now : MachineView) (store mid new : Lists Node) (body : ℕ) (notes : List NoteBox) (is : IsMachine m store) (lists : AreTextLists 8355840 (machine_lists m) store body notes) (joined : AreJoined body notes store mid)

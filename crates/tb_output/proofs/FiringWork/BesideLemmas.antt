@@ -6,10 +6,11 @@ use Rattle.tb_node.specs.declared.Node.{Node}
 use Rattle.tb_builder.specs.Pageable.{IsGoal}
 use Rattle.tb_float.specs.declared.Suppress.{Suppress}
 use Rattle.tb_float.specs.Pool.{FloatPool, HasNoMarks}
-use Rattle.tb_column.specs.declared.Sent.{Sent}
+use Rattle.tb_sheet.specs.declared.Sent.{Sent}
 use Rattle.tb_column.specs.Notes.{AreDistinct}
 use Rattle.tb_output.specs.declared.RunFault.{RunFault}
-use Rattle.tb_output.specs.Machine.{MachineView, machine_lists, IsPageSent, IsMachine}
+use Rattle.tb_output.specs.Machine.{MachineView, machine_lists, IsMachine}
+use Rattle.tb_sheet.specs.StoredSheets.{IsPageSent}
 
 -- it is still one, if its pool is as large and chooses no float, and the lists of its events may be on pages and are apart
 pub machine-with : {v : FloatPool} {es : List Sent} {g bottom : ℤ} {cycles : ℕ} {fault : Option RunFault} {suppress : Suppress} (m : MachineView) (store : Lists Node) → IsMachine m store

@@ -10,9 +10,10 @@ use Rattle.tb_builder.specs.Ownership.{AllLive, ids_of, owned}
 use Rattle.tb_builder.specs.Courses.{IsSound}
 use Rattle.tb_builder.proofs.Ownership.OwnedLemmas.{AllSame}
 use Rattle.tb_builder.proofs.Ownership.FrameLemmas.{frame_owned, frame_contents, frame_sound}
-use Rattle.tb_output.specs.Firing.{builder_lists}
-use Rattle.tb_output.specs.MachineFrame.{AreNoneOf}
-use Rattle.tb_output.proofs.FiringWork.StandLemmas.{Stands, frame-stands, frame-free}
+use Rattle.tb_builder.specs.BuilderLists.{builder_lists}
+use Rattle.tb_sheet.specs.ApartLists.{AreNoneOf}
+use Rattle.tb_sheet.proofs.StandLemmas.{Stands}
+use Rattle.tb_output.proofs.FiringWork.StandLemmas.{frame-stands, frame-free}
 
 pub live-all : (s : Lists Node) (xs : List ℕ) → AllLive s xs → AllByRecursion (IsLive s) xs
 live-all s [] h = tt

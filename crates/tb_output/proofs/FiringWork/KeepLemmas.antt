@@ -21,9 +21,11 @@ use Rattle.tb_builder.proofs.Ownership.OwnedLemmas.{view_same, inner-append, kno
 use Rattle.tb_column.specs.Page.{is_leaf_kind, AreLeaves, IsPageList}
 use Rattle.tb_column.specs.Notes.{AreDistinct}
 use Rattle.tb_output.specs.Machine.{MachineView, machine_lists, IsMachine}
-use Rattle.tb_output.specs.MachineFrame.{AreNoneOf, KeepsFields, KeepsMachine, HasGrown, back_lists, IsBack, KeepsBack}
-use Rattle.tb_output.proofs.FiringWork.StandLemmas.{Stands, list-same, live-same, list-stands, leaves-shown, frame-stands, frame-free, IsShownBy, stands-shown, lists-shown}
-use Rattle.tb_output.proofs.FiringWork.ApartLemmas
+use Rattle.tb_sheet.specs.ApartLists.{AreNoneOf}
+use Rattle.tb_output.specs.MachineFrame.{KeepsFields, KeepsMachine, HasGrown, back_lists, IsBack, KeepsBack}
+use Rattle.tb_sheet.proofs.StandLemmas.{Stands, list-same, live-same, list-stands, leaves-shown}
+use Rattle.tb_output.proofs.FiringWork.StandLemmas.{frame-stands, frame-free, IsShownBy, stands-shown, lists-shown}
+use Rattle.tb_sheet.proofs.ListsApart
 
 -- ---- the fields
 
@@ -105,13 +107,13 @@ module _ (store new : Lists Node) (l : ℕ) (e : AllByRecursion (Stands store ne
     known = subst (AllKnown now.classes) (sym back-list) (subst (λ cs. AllKnown cs (list_at store l)) (sym classes) h.known);
     inner = subst (λ ns. AllByRecursion (IsPageList new) (inner_ids ns)) (sym back-list) (pages-stand store new (inner_ids (list_at store l)) e.1 h.inner);
     apart = subst (λ ls. AreDistinct (ls ++ machine_lists now)) (sym back-lists_same)
-        (ApartLemmas.distinct-join (back_lists store l) (machine_lists now) (ApartLemmas.distinct-front (back_lists store l) (machine_lists m) h.apart) distinct apart);
+        (ListsApart.distinct-join (back_lists store l) (machine_lists now) (ListsApart.distinct-front (back_lists store l) (machine_lists m) h.apart) distinct apart);
   }
 
 -- a call that was handed none of its lists leaves it
 module _ (args : List ℕ) (m now : MachineView) (store new : Lists Node) (l : ℕ) (h : IsBack l m store) (k : KeepsMachine args m now store new) (apart : AreNoneOf (back_lists store l) args) where
   back-none : AreNoneOf (back_lists store l) (args ++ machine_lists m)
-  back-none = ApartLemmas.apart-join (back_lists store l) args (machine_lists m) apart (ApartLemmas.distinct-apart (back_lists store l) (machine_lists m) h.apart)
+  back-none = ListsApart.apart-join (back_lists store l) args (machine_lists m) apart (ListsApart.distinct-apart (back_lists store l) (machine_lists m) h.apart)
 
   beside-stand : AllByRecursion (Stands store new) (back_lists store l)
   beside-stand = frame-stands (args ++ machine_lists m) (machine_lists now) store new k.frame (back_lists store l) (back-live l m store h) back-none
@@ -199,7 +201,7 @@ module _ (l : ℕ) (ns : List Node) (args : List ℕ) (m : MachineView) (store n
   own-apart = all-back (λ q. IsNoneOf q args) (inner_ids (list_at store l)) (machine_lists m) apart
 
   own-none : IsNoneOf l (machine_lists m)
-  own-none = (ApartLemmas.distinct-apart (back_lists store l) (machine_lists m) h.apart).0
+  own-none = (ListsApart.distinct-apart (back_lists store l) (machine_lists m) h.apart).0
 
   -- what the machine shows is as before
   pub grown-machine : IsShownBy m store new

@@ -1,133 +1,61 @@
 -- What a machine shows depends on its own lists alone.
-use Rattle.std.proofs.Common.{◌≡◌, refl, sym, subst, ◌∙◌, ap, ℕ, ◌+◌, ◌≤◌, List, [], ◌∷◌, length, map, Option, None, Some, IsSome}
-use Rattle.std.specs.Prelude.{All}
+use Rattle.std.proofs.Common.{◌≡◌, refl, sym, subst, ap, ℕ, ◌+◌, List, [], ◌∷◌, length, map, Option, None, Some}
 use Rattle.std.specs.List.{AllByRecursion}
 use Rattle.std.specs.FinMap.{get}
 use Rattle.tb_break.proofs.EachLemmas.{all-front, all-back, all-join}
-use Rattle.tb_pool.specs.Lists.{Lists, IsLive, list_at}
+use Rattle.tb_pool.specs.Lists.{Lists, IsLive}
 use Rattle.tb_pool.specs.Frame.{OnlyChanged}
-use Rattle.tb_node.specs.declared.Kind.{Kind}
-use Rattle.tb_node.specs.declared.Kind.TheVariants as kinds
 use Rattle.tb_node.specs.declared.Node.{Node}
-use Rattle.tb_node.specs.PlainNodes.{PlainNode, leaf_of, plain_of, plain_kind, plain_list}
-use Rattle.tb_node.specs.Fit.{IsSizedNode}
+use Rattle.tb_node.specs.PlainNodes.{PlainNode, leaf_of}
 use Rattle.tb_builder.specs.FiredPages.{Boxed}
 use Rattle.tb_column.specs.declared.Column.{Column}
 use Rattle.tb_column.specs.declared.NoteBox.{NoteBox}
-use Rattle.tb_column.specs.declared.Sheet.{Sheet}
-use Rattle.tb_column.specs.declared.Sheet.TheVariants as sheets
-use Rattle.tb_column.specs.declared.Sent.{Sent}
-use Rattle.tb_column.specs.declared.Sent.TheVariants as events
-use Rattle.tb_column.specs.Column.{PlainColumn, one, wide, two, shipped}
-use Rattle.tb_column.specs.StoredColumns.{column_shown, sheet_shown, sent_shown}
+use Rattle.tb_sheet.specs.declared.Sent.{Sent}
+use Rattle.tb_sheet.specs.StoredSheets.{sent_lists, IsPageSent}
 use Rattle.tb_column.specs.Notes.{IsNote, notes_shown, note_lists, note_count}
-use Rattle.tb_column.specs.Page.{is_leaf_kind, AreLeaves, IsPageList, IsPageColumn}
-use Rattle.tb_output.specs.Machine.{MachineView, state_shown, left_shown, events_shown, sheet_lists, sent_lists, event_lists, left_lists, machine_lists, IsPageSheet, IsPageSent, IsPageLeft, IsRoomOf, IsMachine}
-use Rattle.tb_output.specs.MachineFrame.{AreNoneOf}
-
--- ---- leaves
-
-kind-held : (f g : ℕ → List Node) (k : Kind) → is_leaf_kind k → plain_kind f k ≡ plain_kind g k
-kind-held f g (kinds.Ins i) s = absurd s
-kind-held f g (kinds.Act a) s = absurd s
-kind-held f g k s = refl
-
--- a list without insertions shows nothing of other lists
-pub leaves-shown : (f g : ℕ → List Node) (ns : List Node) → AreLeaves ns → map (plain_of f) ns ≡ map (plain_of g) ns
-leaves-shown f g [] h = refl
-leaves-shown f g (n ∷ ns) h = λ i. record { line = n.line; kind = kind-held f g n.kind h.0 i } ∷ leaves-shown f g ns h.1 i
+use Rattle.tb_output.specs.Machine.{MachineView, state_shown, left_shown, events_shown, event_lists, left_lists, machine_lists, IsPageLeft, IsRoomOf, IsMachine}
+use Rattle.tb_sheet.specs.ApartLists.{AreNoneOf}
+use Rattle.tb_sheet.proofs.StandLemmas.{Stands, list-same, nodes-stand, list-stands, column-stands, column-shows, sent-stands, sent-shows, sent-live}
 
 -- ---- lists that are as they were
 
-abbrev column_with : Column → List PlainNode → PlainColumn
-column_with c ns = record { kind = c.kind; nodes = ns; set = c.set }
-
 module _ (store new : Lists Node) where
-  -- the list is as before
-  abbrev pub Stands : ℕ → Type 0
-  Stands q = get new.lists q ≡ get store.lists q
-
-  pub list-same : (q : ℕ) → Stands q → list_at new q ≡ list_at store q
-  list-same q e = rw e refl
-
-  pub live-same : (q : ℕ) → Stands q → IsLive store q → IsLive new q
-  live-same q e live = subst (λ (o : Option (List Node)). IsSome o) (sym e) live
-
-  pub nodes-stand : (q : ℕ) → Stands q → AreLeaves (list_at store q) → plain_list new q ≡ plain_list store q
-  nodes-stand q e h = ap (map (plain_of (list_at new))) (list-same q e) ∙ leaves-shown (list_at new) (list_at store) (list_at store q) h
-
-  pub list-stands : (q : ℕ) → Stands q → IsPageList store q → IsPageList new q
-  list-stands q e h = record {
-    live = live-same q e h.live;
-    leaves = subst AreLeaves (sym same) h.leaves;
-    sized = subst (All IsSizedNode) (sym same) h.sized;
-    few = subst (λ (ns : List Node). length ns ≤ 8388608) (sym same) h.few;
-  }
-    where
-      same : list_at new q ≡ list_at store q
-      same = list-same q e
-
   -- the insertions show the same, are as many, and may still be put below a text
-  pub notes-same : (ns : List NoteBox) → AllByRecursion Stands (note_lists ns) → notes_shown new ns ≡ notes_shown store ns
+  pub notes-same : (ns : List NoteBox) → AllByRecursion (Stands store new) (note_lists ns) → notes_shown new ns ≡ notes_shown store ns
   notes-same [] h = refl
-  notes-same (n ∷ ns) h = λ i. record { class = n.class; skip = n.skip; inner = map leaf_of (list-same n.list h.0 i) } ∷ notes-same ns h.1 i
+  notes-same (n ∷ ns) h = λ i. record { class = n.class; skip = n.skip; inner = map leaf_of (list-same store new n.list h.0 i) } ∷ notes-same ns h.1 i
 
-  pub count-same : (ns : List NoteBox) → AllByRecursion Stands (note_lists ns) → note_count new ns ≡ note_count store ns
+  pub count-same : (ns : List NoteBox) → AllByRecursion (Stands store new) (note_lists ns) → note_count new ns ≡ note_count store ns
   count-same [] h = refl
-  count-same (n ∷ ns) h = λ i. length (list-same n.list h.0 i) + count-same ns h.1 i
+  count-same (n ∷ ns) h = λ i. length (list-same store new n.list h.0 i) + count-same ns h.1 i
 
-  pub notes-stay : (ns : List NoteBox) → AllByRecursion Stands (note_lists ns) → AllByRecursion (IsNote store) ns → AllByRecursion (IsNote new) ns
+  pub notes-stay : (ns : List NoteBox) → AllByRecursion (Stands store new) (note_lists ns) → AllByRecursion (IsNote store) ns → AllByRecursion (IsNote new) ns
   notes-stay [] e h = tt
-  notes-stay (n ∷ ns) e h = (record { list = list-stands n.list e.0 h.0.list; skip = h.0.skip }, notes-stay ns e.1 h.1)
+  notes-stay (n ∷ ns) e h = (record { list = list-stands store new n.list e.0 h.0.list; skip = h.0.skip }, notes-stay ns e.1 h.1)
 
-  pub column-stands : (c : Column) → Stands c.list → IsPageColumn store c → IsPageColumn new c
-  column-stands c e h = record { list = list-stands c.list e h.list; share = h.share }
-
-  pub column-shows : (c : Column) → Stands c.list → IsPageColumn store c → column_shown new c ≡ column_shown store c
-  column-shows c e h = ap (column_with c) (nodes-stand c.list e h.list.leaves)
-
-  pub sheet-stands : (s : Sheet) → AllByRecursion Stands (sheet_lists s) → IsPageSheet store s → IsPageSheet new s
-  sheet-stands (sheets.One c) e h = column-stands c e.0 h
-  sheet-stands (sheets.Wide c) e h = column-stands c e.0 h
-  sheet-stands (sheets.Two tops at left right) e h = (list-stands tops e.0 h.0, column-stands left e.1.0 h.1, column-stands right e.1.1.0 h.2)
-
-  pub sheet-shows : (s : Sheet) → AllByRecursion Stands (sheet_lists s) → IsPageSheet store s → sheet_shown new s ≡ sheet_shown store s
-  sheet-shows (sheets.One c) e h = ap one (column-shows c e.0 h)
-  sheet-shows (sheets.Wide c) e h = ap wide (column-shows c e.0 h)
-  sheet-shows (sheets.Two tops at left right) e h =
-      λ i. two (nodes-stand tops e.0 h.0.leaves i) at (column-shows left e.1.0 h.1 i) (column-shows right e.1.1.0 h.2 i)
-
-  sent-stands : (s : Sent) → AllByRecursion Stands (sent_lists s) → IsPageSent store s → IsPageSent new s
-  sent-stands (events.Warn w) e h = tt
-  sent-stands (events.Ship page sheet) e h = sheet-stands sheet e h
-
-  sent-shows : (s : Sent) → AllByRecursion Stands (sent_lists s) → IsPageSent store s → sent_shown new s ≡ sent_shown store s
-  sent-shows (events.Warn w) e h = refl
-  sent-shows (events.Ship page sheet) e h = ap (shipped page) (sheet-shows sheet e h)
-
-  pub events-stand : (es : List Sent) → AllByRecursion Stands (event_lists es) → AllByRecursion (IsPageSent store) es → AllByRecursion (IsPageSent new) es
+  pub events-stand : (es : List Sent) → AllByRecursion (Stands store new) (event_lists es) → AllByRecursion (IsPageSent store) es → AllByRecursion (IsPageSent new) es
   events-stand [] e h = tt
-  events-stand (s ∷ es) e h = (sent-stands s (all-front Stands (sent_lists s) (event_lists es) e) h.0, events-stand es (all-back Stands (sent_lists s) (event_lists es) e) h.1)
+  events-stand (s ∷ es) e h = (sent-stands store new s (all-front (Stands store new) (sent_lists s) (event_lists es) e) h.0, events-stand es (all-back (Stands store new) (sent_lists s) (event_lists es) e) h.1)
 
-  pub events-show : (es : List Sent) → AllByRecursion Stands (event_lists es) → AllByRecursion (IsPageSent store) es → events_shown new es ≡ events_shown store es
+  pub events-show : (es : List Sent) → AllByRecursion (Stands store new) (event_lists es) → AllByRecursion (IsPageSent store) es → events_shown new es ≡ events_shown store es
   events-show [] e h = refl
   events-show (s ∷ es) e h =
-      λ i. sent-shows s (all-front Stands (sent_lists s) (event_lists es) e) h.0 i ∷ events-show es (all-back Stands (sent_lists s) (event_lists es) e) h.1 i
+      λ i. sent-shows store new s (all-front (Stands store new) (sent_lists s) (event_lists es) e) h.0 i ∷ events-show es (all-back (Stands store new) (sent_lists s) (event_lists es) e) h.1 i
 
-  pub left-stands : (o : Option Column) → AllByRecursion Stands (left_lists o) → IsPageLeft store o → IsPageLeft new o
+  pub left-stands : (o : Option Column) → AllByRecursion (Stands store new) (left_lists o) → IsPageLeft store o → IsPageLeft new o
   left-stands None e h = tt
-  left-stands (Some c) e h = column-stands c e.0 h
+  left-stands (Some c) e h = column-stands store new c e.0 h
 
-  pub left-shows : (o : Option Column) → AllByRecursion Stands (left_lists o) → IsPageLeft store o → left_shown new o ≡ left_shown store o
+  pub left-shows : (o : Option Column) → AllByRecursion (Stands store new) (left_lists o) → IsPageLeft store o → left_shown new o ≡ left_shown store o
   left-shows None e h = refl
-  left-shows (Some c) e h = ap (λ v. Some v) (column-shows c e.0 h)
+  left-shows (Some c) e h = ap (λ v. Some v) (column-shows store new c e.0 h)
 
-  module _ (m : MachineView) (is : IsMachine m store) (e : AllByRecursion Stands (machine_lists m)) where
-    left-part : AllByRecursion Stands (left_lists m.left_column)
-    left-part = all-front Stands (left_lists m.left_column) (event_lists m.events) e.1
+  module _ (m : MachineView) (is : IsMachine m store) (e : AllByRecursion (Stands store new) (machine_lists m)) where
+    left-part : AllByRecursion (Stands store new) (left_lists m.left_column)
+    left-part = all-front (Stands store new) (left_lists m.left_column) (event_lists m.events) e.1
 
-    event-part : AllByRecursion Stands (event_lists m.events)
-    event-part = all-back Stands (left_lists m.left_column) (event_lists m.events) e.1
+    event-part : AllByRecursion (Stands store new) (event_lists m.events)
+    event-part = all-back (Stands store new) (left_lists m.left_column) (event_lists m.events) e.1
 
     -- a machine whose lists are as before is one, and shows the same state and events
     pub machine-stands : IsMachine m new
@@ -140,8 +68,8 @@ module _ (store new : Lists Node) where
       pool = is.pool;
       unmarked = is.unmarked;
       left = is.left;
-      held_page = list-stands m.held_page e.0 is.held_page;
-      held_room = subst (λ (ns : List Node). IsRoomOf ns m.held_room) (sym (list-same m.held_page e.0)) is.held_room;
+      held_page = list-stands store new m.held_page e.0 is.held_page;
+      held_room = subst (λ (ns : List Node). IsRoomOf ns m.held_room) (sym (list-same store new m.held_page e.0)) is.held_room;
       left_column = left-stands m.left_column left-part is.left_column;
       events = events-stand m.events event-part is.events;
       apart = is.apart;
@@ -152,20 +80,11 @@ module _ (store new : Lists Node) where
 
     pub state-shows : (boxes : List Boxed) (waiting : List PlainNode) → state_shown new boxes waiting m ≡ state_shown store boxes waiting m
     state-shows boxes waiting = λ i. record (state_shown store boxes waiting m) {
-      held_page = nodes-stand m.held_page e.0 is.held_page.leaves i;
+      held_page = nodes-stand store new m.held_page e.0 is.held_page.leaves i;
       left_column = left-shows m.left_column left-part is.left_column i;
     }
 
 -- ---- lists that are live, and not among those that a call changed
-
-pub sheet-live : (store : Lists Node) (s : Sheet) → IsPageSheet store s → AllByRecursion (IsLive store) (sheet_lists s)
-sheet-live store (sheets.One c) h = (h.list.live, tt)
-sheet-live store (sheets.Wide c) h = (h.list.live, tt)
-sheet-live store (sheets.Two tops at left right) h = (h.0.live, (h.1.list.live, (h.2.list.live, tt)))
-
-sent-live : (store : Lists Node) (s : Sent) → IsPageSent store s → AllByRecursion (IsLive store) (sent_lists s)
-sent-live store (events.Warn w) h = tt
-sent-live store (events.Ship page sheet) h = sheet-live store sheet h
 
 events-live : (store : Lists Node) (es : List Sent) → AllByRecursion (IsPageSent store) es → AllByRecursion (IsLive store) (event_lists es)
 events-live store [] h = tt

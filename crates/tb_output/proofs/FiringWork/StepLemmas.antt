@@ -4,10 +4,9 @@ use Rattle.tb_pool.specs.Lists.{Lists, list_at}
 use Rattle.tb_node.specs.declared.Node.{Node}
 use Rattle.tb_node.specs.PlainNodes.{PlainNode, plain_of}
 use Rattle.tb_float.specs.Lists.{FloatLists}
-use Rattle.tb_column.specs.Column.{PlainSent}
-use Rattle.tb_column.specs.declared.Warn.{Warn}
-use Rattle.tb_column.specs.declared.Sent.TheVariants as events
-use Rattle.tb_column.specs.Column.{warned}
+use Rattle.tb_sheet.specs.Sheet.{PlainSent, warned}
+use Rattle.tb_sheet.specs.declared.Warn.{Warn}
+use Rattle.tb_sheet.specs.declared.Sent.TheVariants as events
 use Rattle.tb_output.specs.declared.RunFault.{RunFault}
 use Rattle.tb_output.specs.declared.RunFault.TheVariants as faults
 use Rattle.tb_output.specs.State.{Work, puts, sends}
@@ -15,7 +14,7 @@ use Rattle.tb_output.specs.Machine.{MachineView, state_shown, events_shown, IsMa
 use Rattle.tb_output.specs.PageChanges.{with_warning}
 use Rattle.tb_output.specs.FiringWork.{ShowsWork, ShowsBack, shows_back, IsCutShort, Does, Continues}
 use Rattle.tb_output.specs.MachineFrame.{HasFloats, HasGrown, IsBack, back_lists, KeepsBack}
-use Rattle.tb_output.proofs.FiringWork.ApartLemmas.{apart-none}
+use Rattle.tb_sheet.proofs.ListsApart.{apart-none}
 use Rattle.tb_output.proofs.FiringWork.BesideLemmas.{machine-with}
 use Rattle.tb_output.proofs.FiringWork.StandLemmas.{IsShownBy, lists-shown}
 use Rattle.tb_output.proofs.FiringWork.KeepLemmas.{MayGoBack, grown-machine, grown-shows, grown-keeps, keeps-back_then, keeps-back_alone, keeps-back_same}

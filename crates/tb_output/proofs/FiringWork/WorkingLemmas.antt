@@ -4,7 +4,7 @@ use Rattle.std.specs.Prelude.{false}
 use Rattle.std.proofs.Math.Seq.{take-length}
 use Rattle.tb_pool.specs.Lists.{Lists}
 use Rattle.tb_node.specs.declared.Node.{Node}
-use Rattle.tb_column.specs.Column.{PlainSent}
+use Rattle.tb_sheet.specs.Sheet.{PlainSent}
 use Rattle.tb_output.specs.declared.RunFault.{RunFault}
 use Rattle.tb_output.specs.declared.RunFault.TheVariants as faults
 use Rattle.tb_output.specs.State.{Work}

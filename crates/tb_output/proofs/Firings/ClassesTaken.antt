@@ -28,10 +28,13 @@ use Rattle.tb_column.specs.Notes.{note_shown, notes_shown, note_lists, note_coun
 use Rattle.tb_column.specs.Ranges.{IsSizedGlue}
 use Rattle.tb_output.specs.State.{with_notes, notes_in}
 use Rattle.tb_output.specs.Machine.{AreClassesFrom}
-use Rattle.tb_output.specs.Firing.{builder_lists, AreSizedBoxes}
+use Rattle.tb_builder.specs.BuilderLists.{builder_lists}
+use Rattle.tb_output.specs.Firing.{AreSizedBoxes}
 use Rattle.tb_output.specs.Notes.{IsLeafList, AreOwnLists, BoxesTaken, AreKnownNotes, NotesTaken}
-use Rattle.tb_output.proofs.FiringWork.StandLemmas.{Stands, list-same, live-same, notes-same, frame-stands, frame-free}
-use Rattle.tb_output.proofs.FiringWork.ApartLemmas.{distinct-join, live-apart}
+use Rattle.tb_sheet.proofs.StandLemmas.{Stands, list-same, live-same}
+use Rattle.tb_output.proofs.FiringWork.StandLemmas.{notes-same, frame-stands, frame-free}
+use Rattle.tb_sheet.proofs.ListsApart.{distinct-join}
+use Rattle.tb_output.proofs.FiringWork.ApartLemmas.{live-apart}
 use Rattle.tb_output.proofs.StepLaws.ClassBoxes.{own-content, later-notes}
 use Rattle.tb_output.proofs.Firings.VoidBoxes.{all-voids, voids-after, contents-other, notes-after, differ-before, known-at}
 

@@ -26,9 +26,14 @@ use Rattle.tb_builder.proofs.Ownership.OwnedLemmas.{Apart, differ-append}
 use Rattle.tb_column.specs.Page.{is_leaf_kind, AreLeaves, IsPageList}
 use Rattle.tb_column.specs.Notes.{AreDistinct}
 use Rattle.tb_output.specs.Machine.{MachineView, machine_lists, IsMachine}
-use Rattle.tb_output.specs.MachineFrame.{AreNoneOf, IsBack, back_lists, KeepsBack}
-use Rattle.tb_output.specs.Firing.{builder_lists, fired_in, AreSizedBoxes, CanFire, CanGoBack, KeepsAll, KeepsServing}
-use Rattle.tb_output.proofs.FiringWork.StandLemmas.{Stands, list-same, live-same, list-stands, nodes-stand, machine-live, IsShownBy, stands-shown}
+use Rattle.tb_sheet.specs.ApartLists.{AreNoneOf}
+use Rattle.tb_output.specs.MachineFrame.{IsBack, back_lists, KeepsBack}
+use Rattle.tb_builder.specs.BuilderLists.{builder_lists}
+use Rattle.tb_output.specs.Firing.{fired_in, AreSizedBoxes, CanFire, CanGoBack, KeepsAll, KeepsServing}
+use Rattle.tb_sheet.proofs.StandLemmas.{Stands, list-same, live-same, list-stands, nodes-stand}
+use Rattle.tb_output.proofs.FiringWork.StandLemmas.{machine-live, IsShownBy, stands-shown}
+use Rattle.tb_sheet.proofs.ListsApart
+use Rattle.tb_builder.proofs.Ownership.LackLemmas
 use Rattle.tb_output.proofs.FiringWork.ApartLemmas
 use Rattle.tb_output.proofs.FiringWork.KeepLemmas.{fields-then}
 use Rattle.tb_output.proofs.FiringWork.BuilderLemmas.{live-all, beside-owned, beside-sound, beside-contents, beside-free}
@@ -37,7 +42,7 @@ use Rattle.tb_output.proofs.FiringWork.BuilderLemmas.{live-all, beside-owned, be
 
 module _ (body l : ℕ) (m mid now : MachineView) (b later : Builder) (store middle new : Lists Node) (x : KeepsServing body l m mid b later store middle) (y : KeepsBack l [] mid now middle new) where
   mid-free : AreNoneOf (builder_lists later middle) (back_lists middle l ++ machine_lists mid)
-  mid-free = ApartLemmas.apart-swap (back_lists middle l ++ machine_lists mid) (builder_lists later middle) x.apart
+  mid-free = ListsApart.apart-swap (back_lists middle l ++ machine_lists mid) (builder_lists later middle) x.apart
 
   then-owned : builder_lists later new ≡ builder_lists later middle
   then-owned = beside-owned later (back_lists middle l ++ machine_lists mid) (back_lists new l ++ machine_lists now) middle new x.builder y.frame mid-free
@@ -50,7 +55,7 @@ module _ (body l : ℕ) (m mid now : MachineView) (b later : Builder) (store mid
     machine = y.machine;
     builder = beside-sound later (back_lists middle l ++ machine_lists mid) (back_lists new l ++ machine_lists now) middle new x.builder y.frame mid-free;
     back = y.back;
-    apart = ApartLemmas.apart-swap (builder_lists later new) (back_lists new l ++ machine_lists now)
+    apart = ListsApart.apart-swap (builder_lists later new) (back_lists new l ++ machine_lists now)
         (beside-free later (back_lists middle l ++ machine_lists mid) (back_lists new l ++ machine_lists now) middle new x.builder y.frame mid-free);
     frame = λ q live none.
         let first = x.frame q live none in
@@ -93,7 +98,7 @@ module _ (store opened : Lists Node) (l : ℕ) (fresh : get store.lists l ≡ No
     opened-machine = stands-shown m store opened is (opened-all (machine_lists m) (machine-live m store is))
 
     builder-none : AreNoneOf (builder_lists b store) []
-    builder-none = ApartLemmas.apart-none (builder_lists b store)
+    builder-none = ListsApart.apart-none (builder_lists b store)
 
     pub opened-owned : builder_lists b opened ≡ builder_lists b store
     opened-owned = beside-owned b [] [] store opened sound (opened-frame []) builder-none
@@ -204,7 +209,7 @@ pages-live store (l ∷ ls) h = (h.0.live, pages-live store ls h.1)
 
 apart-of : (xs ys : List ℕ) → AreNoneOf xs ys → Apart xs ys
 apart-of [] ys h = tt
-apart-of (x ∷ xs) ys h = (ApartLemmas.none-lacks x ys h.0, apart-of xs ys h.1)
+apart-of (x ∷ xs) ys h = (LackLemmas.none-lacks x ys h.0, apart-of xs ys h.1)
 
 pub goes-back : (l : ℕ) (m : MachineView) (b : Builder) (store : Lists Node) → IsSound b store → IsBack l m store → AreNoneOf (back_lists store l ++ machine_lists m) (builder_lists b store) → NoPage (contents_of b store) → (contents_of b store).classes ≡ m.classes → CanGoBack l m b store
 goes-back l m b store sound back free awaits known = record {
@@ -212,11 +217,11 @@ goes-back l m b store sound back free awaits known = record {
   awaits = awaits;
   joins = record {
     live = back.live;
-    apart = ApartLemmas.none-lacks l (builder_lists b store ++ inner) (none-join l (builder_lists b store) inner free.0 (none-front l inner (machine_lists m) back.apart.0));
+    apart = LackLemmas.none-lacks l (builder_lists b store ++ inner) (none-join l (builder_lists b store) inner free.0 (none-front l inner (machine_lists m) back.apart.0));
     nodes = record {
       live = pages-live store inner back.inner;
-      differ = differ-append (builder_lists b store) inner sound.own.differ (ApartLemmas.distinct-differ inner (ApartLemmas.distinct-front inner (machine_lists m) back.apart.1))
-          (apart-of (builder_lists b store) inner (ApartLemmas.apart-swap inner (builder_lists b store) (all-front (λ q. IsNoneOf q (builder_lists b store)) inner (machine_lists m) free.1)));
+      differ = differ-append (builder_lists b store) inner sound.own.differ (ApartLemmas.distinct-differ inner (ListsApart.distinct-front inner (machine_lists m) back.apart.1))
+          (apart-of (builder_lists b store) inner (ListsApart.apart-swap inner (builder_lists b store) (all-front (λ q. IsNoneOf q (builder_lists b store)) inner (machine_lists m) free.1)));
       plain_lists = pages-plain store inner back.inner;
       known = subst (λ cs. AllKnown cs (list_at store l)) (sym known) back.known;
     };

@@ -9,21 +9,22 @@ use Rattle.tb_pool.specs.Lists.{Lists, list_at}
 use Rattle.tb_node.specs.declared.Node.{Node}
 use Rattle.tb_node.specs.PlainNodes.{plain_of}
 use Rattle.tb_node.specs.Fit.{IsSizedNode}
-use Rattle.tb_column.specs.declared.Warn.TheVariants as warnings
-use Rattle.tb_column.specs.declared.Sent.TheVariants as events
-use Rattle.tb_column.specs.Column.{PlainSent}
+use Rattle.tb_sheet.specs.declared.Warn.TheVariants as warnings
+use Rattle.tb_sheet.specs.declared.Sent.TheVariants as events
+use Rattle.tb_sheet.specs.Sheet.{PlainSent}
 use Rattle.tb_scaled.specs.Scaled.{is_zero, max_dimen}
 use Rattle.tb_param.specs.declared.Params.{Params}
 use Rattle.tb_float.specs.Rooms.{column_room_of}
 use Rattle.tb_output.specs.State.{State, Work}
-use Rattle.tb_output.specs.Output.{hold_penalty, is_int, blank_column, is_crowded, leave_column, with_goal, goal_by, next_goal}
+use Rattle.tb_sheet.specs.Asked.{hold_penalty}
+use Rattle.tb_output.specs.Output.{is_int, blank_column, is_crowded, leave_column, with_goal, goal_by, next_goal}
 use Rattle.tb_output.specs.BackList.{blank_list}
 use Rattle.tb_output.specs.Machine.{MachineView, IsMachine}
 use Rattle.tb_output.specs.PageChanges.{with_warning}
 use Rattle.tb_output.specs.FiringWork.{ShowsWork, ShowsBack, shows_back, Does}
 use Rattle.tb_output.specs.MachineFrame.{HasGrown, IsBack, KeepsBack}
 use Rattle.tb_output.proofs.FiringWork.KeepLemmas.{MayGoBack, grown-machine, grown-shows, grown-keeps, keeps-back_then, keeps-back_alone}
-use Rattle.tb_output.proofs.FiringWork.ApartLemmas.{apart-none}
+use Rattle.tb_sheet.proofs.ListsApart.{apart-none}
 use Rattle.tb_output.proofs.Acts.WarnLemmas.{shown-joined, warned-back}
 use Rattle.tb_output.proofs.FiringWork.BesideLemmas.{machine-beside}
 use Rattle.tb_output.proofs.FiringWork.WorkingLemmas.{does-shown_with}

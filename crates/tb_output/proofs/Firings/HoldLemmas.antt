@@ -14,7 +14,8 @@ use Rattle.tb_output.specs.Machine.{MachineView, left_lists, event_lists, machin
 use Rattle.tb_output.specs.PageChanges.{with_held}
 use Rattle.tb_output.specs.FiringWork.{shows, Does}
 use Rattle.tb_output.specs.MachineFrame.{KeepsMachine}
-use Rattle.tb_output.proofs.FiringWork.StandLemmas.{Stands, IsShownBy, stands-shown}
+use Rattle.tb_sheet.proofs.StandLemmas.{Stands}
+use Rattle.tb_output.proofs.FiringWork.StandLemmas.{IsShownBy, stands-shown}
 use Rattle.tb_output.proofs.FiringWork.WorkingLemmas.{does-shown}
 
 -- the room of all nodes of a list is known

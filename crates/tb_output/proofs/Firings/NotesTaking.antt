@@ -24,9 +24,10 @@ use Rattle.tb_column.specs.declared.NoteBox.{NoteBox}
 use Rattle.tb_column.specs.Page.{is_leaf_kind, AreLeaves}
 use Rattle.tb_column.specs.Notes.{note_shown}
 use Rattle.tb_output.specs.State.{with_notes}
-use Rattle.tb_output.specs.Firing.{builder_lists}
+use Rattle.tb_builder.specs.BuilderLists.{builder_lists}
 use Rattle.tb_output.specs.Notes.{IsLeafList, AreOwnLists, BoxesTaken}
-use Rattle.tb_output.proofs.FiringWork.ApartLemmas.{apart-none, none-lacks, lacks-none}
+use Rattle.tb_sheet.proofs.ListsApart.{apart-none}
+use Rattle.tb_builder.proofs.Ownership.LackLemmas.{none-lacks, lacks-none}
 use Rattle.tb_output.proofs.FiringWork.BuilderLemmas.{beside-owned, beside-sound}
 use Rattle.tb_output.proofs.Firings.VoidBoxes.{void-same}
 

@@ -15,15 +15,19 @@ use Rattle.tb_column.specs.declared.NoteBox.{NoteBox}
 use Rattle.tb_column.specs.Notes.{note_lists, note_count}
 use Rattle.tb_output.specs.declared.RunFault.{RunFault}
 use Rattle.tb_output.specs.declared.RunFault.TheVariants as faults
-use Rattle.tb_output.specs.Output.{hold_penalty, is_int, hold, output_by}
+use Rattle.tb_sheet.specs.Asked.{hold_penalty}
+use Rattle.tb_output.specs.Output.{is_int, hold, output_by}
 use Rattle.tb_output.specs.Machine.{MachineView, machine_lists, IsMachine}
 use Rattle.tb_output.specs.FiringWork.{shows, shows_back, shows_page, shows_all, IsCutShort, Does}
-use Rattle.tb_output.specs.MachineFrame.{AreNoneOf, AreTextLists, IsBack, back_lists, KeepsMachine, KeepsBack}
-use Rattle.tb_output.specs.Firing.{builder_lists, fired_in, CanFire, KeepsServing}
+use Rattle.tb_sheet.specs.ApartLists.{AreNoneOf}
+use Rattle.tb_output.specs.MachineFrame.{AreTextLists, IsBack, back_lists, KeepsMachine, KeepsBack}
+use Rattle.tb_builder.specs.BuilderLists.{builder_lists}
+use Rattle.tb_output.specs.Firing.{fired_in, CanFire, KeepsServing}
 use Rattle.tb_output.specs.Notes.{NotesTaken}
 use Rattle.tb_output.specs.FiringParts.{page_output}
-use Rattle.tb_output.proofs.FiringWork.StandLemmas.{list-same, machine-live, frame-stands, IsShownBy}
-use Rattle.tb_output.proofs.FiringWork.ApartLemmas.{apart-none, apart-swap}
+use Rattle.tb_sheet.proofs.StandLemmas.{list-same}
+use Rattle.tb_output.proofs.FiringWork.StandLemmas.{machine-live, frame-stands, IsShownBy}
+use Rattle.tb_sheet.proofs.ListsApart.{apart-none, apart-swap}
 use Rattle.tb_output.proofs.FiringWork.KeepLemmas.{back-live, beside-shows, keeps-beside, keeps-back_same}
 use Rattle.tb_output.proofs.FiringWork.WorkingLemmas.{no-memory_given}
 use Rattle.tb_output.proofs.StepLaws.WorkSteps.{continues-output_by}

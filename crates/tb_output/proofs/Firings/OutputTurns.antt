@@ -14,12 +14,14 @@ use Rattle.tb_output.specs.State.{Work, footnotes}
 use Rattle.tb_output.specs.Columns
 use Rattle.tb_output.specs.Clear
 use Rattle.tb_output.specs.Text
-use Rattle.tb_output.specs.Output.{clear_penalty, par_penalty, is_int}
+use Rattle.tb_sheet.specs.Asked.{clear_penalty, par_penalty}
+use Rattle.tb_output.specs.Output.{is_int}
 use Rattle.tb_output.specs.Machine.{MachineView, machine_lists}
 use Rattle.tb_output.specs.FiringWork.{shows, shows_back, shows_notes, shows_page, IsCutShort, Does}
-use Rattle.tb_output.specs.MachineFrame.{AreNoneOf, AreTextLists, IsBack, back_lists, KeepsMachine, KeepsBack}
+use Rattle.tb_sheet.specs.ApartLists.{AreNoneOf}
+use Rattle.tb_output.specs.MachineFrame.{AreTextLists, IsBack, back_lists, KeepsMachine, KeepsBack}
 use Rattle.tb_output.specs.FiringParts.{page_output}
-use Rattle.tb_output.proofs.FiringWork.ApartLemmas.{apart-front, apart-back, apart-swap}
+use Rattle.tb_sheet.proofs.ListsApart.{apart-front, apart-back, apart-swap}
 use Rattle.tb_output.proofs.FiringWork.KeepLemmas.{beside-shows, keeps-beside}
 use Rattle.tb_output.proofs.StepLaws.ColumnSteps.{no_law, stays, put_out-step, float_columns-step, place_next-step}
 use Rattle.tb_output.proofs.FiringWork.WorkingLemmas.{Fact}

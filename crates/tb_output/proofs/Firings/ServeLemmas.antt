@@ -11,7 +11,7 @@ use Rattle.tb_builder.specs.FiredPages.{Fired}
 use Rattle.tb_builder.specs.Contents.{Contents, contents_of}
 use Rattle.tb_builder.specs.Courses.{IsSound}
 use Rattle.tb_builder.specs.Contributions.{NoPage}
-use Rattle.tb_column.specs.Column.{PlainSent}
+use Rattle.tb_sheet.specs.Sheet.{PlainSent}
 use Rattle.tb_output.specs.declared.RunFault.{RunFault}
 use Rattle.tb_output.specs.declared.RunFault.TheVariants as faults
 use Rattle.tb_output.specs.State.{Work}
@@ -19,7 +19,8 @@ use Rattle.tb_output.specs.Output.{output_by, next_goal}
 use Rattle.tb_output.specs.Machine.{MachineView, machine_lists, IsMachine}
 use Rattle.tb_output.specs.FiringWork.{shows_back, shows_boxes, shows_all, IsCutShort, Does}
 use Rattle.tb_output.specs.MachineFrame.{KeepsBack}
-use Rattle.tb_output.specs.Firing.{builder_lists, fired_in, CanFire, CanGoBack, KeepsAll, KeepsServing}
+use Rattle.tb_builder.specs.BuilderLists.{builder_lists}
+use Rattle.tb_output.specs.Firing.{fired_in, CanFire, CanGoBack, KeepsAll, KeepsServing}
 use Rattle.tb_output.specs.FiringParts.{served}
 use Rattle.tb_output.proofs.FiringWork.StandLemmas.{lists-shown}
 use Rattle.tb_output.proofs.FiringWork.WorkingLemmas.{does-given, cut-then, shows-moved, no-memory_given}

@@ -10,7 +10,7 @@ use Rattle.tb_builder.specs.Contents.{Contents, contents_of}
 use Rattle.tb_builder.specs.SizedContents.{AreBoxesOf}
 use Rattle.tb_builder.proofs.Ownership.StoreSized.{boxes_of}
 use Rattle.tb_column.specs.declared.NoteBox.{NoteBox}
-use Rattle.tb_column.specs.Column.{PlainSent}
+use Rattle.tb_sheet.specs.Sheet.{PlainSent}
 use Rattle.tb_output.specs.declared.RunFault.{RunFault}
 use Rattle.tb_output.specs.State.{State, Work, footnotes, notes_in}
 use Rattle.tb_output.specs.Columns.{emptied_boxes, ordinary}
@@ -18,7 +18,8 @@ use Rattle.tb_scaled.specs.Scaled.{eject_penalty}
 use Rattle.tb_node.specs.PlainNodes.{plain_list}
 use Rattle.tb_output.specs.Clear.{clear}
 use Rattle.tb_output.specs.Text.{float_or_note}
-use Rattle.tb_output.specs.Output.{hold_penalty, clear_penalty, par_penalty, vert_penalty, is_int, hold, output_by}
+use Rattle.tb_sheet.specs.Asked.{hold_penalty, clear_penalty, par_penalty, vert_penalty}
+use Rattle.tb_output.specs.Output.{is_int, hold, output_by}
 use Rattle.tb_output.specs.Machine.{MachineView, AreClassesFrom}
 use Rattle.tb_output.specs.FiringWork.{ShowsWork, shows, shows_back, shows_page, shows_all, IsCutShort, Does}
 use Rattle.tb_output.specs.Notes.{NotesTaken}

@@ -11,10 +11,13 @@ use Rattle.tb_builder.specs.declared.Builder.{Builder}
 use Rattle.tb_builder.specs.Contents.{contents_of}
 use Rattle.tb_builder.specs.Courses.{IsSound}
 use Rattle.tb_output.specs.Machine.{MachineView, machine_lists, IsMachine}
-use Rattle.tb_output.specs.MachineFrame.{AreNoneOf, IsBack, back_lists, KeepsBack}
-use Rattle.tb_output.specs.Firing.{builder_lists, KeepsServing}
-use Rattle.tb_output.proofs.FiringWork.StandLemmas.{Stands, machine-live, frame-stands, frame-free, IsShownBy, frame-shown}
-use Rattle.tb_output.proofs.FiringWork.ApartLemmas
+use Rattle.tb_sheet.specs.ApartLists.{AreNoneOf}
+use Rattle.tb_output.specs.MachineFrame.{IsBack, back_lists, KeepsBack}
+use Rattle.tb_builder.specs.BuilderLists.{builder_lists}
+use Rattle.tb_output.specs.Firing.{KeepsServing}
+use Rattle.tb_sheet.proofs.StandLemmas.{Stands}
+use Rattle.tb_output.proofs.FiringWork.StandLemmas.{machine-live, frame-stands, frame-free, IsShownBy, frame-shown}
+use Rattle.tb_sheet.proofs.ListsApart
 use Rattle.tb_output.proofs.FiringWork.KeepLemmas.{back-live, back-list, back-lists_same, back-shows, back-stands}
 use Rattle.tb_output.proofs.FiringWork.BuilderLemmas.{beside-owned, beside-sound, beside-contents, beside-free}
 
@@ -39,7 +42,7 @@ module _ (m : MachineView) (b later : Builder) (store middle : Lists Node) (l : 
   taken-shows = back-shows store middle l back-stand
 
   pub taken-back : IsBack l m middle
-  taken-back = back-stands store middle l back-stand m m refl is.apart (ApartLemmas.distinct-apart (back_lists store l) (machine_lists m) back.apart) back
+  taken-back = back-stands store middle l back-stand m m refl is.apart (ListsApart.distinct-apart (back_lists store l) (machine_lists m) back.apart) back
 
   -- neither the machine's lists nor those that go back are the builder's
   pub taken-free : AreNoneOf (back_lists middle l ++ machine_lists m) (builder_lists later middle)
@@ -58,7 +61,7 @@ module _ (m : MachineView) (b later : Builder) (store middle : Lists Node) (l : 
     ours = back_lists new l ++ machine_lists now
 
     later-free : AreNoneOf (builder_lists later middle) (args ++ (back_lists middle l ++ machine_lists m))
-    later-free = ApartLemmas.apart-swap (args ++ (back_lists middle l ++ machine_lists m)) (builder_lists later middle)
+    later-free = ListsApart.apart-swap (args ++ (back_lists middle l ++ machine_lists m)) (builder_lists later middle)
         (all-join (λ q. IsNoneOf q (builder_lists later middle)) args (back_lists middle l ++ machine_lists m) args_free taken-free)
 
     later-owned : builder_lists later new ≡ builder_lists later middle
@@ -72,7 +75,7 @@ module _ (m : MachineView) (b later : Builder) (store middle : Lists Node) (l : 
       machine = keeps.machine;
       builder = beside-sound later (args ++ (back_lists middle l ++ machine_lists m)) (back_lists new l ++ machine_lists now) middle new sound keeps.frame later-free;
       back = keeps.back;
-      apart = ApartLemmas.apart-swap (builder_lists later new) (back_lists new l ++ machine_lists now)
+      apart = ListsApart.apart-swap (builder_lists later new) (back_lists new l ++ machine_lists now)
           (beside-free later (args ++ (back_lists middle l ++ machine_lists m)) (back_lists new l ++ machine_lists now) middle new sound keeps.frame later-free);
       frame = λ q live none.
           let mine_none = none-front q (body ∷ builder_lists b store) (back_lists store l ++ machine_lists m) none in

@@ -13,10 +13,13 @@ use Rattle.tb_column.specs.declared.NoteBox.{NoteBox}
 use Rattle.tb_column.specs.Page.{IsPageList}
 use Rattle.tb_column.specs.Notes.{note_lists, note_count}
 use Rattle.tb_output.specs.Machine.{MachineView, machine_lists, IsMachine}
-use Rattle.tb_output.specs.MachineFrame.{AreNoneOf, AreTextLists, back_lists}
-use Rattle.tb_output.specs.Firing.{builder_lists}
+use Rattle.tb_sheet.specs.ApartLists.{AreNoneOf}
+use Rattle.tb_output.specs.MachineFrame.{AreTextLists, back_lists}
+use Rattle.tb_builder.specs.BuilderLists.{builder_lists}
 use Rattle.tb_output.specs.Notes.{NotesTaken}
-use Rattle.tb_output.proofs.FiringWork.StandLemmas.{Stands, list-same, list-stands, nodes-stand, machine-live}
+use Rattle.tb_sheet.proofs.StandLemmas.{Stands, list-same, list-stands, nodes-stand}
+use Rattle.tb_output.proofs.FiringWork.StandLemmas.{machine-live}
+use Rattle.tb_sheet.proofs.ListsApart
 use Rattle.tb_output.proofs.FiringWork.ApartLemmas
 
 -- a list that was live is none of the page's, but for its text
@@ -57,7 +60,7 @@ module _ (m : MachineView) (b later : Builder) (store middle : Lists Node) (l bo
       few = let all = text-few in omega arith;
       apart = subst (λ ls. AreNoneOf (body ∷ note_lists notes) (ls ++ machine_lists m)) (sym same) (
         none-join body (back_lists store l) (machine_lists m) body_back body_apart,
-        ApartLemmas.apart-swap (back_lists store l ++ machine_lists m) (note_lists notes)
+        ListsApart.apart-swap (back_lists store l ++ machine_lists m) (note_lists notes)
             (ApartLemmas.live-apart store (builder_lists b store) (back_lists store l ++ machine_lists m) (note_lists notes) (all-join (IsLive store) (back_lists store l) (machine_lists m) back (machine-live m store is))
             (all-join (λ q. IsNoneOf q (builder_lists b store)) (back_lists store l) (machine_lists m) back_free machine_free) taken.own.fresh),
       );

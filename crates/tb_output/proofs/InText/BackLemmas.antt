@@ -24,7 +24,7 @@ use Rattle.tb_output.specs.Text.{notes_nodes}
 use Rattle.tb_output.specs.BackList.{insertion_of, insertions_again}
 use Rattle.tb_output.specs.MachineFrame.{HasGrown}
 use Rattle.tb_output.proofs.InText.PushLemmas.{grown-none}
-use Rattle.tb_output.proofs.FiringWork.StandLemmas.{Stands}
+use Rattle.tb_sheet.proofs.StandLemmas.{Stands}
 
 -- ---- the calls of the store
 

@@ -9,7 +9,7 @@ use Rattle.tb_node.specs.declared.Where.{Where}
 use Rattle.tb_param.specs.declared.Params.{Params}
 use Rattle.tb_float.specs.declared.Entry.{Entry}
 use Rattle.tb_float.specs.declared.Entry.TheVariants as entries
-use Rattle.tb_column.specs.Column.{PlainSent}
+use Rattle.tb_sheet.specs.Sheet.{PlainSent}
 use Rattle.tb_output.specs.declared.texts.TextSize.{TextSize}
 use Rattle.tb_output.specs.State.{Work}
 use Rattle.tb_output.specs.Text.{puts_interline, note_at, float_goes, first_goes}

@@ -15,14 +15,13 @@ use Rattle.tb_node.specs.PlainNodes.{shape_of, shape_of_kind}
 use Rattle.tb_node.specs.Fit.{IsSizedNode}
 use Rattle.tb_node.specs.Sums.{size_of, depth_after, depth_from, last_depth}
 use Rattle.tb_scaled.specs.Amount.{IsAmount}
-use Rattle.tb_float.proofs.ListLemmas.{take-at}
-use Rattle.tb_float.proofs.ListLemmas.{some-at}
+use Rattle.tb_float.proofs.ListLemmas.{take-at, some-at}
 use Rattle.tb_column.specs.Page.{AreLeaves, IsPageList}
 use Rattle.tb_output.specs.Extents.{kind_depth, depth_there}
 use Rattle.tb_output.specs.Machine.{IsRoomOf}
 use Rattle.tb_output.proofs.ColumnPages.SizeLemmas.{taken}
 use Rattle.tb_output.proofs.Clears.ClearSteps.{leaves-take}
-use Rattle.tb_output.proofs.FiringWork.StandLemmas.{list-same, list-stands}
+use Rattle.tb_sheet.proofs.StandLemmas.{list-same, list-stands}
 
 -- ---- the room of the held page
 

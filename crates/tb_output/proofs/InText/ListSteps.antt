@@ -22,7 +22,7 @@ use Rattle.tb_column.specs.declared.NoteBox.{NoteBox}
 use Rattle.tb_column.specs.Notes.{AreDistinct, IsNote, notes_shown, note_lists, note_count}
 use Rattle.tb_column.specs.Page.{AreLeaves, IsPageList}
 use Rattle.tb_column.proofs.FloatLemmas.{leaves-append}
-use Rattle.tb_column.specs.Column.{PlainSent}
+use Rattle.tb_sheet.specs.Sheet.{PlainSent}
 use Rattle.tb_column.proofs.ShownLemmas.{shapes-held}
 use Rattle.tb_output.specs.declared.texts.TextSize.{TextSize}
 use Rattle.tb_output.specs.declared.RunFault.{RunFault}
@@ -33,11 +33,13 @@ use Rattle.tb_output.specs.Text.{notes_nodes, notes_height, without_firing_box, 
 use Rattle.tb_output.specs.BackList.{insertions_again}
 use Rattle.tb_output.specs.Machine.{MachineView, state_shown, events_shown, left_lists, event_lists, machine_lists, IsRoomOf, IsMachine}
 use Rattle.tb_output.specs.FiringWork.{ShowsBack, HoldsNotes, shows_back, shows_page, IsCutShort, Does}
-use Rattle.tb_output.specs.MachineFrame.{AreNoneOf, HasGrown, back_lists, IsBack, KeepsBack, AreTextLists}
+use Rattle.tb_sheet.specs.ApartLists.{AreNoneOf}
+use Rattle.tb_output.specs.MachineFrame.{HasGrown, back_lists, IsBack, KeepsBack, AreTextLists}
 use Rattle.tb_output.specs.Notes.{AreKnownNotes}
 use Rattle.tb_output.specs.FiringParts.{IsTextSize, HasTextBack, first_placed}
-use Rattle.tb_output.proofs.FiringWork.ApartLemmas.{apart-back, apart-swap, distinct-join}
-use Rattle.tb_output.proofs.FiringWork.StandLemmas.{Stands, notes-same, count-same, notes-stay, leaves-shown, events-stand, events-show, left-stands, left-shows}
+use Rattle.tb_sheet.proofs.ListsApart.{apart-back, apart-swap, distinct-join}
+use Rattle.tb_sheet.proofs.StandLemmas.{Stands, leaves-shown}
+use Rattle.tb_output.proofs.FiringWork.StandLemmas.{notes-same, count-same, notes-stay, events-stand, events-show, left-stands, left-shows}
 use Rattle.tb_output.proofs.FiringWork.KeepLemmas.{fields-same, keeps-back_then, pages-stand, leaves-inner, leaves-known}
 use Rattle.tb_output.proofs.InText.PushLemmas.{grown-none}
 use Rattle.tb_output.proofs.FiringWork.WorkingLemmas.{does-then, does-same, cut-on, does-shown_with, no-memory_given}

@@ -11,8 +11,8 @@ use Rattle.tb_node.specs.Fit.{IsExtent}
 use Rattle.tb_param.specs.declared.Params.{Params}
 use Rattle.tb_margin.specs.declared.Placed.{Placed}
 use Rattle.tb_margin.specs.Margin.{placed_note}
-use Rattle.tb_column.specs.declared.Warn.TheVariants as warnings
-use Rattle.tb_column.specs.Column.{warned}
+use Rattle.tb_sheet.specs.declared.Warn.TheVariants as warnings
+use Rattle.tb_sheet.specs.Sheet.{warned}
 use Rattle.tb_output.specs.declared.texts.TextSize.{TextSize}
 use Rattle.tb_output.specs.declared.RunFault.{RunFault}
 use Rattle.tb_output.specs.declared.RunFault.TheVariants as faults

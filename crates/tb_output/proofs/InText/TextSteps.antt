@@ -27,10 +27,10 @@ use Rattle.tb_float.specs.Lists.{FloatLists, without_place, live_count, HasFloat
 use Rattle.tb_float.specs.Pool.{FloatPool, HasNoMarks, moved_float, with_float_at, without_entry}
 use Rattle.tb_margin.specs.declared.Placed.{Placed}
 use Rattle.tb_margin.specs.Margin.{placed_note}
-use Rattle.tb_column.specs.declared.Warn.{Warn}
-use Rattle.tb_column.specs.declared.Warn.TheVariants as warnings
-use Rattle.tb_column.specs.declared.Sent.TheVariants as events
-use Rattle.tb_column.specs.Column.{PlainSent, warned}
+use Rattle.tb_sheet.specs.declared.Warn.{Warn}
+use Rattle.tb_sheet.specs.declared.Warn.TheVariants as warnings
+use Rattle.tb_sheet.specs.declared.Sent.TheVariants as events
+use Rattle.tb_sheet.specs.Sheet.{PlainSent, warned}
 use Rattle.tb_column.specs.Ranges.{IsSizedGlue}
 use Rattle.tb_column.proofs.FloatLemmas.{negated_dimension}
 use Rattle.tb_output.specs.declared.texts.TextSize.{TextSize}
@@ -46,7 +46,7 @@ use Rattle.tb_output.specs.declared.RunFault.{RunFault}
 use Rattle.tb_output.specs.declared.RunFault.TheVariants as faults
 use Rattle.tb_output.specs.FiringWork.{ShowsBack, shows_back, IsCutShort, Does, Continues}
 use Rattle.tb_output.specs.MachineFrame.{HasFloats, HasGrown, IsBack, back_lists, KeepsBack}
-use Rattle.tb_output.proofs.FiringWork.ApartLemmas.{apart-none}
+use Rattle.tb_sheet.proofs.ListsApart.{apart-none}
 use Rattle.tb_output.proofs.FiringWork.KeepLemmas.{MayGoBack, keeps-back_alone, keeps-back_same}
 use Rattle.tb_output.proofs.InText.PushLemmas.{last-sized}
 use Rattle.tb_output.proofs.FiringWork.BesideLemmas.{machine-beside}

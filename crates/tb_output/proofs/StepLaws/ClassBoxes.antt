@@ -20,8 +20,9 @@ use Rattle.tb_float.specs.Lists.{FloatLists}
 use Rattle.tb_float.specs.Rooms.{column_room_of}
 use Rattle.tb_margin.specs.declared.Placed.{Placed}
 use Rattle.tb_margin.specs.Margin.{placed_note}
-use Rattle.tb_column.specs.Column.{Notes, text_column, warned}
-use Rattle.tb_column.specs.declared.Warn.TheVariants as warnings
+use Rattle.tb_column.specs.Column.{Notes, text_column}
+use Rattle.tb_sheet.specs.Sheet.{warned}
+use Rattle.tb_sheet.specs.declared.Warn.TheVariants as warnings
 use Rattle.tb_output.specs.State.{Work, puts, sends, with_floats, footnotes, notes_in, with_notes, has_floats}
 use Rattle.tb_output.specs.FloatMoves
 use Rattle.tb_output.specs.Pages
@@ -29,6 +30,7 @@ use Rattle.tb_output.specs.Columns
 use Rattle.tb_output.specs.Text
 use Rattle.tb_output.specs.Clear
 use Rattle.tb_output.specs.Output
+use Rattle.tb_sheet.specs.Asked
 use Rattle.tb_output.specs.Machine.{AreClassesFrom}
 use Rattle.tb_output.specs.FiringParts.{page_output}
 use Rattle.tb_output.proofs.StepLaws.ColumnSteps.{no_law, stays, sends-stays, put_out-step, float_columns-step, all_wide_pages-step, place_next-step, place_float-step}
@@ -111,46 +113,46 @@ module _ (p : Params) where
   pub page-boxes : (n : ℤ) (body : List PlainNode) (w : Work) → (footnotes w.state ≡ [] → Columns.emptied_boxes w.state.boxes ≡ w.state.boxes) → (page_output p n body w).state.boxes ≡ Columns.emptied_boxes w.state.boxes
   page-boxes n body w void =
       if-emptied (int_le eject_penalty n) (Columns.ordinary p body w) _ w (ordinary-boxes body w)
-      (if-emptied (Output.is_int n Output.clear_penalty) (Clear.clear p body w) _ w (clear_by-boxes body w (footnotes w.state) void)
-      (if-emptied (Output.is_int n Output.par_penalty) (Text.float_or_note p false body w) (Text.float_or_note p true body w) w (float_or_note-boxes false body w) (float_or_note-boxes true body w)))
+      (if-emptied (Output.is_int n Asked.clear_penalty) (Clear.clear p body w) _ w (clear_by-boxes body w (footnotes w.state) void)
+      (if-emptied (Output.is_int n Asked.par_penalty) (Text.float_or_note p false body w) (Text.float_or_note p true body w) w (float_or_note-boxes false body w) (float_or_note-boxes true body w)))
 
   -- the penalty says that it is not
-  pub page-is : (f : Fired) (w : Work) → Output.hold_penalty <ℤ f.penalty → page_output p f.penalty f.body w ≡ Output.output_by p f w
+  pub page-is : (f : Fired) (w : Work) → Asked.hold_penalty <ℤ f.penalty → page_output p f.penalty f.body w ≡ Output.output_by p f w
   page-is f w above = by_eject (int_le eject_penalty f.penalty) refl
     where
-      by_par : (t : Bool) → Output.is_int f.penalty Output.par_penalty ≡ t → int_le eject_penalty f.penalty ≡ false → Output.is_int f.penalty Output.clear_penalty ≡ false
+      by_par : (t : Bool) → Output.is_int f.penalty Asked.par_penalty ≡ t → int_le eject_penalty f.penalty ≡ false → Output.is_int f.penalty Asked.clear_penalty ≡ false
           → (if t then Text.float_or_note p false f.body w else Text.float_or_note p true f.body w)
-          ≡ (if t then Text.float_or_note p false f.body w else (if Output.is_int f.penalty Output.vert_penalty then Text.float_or_note p true f.body w else Output.hold f.body w))
+          ≡ (if t then Text.float_or_note p false f.body w else (if Output.is_int f.penalty Asked.vert_penalty then Text.float_or_note p true f.body w else Output.hold f.body w))
       by_par true e low clear = refl
       by_par false e low clear =
-          let not_clear : f.penalty ≡ Output.clear_penalty → ⊥ = λ h. false-true (sym clear ∙ int-is f.penalty Output.clear_penalty h) in
-          let not_par : f.penalty ≡ Output.par_penalty → ⊥ = λ h. false-true (sym e ∙ int-is f.penalty Output.par_penalty h) in
-          let vert : f.penalty ≡ Output.vert_penalty = left-over f.penalty above low not_clear not_par in
-          ap (λ u. if u then Text.float_or_note p true f.body w else Output.hold f.body w) (sym (int-is f.penalty Output.vert_penalty vert))
+          let not_clear : f.penalty ≡ Asked.clear_penalty → ⊥ = λ h. false-true (sym clear ∙ int-is f.penalty Asked.clear_penalty h) in
+          let not_par : f.penalty ≡ Asked.par_penalty → ⊥ = λ h. false-true (sym e ∙ int-is f.penalty Asked.par_penalty h) in
+          let vert : f.penalty ≡ Asked.vert_penalty = left-over f.penalty above low not_clear not_par in
+          ap (λ u. if u then Text.float_or_note p true f.body w else Output.hold f.body w) (sym (int-is f.penalty Asked.vert_penalty vert))
         where
           false-true : false ≡ true → ⊥
           false-true h = cc
 
-          left-over : (n : ℤ) → Output.hold_penalty <ℤ n → int_le eject_penalty n ≡ false → (n ≡ Output.clear_penalty → ⊥) → (n ≡ Output.par_penalty → ⊥) → n ≡ Output.vert_penalty
+          left-over : (n : ℤ) → Asked.hold_penalty <ℤ n → int_le eject_penalty n ≡ false → (n ≡ Asked.clear_penalty → ⊥) → (n ≡ Asked.par_penalty → ⊥) → n ≡ Asked.vert_penalty
           left-over n a l x y = grind (arith, ints, a, l, x, y)
 
-      by_clear : (t : Bool) → Output.is_int f.penalty Output.clear_penalty ≡ t → int_le eject_penalty f.penalty ≡ false
-          → (if t then Clear.clear p f.body w else (if Output.is_int f.penalty Output.par_penalty then Text.float_or_note p false f.body w else Text.float_or_note p true f.body w))
-          ≡ (if t then Clear.clear p f.body w else (if Output.is_int f.penalty Output.par_penalty then Text.float_or_note p false f.body w else (if Output.is_int f.penalty Output.vert_penalty then Text.float_or_note p true f.body w else Output.hold f.body w)))
+      by_clear : (t : Bool) → Output.is_int f.penalty Asked.clear_penalty ≡ t → int_le eject_penalty f.penalty ≡ false
+          → (if t then Clear.clear p f.body w else (if Output.is_int f.penalty Asked.par_penalty then Text.float_or_note p false f.body w else Text.float_or_note p true f.body w))
+          ≡ (if t then Clear.clear p f.body w else (if Output.is_int f.penalty Asked.par_penalty then Text.float_or_note p false f.body w else (if Output.is_int f.penalty Asked.vert_penalty then Text.float_or_note p true f.body w else Output.hold f.body w)))
       by_clear true e low = refl
-      by_clear false e low = by_par (Output.is_int f.penalty Output.par_penalty) refl low e
+      by_clear false e low = by_par (Output.is_int f.penalty Asked.par_penalty) refl low e
 
       by_eject : (t : Bool) → int_le eject_penalty f.penalty ≡ t
-          → (if t then Columns.ordinary p f.body w else (if Output.is_int f.penalty Output.clear_penalty then Clear.clear p f.body w else (if Output.is_int f.penalty Output.par_penalty then Text.float_or_note p false f.body w else Text.float_or_note p true f.body w)))
-          ≡ (if t then Columns.ordinary p f.body w else (if Output.is_int f.penalty Output.clear_penalty then Clear.clear p f.body w else (if Output.is_int f.penalty Output.par_penalty then Text.float_or_note p false f.body w else (if Output.is_int f.penalty Output.vert_penalty then Text.float_or_note p true f.body w else Output.hold f.body w))))
+          → (if t then Columns.ordinary p f.body w else (if Output.is_int f.penalty Asked.clear_penalty then Clear.clear p f.body w else (if Output.is_int f.penalty Asked.par_penalty then Text.float_or_note p false f.body w else Text.float_or_note p true f.body w)))
+          ≡ (if t then Columns.ordinary p f.body w else (if Output.is_int f.penalty Asked.clear_penalty then Clear.clear p f.body w else (if Output.is_int f.penalty Asked.par_penalty then Text.float_or_note p false f.body w else (if Output.is_int f.penalty Asked.vert_penalty then Text.float_or_note p true f.body w else Output.hold f.body w))))
       by_eject true e = refl
-      by_eject false e = by_clear (Output.is_int f.penalty Output.clear_penalty) refl e
+      by_eject false e = by_clear (Output.is_int f.penalty Asked.clear_penalty) refl e
 
   -- the goal of the next page
   pub goal-boxes : (n : ℤ) (w : Work) → (Output.next_goal p n w).state.boxes ≡ w.state.boxes
   goal-boxes n w =
       let room = column_room_of p w.state.floats in
-      boxes_if (Output.is_int n Output.hold_penalty) (Output.with_goal max_dimen w) (Output.goal_by p room w) w refl
+      boxes_if (Output.is_int n Asked.hold_penalty) (Output.with_goal max_dimen w) (Output.goal_by p room w) w refl
       (boxes_if (Output.is_crowded p room) (Output.leave_column w) (Output.with_goal room w) w (sends-stays (warned (warnings.Floats w.state.page)) w).boxes refl)
 
 -- ---- boxes that hold nothing

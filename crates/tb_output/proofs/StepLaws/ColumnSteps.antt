@@ -16,7 +16,8 @@ use Rattle.tb_fpage.specs.Company.{Choice, company, left_floats}
 use Rattle.tb_area.specs.Area.{next_place, double_place}
 use Rattle.tb_area.specs.Laws.{KeepsLimits}
 use Rattle.tb_area.proofs.LawLemmas.{next-laws, double-laws}
-use Rattle.tb_column.specs.Column.{PlainColumn, PlainSheet, PlainSent, shipped, one, pair_sheet}
+use Rattle.tb_column.specs.Column.{PlainColumn}
+use Rattle.tb_sheet.specs.Sheet.{PlainSheet, PlainSent, shipped, one, pair_sheet}
 use Rattle.tb_output.specs.State.{Work, Recorded, placed, output, sends, records_also, with_floats}
 use Rattle.tb_output.specs.FloatMoves
 use Rattle.tb_output.specs.Pages

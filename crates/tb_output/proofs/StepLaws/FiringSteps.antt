@@ -18,9 +18,10 @@ use Rattle.tb_float.specs.Rooms.{column_height_of, column_room_of}
 use Rattle.tb_area.specs.Area.{current_place}
 use Rattle.tb_area.proofs.LawLemmas.{current-laws}
 use Rattle.tb_margin.specs.declared.Placed.{Placed}
-use Rattle.tb_column.specs.Column.{Notes, warned}
-use Rattle.tb_column.specs.declared.Warn.{Warn}
-use Rattle.tb_column.specs.declared.Warn.TheVariants as warnings
+use Rattle.tb_column.specs.Column.{Notes}
+use Rattle.tb_sheet.specs.Sheet.{warned}
+use Rattle.tb_sheet.specs.declared.Warn.{Warn}
+use Rattle.tb_sheet.specs.declared.Warn.TheVariants as warnings
 use Rattle.tb_output.specs.State.{State, Work, placed, begun, puts, sends, with_floats, footnotes, has_floats}
 use Rattle.tb_output.specs.FloatMoves
 use Rattle.tb_output.specs.Pages
@@ -28,6 +29,7 @@ use Rattle.tb_output.specs.Columns
 use Rattle.tb_output.specs.Text
 use Rattle.tb_output.specs.Clear
 use Rattle.tb_output.specs.Output
+use Rattle.tb_sheet.specs.Asked
 use Rattle.tb_output.specs.Firing.{page_work}
 use Rattle.tb_output.proofs.StepLaws.ColumnSteps.{RecordLaw, course, ColumnStep, in_turn, sends-frame, Stays, by-frame, place_float-step, place_next-step, all_wide_pages-step, put_out-step, float_columns-step}
 
@@ -147,15 +149,15 @@ module _ (p : Params) (law : RecordLaw p) where
   pub output_by-step : (f : Fired) (w : Work) → Step 1 w (Output.output_by p f w)
   output_by-step f w =
       step_if w (int_le eject_penalty f.penalty) (Columns.ordinary p f.body w) _ (quiet (ordinary-step f.body w))
-      (step_if w (Output.is_int f.penalty Output.clear_penalty) (Clear.clear p f.body w) _ (quiet (clear_by-step f.body w (footnotes w.state)))
-      (step_if w (Output.is_int f.penalty Output.par_penalty) (Text.float_or_note p false f.body w) _ (float_or_note-step false f.body w)
-      (step_if w (Output.is_int f.penalty Output.vert_penalty) (Text.float_or_note p true f.body w) (Output.hold f.body w) (float_or_note-step true f.body w) (quiet (changes refl)))))
+      (step_if w (Output.is_int f.penalty Asked.clear_penalty) (Clear.clear p f.body w) _ (quiet (clear_by-step f.body w (footnotes w.state)))
+      (step_if w (Output.is_int f.penalty Asked.par_penalty) (Text.float_or_note p false f.body w) _ (float_or_note-step false f.body w)
+      (step_if w (Output.is_int f.penalty Asked.vert_penalty) (Text.float_or_note p true f.body w) (Output.hold f.body w) (float_or_note-step true f.body w) (quiet (changes refl)))))
 
   pub next_goal-step : (n : ℤ) (w : Work) → Step 1 w (Output.next_goal p n w)
   next_goal-step n w =
       let room = column_room_of p w.state.floats in
       let told = sends (warned (warnings.Floats w.state.page)) w in
-      step_if w (Output.is_int n Output.hold_penalty) (Output.with_goal max_dimen w) (Output.goal_by p room w) (quiet (changes refl))
+      step_if w (Output.is_int n Asked.hold_penalty) (Output.with_goal max_dimen w) (Output.goal_by p room w) (quiet (changes refl))
       (step_if w (Output.is_crowded p room) (Output.leave_column w) (Output.with_goal room w) (afterwards {j = 1} {k = 0} {b = told} (warns_one (warnings.Floats w.state.page) w) (changes refl)) (quiet (changes refl)))
 
   -- a firing without what waits after it

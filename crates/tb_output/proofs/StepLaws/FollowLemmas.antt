@@ -16,7 +16,8 @@ use Rattle.tb_fpage.specs.declared.Wanted.{Wanted}
 use Rattle.tb_fpage.specs.Company.{Choice, company, chosen_floats, left_floats}
 use Rattle.tb_fpage.proofs.FirstLemmas.{company-takes, company-leaves}
 use Rattle.tb_area.specs.Area.{next_place, double_place}
-use Rattle.tb_column.specs.Column.{PlainColumn, PlainSheet, PlainSent, shipped, one, wide, pair_sheet, wide_floats_column, single_floats_column}
+use Rattle.tb_column.specs.Column.{PlainColumn, wide_floats_column, single_floats_column}
+use Rattle.tb_sheet.specs.Sheet.{PlainSheet, PlainSent, shipped, one, wide, pair_sheet}
 use Rattle.tb_output.specs.State.{State, Work, Recorded, placed, output, sends, records_also, with_floats}
 use Rattle.tb_output.specs.FloatMoves
 use Rattle.tb_output.specs.Pages

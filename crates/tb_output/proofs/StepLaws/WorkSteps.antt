@@ -11,8 +11,9 @@ use Rattle.tb_float.specs.declared.Entry.{Entry}
 use Rattle.tb_float.specs.Lists.{FloatLists, wide_part, wide_waiting}
 use Rattle.tb_fpage.specs.Company.{Choice}
 use Rattle.tb_margin.specs.declared.Placed.{Placed}
-use Rattle.tb_column.specs.Column.{PlainColumn, PlainSheet, PlainSent, shipped, warned}
-use Rattle.tb_column.specs.declared.Warn.TheVariants as warnings
+use Rattle.tb_column.specs.Column.{PlainColumn}
+use Rattle.tb_sheet.specs.Sheet.{PlainSheet, PlainSent, shipped, warned}
+use Rattle.tb_sheet.specs.declared.Warn.TheVariants as warnings
 use Rattle.tb_output.specs.State.{Work, Recorded, puts, sends, records_also, has_floats}
 use Rattle.tb_output.specs.FloatMoves
 use Rattle.tb_output.specs.Pages

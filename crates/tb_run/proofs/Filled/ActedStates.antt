@@ -21,12 +21,13 @@ use Rattle.tb_float.specs.declared.Entry.{Entry}
 use Rattle.tb_float.specs.declared.Entry.TheVariants as entries
 use Rattle.tb_float.specs.Lists.{live_count}
 use Rattle.tb_float.specs.Ranges.{IsWithin, IsSizedEntry}
-use Rattle.tb_column.specs.declared.Warn.{Warn}
+use Rattle.tb_sheet.specs.declared.Warn.{Warn}
 use Rattle.tb_output.specs.State.{State, ask_of, Recorded}
 use Rattle.tb_output.specs.Act.{Acted, went, full, taken_float, large_warning, with_taken, act_on}
-use Rattle.tb_output.specs.ActCalls.{IsSizedAct}
-use Rattle.tb_run.specs.GalleyNodes.{IsGalleyNode}
-use Rattle.tb_run.specs.ServedStates.{AreRunnable, IsTextKind, act_notes, notes_waiting, notes_taken, notes_left, IsServed}
+use Rattle.tb_sheet.specs.Asked.{IsSizedAct}
+use Rattle.tb_items.specs.GalleyNodes.{IsGalleyNode}
+use Rattle.tb_steps.specs.Runnable.{AreRunnable}
+use Rattle.tb_run.specs.ServedStates.{IsTextKind, act_notes, notes_waiting, notes_taken, notes_left, IsServed}
 use Rattle.tb_run.proofs.ServedAgain.FiredNodes.{notes-append}
 use Rattle.tb_run.proofs.ServedAgain.ServedFirings.{reach_where}
 

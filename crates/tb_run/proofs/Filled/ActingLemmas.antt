@@ -13,14 +13,15 @@ use Rattle.tb_builder.specs.FiredPages.{Boxed}
 use Rattle.tb_output.specs.Act.{Acted, went, full}
 use Rattle.tb_output.specs.ActCalls.{IsActed, acted_in, TakesNoList, dropped_lists}
 use Rattle.tb_output.specs.Machine.{MachineView, state_shown, machine_lists, left_lists, event_lists, IsMachine}
-use Rattle.tb_output.specs.Firing.{builder_lists}
-use Rattle.tb_output.specs.MachineFrame.{AreNoneOf}
-use Rattle.tb_output.proofs.FiringWork.ApartLemmas.{apart-swap}
+use Rattle.tb_builder.specs.BuilderLists.{builder_lists}
+use Rattle.tb_sheet.specs.ApartLists.{AreNoneOf}
+use Rattle.tb_sheet.proofs.ListsApart.{apart-swap}
 use Rattle.tb_output.proofs.FiringWork.StandLemmas.{machine-live, IsShownBy}
 use Rattle.tb_run.specs.declared.routine.Routine.{Routine}
 use Rattle.tb_run.specs.Routine.{IsConsistent}
 use Rattle.tb_run.specs.RoutinePages.{HasDone, HasActed}
-use Rattle.tb_run.proofs.Turns.WholeLemmas.{closed-owned, closed-contents, closed-sound, closed-shown}
+use Rattle.tb_items.proofs.ClosedLists.{closed-owned, closed-contents, closed-sound}
+use Rattle.tb_run.proofs.Turns.WholeLemmas.{closed-shown}
 
 -- what holds of the machine's lists holds of the one that is dropped
 pub dropped-all : (P : ℕ → Type 0) (a : Act) (m : MachineView) → AllByRecursion P (machine_lists m) → AllByRecursion P (dropped_lists a m.left_column)

@@ -15,14 +15,16 @@ use Rattle.tb_builder.specs.Contents.{Contents, laid, reach_ahead, node_count}
 use Rattle.tb_builder.specs.PageProgress.{page_reach, page_fired, HasCome, StopsAt, ComesToTry, ComesToAct, ComesToEnd}
 use Rattle.tb_builder.proofs.Events.PagingLemmas.{paging_begins}
 use Rattle.tb_builder.proofs.Ranges.PageableLemmas.{pruned_sized, pruned_nodes_longer}
-use Rattle.tb_column.specs.Column.{warned}
-use Rattle.tb_column.specs.declared.Warn.{Warn}
+use Rattle.tb_sheet.specs.Sheet.{warned}
+use Rattle.tb_sheet.specs.declared.Warn.{Warn}
 use Rattle.tb_output.specs.State.{State, ask_of, Recorded, emptied}
 use Rattle.tb_output.specs.Act.{went, full, act_on}
-use Rattle.tb_output.specs.ActCalls.{IsSizedAct}
-use Rattle.tb_run.specs.GalleyNodes.{IsGalleyNode}
-use Rattle.tb_run.specs.Run.{offered, sent, done, pool_full, Progress, after_events, progress_by, progress, ends, after_progress, step, firing_step}
-use Rattle.tb_run.specs.ServedStates.{AreRunnable, notes_waiting, notes_left, IsServed}
+use Rattle.tb_sheet.specs.Asked.{IsSizedAct}
+use Rattle.tb_items.specs.GalleyNodes.{IsGalleyNode}
+use Rattle.tb_items.specs.RunEvents.{offered, sent}
+use Rattle.tb_steps.specs.Run.{done, pool_full, Progress, after_events, progress_by, progress, ends, after_progress, step, firing_step}
+use Rattle.tb_steps.specs.Runnable.{AreRunnable}
+use Rattle.tb_run.specs.ServedStates.{notes_waiting, notes_left, IsServed}
 use Rattle.tb_run.specs.Routine.{between_pages}
 use Rattle.tb_run.proofs.ServedAgain.FiredNodes.{served-pruned, nodes-both, nodes-sized, nodes-served, notes-pruned}
 use Rattle.tb_run.proofs.Filled.ActedStates.{ActKeeps, keeps-same, keeps-then, act-sized, act-keeps, act-served, without-count}

@@ -25,10 +25,11 @@ use Rattle.tb_builder.proofs.Ranges.PageableLemmas.{IsSizedFrozen, laid_fits, cl
 use Rattle.tb_builder.proofs.Ranges.SizedLemmas.{FiredSized}
 use Rattle.tb_builder.proofs.Events.WholeLemmas.{between-fits, fired_of-sized, fired_of-fewer}
 use Rattle.tb_output.specs.State.{State, ask_of, has_floats}
-use Rattle.tb_output.specs.Output.{hold_penalty}
-use Rattle.tb_run.specs.GalleyNodes.{IsServable, IsGalleyNode}
-use Rattle.tb_run.specs.Run.{held_count}
-use Rattle.tb_run.specs.ServedStates.{AreRunnable, AreRunClasses, notes_waiting, notes_left, IsTextKind, IsServed, IsServedPage}
+use Rattle.tb_sheet.specs.Asked.{hold_penalty}
+use Rattle.tb_items.specs.GalleyNodes.{IsServable, IsGalleyNode}
+use Rattle.tb_steps.specs.Run.{held_count}
+use Rattle.tb_steps.specs.Runnable.{AreRunnable, AreRunClasses}
+use Rattle.tb_run.specs.ServedStates.{notes_waiting, notes_left, IsTextKind, IsServed, IsServedPage}
 use Rattle.tb_run.specs.Routine.{between_pages}
 use Rattle.tb_run.proofs.ServedAgain.FiredNodes.{no_acts-take, text-body, served-spent, mild-break, known-labels, held-known, nodes-both, nodes-sized, nodes-served, notes-append, notes-drop, notes-spent, notes-held}
 use Rattle.tb_run.proofs.ServedAgain.ServedFirings.{reach_where, within-more}

@@ -18,25 +18,28 @@ use Rattle.tb_builder.specs.PageProgress.{ComesToTry, ComesToAct, ComesTo, IsNex
 use Rattle.tb_builder.specs.Ownership.{ids_of, KeepsOthers}
 use Rattle.tb_builder.specs.Courses.{IsSound}
 use Rattle.tb_builder.proofs.Events.PagingLemmas.{calls_left, one_fewer}
-use Rattle.tb_column.specs.declared.Warn.{Warn}
-use Rattle.tb_column.specs.Column.{warned}
+use Rattle.tb_sheet.specs.declared.Warn.{Warn}
+use Rattle.tb_sheet.specs.Sheet.{warned}
 use Rattle.tb_column.specs.Notes.{AreDistinct}
 use Rattle.tb_output.specs.State.{State, ask_of}
 use Rattle.tb_output.specs.Act.{Acted, went, full, act_on}
-use Rattle.tb_output.specs.ActCalls.{IsSizedAct, line_of, warnings_sent}
+use Rattle.tb_sheet.specs.Asked.{IsSizedAct}
+use Rattle.tb_output.specs.ActCalls.{line_of, warnings_sent}
 use Rattle.tb_output.specs.Machine.{MachineView, state_shown, left_lists, event_lists, machine_lists, IsMachine}
-use Rattle.tb_output.specs.Firing.{builder_lists}
-use Rattle.tb_output.proofs.FiringWork.ApartLemmas.{distinct-front}
+use Rattle.tb_builder.specs.BuilderLists.{builder_lists}
+use Rattle.tb_sheet.proofs.ListsApart.{distinct-front}
 use Rattle.tb_output.proofs.FiringWork.BesideLemmas.{machine-with}
-use Rattle.tb_run.specs.declared.happenings.Happening.{Happening}
+use Rattle.tb_items.specs.declared.happenings.Happening.{Happening}
 use Rattle.tb_run.specs.declared.routine.Routine.{Routine}
 use Rattle.tb_run.specs.declared.routine.Ending.TheVariants as endings
-use Rattle.tb_run.specs.Run.{RunEvent, offered, sent, held_count}
-use Rattle.tb_run.specs.Happenings.{noted_try, noted, step_events}
+use Rattle.tb_items.specs.RunEvents.{RunEvent, offered, sent}
+use Rattle.tb_steps.specs.Run.{held_count, step_events}
+use Rattle.tb_items.specs.Happenings.{noted_try, noted}
 use Rattle.tb_run.specs.Routine.{held_in, state_of, with_events, IsConsistent, IsReady, EndsAs}
 use Rattle.tb_run.specs.RoutinePages.{sent_happenings, HasDone, HasActed, HasNotActed, AreQuiet, IsFilledLast}
 use Rattle.tb_run.proofs.Turns.WholeLemmas.{built-shown, built-whole}
-use Rattle.tb_run.proofs.Turns.HappenedLemmas.{lists-append, events-append, noted-append, noted-warned, try-noted, try-lists, warned-events, warned-lists}
+use Rattle.tb_items.proofs.HappenedLemmas.{lists-append, events-append, noted-append, noted-warned, try-noted, try-lists}
+use Rattle.tb_run.proofs.Turns.HappenedLemmas.{warned-events, warned-lists}
 use Rattle.tb_run.proofs.Filled.ComingLemmas.{IsComing, start, so_far, coming-start, after, tried-events, coming-tried, acted-sized, acted-events, coming-acted, step-full, step-over}
 use Rattle.tb_run.proofs.Filled.ComingPages.{coming-fits}
 

@@ -32,16 +32,21 @@ use Rattle.tb_builder.proofs.Ownership.StoreSized.{list-back, list-length, boxes
 use Rattle.tb_column.specs.Page.{is_leaf_kind, AreLeaves}
 use Rattle.tb_float.specs.Ranges.{IsWithin}
 use Rattle.tb_output.specs.State.{State, ask_of, Recorded}
-use Rattle.tb_output.specs.Output.{hold_penalty, out}
+use Rattle.tb_sheet.specs.Asked.{hold_penalty}
+use Rattle.tb_output.specs.Output.{out}
 use Rattle.tb_output.specs.Machine.{MachineView, state_shown, machine_lists}
-use Rattle.tb_output.specs.Firing.{builder_lists, fired_in, IsReach, CanFire}
+use Rattle.tb_builder.specs.BuilderLists.{builder_lists}
+use Rattle.tb_output.specs.Firing.{fired_in, IsReach, CanFire}
 use Rattle.tb_column.proofs.ShownLemmas.{shapes-held}
-use Rattle.tb_output.proofs.FiringWork.ApartLemmas.{fresh-none, lacks-none}
+use Rattle.tb_output.proofs.FiringWork.ApartLemmas.{fresh-none}
+use Rattle.tb_builder.proofs.Ownership.LackLemmas.{lacks-none}
 use Rattle.tb_output.proofs.FiringWork.StandLemmas.{machine-live}
-use Rattle.tb_run.specs.declared.happenings.Happening.{Happening}
+use Rattle.tb_items.specs.declared.happenings.Happening.{Happening}
 use Rattle.tb_run.specs.declared.routine.Routine.{Routine}
-use Rattle.tb_run.specs.Run.{RunEvent, held_count, firing_step}
-use Rattle.tb_run.specs.ServedStates.{AreRunClasses, IsTextKind, notes_left, IsServedPage}
+use Rattle.tb_items.specs.RunEvents.{RunEvent}
+use Rattle.tb_steps.specs.Run.{held_count, firing_step}
+use Rattle.tb_steps.specs.Runnable.{AreRunClasses}
+use Rattle.tb_run.specs.ServedStates.{IsTextKind, notes_left, IsServedPage}
 use Rattle.tb_run.specs.Routine.{held_in, state_of, IsConsistent, IsBetweenFirings, IsReady}
 use Rattle.tb_run.specs.RoutinePages.{IsBoundedPage, IsFiring}
 use Rattle.tb_run.proofs.ServedAgain.ServedFirings.{reach_where}

@@ -9,11 +9,12 @@ use Rattle.tb_builder.specs.declared.Page.{Page}
 use Rattle.tb_builder.specs.declared.Try.{Try}
 use Rattle.tb_builder.specs.PageCalls.{IsNext, PassedOver, ComesBy}
 use Rattle.tb_output.specs.State.{ask_of}
-use Rattle.tb_output.specs.ActCalls.{IsSizedAct, line_of}
-use Rattle.tb_run.specs.declared.happenings.Happening.{Happening}
+use Rattle.tb_sheet.specs.Asked.{IsSizedAct}
+use Rattle.tb_output.specs.ActCalls.{line_of}
+use Rattle.tb_items.specs.declared.happenings.Happening.{Happening}
 use Rattle.tb_run.specs.declared.routine.Routine.{Routine}
 use Rattle.tb_run.specs.declared.routine.Ending.TheVariants as endings
-use Rattle.tb_run.specs.Happenings.{noted_try}
+use Rattle.tb_items.specs.Happenings.{noted_try}
 use Rattle.tb_run.specs.Routine.{state_of, with_events, IsConsistent, IsReady}
 use Rattle.tb_run.specs.RoutinePages.{HasComeTo, sent_happenings, HasActed, HasNotActed, IsFilledLast, IsFiring}
 use Rattle.tb_run.proofs.Filled.FillingLemmas.{IsUnderway, left_of_page, next-whole, underway-tried, fewer-tried, act-fits, underway-acted, fewer-acted, filled-full, filled-over}

@@ -6,10 +6,11 @@ use Rattle.tb_param.specs.declared.Params.{Params}
 use Rattle.tb_break.specs.Best.{Breakpoint, least_cost}
 use Rattle.tb_break.proofs.BestLemmas.{least-append}
 use Rattle.tb_builder.specs.Reach.{Reached, acted, tried, try_of, breakpoints}
-use Rattle.tb_column.specs.Column.{warned}
+use Rattle.tb_sheet.specs.Sheet.{warned}
 use Rattle.tb_output.specs.State.{State, Recorded}
 use Rattle.tb_output.specs.Act.{Acted, went, full, act_on}
-use Rattle.tb_run.specs.Run.{RunEvent, offered, sent, Progress, after_events, progress_by, progress}
+use Rattle.tb_items.specs.RunEvents.{RunEvent, offered, sent}
+use Rattle.tb_steps.specs.Run.{Progress, after_events, progress_by, progress}
 
 -- the least cost after these
 abbrev pub least_after : List Reached → ℤ → ℤ

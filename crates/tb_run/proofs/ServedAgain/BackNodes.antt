@@ -27,9 +27,11 @@ use Rattle.tb_output.specs.Machine.{AreClassesFrom}
 use Rattle.tb_output.specs.Columns.{emptied_boxes}
 use Rattle.tb_output.specs.Clear.{clear_again}
 use Rattle.tb_output.specs.Text.{penalty_nodes, penalty_after, notes_nodes, here_nodes, note_nodes}
-use Rattle.tb_output.specs.Output.{hold_penalty, blank_column}
-use Rattle.tb_run.specs.GalleyNodes.{IsMild, IsServable, IsGalleyNode}
-use Rattle.tb_run.specs.ServedStates.{AreRunnable, notes_waiting, IsTextKind}
+use Rattle.tb_sheet.specs.Asked.{hold_penalty}
+use Rattle.tb_output.specs.Output.{blank_column}
+use Rattle.tb_items.specs.GalleyNodes.{IsMild, IsServable, IsGalleyNode}
+use Rattle.tb_steps.specs.Runnable.{AreRunnable}
+use Rattle.tb_run.specs.ServedStates.{notes_waiting, IsTextKind}
 
 -- no act, a penalty is mild, and an insertion is sized and of one of these classes
 abbrev pub IsBackKind : List Class → PlainKind → Type 0

@@ -10,7 +10,8 @@ use Rattle.tb_float.specs.Lists.{FloatLists, with_floats_of, wide_part, wide_wai
 use Rattle.tb_float.specs.Rooms.{column_height_of}
 use Rattle.tb_fpage.specs.Company.{Choice, company, chosen_floats, left_floats}
 use Rattle.tb_area.specs.Area.{next_place, double_place}
-use Rattle.tb_column.specs.Column.{PlainColumn, PlainSheet, PlainSent, shipped, one, pair_sheet, single_floats_column}
+use Rattle.tb_column.specs.Column.{PlainColumn, single_floats_column}
+use Rattle.tb_sheet.specs.Sheet.{PlainSheet, PlainSent, shipped, one, pair_sheet}
 use Rattle.tb_output.specs.State.{Work, Recorded, placed, output, sends, records_also, with_floats}
 use Rattle.tb_output.specs.FloatMoves
 use Rattle.tb_output.specs.Pages

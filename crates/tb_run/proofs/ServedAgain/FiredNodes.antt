@@ -14,8 +14,8 @@ use Rattle.tb_builder.specs.FiredPages.{spent_kind, with_spent_break, penalty_at
 use Rattle.tb_builder.specs.Ownership.{has_class}
 use Rattle.tb_builder.specs.Pageable.{IsSizedOnPage}
 use Rattle.tb_builder.specs.LegalPlaces.{NoActs}
-use Rattle.tb_output.specs.Output.{hold_penalty}
-use Rattle.tb_run.specs.GalleyNodes.{IsServable, IsGalleyNode}
+use Rattle.tb_sheet.specs.Asked.{hold_penalty}
+use Rattle.tb_items.specs.GalleyNodes.{IsServable, IsGalleyNode}
 use Rattle.tb_run.specs.ServedStates.{kind_notes, notes_waiting, IsTextKind}
 
 -- ---- no acts

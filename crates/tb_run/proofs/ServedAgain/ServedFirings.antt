@@ -18,13 +18,15 @@ use Rattle.tb_float.specs.Lists.{wide_part, wide_waiting}
 use Rattle.tb_float.specs.Ranges.{IsWithin, IsSizedEntry}
 use Rattle.tb_float.specs.Rooms.{column_room_of}
 use Rattle.tb_float.proofs.WaitingLemmas.{wide-waits}
-use Rattle.tb_column.specs.Column.{Notes, PlainSent, text_column, warned}
-use Rattle.tb_column.specs.declared.Warn.TheVariants as warnings
+use Rattle.tb_column.specs.Column.{Notes, text_column}
+use Rattle.tb_sheet.specs.Sheet.{PlainSent, warned}
+use Rattle.tb_sheet.specs.declared.Warn.TheVariants as warnings
 use Rattle.tb_output.specs.State.{Work, puts, sends, with_floats, footnotes, has_floats}
 use Rattle.tb_output.specs.Pages
 use Rattle.tb_output.specs.Columns
 use Rattle.tb_output.specs.Clear
 use Rattle.tb_output.specs.Output
+use Rattle.tb_sheet.specs.Asked
 use Rattle.tb_output.proofs.StepLaws.FollowLemmas.{Follows, part-current, follows-put_out, follows-float_columns, follows-next, follows-wide_pages}
 use Rattle.tb_run.specs.ServedStates.{notes_taken}
 use Rattle.tb_run.proofs.ServedAgain.BackNodes.{AreBack, AreText, back-append, text-back, clear-back, blank-back, count-take, emptied-sized, emptied-count}
@@ -219,5 +221,5 @@ module _ (cs : List Class) (left : ℕ) where
   pub kept-next_goal : (n : ℕ) (p : Params) (q : ℤ) (w : Work) → Kept cs left n w → Kept cs left (n + 4) (Output.next_goal p q w)
   kept-next_goal n p q w k =
       let room = column_room_of p w.state.floats in
-      kept-if (n + 4) (Output.is_int q Output.hold_penalty) (Output.with_goal max_dimen w) (Output.goal_by p room w) (kept-goal n max_dimen w k)
+      kept-if (n + 4) (Output.is_int q Asked.hold_penalty) (Output.with_goal max_dimen w) (Output.goal_by p room w) (kept-goal n max_dimen w k)
       (kept-if (n + 4) (Output.is_crowded p room) (Output.leave_column w) (Output.with_goal room w) (kept-leave n w k) (kept-goal n room w k))

@@ -19,10 +19,12 @@ use Rattle.tb_output.specs.State.{State, Work, begun}
 use Rattle.tb_output.specs.Columns.{ordinary}
 use Rattle.tb_output.specs.Clear.{clear}
 use Rattle.tb_output.specs.Text.{without_firing_box, float_or_note}
-use Rattle.tb_output.specs.Output.{clear_penalty, par_penalty, vert_penalty, is_int, hold, output_by, next_goal, after_page, out}
-use Rattle.tb_run.specs.GalleyNodes.{IsGalleyNode}
-use Rattle.tb_run.specs.Run.{held_count}
-use Rattle.tb_run.specs.ServedStates.{AreRunnable, AreRunClasses, notes_waiting, notes_taken, IsServed, IsServedPage}
+use Rattle.tb_sheet.specs.Asked.{clear_penalty, par_penalty, vert_penalty}
+use Rattle.tb_output.specs.Output.{is_int, hold, output_by, next_goal, after_page, out}
+use Rattle.tb_items.specs.GalleyNodes.{IsGalleyNode}
+use Rattle.tb_steps.specs.Run.{held_count}
+use Rattle.tb_steps.specs.Runnable.{AreRunnable, AreRunClasses}
+use Rattle.tb_run.specs.ServedStates.{notes_waiting, notes_taken, IsServed, IsServedPage}
 use Rattle.tb_run.proofs.ServedAgain.FiredNodes.{notes-append}
 use Rattle.tb_run.proofs.ServedAgain.BackNodes.{back-nodes, back-notes, classes-few}
 use Rattle.tb_run.proofs.ServedAgain.ServedFirings.{reach_where, Kept, kept-more, kept-if, kept-ordinary, kept-clear, kept-hold, kept-next_goal}

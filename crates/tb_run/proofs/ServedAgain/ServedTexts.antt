@@ -32,14 +32,15 @@ use Rattle.tb_float.specs.Rooms.{column_height_of}
 use Rattle.tb_margin.specs.declared.Placed.{Placed}
 use Rattle.tb_margin.specs.Margin.{note_height, note_depth, side_of, placed_note}
 use Rattle.tb_area.specs.Area.{current_place}
-use Rattle.tb_column.specs.Column.{warned}
-use Rattle.tb_column.specs.declared.Warn.TheVariants as warnings
+use Rattle.tb_sheet.specs.Sheet.{warned}
+use Rattle.tb_sheet.specs.declared.Warn.TheVariants as warnings
 use Rattle.tb_output.specs.State.{Work, Recorded, placed, puts, sends, records_also, with_floats, footnotes, notes_in}
 use Rattle.tb_output.specs.FloatMoves
 use Rattle.tb_output.specs.Columns
 use Rattle.tb_output.specs.Text
 use Rattle.tb_output.proofs.StepLaws.FollowLemmas.{joined-current}
-use Rattle.tb_run.specs.ServedStates.{AreRunnable, notes_taken}
+use Rattle.tb_steps.specs.Runnable.{AreRunnable}
+use Rattle.tb_run.specs.ServedStates.{notes_taken}
 use Rattle.tb_run.proofs.ServedAgain.BackNodes.{AreBack, AreText, back-append, text-back, interline-back, interline-few, here-back, here-few, note-back, count-take, notes-back, notes-few, emptied-sized, emptied-count}
 use Rattle.tb_run.proofs.ServedAgain.EasedWorks.{placed-eases}
 use Rattle.tb_run.proofs.ServedAgain.ServedFirings.{reach_where, Kept, kept-more, kept-if, kept-with, kept-sends, kept-puts, kept-puts_few, within-more}

@@ -13,7 +13,7 @@ use Rattle.tb_node.specs.PlainNodes.{PlainKind, plain, ins, act, PlainNode}
 use Rattle.tb_param.specs.declared.Params.{Params}
 use Rattle.tb_insert.specs.declared.Class.{Class}
 use Rattle.tb_builder.specs.declared.Builder.{Builder}
-use Rattle.tb_builder.specs.Contents.{Contents, contents_of, nothing_yet, kind_count, node_count, box_count}
+use Rattle.tb_builder.specs.Contents.{contents_of, nothing_yet, kind_count, node_count, box_count}
 use Rattle.tb_builder.specs.Ownership.{ids_of, owned}
 use Rattle.tb_builder.specs.Courses.{IsSound}
 use Rattle.tb_builder.proofs.Ownership.OwnedLemmas.{AllSame}
@@ -22,13 +22,14 @@ use Rattle.tb_column.specs.declared.Column.{Column}
 use Rattle.tb_builder.specs.Pageable.{IsSizedBox}
 use Rattle.tb_output.specs.State.{State, void_boxes, first_state}
 use Rattle.tb_output.specs.Machine.{MachineView, left_shown, left_lists, state_shown, event_lists, machine_lists, IsMachine}
-use Rattle.tb_output.specs.Firing.{builder_lists}
-use Rattle.tb_output.specs.MachineFrame.{AreNoneOf}
-use Rattle.tb_output.proofs.FiringWork.ApartLemmas.{lacks-none}
+use Rattle.tb_builder.specs.BuilderLists.{builder_lists}
+use Rattle.tb_sheet.specs.ApartLists.{AreNoneOf}
+use Rattle.tb_builder.proofs.Ownership.LackLemmas.{lacks-none}
 use Rattle.tb_run.specs.declared.routine.Routine.{Routine}
-use Rattle.tb_run.specs.GalleyNodes.{AreGalleyNodes}
-use Rattle.tb_run.specs.Run.{held_count}
-use Rattle.tb_run.specs.ServedStates.{AreRunnable, AreRunClasses, kind_notes, notes_waiting, IsServed}
+use Rattle.tb_items.specs.GalleyNodes.{AreGalleyNodes}
+use Rattle.tb_steps.specs.Run.{held_count}
+use Rattle.tb_steps.specs.Runnable.{AreRunnable, AreRunClasses}
+use Rattle.tb_run.specs.ServedStates.{kind_notes, notes_waiting, IsServed}
 use Rattle.tb_run.specs.Routine.{held_in, state_of, between_pages, IsReady}
 
 -- ---- the first state

@@ -15,7 +15,7 @@ use Rattle.tb_builder.specs.Contents.{contents_count, kind_count, node_count, bo
 use Rattle.tb_column.specs.Page.{is_leaf_kind, AreLeaves}
 use Rattle.tb_run.specs.declared.routine.Routine.{Routine}
 use Rattle.tb_run.specs.declared.routine.Ending.TheVariants as endings
-use Rattle.tb_run.specs.Run.{held_count}
+use Rattle.tb_steps.specs.Run.{held_count}
 use Rattle.tb_run.specs.Routine.{held_in, state_of, IsConsistent, IsBounded, over_limit}
 
 -- ---- a list of a page

@@ -2,36 +2,21 @@
 use Rattle.std.proofs.Common.{◌≡◌, sym, subst, ◌∙◌, ap, ℕ, ◌≤◌, List, [], ◌∷◌}
 use Rattle.std.specs.List.{AllByRecursion}
 use Rattle.std.specs.FinMap.{get}
-use Rattle.tb_break.proofs.EachLemmas.{all-join}
-use Rattle.tb_pool.specs.Lists.{Lists, IsLive}
+use Rattle.tb_pool.specs.Lists.{Lists}
 use Rattle.tb_pool.specs.Frame.{IsNoneOf}
 use Rattle.tb_node.specs.declared.Node.{Node}
-use Rattle.tb_column.specs.declared.Sent.TheVariants as sents
 use Rattle.tb_output.specs.State.{State}
 use Rattle.tb_output.specs.Machine.{state_shown, machine_lists}
-use Rattle.tb_output.specs.MachineFrame.{AreNoneOf}
-use Rattle.tb_output.proofs.FiringWork.StandLemmas.{IsShownBy, sheet-live}
-use Rattle.tb_run.specs.declared.happenings.Happening.{Happening}
-use Rattle.tb_run.specs.declared.happenings.Happening.TheVariants as happenings
+use Rattle.tb_sheet.specs.ApartLists.{AreNoneOf}
+use Rattle.tb_output.proofs.FiringWork.StandLemmas.{IsShownBy}
+use Rattle.tb_items.specs.declared.happenings.Happening.{Happening}
 use Rattle.tb_run.specs.declared.routine.Routine.{Routine}
-use Rattle.tb_run.specs.Run.{held_count}
+use Rattle.tb_steps.specs.Run.{held_count}
 use Rattle.tb_run.specs.ServedStates.{IsServed}
-use Rattle.tb_run.specs.Happenings.{happening_lists, happened_lists}
-use Rattle.tb_run.specs.Routine.{held_in, state_of, IsConsistent, between_pages, IsReady, IsPage, ArePages, AreHappened}
-use Rattle.tb_run.proofs.Turns.WholeLemmas.{closed-owned, closed-contents, closed-sound, closed-shown}
-
--- ---- lists of pages are live
-
-page-live : (store : Lists Node) (x : Happening) → IsPage store x → AllByRecursion (IsLive store) (happening_lists x)
-page-live store (happenings.Tried t) h = tt
-page-live store (happenings.Sent (sents.Warn w)) h = tt
-page-live store (happenings.Sent (sents.Ship page sheet)) h = sheet-live store sheet h
-
-pub pages-live : (store : Lists Node) (hs : List Happening) → ArePages store hs → AllByRecursion (IsLive store) (happened_lists hs)
-pages-live store [] h = tt
-pages-live store (x ∷ hs) h = all-join (IsLive store) (happening_lists x) (happened_lists hs) (page-live store x h.0) (pages-live store hs h.1)
-
--- ---- they are closed
+use Rattle.tb_items.specs.Happenings.{happened_lists}
+use Rattle.tb_run.specs.Routine.{held_in, state_of, IsConsistent, between_pages, IsReady, AreHappened}
+use Rattle.tb_items.proofs.ClosedLists.{closed-owned, closed-contents, closed-sound}
+use Rattle.tb_run.proofs.Turns.WholeLemmas.{closed-shown}
 
 module _ (r : Routine) (new : Lists Node) (hs : List Happening) (ready : IsReady r) (h : AreHappened r hs) (others : (q : ℕ) → IsNoneOf q (happened_lists hs) → get new.lists q ≡ get r.store.lists q) where
   abbrev after : Routine

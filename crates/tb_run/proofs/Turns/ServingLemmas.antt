@@ -20,8 +20,9 @@ use Rattle.tb_output.specs.Firing.{fired_in, whole_work, CanFire, CanGoBack, IsF
 use Rattle.tb_run.specs.declared.routine.Routine.{Routine}
 use Rattle.tb_run.specs.declared.routine.Ending.{Ending}
 use Rattle.tb_run.specs.declared.routine.Ending.TheVariants as endings
-use Rattle.tb_run.specs.Run.{held_count}
-use Rattle.tb_run.specs.ServedStates.{AreRunnable, AreRunClasses, IsServed, IsServedPage}
+use Rattle.tb_steps.specs.Run.{held_count}
+use Rattle.tb_steps.specs.Runnable.{AreRunnable, AreRunClasses}
+use Rattle.tb_run.specs.ServedStates.{IsServed, IsServedPage}
 use Rattle.tb_run.specs.Routine.{held_in, state_of, IsConsistent, IsBounded, between_pages, IsEnded, over_limit}
 use Rattle.tb_run.specs.RoutinePages.{IsBoundedPage, IsServedOn, ServesTo, Serves}
 use Rattle.tb_run.proofs.Turns.CountedLemmas.{shown-sized}

@@ -1,5 +1,5 @@
 -- A turn of the routine is a step of the run.
-use Rattle.std.proofs.Common.{◌≡◌, refl, sym, subst, ◌∙◌, ap, ℕ, ◌+◌, ◌≤◌, ℤ, pos, ◌≤ℤ◌, Bool, true, false, List, [], ◌∷◌, ◌++◌, map, Option, Some, None, append-nil, sub-one, arith}
+use Rattle.std.proofs.Common.{◌≡◌, refl, sym, subst, ◌∙◌, ap, ℕ, ◌+◌, ◌≤◌, ℤ, pos, ◌≤ℤ◌, Bool, true, false, List, [], ◌∷◌, ◌++◌, map, Option, Some, None, append-nil, arith}
 use Rattle.std.specs.Prelude.{int_lt, pred, IfNone, ◌<ℤ◌, if◌then◌else◌}
 use Rattle.std.proofs.lemmas.Int.{ints}
 use Rattle.std.proofs.lemmas.Bool.{true≢false}
@@ -9,28 +9,33 @@ use Rattle.tb_pool.specs.Frame.{IsNoneOf}
 use Rattle.tb_node.specs.declared.Node.{Node}
 use Rattle.tb_param.specs.declared.Params.{Params}
 use Rattle.tb_builder.specs.declared.Page.{Page}
-use Rattle.tb_column.specs.declared.Sent.TheVariants as sents
-use Rattle.tb_column.specs.declared.Sheet.{Sheet}
-use Rattle.tb_column.specs.declared.Sheet.TheVariants as sheets
+use Rattle.tb_sheet.specs.declared.Sent.TheVariants as sents
+use Rattle.tb_sheet.specs.declared.Sheet.{Sheet}
+use Rattle.tb_sheet.specs.declared.Sheet.TheVariants as sheets
 use Rattle.tb_column.specs.Notes.{AreDistinct}
 use Rattle.tb_output.specs.declared.RunFault.{RunFault}
 use Rattle.tb_output.specs.declared.RunFault.TheVariants as faults
 use Rattle.tb_output.specs.State.{Work, Recorded}
-use Rattle.tb_output.specs.Machine.{events_shown, sheet_lists, left_lists, event_lists, machine_lists}
-use Rattle.tb_output.specs.Firing.{fired_in, whole_work, builder_lists}
-use Rattle.tb_output.specs.MachineFrame.{AreNoneOf}
-use Rattle.tb_output.proofs.FiringWork.ApartLemmas.{apart-swap, distinct-back, distinct-apart}
-use Rattle.tb_run.specs.declared.happenings.Happening.{Happening}
-use Rattle.tb_run.specs.declared.happenings.Happening.TheVariants as happenings
+use Rattle.tb_output.specs.Machine.{events_shown, left_lists, event_lists, machine_lists}
+use Rattle.tb_sheet.specs.StoredSheets.{sheet_lists}
+use Rattle.tb_output.specs.Firing.{fired_in, whole_work}
+use Rattle.tb_builder.specs.BuilderLists.{builder_lists}
+use Rattle.tb_sheet.specs.ApartLists.{AreNoneOf}
+use Rattle.tb_sheet.proofs.ListsApart.{apart-swap, distinct-back, distinct-apart}
+use Rattle.tb_items.specs.declared.happenings.Happening.{Happening}
+use Rattle.tb_items.specs.declared.happenings.Happening.TheVariants as happenings
 use Rattle.tb_run.specs.declared.routine.Routine.{Routine}
 use Rattle.tb_run.specs.declared.routine.Ending.{Ending}
 use Rattle.tb_run.specs.declared.routine.Ending.TheVariants as endings
-use Rattle.tb_run.specs.Run.{RunEvent, sent, dead_cycles, page_limit, node_limit, Step, ends, goes_on, after_firing, step, held_count, firing_step}
-use Rattle.tb_run.specs.ServedStates.{AreRunnable, AreRunClasses}
-use Rattle.tb_run.specs.Happenings.{events_of, noted, step_events, happened_lists}
-use Rattle.tb_run.specs.Routine.{state_of, with_events, IsReady, EndsAs, IsTurned, IsPage, ArePages, AreHappened}
+use Rattle.tb_items.specs.RunEvents.{RunEvent, sent}
+use Rattle.tb_steps.specs.Run.{dead_cycles, page_limit, node_limit, Step, ends, goes_on, after_firing, step, held_count, firing_step, step_events}
+use Rattle.tb_steps.specs.Runnable.{AreRunnable, AreRunClasses}
+use Rattle.tb_items.specs.Happenings.{events_of, noted, happened_lists, IsPage, ArePages}
+use Rattle.tb_run.specs.Routine.{state_of, with_events, IsReady, EndsAs, IsTurned, AreHappened}
 use Rattle.tb_run.specs.RoutinePages.{sent_happenings, IsFilledLast, IsFiring, IsServedOn, IsOverLimit, IsFaultOf, ServesTo, Serves}
-use Rattle.tb_run.proofs.Turns.HappenedLemmas.{lists-append, events-append, noted-append, noted-sent, sent-events, sent-lists, sent-pages}
+use Rattle.tb_items.proofs.HappenedLemmas.{lists-append, events-append, noted-append, noted-sent}
+use Rattle.tb_run.proofs.Turns.HappenedLemmas.{sent-events, sent-lists, sent-pages}
+use Rattle.tb_items.proofs.PageNumbers.{pred-is}
 use Rattle.tb_run.proofs.Filled.FillingLemmas.{taken-whole}
 
 -- ---- happenings without lists
@@ -69,9 +74,6 @@ below-test n z h = grind (arith, ints, h)
 
 not-below : (n : ℕ) (z : ℤ) → z ≤ℤ pos n → int_lt (pos n) z ≡ false
 not-below n z h = grind (arith, ints, h)
-
-pub pred-is : (a b : ℕ) → a + 1 ≡ b → pred b ≡ a
-pred-is a b e = sym (sub-one b) ∙ omega (arith, e)
 
 -- a number within a limit is at most the greatest one
 pub within-limit : (k : ℕ) (m : ℤ) → pos k ≤ℤ m → m ≤ℤ pos 4194304 → k ≤ 4194304

@@ -2,10 +2,8 @@
 use Rattle.std.proofs.Common.{◌≡◌, ◌≢◌, sym, subst, ◌∙◌, ap, ℕ, List, [], ◌∷◌, ◌++◌}
 use Rattle.std.specs.List.{AllByRecursion}
 use Rattle.std.specs.FinMap.{get, remove}
-use Rattle.tb_output.proofs.FiringWork.BuilderLemmas.{stand-same}
 use Rattle.tb_pool.specs.Lists.{Lists, IsLive, list_at}
 use Rattle.tb_pool.specs.Frame.{IsNoneOf}
-use Rattle.tb_pool.proofs.MapLemmas.{get-remove_other}
 use Rattle.tb_node.specs.declared.Node.{Node}
 use Rattle.tb_builder.specs.declared.Builder.{Builder}
 use Rattle.tb_builder.specs.Contents.{contents_of}
@@ -14,10 +12,15 @@ use Rattle.tb_builder.specs.Courses.{IsSound}
 use Rattle.tb_builder.proofs.Ownership.FrameLemmas.{frame_owned, frame_contents, frame_sound}
 use Rattle.tb_builder.proofs.Ownership.OwnedLemmas.{AllSame, lacks-append}
 use Rattle.tb_output.specs.Machine.{MachineView, machine_lists, IsMachine}
-use Rattle.tb_output.specs.Firing.{builder_lists, CanGoBack}
-use Rattle.tb_output.specs.MachineFrame.{AreNoneOf, back_lists}
-use Rattle.tb_output.proofs.FiringWork.ApartLemmas.{apart-swap, distinct-apart, none-lacks, lacks-none}
-use Rattle.tb_output.proofs.FiringWork.StandLemmas.{Stands, machine-live, IsShownBy, stands-shown}
+use Rattle.tb_builder.specs.BuilderLists.{builder_lists}
+use Rattle.tb_output.specs.Firing.{CanGoBack}
+use Rattle.tb_sheet.specs.ApartLists.{AreNoneOf}
+use Rattle.tb_output.specs.MachineFrame.{back_lists}
+use Rattle.tb_sheet.proofs.ListsApart.{apart-swap, distinct-apart}
+use Rattle.tb_builder.proofs.Ownership.LackLemmas.{none-lacks, lacks-none}
+use Rattle.tb_sheet.proofs.StandLemmas.{Stands}
+use Rattle.tb_output.proofs.FiringWork.StandLemmas.{machine-live, IsShownBy, stands-shown}
+use Rattle.tb_items.proofs.ClosedLists.{closed-other, all-other}
 use Rattle.tb_run.specs.declared.routine.Routine.{Routine}
 use Rattle.tb_run.specs.Routine.{held_in, IsConsistent}
 
@@ -54,33 +57,10 @@ pub stand-others : (store new : Lists Node) (closed : List ℕ) → ((q : ℕ) �
 stand-others store new closed others [] h = tt
 stand-others store new closed others (l ∷ ls) h = (others l h.0, stand-others store new closed others ls h.1)
 
--- none of them the builder's or the machine's
-module _ (b : Builder) (store new : Lists Node) (closed : List ℕ) (sound : IsSound b store) (others : (q : ℕ) → IsNoneOf q closed → get new.lists q ≡ get store.lists q) (free : AreNoneOf closed (builder_lists b store)) where
-  same : AllSame store new (builder_lists b store)
-  same = stand-same store new (builder_lists b store) (stand-others store new closed others (builder_lists b store) (apart-swap closed (builder_lists b store) free))
-
-  pub closed-owned : builder_lists b new ≡ builder_lists b store
-  closed-owned = frame_owned b store new sound same
-
-  pub closed-contents : contents_of b new ≡ contents_of b store
-  closed-contents = frame_contents b store new sound same
-
-  pub closed-sound : IsSound b new
-  closed-sound = frame_sound b store new sound same
-
 pub closed-shown : (m : MachineView) (store new : Lists Node) (closed : List ℕ) → IsMachine m store → ((q : ℕ) → IsNoneOf q closed → get new.lists q ≡ get store.lists q) → AreNoneOf closed (machine_lists m) → IsShownBy m store new
 closed-shown m store new closed is others free = stands-shown m store new is (stand-others store new closed others (machine_lists m) (apart-swap closed (machine_lists m) free))
 
 -- ---- what goes back before what waits
-
--- every other list is as it was
-module _ (t u : Lists Node) (l : ℕ) (closed : u.lists ≡ remove t.lists l) where
-  pub closed-other : (q : ℕ) → q ≢ l → get u.lists q ≡ get t.lists q
-  closed-other q ne = ap (λ m. get m q) closed ∙ get-remove_other t.lists l q ne
-
-  pub all-other : (xs : List ℕ) → Lacks l xs → AllSame t u xs
-  all-other [] h = tt
-  all-other (x ∷ xs) h = (closed-other x (λ e. h.0 (sym e)), all-other xs h.1)
 
 module _ (r : Routine) (t u : Lists Node) (d : Builder) (l : ℕ) (whole : IsConsistent r) (back : CanGoBack l r.machine r.builder r.store) (sound : IsSound d t)
     (others : (q : ℕ) → q ≢ l → Lacks q (owned (ids_of r.builder) r.store) → get t.lists q ≡ get r.store.lists q) (keeps : (q : ℕ) → Lacks q (owned (ids_of r.builder) r.store ++ inner_ids (list_at r.store l)) → Lacks q (owned (ids_of d) t))

@@ -20,12 +20,12 @@ use Rattle.tb_node.specs.PlainNodes.{PlainNode}
 use Rattle.tb_dvi.proofs.ProgressLemmas.{begins_written, none_far, well_bytes, stopped_bytes}
 use Rattle.tb_dvi.proofs.FrontLemmas.{run_begins}
 use Rattle.std.proofs.lemmas.Int.{ints}
-use Rattle.tb_node.specs.Fit.{IsExtent}
-use Rattle.tb_run.specs.ServedStates.{AreRunnable}
-use Rattle.tb_run.specs.Run.{Run, RunEvent, End, done, pool_full, dead_cycles, page_limit, node_limit, Step, ends, goes_on, held_count, step, run_from, firings_left, run_of_state, run_of, classes_of}
-use Rattle.tb_run.specs.Happenings.{events_of, step_events}
+use Rattle.tb_steps.specs.Run.{Run, End, done, pool_full, dead_cycles, page_limit, node_limit, Step, ends, goes_on, held_count, step, run_from, firings_left, run_of_state, run_of, step_events}
+use Rattle.tb_items.specs.RunEvents.{RunEvent}
+use Rattle.tb_items.specs.Classes.{classes_of}
+use Rattle.tb_items.specs.Happenings.{events_of}
 use Rattle.tb_run.specs.Routine.{state_of, held_in, IsEnd, IsFaultEnd, EndsAs, over_limit}
-use Rattle.tb_run.specs.declared.happenings.Happening.{Happening}
+use Rattle.tb_items.specs.declared.happenings.Happening.{Happening}
 use Rattle.tb_run.specs.declared.routine.Routine.{Routine}
 use Rattle.tb_run.specs.declared.routine.Ending.{Ending}
 use Rattle.tb_run.specs.declared.routine.Ending.TheVariants as endings
@@ -33,10 +33,10 @@ use Rattle.tb_top.specs.declared.PageFault.{PageFault}
 use Rattle.tb_top.specs.declared.PageFault.TheVariants as faults
 use Rattle.tb_top.specs.declared.dvi_pages.DviRunFault.{DviRunFault}
 use Rattle.tb_top.specs.declared.dvi_pages.DviRunFault.TheVariants as refused
-use Rattle.tb_top.specs.Answer.{is_done, dvi_file}
+use Rattle.tb_laws.specs.DviFiles.{is_done, dvi_file}
 use Rattle.tb_top.specs.Pages.{end_fault}
 use Rattle.tb_top.specs.PagesWritten.{write_fault, IsRefusalOf, IsFaultRefusal}
-use Rattle.tb_top.specs.DviPages.{event_pages, run_pages}
+use Rattle.tb_laws.specs.DviPages.{event_pages, run_pages}
 use Rattle.tb_top.specs.DviFiles.{Writes, WritesFile, RefusesPages, RefusesFile}
 use Rattle.tb_top.specs.DviWritten.{HoldsPages, StopsShort, FailsAmong, IsWriteFailure, last_bytes, EndsFile, StopsRun, StopsFile}
 use Rattle.tb_top.proofs.Written.GoingLemmas.{Steps, Stops, steps, stops}
@@ -178,15 +178,6 @@ module _ (g : Galley) (r : Routine) (start now : Option (List ℕ)) (w : Progres
 
   pub start-going : o ≡ None → Going g.params (state_of r) start now w (run_of g)
   start-going none = (begun false (over-none g.params (held_count (state_of r)) (int_lt g.params.maxnodes (pos (held_count (state_of r)))) refl (sym over ∙ none))).0 refl
-
--- ---- the greatest height has four bytes
-
-extent-fits : (v : ℤ) → IsExtent v → FitsSigned w32 v
-extent-fits (pos n) e = let high = e.high in record { sfits = grind (arith, ints, high) }
-extent-fits (negsuc n) e = let low = e.low in absurd (grind (arith, ints, low))
-
-pub height-fits : (p : Params) → AreRunnable p → FitsSigned w32 p.textheight
-height-fits p h = extent-fits p.textheight h.output.columns.floats.textheight
 
 -- ---- what the run comes to
 

@@ -7,7 +7,7 @@ use Rattle.tb_galley.specs.declared.GalleyFault.TheVariants as unread
 use Rattle.tb_galley.specs.Grammar.{grammar}
 use Rattle.tb_galley.specs.Valid.{IsValid}
 use Rattle.tb_words.specs.declared.Mode.TheVariants as modes
-use Rattle.tb_run.specs.Run.{run_of}
+use Rattle.tb_steps.specs.Run.{run_of}
 use Rattle.tb_top.specs.declared.PageFault.{PageFault}
 use Rattle.tb_top.specs.declared.PageFault.TheVariants as pages
 use Rattle.tb_top.specs.declared.View.TheVariants as views
@@ -17,9 +17,10 @@ use Rattle.tb_top.specs.declared.dvi_refusal.DviRefusal.TheVariants as dvi
 use Rattle.tb_top.specs.declared.refusal.Refusal.{Refusal}
 use Rattle.tb_top.specs.declared.refusal.Refusal.TheVariants as refusals
 use Rattle.tb_top.specs.declared.status.Status.TheVariants as answers
-use Rattle.tb_top.specs.Report.{totals_of}
+use Rattle.tb_laws.specs.Totals.{totals_of}
 use Rattle.tb_top.specs.Answer.{err_line, fault_reply, cause_reply, dvi_reply_by, dvi_reply, listing_reply, reply_to}
-use Rattle.tb_top.specs.DviFiles.{far_page, galley_file, Writes, WritesFile, RefusesPages, RefusesFile}
+use Rattle.tb_laws.specs.DviFiles.{far_page, galley_file}
+use Rattle.tb_top.specs.DviFiles.{Writes, WritesFile, RefusesPages, RefusesFile}
 use Rattle.tb_top.specs.DviRefusal.{too_long, IsNoListing}
 use Rattle.tb_top.specs.Outcome.{Stream, Failed, Gives, HasLawfulRun, LacksRoomForCycles, Decided, Finished, OutOfCycles, CutOff, StandsAfter}
 use Rattle.tb_top.specs.Refusal.{page_status, page_text, refusal_status, refusal_line, dvi_fault}

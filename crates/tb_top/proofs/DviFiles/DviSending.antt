@@ -7,7 +7,7 @@ use Rattle.std.specs.Io.KnownBytes.{Appends}
 use Rattle.tb_io.specs.Sink.{AppendsPrefix}
 use Rattle.std.proofs.KnownBytes.{Appends-trans}
 use Rattle.tb_io.proofs.Appended.{prefix_whole, prefix_longer, prefix_on}
-use Rattle.tb_column.specs.Column.{PlainSent, warned, shipped}
+use Rattle.tb_sheet.specs.Sheet.{PlainSent, warned, shipped}
 use Rattle.tb_dvi.specs.declared.progress.Progress.{Progress}
 use Rattle.tb_dvi.specs.File.{Page, page_bytes, file_front, is_too_far, first_too_far}
 use Rattle.tb_dvi.specs.Progress.{with_page, sent_pages, run_bytes}
@@ -16,12 +16,10 @@ use Rattle.tb_dvi.specs.declared.page.DviFault.TheVariants as unwritten
 use Rattle.tb_dvi.specs.Page.{MissesPage}
 use Rattle.tb_dvi.proofs.ProgressLemmas.{written-more, front-more, first_there, cut_bytes}
 use Rattle.tb_dvi.proofs.FrontLemmas.{run_begins}
-use Rattle.tb_run.specs.Run.{RunEvent}
-use Rattle.tb_run.specs.declared.happenings.Happening.{Happening}
-use Rattle.tb_run.specs.Happenings.{noted, event_of, events_of}
-use Rattle.tb_run.specs.Routine.{IsPage, ArePages}
-use Rattle.tb_top.specs.Views.{sent_among}
-use Rattle.tb_top.specs.DviPages.{event_pages}
+use Rattle.tb_items.specs.RunEvents.{RunEvent}
+use Rattle.tb_items.specs.declared.happenings.Happening.{Happening}
+use Rattle.tb_items.specs.Happenings.{noted, event_of, events_of, IsPage, ArePages}
+use Rattle.tb_laws.specs.DviPages.{sent_among, event_pages}
 use Rattle.tb_top.specs.declared.dvi_pages.DviRunFault.{DviRunFault}
 use Rattle.tb_top.specs.declared.dvi_pages.DviRunFault.TheVariants as refused
 use Rattle.tb_top.specs.DviWritten.{HoldsPages, StopsFar, StopsShort, FailsAmong, IsWriteFailure, page_failure}

@@ -2,13 +2,13 @@
 use Rattle.std.proofs.Common.{◌≡◌, ℕ, List, Option, Some}
 use Rattle.tb_galley.specs.declared.Galley.{Galley}
 use Rattle.tb_galley.specs.Valid.{IsValid}
-use Rattle.tb_run.specs.Run.{End, dead_cycles, run_of}
+use Rattle.tb_steps.specs.Run.{End, dead_cycles, run_of}
 use Rattle.tb_top.specs.declared.View.{View}
 use Rattle.tb_top.specs.declared.PageFault.{PageFault}
 use Rattle.tb_top.specs.declared.PageFault.TheVariants as faults
 use Rattle.tb_top.specs.Pages.{end_fault, EndsWith, Refuses, IsNoCycleFault}
-use Rattle.tb_top.specs.DeadCycles.{EndsWithinCycles, HasRoomForCycles}
-use Rattle.tb_top.proofs.DeadCycles.CycleBound.{dead-cycle-bound}
+use Rattle.tb_laws.specs.DeadCycles.{EndsWithinCycles, HasRoomForCycles}
+use Rattle.tb_laws.proofs.DeadCycles.CycleBound.{dead-cycle-bound}
 
 not-ended : (e : End) (n : ℕ) → EndsWithinCycles e → end_fault e ≡ Some (faults.DeadCycles n) → ⊥
 not-ended (dead_cycles m) n few is = absurd few

@@ -36,11 +36,13 @@ use Rattle.tb_top.specs.declared.refusal.Refusal.TheVariants as refusals
 use Rattle.tb_top.specs.declared.status.Status.{Status}
 use Rattle.tb_top.specs.declared.status.Status.TheVariants as answers
 use Rattle.tb_generator.specs.GeneratedGalleys.{generated}
-use Rattle.tb_run.specs.Run.{Run, End, done, pool_full, dead_cycles, page_limit, node_limit, run_of}
+use Rattle.tb_steps.specs.Run.{Run, End, done, pool_full, dead_cycles, page_limit, node_limit, run_of}
 use Rattle.tb_top.specs.Pages.{view_text, end_fault, EndsWith, Paginates, Refuses}
-use Rattle.tb_top.specs.Report.{report, trace, totals_of}
-use Rattle.tb_top.specs.Laws.{KeepsLaws}
-use Rattle.tb_top.specs.Answer.{Reply, dvi_reply, makeup_reply, listing_reply, summary_line, summary_at, is_done, answer_at, line_at, answer_for_cause, err_line, bare_text, fault_reply, no_lines_reply, lines_reply, galley_reply, run_reply, text_reply, reply_to}
+use Rattle.tb_top.specs.Report.{report, trace}
+use Rattle.tb_laws.specs.Totals.{totals_of}
+use Rattle.tb_laws.specs.Laws.{KeepsLaws}
+use Rattle.tb_top.specs.Answer.{Reply, dvi_reply, makeup_reply, listing_reply, summary_line, summary_at, answer_at, line_at, answer_for_cause, err_line, bare_text, fault_reply, no_lines_reply, lines_reply, galley_reply, run_reply, text_reply, reply_to}
+use Rattle.tb_laws.specs.DviFiles.{is_done}
 use Rattle.tb_top.specs.Outcome.{Stream, Failed, Gives, Reads, IsUnread, IsGalleyWith, ShowsRunOf, HasLawfulRun, LacksRoomForCycles, Decided, Finished, OutOfCycles, CutOff, StandsAfter, TellsLine, Says, Outcome, Succeeds, IsAnswer, input_of}
 use Rattle.tb_top.proofs.Ends.CycleAnswers.{no-room}
 use Rattle.tb_top.specs.declared.dvi_refusal.DviRefusal.{DviRefusal}

@@ -3,17 +3,17 @@ use Rattle.std.proofs.Common.{◌≡◌, sym, subst, ℕ, List, Option, None, So
 use Rattle.tb_galley.specs.declared.Galley.{Galley}
 use Rattle.tb_galley.specs.Valid.{IsValid}
 use Rattle.tb_report.specs.declared.Totals.{Totals}
-use Rattle.tb_run.specs.Run.{End, done, run_of}
+use Rattle.tb_steps.specs.Run.{End, done, run_of}
 use Rattle.tb_top.specs.declared.View.{View}
 use Rattle.tb_top.specs.declared.PageFault.{PageFault}
 use Rattle.tb_top.specs.Pages.{end_fault, Paginates}
-use Rattle.tb_top.specs.Laws.{HasTotals, EndsDone, KeepsLaws}
-use Rattle.tb_top.proofs.Limits.LimitedRuns.{run-within}
-use Rattle.tb_top.proofs.NothingLost.ShippedRuns.{lists-emptied}
-use Rattle.tb_top.proofs.OnceEach.ShippedOnce.{ships-once}
-use Rattle.tb_top.proofs.ClassesRise.OrderedGalleys.{classes-keep-order}
-use Rattle.tb_top.proofs.OnceEach.ShippedTotals.{totals-shown}
-use Rattle.tb_top.proofs.DviFiles.WritablePages.{files-list}
+use Rattle.tb_laws.specs.Laws.{HasTotals, EndsDone, KeepsLaws}
+use Rattle.tb_laws.proofs.Limits.LimitedRuns.{run-within}
+use Rattle.tb_laws.proofs.NothingLost.ShippedRuns.{lists-emptied}
+use Rattle.tb_laws.proofs.OnceEach.ShippedOnce.{ships-once}
+use Rattle.tb_laws.proofs.ClassesRise.OrderedGalleys.{classes-keep-order}
+use Rattle.tb_laws.proofs.OnceEach.ShippedTotals.{totals-shown}
+use Rattle.tb_laws.proofs.DviFiles.WritablePages.{files-list}
 
 some-fault : (f : PageFault) → Some f ≡ None → ⊥
 some-fault f e = let no : IsSome None = subst IsSome e tt in no

@@ -11,9 +11,8 @@ use Rattle.tb_builder.specs.Contents.{node_count}
 use Rattle.tb_report.specs.declared.Totals.{Totals}
 use Rattle.tb_report.specs.Lines.{sent_lines}
 use Rattle.tb_report.specs.RunTotals.{no_totals, AreCounts}
-use Rattle.tb_run.specs.declared.happenings.Happening.{Happening}
-use Rattle.tb_run.specs.Happenings.{events_of, noted}
-use Rattle.tb_run.specs.Routine.{ArePages}
+use Rattle.tb_items.specs.declared.happenings.Happening.{Happening}
+use Rattle.tb_items.specs.Happenings.{events_of, noted, ArePages}
 use Rattle.tb_plain.specs.Run.{MakeupEvent, offers, sends, sent_among, sent_of, MakeupState, MakeupRun, MakeupEnd, node_limit, run_after}
 use Rattle.tb_plain.proofs.SentLemmas.{among-append}
 use Rattle.tb_plain.specs.Report.{all_lines as page_lines, closing_lines, makeup_report}

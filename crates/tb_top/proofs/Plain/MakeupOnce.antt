@@ -8,9 +8,10 @@ use Rattle.tb_galley.specs.declared.ItemKind.{ItemKind}
 use Rattle.tb_galley.specs.declared.ItemKind.TheVariants as items
 use Rattle.tb_galley.specs.declared.Galley.{Galley}
 use Rattle.tb_galley.specs.Valid.{IsValid}
-use Rattle.tb_column.specs.Column.{PlainSent, warned, shipped}
+use Rattle.tb_sheet.specs.Sheet.{PlainSent, warned, shipped}
 use Rattle.tb_column.proofs.Within.{Within}
-use Rattle.tb_column.proofs.PrintedLines.{prints, sent_prints, prints-append, sheet_weight, sent_weight, AllPlain, SentPlain, plain-both}
+use Rattle.tb_column.proofs.PrintedLines.{prints, prints-append, AllPlain, plain-both}
+use Rattle.tb_sheet.proofs.PrintedSheets.{sent_prints, sheet_weight, sent_weight, SentPlain}
 use Rattle.tb_report.specs.RunTotals.{is_item_box, is_float_box, count_kinds, sheet_nodes}
 use Rattle.tb_plain.specs.GalleyNodes.{clearing_kinds, makeup_kinds, makeup_nodes, made_up}
 use Rattle.tb_plain.specs.Suitability.{IsSuited}
@@ -19,15 +20,15 @@ use Rattle.tb_plain.specs.Report.{sent_totals}
 use Rattle.tb_plain.proofs.WeightLemmas.{NoMargin}
 use Rattle.tb_plain.proofs.GalleyLemmas.{ships-all}
 use Rattle.tb_plain.proofs.PlainPages.{makeup-plain}
-use Rattle.tb_top.specs.Laws.{text_line, foot_line, lines_by, galley_floats, float_lines, box_lines_of, float_lines_of, node_lines}
+use Rattle.tb_laws.specs.Laws.{text_line, foot_line, lines_by, galley_floats, float_lines, box_lines_of, float_lines_of, node_lines}
 use Rattle.tb_top.specs.MakeupLaws.{sent_nodes, MakesUpOnce}
-use Rattle.tb_top.proofs.NothingLost.StartLemmas.{item_weight, items_weight, item-expanded}
-use Rattle.tb_top.proofs.OnceEach.CountLemmas.{permutation-from-counts}
-use Rattle.tb_top.proofs.OnceEach.ShippedCounts.{Measure, of_boxes, of_floats, boxes-measure, floats-measure, galley-boxes, galley-has-floats, sheet-nodes, sheet-plain, sheet-lines, box-lines}
-use Rattle.tb_top.proofs.OnceEach.ShippedLines.{AllOut, text-out}
-use Rattle.tb_top.proofs.OnceEach.OnceLemmas.{counted, text-once, feet-once}
-use Rattle.tb_top.proofs.OnceEach.ShippedOnce.{item-prints}
-use Rattle.tb_top.proofs.OnceEach.ShippedTotals.{boxes-counted, floats-counted, lines-apart, float-lines, how_many}
+use Rattle.tb_laws.proofs.NothingLost.StartLemmas.{item_weight, items_weight, item-expanded}
+use Rattle.tb_laws.proofs.OnceEach.CountLemmas.{permutation-from-counts}
+use Rattle.tb_laws.proofs.OnceEach.ShippedCounts.{Measure, of_boxes, of_floats, boxes-measure, floats-measure, galley-boxes, galley-has-floats, sheet-nodes, sheet-plain, sheet-lines, box-lines}
+use Rattle.tb_laws.proofs.OnceEach.ShippedLines.{AllOut, text-out}
+use Rattle.tb_laws.proofs.OnceEach.OnceLemmas.{counted, text-once, feet-once}
+use Rattle.tb_laws.proofs.OnceEach.ShippedOnce.{item-prints}
+use Rattle.tb_laws.proofs.OnceEach.ShippedTotals.{boxes-counted, floats-counted, lines-apart, float-lines, how_many}
 
 -- ---- the nodes of the galley
 

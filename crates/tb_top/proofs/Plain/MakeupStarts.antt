@@ -5,7 +5,7 @@ use Rattle.tb_param.specs.declared.Params.{Params}
 use Rattle.tb_param.specs.Ranges.{are_params}
 use Rattle.tb_galley.specs.declared.Galley.{Galley}
 use Rattle.tb_galley.specs.Valid.{IsValid}
-use Rattle.tb_run.specs.WaitingNodes.{AreItems}
+use Rattle.tb_items.specs.WaitingNodes.{AreItems}
 use Rattle.tb_plain.specs.GalleyNodes.{made_up}
 use Rattle.tb_plain.specs.Suitability.{IsSuited}
 use Rattle.tb_plain.specs.Run.{makeup_classes, first_makeup, makeup_of_state, makeup_of}
@@ -13,7 +13,7 @@ use Rattle.tb_makeup.specs.declared.makeup.Makeup.{Makeup}
 use Rattle.tb_makeup.specs.Makeup.{AreRunParams, AreRunNodes, node_total, state_of}
 use Rattle.tb_makeup.proofs.FromGalley.StartLemmas.{suited-items, suited-nodes, suited-room}
 use Rattle.tb_top.specs.MakeupWritten.{run_on}
-use Rattle.tb_top.proofs.Written.RunParams.{params-runnable}
+use Rattle.tb_laws.proofs.Defined.RunParams.{params-runnable}
 
 pub makeup-params : (p : Params) → IsTrue (are_params p) → AreRunParams p
 makeup-params p h =

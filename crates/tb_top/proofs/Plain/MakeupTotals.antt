@@ -10,19 +10,19 @@ use Rattle.tb_param.specs.declared.Params.{Params}
 use Rattle.tb_builder.specs.FiredPages.{Fired, fired_of}
 use Rattle.tb_builder.specs.Reach.{Reach}
 use Rattle.tb_builder.specs.Contents.{node_count}
-use Rattle.tb_column.specs.Column.{PlainSent, warned, shipped, one}
+use Rattle.tb_sheet.specs.Sheet.{PlainSent, warned, shipped, one}
 use Rattle.tb_report.specs.declared.Totals.{Totals}
 use Rattle.tb_report.specs.RunTotals.{is_item_box, is_float_box, count_kinds, sheet_nodes, no_totals, with_sent, AreCounts}
-use Rattle.tb_run.specs.declared.happenings.Happening.{Happening}
-use Rattle.tb_run.specs.Happenings.{events_of, noted}
-use Rattle.tb_run.specs.Routine.{ArePages}
+use Rattle.tb_items.specs.declared.happenings.Happening.{Happening}
+use Rattle.tb_items.specs.Happenings.{events_of, noted, ArePages}
 use Rattle.tb_plain.specs.Firing.{holds_any, makeup_column}
 use Rattle.tb_plain.specs.Report.{sent_totals}
 use Rattle.tb_plain.specs.Run.{MakeupEvent, offers, sends, sent_among, sent_of, MakeupState, MakeupRun, MakeupStep, ends, goes_on, page_limit, node_limit, AtAct, no_act, at_act, first_act, meets_act, makeup_ask, makeup_classes, void_boxes, makeup_reach, act_step, waiting_after, shipping_step, firing_step, last_step, makeup_step, step_tries, makeup_from, makeup_of_state, steps_left, done, ejecting_nodes}
 use Rattle.tb_plain.proofs.SentLemmas.{StepBy, run-sends}
 use Rattle.tb_plain.proofs.StepLemmas.{page-less, within}
 use Rattle.tb_makeup.specs.Makeup.{run_events}
-use Rattle.tb_top.specs.Views.{with_events, sent_among as sent_in}
+use Rattle.tb_laws.specs.DviPages.{sent_among as sent_in}
+use Rattle.tb_top.specs.Views.{with_events}
 use Rattle.tb_top.proofs.Written.TallyLemmas.{AreFewNodes, step-few}
 
 -- ---- totals

@@ -10,7 +10,7 @@ use Rattle.tb_galley.specs.Grammar.{grammar}
 use Rattle.tb_galley.specs.CanonicalText.{printed}
 use Rattle.tb_break.specs.Cost.{page_badness, cost_of_badness}
 use Rattle.tb_output.specs.Output.{out}
-use Rattle.tb_run.specs.Run.{run_of, run_from, step}
+use Rattle.tb_steps.specs.Run.{run_of, run_from, step}
 use Rattle.tb_top.specs.Report.{report, trace}
 use Rattle.tb_top.specs.ColumnRows.{ColumnRows}
 

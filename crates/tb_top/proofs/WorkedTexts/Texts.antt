@@ -15,9 +15,9 @@ use Rattle.tb_galley.specs.GalleyNodes.{expanded}
 use Rattle.tb_galley.specs.CanonicalText.{printed}
 use Rattle.tb_break.specs.Cost.{page_badness, cost_of_badness}
 use Rattle.tb_output.specs.Output.{out}
-use Rattle.tb_run.specs.Run.{End, pool_full, dead_cycles, run_of, run_from, step}
+use Rattle.tb_steps.specs.Run.{End, pool_full, dead_cycles, run_of, run_from, step}
 use Rattle.tb_top.specs.Report.{report, trace}
-use Rattle.tb_top.specs.Laws.{is_carried, shipped_boxes}
+use Rattle.tb_laws.specs.Laws.{is_carried, shipped_boxes}
 use Rattle.tb_top.proofs.WorkedTexts.AllWords.{galley_read}
 
 -- what is written for an input without faults

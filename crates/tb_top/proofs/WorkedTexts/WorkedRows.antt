@@ -14,7 +14,7 @@ use Rattle.tb_words.specs.declared.Mode.TheVariants.{Report}
 use Rattle.tb_break.specs.Cost.{page_badness, cost_of_badness}
 use Rattle.tb_output.specs.Output.{out}
 use Rattle.tb_top.specs.declared.status.Status.TheVariants.{Range}
-use Rattle.tb_run.specs.Run.{run_of, run_from, step}
+use Rattle.tb_steps.specs.Run.{run_of, run_from, step}
 use Rattle.tb_top.specs.Report.{report, trace}
 use Rattle.tb_top.specs.Rows.{Replies, WorkedRows}
 

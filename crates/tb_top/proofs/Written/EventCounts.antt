@@ -15,16 +15,17 @@ use Rattle.tb_insert.specs.Terms.{Terms}
 use Rattle.tb_insert.specs.Account.{terms_after}
 use Rattle.tb_builder.specs.Reach.{Reached, acted, tried, Reach, also_reached, page_place, reach_at, reach_node, reach_from, stopped_at}
 use Rattle.tb_builder.specs.FiredPages.{Fired, reach_of, fired_of, frozen_for}
-use Rattle.tb_column.specs.Column.{PlainSent, warned}
-use Rattle.tb_column.specs.declared.Warn.{Warn}
+use Rattle.tb_sheet.specs.Sheet.{PlainSent, warned}
+use Rattle.tb_sheet.specs.declared.Warn.{Warn}
 use Rattle.tb_float.specs.Lists.{live_count}
 use Rattle.tb_output.specs.State.{State, Work, Recorded, ask_of, begun, emptied}
 use Rattle.tb_output.specs.Act.{Acted, went, full, act_on}
 use Rattle.tb_output.specs.Output.{out, after_page}
 use Rattle.tb_laws.proofs.StepLaws.SentCounts.{warning_count, page_count, warnings-append, pages-append, SendsFew, out-few}
-use Rattle.tb_run.specs.Run.{RunEvent, offered, sent, done, dead_cycles, page_limit, node_limit, Progress, progress_by, progress, Step, ends, goes_on, held_count, after_firing, fire, after_progress, step}
-use Rattle.tb_top.specs.Views.{sent_among}
-use Rattle.tb_top.proofs.Written.FuelLemmas.{SameCounts, progress-counts}
+use Rattle.tb_items.specs.RunEvents.{RunEvent, offered, sent}
+use Rattle.tb_steps.specs.Run.{done, dead_cycles, page_limit, node_limit, Progress, progress_by, progress, Step, ends, goes_on, held_count, after_firing, fire, after_progress, step}
+use Rattle.tb_laws.specs.DviPages.{sent_among}
+use Rattle.tb_laws.proofs.Defined.FuelLemmas.{SameCounts, progress-counts}
 
 -- ---- what is sent among events
 

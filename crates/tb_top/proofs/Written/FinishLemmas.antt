@@ -7,23 +7,19 @@ use Rattle.tb_io.specs.Sink.{AppendsPrefix}
 use Rattle.std.proofs.lemmas.Int.{ints}
 use Rattle.std.proofs.lemmas.Option.{MatchOption-at_none}
 use Rattle.tb_builder.proofs.Ranges.PageableLemmas.{length_counted}
-use Rattle.tb_float.proofs.ParamLemmas.{in-range}
 use Rattle.tb_param.specs.declared.Params.{Params}
-use Rattle.tb_param.specs.Table.{is_within, out_of_range}
-use Rattle.tb_param.specs.Ranges.{is_no_fault}
 use Rattle.tb_report.specs.RunTotals.{no_totals, AreCounts}
 use Rattle.tb_report.specs.declared.Totals.{Totals}
 use Rattle.tb_output.specs.declared.RunFault.{RunFault}
 use Rattle.tb_output.specs.declared.RunFault.TheVariants as refused
-use Rattle.tb_output.specs.Machine.{IsLimit}
 use Rattle.tb_output.specs.State.{State}
-use Rattle.tb_run.specs.declared.happenings.Happening.{Happening}
+use Rattle.tb_items.specs.declared.happenings.Happening.{Happening}
 use Rattle.tb_run.specs.declared.routine.Routine.{Routine}
 use Rattle.tb_run.specs.declared.routine.Ending.{Ending}
 use Rattle.tb_run.specs.declared.routine.Ending.TheVariants as endings
-use Rattle.tb_run.specs.Run.{Run, End, done, pool_full, dead_cycles, page_limit, node_limit, held_count, Step, ends, goes_on, step, run_of_state, firings_left}
-use Rattle.tb_run.specs.Happenings.{events_of, step_events}
-use Rattle.tb_run.specs.Routine.{held_in, state_of, IsFaultEnd, IsEnd, EndsAs, over_limit, ArePages, IsReady, IsBounded}
+use Rattle.tb_steps.specs.Run.{Run, End, done, pool_full, dead_cycles, page_limit, node_limit, held_count, Step, ends, goes_on, step, run_of_state, firings_left, step_events}
+use Rattle.tb_items.specs.Happenings.{events_of, ArePages}
+use Rattle.tb_run.specs.Routine.{held_in, state_of, IsFaultEnd, IsEnd, EndsAs, over_limit, IsReady, IsBounded}
 use Rattle.tb_run.proofs.Turns.TurnLemmas.{within-limit}
 use Rattle.tb_top.specs.declared.View.{View}
 use Rattle.tb_top.specs.declared.View.TheVariants as views
@@ -32,9 +28,11 @@ use Rattle.tb_top.specs.declared.PageFault.TheVariants as faults
 use Rattle.tb_top.specs.Report.{all_lines, traced_lines, closing_lines}
 use Rattle.tb_top.specs.Pages.{view_text, end_fault, Paginates, EndsWith, Refuses}
 use Rattle.tb_top.specs.PagesWritten.{IsFaultRefusal, IsRefusalOf, EndsWell, StopsWith}
-use Rattle.tb_top.specs.Views.{viewed, is_traced, with_events, sent_among}
+use Rattle.tb_top.specs.Views.{viewed, is_traced, with_events}
+use Rattle.tb_laws.specs.DviPages.{sent_among}
 use Rattle.tb_top.proofs.Written.EventCounts.{SendsBy, step-sends}
-use Rattle.tb_top.proofs.Written.TallyLemmas.{IsTally, AreFewFirings, AreFewNodes, tally-first, tally-counts, tally-next, step-few}
+use Rattle.tb_top.proofs.Written.TallyLemmas.{IsTally, AreFewNodes, tally-first, tally-counts, tally-next, step-few}
+use Rattle.tb_laws.proofs.Defined.RunParams.{AreFewFirings}
 use Rattle.tb_top.proofs.Written.TurnLemmas.{ShowsStep, turn-fewer}
 use Rattle.tb_top.proofs.Written.GoingLemmas.{Going, Closing, header, turn_lines, noted-lines, noted-events, begins, begins-over, goes, closes, cut-short, done-well, done-cut, refused-end, refuses-cut, failed-write, silent-shown}
 
@@ -83,11 +81,6 @@ module _ (v : View) (r : Routine) (t : Totals) (e : Ending) (old new : Option (L
   pub stops-shown : v ≡ views.Silent → StopsWith v r t e old new before now faults.WriteFault → ⊥
   stops-shown silent (inl h) = no-write e h.0
   stops-shown silent (inr h) = silent-shown v silent (h.1.cause (failed-write h.1.fault h.1.is)).1
-
--- ---- the parameters
-
-pub int-limit : (low high v : ℤ) → pos 0 ≤ℤ low → high ≤ℤ pos 4194304 → IsTrue (is_no_fault (out_of_range (is_within low high v))) → IsLimit v
-int-limit low high v n m h = let k = in-range (is_within low high v) h in record { low = grind (arith, ints, n, m, k); high = grind (arith, ints, n, m, k) }
 
 -- the run ends as this ending says, and its last lines are left
 pub record ClosesAt (v : View) (r : Routine) (ending : Ending) (old now : Option (List ℕ)) (t : Totals) (whole : Run) : Type 0 where

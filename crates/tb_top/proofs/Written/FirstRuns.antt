@@ -6,7 +6,8 @@ use Rattle.tb_galley.specs.declared.Galley.{Galley}
 use Rattle.tb_galley.specs.GalleyNodes.{expanded}
 use Rattle.tb_output.specs.State.{first_state}
 use Rattle.tb_run.specs.declared.routine.Routine.{Routine}
-use Rattle.tb_run.specs.Run.{classes_of, run_of, run_of_state}
+use Rattle.tb_items.specs.Classes.{classes_of}
+use Rattle.tb_steps.specs.Run.{run_of, run_of_state}
 use Rattle.tb_run.specs.Routine.{state_of}
 use Rattle.tb_top.specs.PagesWritten.{run_on}
 

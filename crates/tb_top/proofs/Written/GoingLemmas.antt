@@ -9,7 +9,7 @@ use Rattle.std.proofs.KnownBytes.{Appends-trans}
 use Rattle.tb_io.proofs.Appended.{prefix_whole, prefix_longer, prefix_on}
 use Rattle.tb_param.specs.declared.Params.{Params}
 use Rattle.tb_node.specs.PlainNodes.{PlainNode}
-use Rattle.tb_column.specs.Column.{PlainSent, warned, shipped}
+use Rattle.tb_sheet.specs.Sheet.{PlainSent, warned, shipped}
 use Rattle.tb_report.specs.declared.Totals.{Totals}
 use Rattle.tb_report.specs.Lines.{end_lines}
 use Rattle.tb_report.specs.RunTotals.{is_item_box, is_float_box, count_kinds, sheet_nodes, no_totals, with_sent}
@@ -18,13 +18,15 @@ use Rattle.tb_top.specs.declared.View.{View}
 use Rattle.tb_top.specs.declared.View.TheVariants as views
 use Rattle.tb_top.specs.declared.PageFault.{PageFault}
 use Rattle.tb_top.specs.declared.PageFault.TheVariants as faults
-use Rattle.tb_run.specs.Run.{Run, RunEvent, offered, sent, End, done, node_limit, Step, ends, goes_on, held_count, step, run_by, run_from, firings_left, run_of_state}
-use Rattle.tb_top.specs.Report.{totals_of, event_lines, traced_lines, all_lines, closing_lines, report, trace}
+use Rattle.tb_steps.specs.Run.{Run, End, done, node_limit, Step, ends, goes_on, held_count, step, run_by, run_from, firings_left, run_of_state, step_events}
+use Rattle.tb_items.specs.RunEvents.{RunEvent, offered, sent}
+use Rattle.tb_laws.specs.Totals.{totals_of}
+use Rattle.tb_top.specs.Report.{event_lines, traced_lines, all_lines, closing_lines, report, trace}
 use Rattle.tb_top.specs.Pages.{view_text, end_fault, Paginates, EndsWith, Refuses}
-use Rattle.tb_run.specs.Happenings.{noted, step_events}
+use Rattle.tb_items.specs.Happenings.{noted}
 use Rattle.tb_top.specs.PagesWritten.{write_fault}
 use Rattle.tb_top.specs.Views.{viewed, is_traced, with_events, IsShown}
-use Rattle.tb_top.proofs.Written.FuelLemmas.{Turns, step-turns}
+use Rattle.tb_laws.proofs.Defined.FuelLemmas.{Turns, step-turns}
 
 -- ---- totals
 

@@ -7,17 +7,16 @@ use Rattle.tb_pool.specs.Lists.{Lists, list_at}
 use Rattle.tb_node.specs.declared.Node.{Node}
 use Rattle.tb_node.proofs.FitLemmas.{list_nodes_fit, list_sums_fit}
 use Rattle.tb_column.specs.declared.Column.{Column}
-use Rattle.tb_column.specs.declared.Sheet.{Sheet}
-use Rattle.tb_column.specs.declared.Sheet.TheVariants as sheets
-use Rattle.tb_column.specs.declared.Sent.{Sent}
-use Rattle.tb_column.specs.declared.Sent.TheVariants as events
-use Rattle.tb_column.specs.StoredColumns.{sheet_shown, sent_shown, IsLiveSheet, IsLiveSent}
+use Rattle.tb_sheet.specs.declared.Sheet.{Sheet}
+use Rattle.tb_sheet.specs.declared.Sheet.TheVariants as sheets
+use Rattle.tb_sheet.specs.declared.Sent.{Sent}
+use Rattle.tb_sheet.specs.declared.Sent.TheVariants as events
+use Rattle.tb_sheet.specs.StoredSheets.{sheet_shown, sent_shown, IsLiveSheet, IsLiveSent, IsPageSheet, IsPageSent}
 use Rattle.tb_column.specs.Page.{IsPageList, IsPageColumn}
 use Rattle.tb_node.specs.PlainNodes.{plain_of, plain_list}
 use Rattle.tb_report.specs.RunTotals.{sheet_nodes}
 use Rattle.tb_top.specs.PagesWritten.{node_total}
 use Rattle.tb_report.specs.Printable.{IsPrintableList, IsPrintable, IsPrintableSheet, IsPrintableSent}
-use Rattle.tb_output.specs.Machine.{IsPageSheet, IsPageSent}
 
 printable-list : (store : Lists Node) (l : ℕ) → IsPageList store l → IsPrintableList store l
 printable-list store l h = record {

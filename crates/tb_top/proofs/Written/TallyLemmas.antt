@@ -8,20 +8,22 @@ use Rattle.tb_report.proofs.CountLemmas.{count_kinds-le}
 use Rattle.tb_pool.specs.Lists.{Lists}
 use Rattle.tb_node.specs.declared.Node.{Node}
 use Rattle.tb_param.specs.declared.Params.{Params}
-use Rattle.tb_column.specs.Column.{PlainSent, warned, shipped}
+use Rattle.tb_sheet.specs.Sheet.{PlainSent, warned, shipped}
 use Rattle.tb_report.specs.declared.Totals.{Totals}
 use Rattle.tb_report.specs.RunTotals.{is_item_box, is_float_box, sheet_nodes, no_totals, with_sent, AreCounts}
 use Rattle.tb_output.specs.State.{State}
 use Rattle.tb_laws.proofs.StepLaws.SentCounts.{warning_count, page_count}
-use Rattle.tb_run.specs.declared.happenings.Happening.{Happening}
-use Rattle.tb_run.specs.declared.happenings.Happening.TheVariants as happenings
-use Rattle.tb_run.specs.Run.{RunEvent, offered, sent, firings_left}
-use Rattle.tb_run.specs.Happenings.{event_of, events_of, noted}
-use Rattle.tb_run.specs.Routine.{ArePages}
+use Rattle.tb_items.specs.declared.happenings.Happening.{Happening}
+use Rattle.tb_items.specs.declared.happenings.Happening.TheVariants as happenings
+use Rattle.tb_items.specs.RunEvents.{RunEvent, offered, sent}
+use Rattle.tb_steps.specs.Run.{firings_left}
+use Rattle.tb_items.specs.Happenings.{event_of, events_of, noted, ArePages}
 use Rattle.tb_top.specs.PagesWritten.{node_total}
-use Rattle.tb_top.specs.Views.{sent_among, with_events}
+use Rattle.tb_laws.specs.DviPages.{sent_among}
+use Rattle.tb_top.specs.Views.{with_events}
 use Rattle.tb_top.proofs.Written.EventCounts.{SendsIn}
 use Rattle.tb_top.proofs.Written.PrintablePages.{few-sent}
+use Rattle.tb_laws.proofs.Defined.RunParams.{AreFewFirings}
 
 -- ---- the totals of events
 
@@ -98,11 +100,6 @@ pub record IsTally (p : Params) (t : Totals) (s : State) : Type 0 where
   pub boxes : t.boxes ≤ 25165824 * t.pages
   pub floats : t.floats ≤ 25165824 * t.pages
   pub warnings : t.warnings + 8388608 * firings_left p s ≤ 8388624777216000000
-
--- the limits of a valid galley
-pub record AreFewFirings (p : Params) : Type 0 where
-  pub pages : nat_abs p.maxpages ≤ 1000000
-  pub cycles : nat_abs p.maxdeadcycles ≤ 1000000
 
 pub tally-first : (p : Params) (s : State) → AreFewFirings p → s.page ≡ 1 → s.dead_cycles ≡ 0 → IsTally p no_totals s
 tally-first p s few one none =

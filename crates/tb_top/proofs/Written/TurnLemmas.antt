@@ -2,11 +2,11 @@
 use Rattle.std.proofs.Common.{◌≡◌, sym, subst, ◌∙◌, ◌<◌, ◌≤◌, Bool, List, Option, None, refl}
 use Rattle.tb_param.specs.declared.Params.{Params}
 use Rattle.tb_output.specs.State.{State}
-use Rattle.tb_run.specs.declared.happenings.Happening.{Happening}
+use Rattle.tb_items.specs.declared.happenings.Happening.{Happening}
 use Rattle.tb_run.specs.declared.routine.Routine.{Routine}
 use Rattle.tb_run.specs.declared.routine.Ending.{Ending}
-use Rattle.tb_run.specs.Run.{Step, ends, goes_on, step, firings_left}
-use Rattle.tb_run.specs.Happenings.{events_of, noted, step_events}
+use Rattle.tb_steps.specs.Run.{Step, ends, goes_on, step, firings_left, step_events}
+use Rattle.tb_items.specs.Happenings.{events_of, noted}
 use Rattle.tb_run.specs.Routine.{state_of, EndsAs, IsTurned}
 use Rattle.tb_top.proofs.Written.GoingLemmas.{steps}
 

@@ -1,7 +1,7 @@
 use Rattle.std.proofs.Common.{subst}
 use Rattle.tb_node.specs.PlainNodes.{on_line}
-use Rattle.tb_run.specs.WaitingNodes.{Waits}
-use Rattle.tb_run.proofs.FromGalley.WaitsLemmas.{waits-then, on-ok}
+use Rattle.tb_items.specs.WaitingNodes.{Waits}
+use Rattle.tb_items.proofs.WaitsLemmas.{waits-then, on-ok}
 use Rattle.tb_plain.specs.GalleyNodes.{clearing_kinds, makeup_nodes}
 use Rattle.tb_makeup.proofs.FromGalley.ItemLemmas.{made_up-is}
 use Rattle.tb_makeup.proofs.galley_nodes.expand.Goals as goal

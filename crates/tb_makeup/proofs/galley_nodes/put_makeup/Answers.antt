@@ -1,7 +1,7 @@
 use Rattle.std.proofs.Common.{subst}
 use Rattle.tb_node.specs.PlainNodes.{on_line}
-use Rattle.tb_run.specs.WaitingNodes.{Waits}
-use Rattle.tb_run.proofs.FromGalley.WaitsLemmas.{on-ok}
+use Rattle.tb_items.specs.WaitingNodes.{Waits}
+use Rattle.tb_items.proofs.WaitsLemmas.{on-ok}
 use Rattle.tb_makeup.proofs.FromGalley.ItemLemmas.{kinds-same}
 use Rattle.tb_makeup.proofs.galley_nodes.put_makeup.Goals as goal
 

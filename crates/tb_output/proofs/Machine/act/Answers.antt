@@ -1,5 +1,5 @@
 use Rattle.std.proofs.Common.{sym, subst, ap, ◌∙◌, append-nil}
-use Rattle.tb_output.specs.MachineFrame.{AreNoneOf}
+use Rattle.tb_sheet.specs.ApartLists.{AreNoneOf}
 use Rattle.tb_output.specs.Machine.{MachineView, machine_lists, state_shown}
 use Rattle.tb_output.specs.ActCalls.{IsActed, acted_in, dropped_lists}
 use Rattle.tb_output.proofs.Acts.ActingLemmas.{float-stands, float-takes, columns-drop}

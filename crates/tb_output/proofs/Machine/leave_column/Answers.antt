@@ -3,7 +3,7 @@ use Rattle.tb_output.specs.Output.{leave_column}
 use Rattle.tb_output.specs.Machine.{MachineView, events_shown}
 use Rattle.tb_output.specs.FiringWork.{shows_back, Does}
 use Rattle.tb_output.specs.MachineFrame.{back_lists, KeepsBack}
-use Rattle.tb_output.proofs.FiringWork.ApartLemmas.{apart-none}
+use Rattle.tb_sheet.proofs.ListsApart.{apart-none}
 use Rattle.tb_output.proofs.FiringWork.StandLemmas.{lists-shown}
 use Rattle.tb_output.proofs.FiringWork.KeepLemmas.{keeps-back_same, grown-machine, grown-keeps}
 use Rattle.tb_output.proofs.InText.PushLemmas.{grown-of}

@@ -3,7 +3,8 @@ use Rattle.std.proofs.lemmas.Int.{to_z-of_z, ints}
 use Rattle.tb_builder.specs.Pageable.{IsGoal}
 use Rattle.tb_scaled.specs.Scaled.{max_dimen}
 use Rattle.tb_float.specs.Rooms.{column_room_of}
-use Rattle.tb_output.specs.Output.{hold_penalty, is_int, is_crowded, leave_column, with_goal, next_goal}
+use Rattle.tb_sheet.specs.Asked.{hold_penalty}
+use Rattle.tb_output.specs.Output.{is_int, is_crowded, leave_column, with_goal, next_goal}
 use Rattle.tb_output.specs.Machine.{MachineView}
 use Rattle.tb_output.specs.FiringWork.{shows_back, IsCutShort, Does}
 use Rattle.tb_output.specs.MachineFrame.{KeepsBack}

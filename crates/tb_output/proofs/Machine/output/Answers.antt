@@ -1,7 +1,8 @@
 use Rattle.std.proofs.Common.{◌≡◌, sym, subst, ◌∙◌, true, false, FitsSigned, w64, rules, arith}
 use Rattle.std.specs.Prelude.{ℤ, ◌<ℤ◌, ◌≤ℤ◌}
 use Rattle.std.proofs.lemmas.Int.{to_z-of_z, ints}
-use Rattle.tb_output.specs.Output.{hold_penalty, is_int}
+use Rattle.tb_sheet.specs.Asked.{hold_penalty}
+use Rattle.tb_output.specs.Output.{is_int}
 use Rattle.tb_output.specs.Notes.{NotesTaken}
 use Rattle.tb_output.proofs.Firings.GoalLemmas.{int-is}
 use Rattle.tb_output.proofs.Firings.OutputLemmas.{held-alone, held-serving, held-all, middle-shown, middle-back, middle-empty, untaken-cut, untaken-serving, page-few, page-lists, page-serving, page-contents, page-all, page-cut}

@@ -4,7 +4,8 @@ use Rattle.std.proofs.lemmas.Int.{to_z-of_z}
 use Rattle.tb_scaled.specs.Scaled.{eject_penalty}
 use Rattle.tb_node.specs.PlainNodes.{plain_list}
 use Rattle.tb_output.specs.Columns.{ordinary}
-use Rattle.tb_output.specs.Output.{clear_penalty, is_int}
+use Rattle.tb_sheet.specs.Asked.{clear_penalty}
+use Rattle.tb_output.specs.Output.{is_int}
 use Rattle.tb_output.specs.Machine.{machine_lists}
 use Rattle.tb_output.specs.MachineFrame.{back_lists}
 use Rattle.tb_output.specs.FiringWork.{shows_back, shows_page, IsCutShort}

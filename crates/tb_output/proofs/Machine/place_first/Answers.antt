@@ -4,7 +4,7 @@ use Rattle.tb_scaled.proofs.AmountLemmas.{amount_fits}
 use Rattle.tb_pool.specs.Lists.{Lists}
 use Rattle.tb_node.specs.declared.Node.{Node}
 use Rattle.tb_float.specs.declared.Entry.{Entry}
-use Rattle.tb_column.specs.Column.{PlainSent}
+use Rattle.tb_sheet.specs.Sheet.{PlainSent}
 use Rattle.tb_output.specs.declared.texts.TextSize.{TextSize}
 use Rattle.tb_output.specs.State.{Work}
 use Rattle.tb_output.specs.Text.{puts_interline}

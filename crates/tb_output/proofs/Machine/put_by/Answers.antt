@@ -1,6 +1,6 @@
 use Rattle.std.proofs.Common.{◌≡◌, refl, sym, subst, ◌∙◌, ap, ◌∷◌, []}
 use Rattle.std.specs.Prelude.{true, false}
-use Rattle.tb_column.specs.declared.Sheet.TheVariants as sheets
+use Rattle.tb_sheet.specs.declared.Sheet.TheVariants as sheets
 use Rattle.tb_column.specs.StoredColumns.{column_shown}
 use Rattle.tb_output.specs.Pages.{keep_left}
 use Rattle.tb_output.specs.Machine.{MachineView}

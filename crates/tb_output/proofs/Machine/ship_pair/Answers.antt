@@ -1,7 +1,7 @@
 use Rattle.std.proofs.Common.{sym, subst, ◌∙◌, ◌≤◌, ◌∷◌, [], FitsSigned, w64, rules}
 use Rattle.std.proofs.lemmas.Int.{to_z-of_z}
 use Rattle.tb_column.specs.StoredColumns.{column_shown}
-use Rattle.tb_column.specs.declared.Sheet.TheVariants as sheets
+use Rattle.tb_sheet.specs.declared.Sheet.TheVariants as sheets
 use Rattle.tb_output.specs.declared.RunFault.TheVariants as faults
 use Rattle.tb_output.specs.Machine.{MachineView}
 use Rattle.tb_output.specs.Pages.{ship_pair}

@@ -9,7 +9,7 @@ use Rattle.tb_column.specs.Notes.{IsNote}
 use Rattle.tb_column.specs.FloatColumns.{made_node}
 use Rattle.tb_output.specs.BackList.{insertion_of, insertions_again}
 use Rattle.tb_output.specs.MachineFrame.{HasGrown}
-use Rattle.tb_output.proofs.FiringWork.StandLemmas.{list-stands}
+use Rattle.tb_sheet.proofs.StandLemmas.{list-stands}
 use Rattle.tb_output.proofs.ColumnPages.SizeLemmas.{within-amount, amount-cast}
 use Rattle.tb_output.proofs.InText.BackLemmas.{notes-apart, again-begun, again-stands, again-more}
 use Rattle.tb_output.proofs.texts.insertions_back.Goals as goal

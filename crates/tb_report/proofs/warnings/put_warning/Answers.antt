@@ -1,7 +1,7 @@
 use Rattle.std.proofs.Common.{◌≡◌, ◌++◌, sym, subst, FitsSigned, w64, rules}
 use Rattle.std.specs.Prelude.{OnOk}
 use Rattle.std.proofs.lemmas.Int.{to_z-of_z}
-use Rattle.tb_column.specs.declared.Warn.{Warn}
+use Rattle.tb_sheet.specs.declared.Warn.{Warn}
 use Rattle.tb_report.specs.Lines.{warn_line}
 use Rattle.tb_report.proofs.warnings.put_warning.Goals as goal
 

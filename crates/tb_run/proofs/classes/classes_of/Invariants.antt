@@ -1,5 +1,5 @@
 use Rattle.std.proofs.Common.{◌≡◌, map, take}
-use Rattle.tb_run.specs.Run.{class_of}
+use Rattle.tb_items.specs.Classes.{class_of}
 use Rattle.tb_run.proofs.classes.classes_of.Given as goal
 
 -- the classes before this place

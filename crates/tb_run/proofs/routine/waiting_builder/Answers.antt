@@ -2,7 +2,7 @@ use Rattle.std.proofs.Common.{◌∙◌, ◌++◌, sym, subst, ap, List}
 use Rattle.tb_insert.specs.declared.Class.{Class}
 use Rattle.tb_builder.specs.Contents.{Contents}
 use Rattle.tb_galley.specs.GalleyNodes.{expanded}
-use Rattle.tb_run.specs.WaitingNodes.{AreItems}
+use Rattle.tb_items.specs.WaitingNodes.{AreItems}
 use Rattle.tb_run.proofs.routine.waiting_builder.Goals as goal
 
 pub expand-requires-clause-can : goal.expand-requires-clause-can

@@ -1,10 +1,10 @@
 use Rattle.std.proofs.lemmas.Result.{err_from_is_err_and}
-use Rattle.tb_run.proofs.FromGalley.GalleyRuns.{galley-classes}
-use Rattle.tb_run.proofs.FromGalley.GalleyItems.{galley-items}
-use Rattle.tb_run.proofs.FromGalley.GalleyNodeLemmas.{galley-nodes}
-use Rattle.tb_top.specs.DviFiles.{galley_file}
+use Rattle.tb_run.proofs.ServedAgain.GalleyRuns.{galley-classes}
+use Rattle.tb_items.proofs.GalleyItems.{galley-items}
+use Rattle.tb_items.proofs.GalleyNodeLemmas.{galley-nodes}
+use Rattle.tb_laws.specs.DviFiles.{galley_file}
 use Rattle.tb_top.proofs.Written.FirstRuns.{none-yet}
-use Rattle.tb_top.proofs.Written.RunParams.{params-runnable}
+use Rattle.tb_laws.proofs.Defined.RunParams.{params-runnable}
 use Rattle.tb_top.proofs.dvi_pages.paginate_dvi.Goals as goal
 
 pub new-requires-clause-params : goal.new-requires-clause-params

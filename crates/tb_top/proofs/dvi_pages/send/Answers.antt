@@ -1,8 +1,8 @@
 use Rattle.std.proofs.Common.{◌+◌, List, [], ◌∷◌, ◌++◌, drop, subst, arith}
 use Rattle.std.proofs.lemmas.Result.{err_from_is_err_and}
 use Rattle.tb_dvi.specs.File.{Page}
-use Rattle.tb_run.specs.Happenings.{event_of, events_of}
-use Rattle.tb_top.specs.DviPages.{event_pages}
+use Rattle.tb_items.specs.Happenings.{event_of, events_of}
+use Rattle.tb_laws.specs.DviPages.{event_pages}
 use Rattle.tb_top.proofs.DviFiles.DviSending.{Sending, sends-none, sending-here, sends-next, sends-fails, sends-all, next-page, no-pages, failure-later}
 use Rattle.tb_top.proofs.dvi_pages.send.Goals as goal
 

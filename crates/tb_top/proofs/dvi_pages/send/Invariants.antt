@@ -1,9 +1,8 @@
 use Rattle.std.proofs.Common.{◌≤◌, ℕ, List, Option, drop}
 use Rattle.tb_dvi.specs.File.{Page}
 use Rattle.tb_dvi.specs.Progress.{IsInFile}
-use Rattle.tb_run.specs.Happenings.{events_of}
-use Rattle.tb_run.specs.Routine.{ArePages}
-use Rattle.tb_top.specs.DviPages.{event_pages}
+use Rattle.tb_items.specs.Happenings.{events_of, ArePages}
+use Rattle.tb_laws.specs.DviPages.{event_pages}
 use Rattle.tb_top.specs.DviWritten.{HoldsPages}
 use Rattle.tb_top.proofs.DviFiles.DviSending.{Sending}
 use Rattle.tb_top.proofs.dvi_pages.send.Given as goal

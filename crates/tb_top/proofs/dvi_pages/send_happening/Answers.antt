@@ -1,6 +1,6 @@
 use Rattle.std.proofs.Common.{◌≡◌, ◌∙◌, ap, sym, [], ◌++◌, append-nil}
-use Rattle.tb_run.specs.declared.happenings.Happening.TheVariants.{Sent}
-use Rattle.tb_column.specs.declared.Sent.TheVariants.{Warn}
+use Rattle.tb_items.specs.declared.happenings.Happening.TheVariants.{Sent}
+use Rattle.tb_sheet.specs.declared.Sent.TheVariants.{Warn}
 use Rattle.tb_top.proofs.DviFiles.DviSending.{holds-same}
 use Rattle.tb_top.proofs.dvi_pages.send_happening.Goals as goal
 

@@ -2,7 +2,7 @@ use Rattle.std.proofs.Common.{◌≡◌, ◌∙◌, ap, sym, subst, List, ℕ, [
 use Rattle.std.proofs.lemmas.Result.{err_from_is_err_and}
 use Rattle.std.specs.Io.KnownBytes.{Appends}
 use Rattle.tb_io.specs.Sink.{AppendsPrefix}
-use Rattle.tb_column.specs.StoredColumns.{sheet_shown}
+use Rattle.tb_sheet.specs.StoredSheets.{sheet_shown}
 use Rattle.tb_dvi.specs.File.{Page, sheet_page, page_bytes}
 use Rattle.tb_top.specs.DviWritten.{HoldsPages}
 use Rattle.tb_top.proofs.Written.PrintablePages.{printable-sheet}

@@ -5,19 +5,20 @@ use Rattle.tb_io.specs.Sink.{AppendsPrefix}
 use Rattle.tb_output.specs.Machine.{MachineView}
 use Rattle.tb_run.specs.declared.routine.Routine.{Routine}
 use Rattle.tb_run.specs.declared.routine.Ending.{Ending}
-use Rattle.tb_run.specs.Run.{run_of, held_count, firings_left}
-use Rattle.tb_run.specs.Happenings.{events_of}
+use Rattle.tb_steps.specs.Run.{run_of, held_count, firings_left}
+use Rattle.tb_items.specs.Happenings.{events_of}
 use Rattle.tb_run.specs.Routine.{IsReady, state_of, over_limit}
 use Rattle.tb_dvi.specs.File.{preamble}
-use Rattle.tb_top.specs.DviFiles.{galley_file}
-use Rattle.tb_top.specs.DviPages.{event_pages}
+use Rattle.tb_laws.specs.DviFiles.{galley_file}
+use Rattle.tb_laws.specs.DviPages.{event_pages}
 use Rattle.tb_top.specs.DviWritten.{HoldsPages, FailsAmong}
-use Rattle.tb_top.proofs.DviFiles.DviGoing.{ClosesAt, prefix-first, refuses-cut, refuses-among, going-short, start-closing, start-going, turn-fails, turn-closing, turn-going, ends-well, stops-with, height-fits}
+use Rattle.tb_top.proofs.DviFiles.DviGoing.{ClosesAt, prefix-first, refuses-cut, refuses-among, going-short, start-closing, start-going, turn-fails, turn-closing, turn-going, ends-well, stops-with}
+use Rattle.tb_laws.proofs.Defined.RunParams.{height-fits}
 use Rattle.tb_top.proofs.Written.TurnLemmas.{ShowsStep, shows-step, turn-fewer}
 use Rattle.tb_top.proofs.Written.FinishLemmas.{limit-ready}
 use Rattle.tb_top.proofs.Written.FirstRuns.{none-yet}
 use Rattle.tb_param.specs.declared.Params.{Params}
-use Rattle.tb_run.specs.ServedStates.{AreRunnable}
+use Rattle.tb_steps.specs.Runnable.{AreRunnable}
 use Rattle.tb_top.proofs.dvi_pages.write_run.Given.{Over}
 use Rattle.tb_top.proofs.dvi_pages.write_run.Goals.{In_ok-write_all, In-Some, In_ok-ending, In_ok-send}
 use Rattle.tb_top.proofs.dvi_pages.write_run.Goals as goal

@@ -1,6 +1,6 @@
 use Rattle.std.proofs.Common.{◌≡◌, ◌≤◌}
 use Rattle.tb_dvi.specs.Progress.{IsInFile}
-use Rattle.tb_run.specs.Run.{run_of, firings_left}
+use Rattle.tb_steps.specs.Run.{run_of, firings_left}
 use Rattle.tb_run.specs.Routine.{IsReady, state_of}
 use Rattle.tb_top.proofs.DviFiles.DviGoing.{Going}
 use Rattle.tb_top.proofs.dvi_pages.write_run.Given as goal

@@ -6,8 +6,7 @@ use Rattle.tb_io.specs.Sink.{AppendsPrefix}
 use Rattle.tb_param.specs.declared.Params.{Params}
 use Rattle.tb_report.specs.RunTotals.{AreCounts}
 use Rattle.tb_builder.specs.Contents.{Contents, box_count}
-use Rattle.tb_run.specs.Happenings.{events_of, noted}
-use Rattle.tb_run.specs.Routine.{ArePages}
+use Rattle.tb_items.specs.Happenings.{events_of, noted, ArePages}
 use Rattle.tb_plain.specs.declared.Plain.{Plain}
 use Rattle.tb_makeup.specs.declared.makeup.MakeupEnding.{MakeupEnding}
 use Rattle.tb_makeup.specs.Makeup.{state_of, end_of, turns_left, GoesTo, AreHappened, run_events}
@@ -17,7 +16,7 @@ use Rattle.tb_top.specs.Views.{is_traced, viewed, with_events}
 use Rattle.tb_top.proofs.Plain.MakeupClosing.{refuses-cut, ends-well, stops-with, stops-cause, stops-shown}
 use Rattle.tb_top.proofs.Plain.MakeupGoing.{Closing, prefix-now, prefix-first, start-closing, start-going, turn-cut, turn-closing, turn-fewer, turn-counts, turn-going}
 use Rattle.tb_top.proofs.Plain.MakeupTotals.{makeup-few}
-use Rattle.tb_top.proofs.Written.RunParams.{few-firings}
+use Rattle.tb_laws.proofs.Defined.RunParams.{few-firings}
 use Rattle.tb_top.proofs.makeup_pages.run_on.Goals.{In-Some, In_ok-ending, In_ok-send}
 use Rattle.tb_top.proofs.makeup_pages.run_on.Given.{Over}
 use Rattle.tb_top.proofs.makeup_pages.run_on.Goals as goal

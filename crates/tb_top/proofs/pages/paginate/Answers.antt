@@ -3,15 +3,15 @@ use Rattle.std.proofs.lemmas.Result.{err_from_is_err_and, IfErr-weaker, IfOk-wea
 use Rattle.std.specs.Prelude.{IsTrue, IfOk, IfErr}
 use Rattle.tb_param.specs.Ranges.{are_params}
 use Rattle.tb_output.specs.State.{State}
-use Rattle.tb_run.specs.Run.{run_of}
-use Rattle.tb_run.proofs.FromGalley.GalleyRuns.{galley-classes}
-use Rattle.tb_run.proofs.FromGalley.GalleyItems.{galley-items}
-use Rattle.tb_run.proofs.FromGalley.GalleyNodeLemmas.{galley-nodes}
+use Rattle.tb_steps.specs.Run.{run_of}
+use Rattle.tb_run.proofs.ServedAgain.GalleyRuns.{galley-classes}
+use Rattle.tb_items.proofs.GalleyItems.{galley-items}
+use Rattle.tb_items.proofs.GalleyNodeLemmas.{galley-nodes}
 use Rattle.tb_top.specs.Pages.{Paginates, Refuses, view_text}
 use Rattle.tb_top.proofs.Written.FirstRuns.{runs-galley, none-yet}
-use Rattle.tb_top.proofs.Written.RunParams.{params-runnable}
+use Rattle.tb_laws.proofs.Defined.RunParams.{params-runnable}
 use Rattle.tb_top.proofs.Joined.LawfulRuns.{keeps-laws}
-use Rattle.tb_top.proofs.Limits.LimitedRuns.{run-within}
+use Rattle.tb_laws.proofs.Limits.LimitedRuns.{run-within}
 use Rattle.tb_top.proofs.Ends.CycleAnswers.{not-for-cycles}
 use Rattle.tb_top.proofs.pages.paginate.Goals as goal
 

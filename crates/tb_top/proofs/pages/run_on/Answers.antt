@@ -3,9 +3,9 @@ use Rattle.std.proofs.lemmas.Result.{err_from_is_err_and, IfErr-weaker, IfOk-wea
 use Rattle.std.proofs.lemmas.Option.{MatchOption-at_none}
 use Rattle.tb_output.specs.Machine.{MachineView}
 use Rattle.tb_run.specs.declared.routine.Routine.{Routine}
-use Rattle.tb_run.specs.Run.{held_count, firings_left}
-use Rattle.tb_run.specs.Happenings.{events_of}
-use Rattle.tb_run.specs.Routine.{state_of, over_limit, ArePages, AreHappened}
+use Rattle.tb_steps.specs.Run.{held_count, firings_left}
+use Rattle.tb_items.specs.Happenings.{events_of, ArePages}
+use Rattle.tb_run.specs.Routine.{state_of, over_limit, AreHappened}
 use Rattle.std.specs.Io.KnownBytes.{Appends}
 use Rattle.tb_io.specs.Sink.{AppendsPrefix}
 use Rattle.tb_report.specs.RunTotals.{AreCounts}
@@ -16,7 +16,7 @@ use Rattle.tb_top.specs.Views.{is_traced, viewed, with_events}
 use Rattle.tb_top.proofs.Written.GoingLemmas.{prefix-first, prefix-now, refuses-cut, failed-at, silent-shown}
 use Rattle.tb_top.proofs.Written.FinishLemmas.{ClosesAt, ends-well, stops-with, start-closing, start-going, start-tally, turn-cut, turn-closing, turn-going, turn-counts, turn-tally, limit-ready, few-wait, stops-cause, stops-shown}
 use Rattle.tb_top.proofs.Written.TurnLemmas.{ShowsStep, shows-step, turn-fewer}
-use Rattle.tb_top.proofs.Written.RunParams.{few-firings}
+use Rattle.tb_laws.proofs.Defined.RunParams.{few-firings}
 use Rattle.tb_top.proofs.pages.run_on.Given.{Over}
 use Rattle.tb_top.proofs.pages.run_on.Goals.{In-Some, In_ok-ending, In_ok-send}
 use Rattle.tb_top.proofs.pages.run_on.Goals as goal

@@ -1,5 +1,5 @@
 use Rattle.std.proofs.Common.{◌≡◌, ◌≤◌}
-use Rattle.tb_run.specs.Run.{firings_left}
+use Rattle.tb_steps.specs.Run.{firings_left}
 use Rattle.tb_run.specs.Routine.{IsReady, state_of}
 use Rattle.tb_top.specs.PagesWritten.{run_on}
 use Rattle.tb_top.proofs.Written.GoingLemmas.{Going}

@@ -5,14 +5,14 @@ use Rattle.tb_io.specs.Faults.{Rose}
 use Rattle.tb_io.specs.Sink.{AppendsPrefix}
 use Rattle.std.proofs.KnownBytes.{Appends-trans, Keeps-refl}
 use Rattle.tb_io.proofs.Appended.{prefix_on, Keeps-nothing}
-use Rattle.tb_run.specs.Run.{run_of}
+use Rattle.tb_steps.specs.Run.{run_of}
 use Rattle.tb_top.specs.declared.View.TheVariants as views
 use Rattle.tb_galley.specs.Valid.{IsValid}
-use Rattle.tb_top.specs.Laws.{KeepsLaws}
+use Rattle.tb_laws.specs.Laws.{KeepsLaws}
 use Rattle.tb_top.specs.Outcome.{stream, HasLawfulRun}
 use Rattle.tb_top.specs.Answer.{summary_line}
 use Rattle.tb_generator.specs.GeneratedGalleys.{generated}
-use Rattle.tb_top.specs.Report.{totals_of}
+use Rattle.tb_laws.specs.Totals.{totals_of}
 use Rattle.tb_top.specs.Pages.{Paginates, Refuses}
 use Rattle.tb_top.proofs.Ends.Outcomes.{left_by_run, summary_well, left_by_summary}
 use Rattle.tb_top.proofs.top.write_summary.Goals as goal

@@ -1,6 +1,5 @@
 use Rattle.std.proofs.Common.{◌≡◌, drop}
-use Rattle.tb_run.specs.Happenings.{events_of}
-use Rattle.tb_run.specs.Routine.{ArePages}
+use Rattle.tb_items.specs.Happenings.{events_of, ArePages}
 use Rattle.tb_top.specs.Views.{with_events}
 use Rattle.tb_top.proofs.views.count_happened.Given as goal
 

@@ -1,6 +1,6 @@
 use Rattle.std.proofs.Common.{sym, subst}
 use Rattle.tb_report.specs.Printable.{IsPrintableSent}
-use Rattle.tb_run.specs.Routine.{IsPage}
+use Rattle.tb_items.specs.Happenings.{IsPage}
 use Rattle.tb_top.proofs.Written.PrintablePages.{printable-sent}
 use Rattle.tb_top.proofs.views.put_happening.Goals as goal
 

@@ -1,6 +1,6 @@
 use Rattle.std.proofs.Common.{rules, ◌≡◌, ◌∙◌, ap, pos, ◌+◌, ◌-◌, ◌||◌, nat_lt, length, FitsSigned, w64, arith}
 use Rattle.std.proofs.lemmas.Int.{to_z-of_z}
-use Rattle.tb_column.specs.StoredColumns.{sheet_shown}
+use Rattle.tb_sheet.specs.StoredSheets.{sheet_shown}
 use Rattle.tb_dvi.specs.File.{sheet_page, page_bytes}
 use Rattle.tb_dvi.proofs.PageLemmas.{appended}
 use Rattle.tb_dvi.proofs.ProgressLemmas.{shows_any}

@@ -1,4 +1,4 @@
-use Rattle.tb_run.proofs.Turns.DoneLemmas.{pages-live}
+use Rattle.tb_items.proofs.ClosedLists.{pages-live}
 use Rattle.tb_makeup.proofs.Turns.DoneLemmas.{done-state, done-ready}
 use Rattle.tb_makeup.proofs.makeup.Makeup.done_with.Goals as goal
 

@@ -3,7 +3,7 @@ use Rattle.std.proofs.lemmas.Int.{to_z-of_z}
 use Rattle.tb_insert.specs.declared.Class.{Class}
 use Rattle.tb_builder.specs.Contents.{Contents, nothing_yet}
 use Rattle.tb_builder.specs.Ownership.{ClassesFit}
-use Rattle.tb_run.specs.WaitingNodes.{AreItems}
+use Rattle.tb_items.specs.WaitingNodes.{AreItems}
 use Rattle.tb_plain.specs.GalleyNodes.{made_up}
 use Rattle.tb_makeup.proofs.FromGalley.BeginLemmas.{begin-state, begin-ready}
 use Rattle.tb_makeup.proofs.Filled.FillLemmas.{classes-fit}

@@ -1,6 +1,6 @@
 use Rattle.std.proofs.Common.{refl, sym, subst, ◌∙◌, ◌++◌, ◌∷◌, []}
 use Rattle.std.specs.Prelude.{IfNone}
-use Rattle.tb_run.specs.declared.happenings.Happening.TheVariants as happenings
+use Rattle.tb_items.specs.declared.happenings.Happening.TheVariants as happenings
 use Rattle.tb_makeup.specs.declared.makeup.Makeup.{Makeup}
 use Rattle.tb_makeup.specs.Makeup.{state_of, IsBounded}
 use Rattle.tb_makeup.specs.MakeupPages.{Ships}

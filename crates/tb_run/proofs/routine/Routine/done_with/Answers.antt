@@ -1,4 +1,5 @@
-use Rattle.tb_run.proofs.Turns.DoneLemmas.{pages-live, done-state, done-ready}
+use Rattle.tb_items.proofs.ClosedLists.{pages-live}
+use Rattle.tb_run.proofs.Turns.DoneLemmas.{done-state, done-ready}
 use Rattle.tb_run.proofs.routine.Routine.done_with.Goals as goal
 
 pub close_happened-requires-clause-live : goal.close_happened-requires-clause-live

@@ -4,9 +4,9 @@ use Rattle.tb_insert.specs.declared.Class.{Class}
 use Rattle.tb_galley.specs.GalleyNodes.{expanded}
 use Rattle.tb_output.specs.State.{first_state}
 use Rattle.tb_run.specs.declared.routine.Routine.{Routine}
-use Rattle.tb_run.specs.GalleyNodes.{AreGalleyNodes}
-use Rattle.tb_run.specs.ServedStates.{AreRunClasses}
-use Rattle.tb_run.specs.WaitingNodes.{AreItems}
+use Rattle.tb_items.specs.GalleyNodes.{AreGalleyNodes}
+use Rattle.tb_steps.specs.Runnable.{AreRunClasses}
+use Rattle.tb_items.specs.WaitingNodes.{AreItems}
 use Rattle.tb_run.specs.Routine.{state_of}
 use Rattle.tb_run.proofs.routine.Routine.new.Goals as goal
 

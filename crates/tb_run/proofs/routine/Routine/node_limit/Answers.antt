@@ -1,7 +1,7 @@
 use Rattle.std.proofs.Common.{◌∙◌, ap, pos, sym, ◌+◌, FitsSigned, w64, rules, arith}
 use Rattle.std.specs.Prelude.{int_lt}
 use Rattle.std.proofs.lemmas.Int.{to_z-of_z}
-use Rattle.tb_run.specs.Run.{held_count}
+use Rattle.tb_steps.specs.Run.{held_count}
 use Rattle.tb_run.specs.Routine.{state_of}
 use Rattle.tb_run.proofs.Turns.CountedLemmas.{none-over, some-over, counted-all}
 use Rattle.tb_run.proofs.routine.Routine.node_limit.Goals as goal

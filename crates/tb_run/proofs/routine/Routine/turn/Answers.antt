@@ -1,8 +1,9 @@
 use Rattle.std.proofs.Common.{subst, sym}
 use Rattle.std.specs.Prelude.{IfNone}
 use Rattle.tb_run.specs.declared.routine.Routine.{Routine}
-use Rattle.tb_run.specs.ServedStates.{AreRunnable}
-use Rattle.tb_run.specs.Routine.{IsReady, IsTurned, ArePages, AreHappened}
+use Rattle.tb_steps.specs.Runnable.{AreRunnable}
+use Rattle.tb_run.specs.Routine.{IsReady, IsTurned, AreHappened}
+use Rattle.tb_items.specs.Happenings.{ArePages}
 use Rattle.tb_run.specs.RoutinePages.{Fills, IsFiring}
 use Rattle.tb_run.proofs.Turns.TurnLemmas.{last-turned, last-pages, served-turned, served-ready, served-pages, served-lists}
 use Rattle.tb_run.proofs.routine.Routine.turn.Goals as goal

@@ -1,0 +1,10 @@
+pub mod ItemLemmas
+pub mod WaitsLemmas
+pub mod FootLemmas
+pub mod ItemAmounts
+pub mod GalleyClasses
+pub mod GalleyItems
+pub mod GalleyNodeLemmas
+pub mod HappenedLemmas
+pub mod ClosedLists
+pub mod PageNumbers

@@ -1,0 +1,5 @@
+pub mod Classes
+pub mod GalleyNodes
+pub mod WaitingNodes
+pub mod RunEvents
+pub mod Happenings

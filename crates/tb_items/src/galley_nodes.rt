@@ -1,0 +1,445 @@
+//! The nodes of a galley's items, as they wait at the page builder.
+
+ghost use Rattle.std.specs.Prelude.{◌≡◌, ◌∷◌, ◌++◌, [], true, false, Some, None, OnOk, IfOk};
+ghost use Rattle.tb_node.specs.PlainNodes.{act, on_line, newpage_kinds, clearpage_kinds};
+ghost use Rattle.tb_builder.specs.Contents.{contents_of};
+ghost use Rattle.tb_builder.specs.Ownership.{inner_of};
+ghost use Rattle.tb_galley.specs.GalleyNodes.{break_strength, with_firings, float_kinds, item_kinds, two_after, item_nodes, expanded};
+ghost use Rattle.tb_items.specs.WaitingNodes.{CanTake, Waits, lone, IsItem, AreItems};
+
+use crate::foot_nodes::put_foot;
+use std::alloc::AllocError;
+use tb_builder::Builder;
+use tb_galley::{Galley, Item, ItemKind};
+use tb_node::{
+    Act, Area, CLEAR_PENALTY, Float, HOLD_PENALTY, Kind, Margin, Name, Node, PAR_PENALTY,
+    VERT_PENALTY, What,
+};
+use tb_param::Params;
+use tb_pool::Lists;
+use tb_scaled::{EJECT_PENALTY, Glue, INF_PENALTY, filling_glue};
+
+/// Hands over the nodes of a galley: those of its items in order, and those of a clear with the line of its end. The page
+/// is empty, and the builder has the class of each footnote.
+pub fn expand(
+    store: &mut Lists<Node>,
+    builder: &mut Builder,
+    galley: &Galley,
+) -> Result<(), AllocError>
+    requires can { CanTake builder.old store.old }
+    requires items { AreItems (contents_of builder.old store.old).classes galley.now.items }
+    ensures { OnOk result (Waits (expanded galley.now) builder.old store.old builder.new store.new) }
+{
+    expand_items(store, builder, &galley.params, galley.items.as_slice())?;
+    put_clear(store, builder, galley.end_line)
+}
+
+// A galley begins in one column.
+fn expand_items(
+    store: &mut Lists<Node>,
+    builder: &mut Builder,
+    p: &Params,
+    items: &[Item],
+) -> Result<(), AllocError>
+    requires can { CanTake builder.old store.old }
+    requires items { AreItems (contents_of builder.old store.old).classes items.now }
+    ensures { OnOk result (Waits (item_nodes p.now false items.now) builder.old store.old builder.new store.new) }
+{
+    // Most items have one node, and few have more.
+    store.reserve(items.len() + items.len() / 8)?;
+    let mut two = false;
+    for item in items {
+        two = put_next(store, builder, p, two, item.line, &item.kind)?;
+    }
+    Ok(())
+}
+
+// Hands over the nodes of an item, and returns whether there are two columns after it. Most items are boxes or glue: their
+// nodes are made here, with no call.
+#[inline(always)]
+fn put_next(
+    store: &mut Lists<Node>,
+    builder: &mut Builder,
+    p: &Params,
+    two: bool,
+    line: u32,
+    kind: &ItemKind,
+) -> Result<bool, AllocError>
+    requires can { CanTake builder.old store.old }
+    requires item { IsItem (contents_of builder.old store.old).classes kind.now }
+    ensures two { IfOk result (λ after. after ≡ two_after two kind.now) }
+    ensures waits { OnOk result (Waits (on_line line (item_kinds p.now two kind.now)) builder.old store.old builder.new store.new) }
+{
+    match kind {
+        ItemKind::Hbox {
+            name,
+            height,
+            depth,
+        } => {
+            put_text(store, builder, line, name, *height, *depth)?;
+            Ok(two)
+        }
+        ItemKind::Skip(glue) => {
+            put_glue(store, builder, line, glue)?;
+            Ok(two)
+        }
+        _ => {
+            put_item(store, builder, p, two, line, kind)?;
+            Ok(two_after(two, kind))
+        }
+    }
+}
+
+// Whether there are two columns after an item.
+fn two_after(two: bool, kind: &ItemKind) -> bool
+    ensures { result ≡ two_after two kind.now }
+{
+    match kind {
+        ItemKind::OneColumn => false,
+        ItemKind::TwoColumn => true,
+        _ => two,
+    }
+}
+
+/// Hands over the nodes of an item; `two` says whether there are two columns before it.
+#[inline(never)]
+pub fn put_item(
+    store: &mut Lists<Node>,
+    builder: &mut Builder,
+    p: &Params,
+    two: bool,
+    line: u32,
+    kind: &ItemKind,
+) -> Result<(), AllocError>
+    requires can { CanTake builder.old store.old }
+    requires item { IsItem (contents_of builder.old store.old).classes kind.now }
+    ensures { OnOk result (Waits (on_line line (item_kinds p.now two kind.now)) builder.old store.old builder.new store.new) }
+{
+    match kind {
+        ItemKind::Hbox {
+            name,
+            height,
+            depth,
+        } => put_text(store, builder, line, name, *height, *depth),
+        ItemKind::Rule {
+            name,
+            height,
+            depth,
+        } => put_rule(store, builder, line, name, *height, *depth),
+        ItemKind::Skip(glue) => put_glue(store, builder, line, glue),
+        ItemKind::Kern(width) => put_kern(store, builder, line, *width),
+        ItemKind::Penalty(penalty) => put_penalty(store, builder, line, *penalty),
+        ItemKind::Mark(name) => put_mark(store, builder, line, name),
+        ItemKind::Note(name) => put_note(store, builder, line, name),
+        ItemKind::Foot { class, leaves } => {
+            put_foot(store, builder, p, line, *class, leaves.as_slice())
+        }
+        ItemKind::Float { float, vert } => put_float(store, builder, p, two, line, float, *vert),
+        ItemKind::Margin { margin, vert } => put_margin(store, builder, line, margin, *vert),
+        ItemKind::NewPage => put_page_end(store, builder, line),
+        ItemKind::ClearPage => put_clear(store, builder, line),
+        ItemKind::PageBreak(strength) => {
+            put_penalty(store, builder, line, -break_strength(*strength))
+        }
+        ItemKind::NoPageBreak(strength) => {
+            put_penalty(store, builder, line, break_strength(*strength))
+        }
+        ItemKind::OneColumn => put_columns(store, builder, line, false),
+        ItemKind::TwoColumn => put_columns(store, builder, line, true),
+        ItemKind::Suppress(area) => put_suppressing(store, builder, line, *area),
+    }
+}
+
+// A box of the galley. Most items are boxes or glue: their nodes are made in place.
+#[inline(always)]
+fn put_text(
+    store: &mut Lists<Node>,
+    builder: &mut Builder,
+    line: u32,
+    name: &Name,
+    height: i64,
+    depth: i64,
+) -> Result<(), AllocError>
+    requires can { CanTake builder.old store.old }
+    ensures { OnOk result (Waits (lone line (Kind.Hbox (What.Text name.now) height depth) ∷ []) builder.old store.old builder.new store.new) }
+{
+    put_box(store, builder, line, What::Text(*name), height, depth)
+}
+
+#[inline(always)]
+fn put_glue(
+    store: &mut Lists<Node>,
+    builder: &mut Builder,
+    line: u32,
+    glue: &Glue,
+) -> Result<(), AllocError>
+    requires can { CanTake builder.old store.old }
+    ensures { OnOk result (Waits (lone line (Kind.Skip glue.now) ∷ []) builder.old store.old builder.new store.new) }
+{
+    put(store, builder, line, Kind::Skip(by_fields(glue)))
+}
+
+// The same glue, copied field by field: then the compiler need not keep it in memory while there is room to be made.
+#[inline(always)]
+fn by_fields(glue: &Glue) -> Glue
+    ensures { result ≡ glue.now }
+{
+    Glue {
+        width: glue.width,
+        stretch: glue.stretch,
+        order: glue.order,
+        shrink: glue.shrink,
+    }
+}
+
+#[inline(never)]
+fn put_rule(
+    store: &mut Lists<Node>,
+    builder: &mut Builder,
+    line: u32,
+    name: &Name,
+    height: i64,
+    depth: i64,
+) -> Result<(), AllocError>
+    requires can { CanTake builder.old store.old }
+    ensures { OnOk result (Waits (lone line (Kind.Rule (Some name.now) height depth) ∷ []) builder.old store.old builder.new store.new) }
+{
+    put(
+        store,
+        builder,
+        line,
+        Kind::Rule {
+            name: Some(*name),
+            height,
+            depth,
+        },
+    )
+}
+
+#[inline(never)]
+fn put_kern(
+    store: &mut Lists<Node>,
+    builder: &mut Builder,
+    line: u32,
+    width: i64,
+) -> Result<(), AllocError>
+    requires can { CanTake builder.old store.old }
+    ensures { OnOk result (Waits (lone line (Kind.Kern width) ∷ []) builder.old store.old builder.new store.new) }
+{
+    put(store, builder, line, Kind::Kern(width))
+}
+
+#[inline(never)]
+fn put_penalty(
+    store: &mut Lists<Node>,
+    builder: &mut Builder,
+    line: u32,
+    penalty: i64,
+) -> Result<(), AllocError>
+    requires can { CanTake builder.old store.old }
+    ensures { OnOk result (Waits (lone line (Kind.Pen penalty) ∷ []) builder.old store.old builder.new store.new) }
+{
+    put(store, builder, line, Kind::Pen(penalty))
+}
+
+#[inline(never)]
+fn put_mark(
+    store: &mut Lists<Node>,
+    builder: &mut Builder,
+    line: u32,
+    name: &Name,
+) -> Result<(), AllocError>
+    requires can { CanTake builder.old store.old }
+    ensures { OnOk result (Waits (lone line (Kind.Mark name.now) ∷ []) builder.old store.old builder.new store.new) }
+{
+    put(store, builder, line, Kind::Mark(*name))
+}
+
+#[inline(never)]
+fn put_note(
+    store: &mut Lists<Node>,
+    builder: &mut Builder,
+    line: u32,
+    name: &Name,
+) -> Result<(), AllocError>
+    requires can { CanTake builder.old store.old }
+    ensures { OnOk result (Waits (lone line (Kind.Note name.now) ∷ []) builder.old store.old builder.new store.new) }
+{
+    put(store, builder, line, Kind::Note(*name))
+}
+
+/// Hands over one node that is no insertion.
+#[inline(always)]
+pub fn put(
+    store: &mut Lists<Node>,
+    builder: &mut Builder,
+    line: u32,
+    kind: Kind,
+) -> Result<(), AllocError>
+    requires can { CanTake builder.old store.old }
+    requires lone { inner_of kind ≡ None }
+    ensures { OnOk result (Waits (lone line kind ∷ []) builder.old store.old builder.new store.new) }
+{
+    builder.contribute(store, Node { line, kind })
+}
+
+#[inline(always)]
+fn put_act(
+    store: &mut Lists<Node>,
+    builder: &mut Builder,
+    line: u32,
+    act: Act,
+) -> Result<(), AllocError>
+    requires can { CanTake builder.old store.old }
+    ensures { OnOk result (Waits (lone line (Kind.Act act) ∷ []) builder.old store.old builder.new store.new) }
+{
+    put(store, builder, line, Kind::Act(act))
+}
+
+#[inline(always)]
+fn put_box(
+    store: &mut Lists<Node>,
+    builder: &mut Builder,
+    line: u32,
+    what: What,
+    height: i64,
+    depth: i64,
+) -> Result<(), AllocError>
+    requires can { CanTake builder.old store.old }
+    ensures { OnOk result (Waits (lone line (Kind.Hbox what height depth) ∷ []) builder.old store.old builder.new store.new) }
+{
+    put(
+        store,
+        builder,
+        line,
+        Kind::Hbox {
+            what,
+            height,
+            depth,
+        },
+    )
+}
+
+// The end of a page: glue that fills it, and a forced break (LaTeX, \newpage).
+#[inline(never)]
+fn put_page_end(store: &mut Lists<Node>, builder: &mut Builder, line: u32) -> Result<(), AllocError>
+    requires can { CanTake builder.old store.old }
+    ensures { OnOk result (Waits (on_line line newpage_kinds) builder.old store.old builder.new store.new) }
+{
+    put(store, builder, line, Kind::Skip(filling_glue()))?;
+    put(store, builder, line, Kind::Pen(EJECT_PENALTY))
+}
+
+// A clear: the end of a page, and a blank box with the penalty at which the output routine puts out what it holds (LaTeX,
+// \clearpage).
+#[inline(never)]
+fn put_clear(store: &mut Lists<Node>, builder: &mut Builder, line: u32) -> Result<(), AllocError>
+    requires can { CanTake builder.old store.old }
+    ensures { OnOk result (Waits (on_line line clearpage_kinds) builder.old store.old builder.new store.new) }
+{
+    put_page_end(store, builder, line)?;
+    put(store, builder, line, Kind::Whatsit)?;
+    put_box(store, builder, line, What::Blank, 0, 0)?;
+    put(store, builder, line, Kind::Pen(CLEAR_PENALTY))
+}
+
+// A change of columns, after a clear (ltoutput.dtx, \twocolumn).
+#[inline(never)]
+fn put_columns(
+    store: &mut Lists<Node>,
+    builder: &mut Builder,
+    line: u32,
+    two: bool,
+) -> Result<(), AllocError>
+    requires can { CanTake builder.old store.old }
+    ensures { OnOk result (Waits (on_line line (clearpage_kinds ++ act (Act.Columns two) ∷ [])) builder.old store.old builder.new store.new) }
+{
+    put_clear(store, builder, line)?;
+    put_act(store, builder, line, Act::Columns { two })
+}
+
+// A float. In the release of 2014 a wide one in two columns is taken without a firing, since it waits for a later page in
+// any case.
+#[inline(never)]
+fn put_float(
+    store: &mut Lists<Node>,
+    builder: &mut Builder,
+    p: &Params,
+    two: bool,
+    line: u32,
+    float: &Float,
+    vert: bool,
+) -> Result<(), AllocError>
+    requires can { CanTake builder.old store.old }
+    ensures { OnOk result (Waits (on_line line (float_kinds p.now two float.now vert)) builder.old store.old builder.new store.new) }
+{
+    let wide = float.wide;
+    let act = Act::Take(*float);
+    if p.has_second() && two && wide {
+        put_act(store, builder, line, act)
+    } else {
+        put_with_firings(store, builder, line, act, vert)
+    }
+}
+
+// A marginal note.
+#[inline(never)]
+fn put_margin(
+    store: &mut Lists<Node>,
+    builder: &mut Builder,
+    line: u32,
+    margin: &Margin,
+    vert: bool,
+) -> Result<(), AllocError>
+    requires can { CanTake builder.old store.old }
+    ensures { OnOk result (Waits (on_line line (with_firings (Act.TakeMargin margin.now) vert)) builder.old store.old builder.new store.new) }
+{
+    put_with_firings(store, builder, line, Act::TakeMargin(*margin), vert)
+}
+
+// Floats are kept out of an area.
+#[inline(never)]
+fn put_suppressing(
+    store: &mut Lists<Node>,
+    builder: &mut Builder,
+    line: u32,
+    area: Area,
+) -> Result<(), AllocError>
+    requires can { CanTake builder.old store.old }
+    ensures { OnOk result (Waits (lone line (Kind.Act (Act.Suppress area)) ∷ []) builder.old store.old builder.new store.new) }
+{
+    put_act(store, builder, line, Act::Suppress(area))
+}
+
+// The act of a float or a marginal note, and the two firings that place it: at the first the page so far is held, and the
+// second says whether the item is between paragraphs (ltoutput.dtx, \end@float).
+#[inline(always)]
+fn put_with_firings(
+    store: &mut Lists<Node>,
+    builder: &mut Builder,
+    line: u32,
+    act: Act,
+    vert: bool,
+) -> Result<(), AllocError>
+    requires can { CanTake builder.old store.old }
+    ensures { OnOk result (Waits (on_line line (with_firings act vert)) builder.old store.old builder.new store.new) }
+{
+    let penalty = if vert { VERT_PENALTY } else { PAR_PENALTY };
+    put_act(store, builder, line, act)?;
+    put(store, builder, line, Kind::Pen(HOLD_PENALTY))?;
+    put_box(store, builder, line, What::Blank, 0, 0)?;
+    put_penalty(store, builder, line, penalty)
+}
+
+// The penalty of a strength from 0 to 4 (LaTeX, \@getpen).
+fn break_strength(strength: u8) -> i64
+    ensures { result ≡ break_strength strength }
+{
+    match strength {
+        0 => 0,
+        1 => 51,
+        2 => 151,
+        3 => 301,
+        _ => INF_PENALTY,
+    }
+}

@@ -1,0 +1,11 @@
+//! The items of a galley as nodes that wait at the page builder, and what happens while a run makes pages of them.
+#![tactic(auto)]
+
+mod foot_nodes;
+mod galley_nodes;
+mod happenings;
+mod spent_lists;
+
+pub use galley_nodes::{expand, put, put_item};
+pub use happenings::{Event, Happening, note_sent, note_try};
+pub use spent_lists::{close_happened, close_list};

@@ -1,0 +1,212 @@
+-- What is known of the page that fires, from what waited before it.
+use Rattle.std.proofs.Common.{◌≡◌, refl, sym, ◌∙◌, ap, subst, ℕ, zero, suc, ℤ, pos, ◌+◌, ◌≤◌, Bool, true, false, List, [], ◌∷◌, ◌++◌, take, drop, length, arith}
+use Rattle.std.specs.Prelude.{◌≤ℤ◌, ◌-◌, int_le, if◌then◌else◌}
+use Rattle.std.proofs.lemmas.Int.{ints}
+use Rattle.tb_scaled.specs.Scaled.{eject_penalty, inf_penalty}
+use Rattle.tb_node.specs.declared.What.TheVariants as what
+use Rattle.tb_node.specs.PlainNodes.{PlainNode, made, whatsit, blank_box, pen, without_acts}
+use Rattle.tb_break.specs.PageTop.{pruned_nodes}
+use Rattle.tb_param.specs.declared.Params.{Params}
+use Rattle.tb_insert.specs.Account.{terms_after, Frozen, labelled}
+use Rattle.tb_builder.specs.Reach.{Reach}
+use Rattle.tb_builder.specs.FiredPages.{Fired, page_break, fired_by, fired_of, frozen_for, penalty_at, with_spent_break, held_insertions}
+use Rattle.tb_builder.proofs.FiredPages.PageWeights.{AllOfClass, labelled-class}
+use Rattle.tb_builder.proofs.Cutting.CutLemmas.{acted_of, CutAt, reach-cut, cut-class, class-pruned, held-ins}
+use Rattle.tb_builder.proofs.FiredPages.HeldLemmas.{GivesNone, none-labelled}
+use Rattle.tb_laws.proofs.PageBreaks.FittingFired.{Fitted, FiresAt, fitted-fires, break_at}
+use Rattle.tb_laws.proofs.PageBreaks.PausedPages.{Paused, paused-ordinary}
+use Rattle.tb_output.specs.State.{State, ask_of, notes_in, footnotes, has_floats}
+use Rattle.tb_output.specs.Text
+use Rattle.tb_output.specs.Clear
+use Rattle.tb_output.specs.Output
+use Rattle.tb_sheet.specs.Asked
+use Rattle.tb_laws.proofs.NothingLost.StateWeights.{BoxesFit, class_numbers}
+use Rattle.tb_laws.proofs.Closed.Sorts.{Sort, odd, pen_sort, sorts, sorts-calm, none, seen_all}
+use Rattle.tb_laws.proofs.Closed.SortLemmas.{sorts-append, take-drop, BreakStands, PageStands, cut-stands, pruned-stands}
+use Rattle.tb_laws.proofs.Closed.PlaceLemmas.{body-steady}
+use Rattle.tb_laws.proofs.DeadCycles.AgainLemmas.{Again, BreakAgain, again-pruned, again-behind, no-acts, acts-again, break-again}
+use Rattle.tb_laws.proofs.DeadCycles.WaitCosts.{AllInserted, all-inserted, sort_cost, wait_cost, acts_cost, cost-append, steady-free, page-cost}
+use Rattle.tb_laws.proofs.DeadCycles.EndedLemmas.{Ended, flat_last, ended-pruned, ended-acts, ended-behind, ended-spent}
+use Rattle.tb_laws.proofs.Closed.ClearPages.{OneFlat, one-flat, clear-ended, FrontFits, front-fits}
+use Rattle.tb_laws.proofs.DeadCycles.CycleStates.{Kind, any, once, ready, halted, closed, Holds, Phase, starting, second, ending, PhaseHolds}
+use Rattle.tb_laws.proofs.DeadCycles.CycleBreaks.{clear-sort, FiresWell}
+use Rattle.tb_laws.proofs.NothingLost.RunWeights.{Kept, page_of}
+use Rattle.tb_laws.proofs.NothingLost.ClosingRuns.{void-given}
+
+take-free : (k : ℕ) (ns : List PlainNode) → wait_cost ns ≡ 0 → wait_cost (take k ns) ≡ 0
+take-free zero ns h = refl
+take-free (suc k) [] h = refl
+take-free (suc k) (n ∷ ns) h =
+    let r : wait_cost (take k ns) ≡ 0 = take-free k ns (omega arith) in
+    omega arith
+
+is-special : (q : ℤ) → Output.is_int q Asked.clear_penalty ≡ true → int_le eject_penalty q ≡ false
+is-special q h = grind (arith, ints, h)
+
+module _ (p : Params) (s : State) (kept : Kept s) (ended : Ended false s.waiting) where
+  abbrev pub w : Reach
+  w = page_of p s
+
+  abbrev pub k : ℕ
+  k = (page_break (page_of p s)).place
+
+  pub cut : CutAt [] (pruned_nodes p.topskip s.waiting) w
+  cut = reach-cut (ask_of p s).max_depth (terms_after (frozen_for (ask_of p s) s.classes s.boxes)) [] (pruned_nodes p.topskip s.waiting)
+
+  feet : AllOfClass (class_numbers s.classes) (take k w.passed) × AllOfClass (class_numbers s.classes) (with_spent_break (drop k w.passed ++ w.beyond))
+  feet = cut-class (class_numbers s.classes) k (pruned_nodes p.topskip s.waiting) w cut (class-pruned (class_numbers s.classes) p.topskip s.waiting kept.placed.feet)
+
+  stands : PageStands kept.placed.held k w
+  stands = cut-stands (pruned_nodes p.topskip s.waiting) w kept.placed.held k cut (pruned-stands p.topskip s.waiting kept.placed.held kept.placed.stands)
+
+  -- what was passed and lies beyond, as it was laid out but for acts
+  laid-ended : Ended false (take k w.passed ++ (drop k w.passed ++ w.beyond))
+  laid-ended = subst (Ended false) (ap (λ ns. ns ++ w.beyond) (sym cut.passed) ∙ take-drop k w.passed w.beyond) (ended-acts false cut.front w.beyond (subst (Ended false) cut.whole (ended-pruned p.topskip s.waiting ended)))
+
+  pub rest-ended : Ended false (with_spent_break (drop k w.passed ++ w.beyond))
+  rest-ended = ended-spent (flat_last false (take k w.passed)) (drop k w.passed ++ w.beyond) (ended-behind false (take k w.passed) (drop k w.passed ++ w.beyond) laid-ended)
+
+  laid-again : (n : ℕ) → Again n (sorts s.waiting) → Again n (sorts cut.front ++ sorts w.beyond)
+  laid-again n a = subst (Again n) (ap sorts cut.whole ∙ sorts-append cut.front w.beyond) (again-pruned n p.topskip s.waiting kept.placed.held kept.placed.stands a)
+
+  pub rest-again : (n : ℕ) → Again n (sorts s.waiting) → BreakAgain n (with_spent_break (drop k w.passed ++ w.beyond)) (pen_sort (penalty_at (drop k w.passed ++ w.beyond)))
+  rest-again n a =
+      break-again n (drop k w.passed ++ w.beyond)
+      (again-behind n (sorts (take k w.passed)) (sorts (drop k w.passed ++ w.beyond)) (sorts-calm (take k w.passed) stands.calm)
+      (subst (Again n) (sorts-append (take k w.passed) (drop k w.passed ++ w.beyond))
+      (subst (λ (ns : List PlainNode). Again n (sorts ns)) (ap (λ ns. ns ++ w.beyond) (sym cut.passed) ∙ take-drop k w.passed w.beyond)
+      (subst (Again n) (sym (sorts-append (without_acts cut.front) w.beyond)) (acts-again n cut.front (sorts w.beyond) (laid-again n a))))))
+
+  -- while clears of the routine are to come, no act is reached
+  pub none-reached : (n : ℕ) → Again (suc n) (sorts s.waiting) → acted_of w.reached ≡ []
+  none-reached n a = cut.acts ∙ no-acts n cut.front (sorts w.beyond) cut.calm (laid-again (suc n) a)
+
+  pub reached-cost : wait_cost (with_spent_break (drop k w.passed ++ w.beyond)) + sort_cost (pen_sort (penalty_at (drop k w.passed ++ w.beyond))) + acts_cost (acted_of w.reached) ≤ wait_cost s.waiting
+  reached-cost = page-cost p.topskip s.waiting w k cut
+
+  pub paused-ends : Paused s.waiting → int_le eject_penalty (penalty_at (drop k w.passed ++ w.beyond)) ≡ true
+  paused-ends h = paused-ordinary p.topskip s.waiting w k h cut
+
+  phase-ends : (x : Phase) → PhaseHolds s x → x ≡ ending → int_le eject_penalty (penalty_at (drop k w.passed ++ w.beyond)) ≡ true
+  phase-ends starting h e = cc
+  phase-ends second h e = cc
+  phase-ends ending h e = paused-ends h.1
+
+  pub limit-deep : pos 0 ≤ℤ p.maxdepth → pos 0 ≤ℤ (ask_of p s).max_depth
+  limit-deep deep = by_bottom (has_floats s.floats.bottom)
+    where
+      by_bottom : (b : Bool) → pos 0 ≤ℤ (if b then pos 0 else p.maxdepth)
+      by_bottom true = grind (arith, ints)
+      by_bottom false = deep
+
+  -- ---- the page that fires, in a state with the same boxes and held page
+
+  module _ (t : State) (same_classes : t.classes ≡ s.classes) (same_boxes : t.boxes ≡ s.boxes) (same_held : t.held_page ≡ s.held_page) (z : Frozen) where
+    abbrev pub page : Fired
+    page = fired_by (labelled z (take k w.passed)) t.boxes w
+
+    fit : BoxesFit t.classes t.boxes
+    fit = subst (λ cs. BoxesFit cs t.boxes) (sym same_classes) (subst (BoxesFit s.classes) (sym same_boxes) kept.sound.box)
+
+    held : AllInserted page.held
+    held = all-inserted (class_numbers s.classes) page.held (held-ins (class_numbers s.classes) (labelled z (take k w.passed)) (labelled-class (class_numbers s.classes) z [] [] (take k w.passed) tt feet.0))
+
+    regular : pen_sort page.penalty ≡ odd → ⊥
+    regular e = subst (λ (x : Sort). BreakStands kept.placed.held (seen_all none (sorts (take k w.passed))) (with_spent_break (drop k w.passed ++ w.beyond)) x) e stands.rest
+
+    body : wait_cost (t.held_page ++ Text.without_firing_box page.body) ≡ 0
+    body =
+        let a : wait_cost (t.held_page ++ Text.without_firing_box page.body) ≡ wait_cost t.held_page + wait_cost (Text.without_firing_box page.body) = cost-append t.held_page (Text.without_firing_box page.body) in
+        let b : wait_cost t.held_page ≡ 0 = ap wait_cost same_held ∙ steady-free s.held_page kept.placed.steady in
+        let c : wait_cost (Text.without_firing_box page.body) ≡ 0 = take-free (length page.body - 2) page.body (steady-free page.body (body-steady (take k w.passed) stands.calm stands.free)) in
+        sums (wait_cost (t.held_page ++ Text.without_firing_box page.body)) (wait_cost t.held_page) (wait_cost (Text.without_firing_box page.body)) a b c
+      where
+        sums : (x y v : ℕ) → x ≡ y + v → y ≡ 0 → v ≡ 0 → x ≡ 0
+        sums x y v a b c = omega arith
+
+    -- a clear without footnotes has no insertions on its page, and its front is light
+    pub none-there : footnotes (record t { boxes = page.boxes }) ≡ [] → labelled z (take k w.passed) ≡ []
+    none-there h = none-labelled (class_numbers s.classes) z (take k w.passed) (labelled-class (class_numbers s.classes) z [] [] (take k w.passed) tt feet.0) (subst (λ cs. GivesNone (class_numbers cs) (labelled z (take k w.passed))) same_classes (void-given (labelled z (take k w.passed)) t.classes t.boxes fit h))
+
+    pub flat : Output.is_int page.penalty Asked.clear_penalty ≡ true → OneFlat page.body
+    flat h =
+        let r = subst (λ (x : Sort). BreakStands kept.placed.held (seen_all none (sorts (take k w.passed))) (with_spent_break (drop k w.passed ++ w.beyond)) x) (clear-sort page.penalty (is-special page.penalty h) h) stands.rest in
+        one-flat (take k w.passed) stands.calm stands.free r.0 (clear-ended (flat_last false (take k w.passed)) (drop k w.passed ++ w.beyond) h (ended-behind false (take k w.passed) (drop k w.passed ++ w.beyond) laid-ended))
+
+    front : Output.is_int page.penalty Asked.clear_penalty ≡ true → FrontFits (Clear.cleared_front p page.body)
+    front h = front-fits p page.body (flat h)
+
+    -- if no more is known of the state than its phase
+    pub any-well : (a : ℕ) (kind : Kind) (phase : Phase) → (kind ≡ halted → ⊥) → (kind ≡ once → ⊥) → (kind ≡ ready → ⊥) → (phase ≡ ending → int_le eject_penalty page.penalty ≡ true) → Again a (sorts s.waiting) → FiresWell p t (wait_cost page.rest + sort_cost (pen_sort page.penalty)) a kind phase page
+    any-well a kind phase not_halted not_once not_ready ends r = record {
+      region = rest-again a r;
+      cost = omega arith;
+      held = held;
+      regular = regular;
+      body = body;
+      ending = ends;
+      halted = λ i. absurd (not_halted i);
+      once = λ i. absurd (not_once i);
+      ready = λ i. absurd (not_ready i);
+      blank = λ h i. let x = front h in (ap held_insertions (none-there i), x.fits, x.idle, x.cost);
+    }
+
+    -- if no clear of the routine is to come
+    pub closed-well : (a : ℕ) (phase : Phase) → a ≡ 0 → (phase ≡ ending → ⊥) → Again a (sorts s.waiting) → FiresWell p t (wait_cost page.rest + sort_cost (pen_sort page.penalty)) a closed phase page
+    closed-well a phase e going r = any-well a closed phase (λ i. cc) (λ i. cc) (λ i. cc) (λ i. absurd (going i)) r
+
+    -- if nothing else is known
+    pub phase-well : (a : ℕ) (phase : Phase) → PhaseHolds s phase → Again a (sorts s.waiting) → FiresWell p t (wait_cost page.rest + sort_cost (pen_sort page.penalty)) a any phase page
+    phase-well a phase at r = any-well a any phase (λ i. cc) (λ i. cc) (λ i. cc) (phase-ends phase at) r
+
+  -- ---- while clears of the routine are to come, the state is the same
+
+  module _ (low : pos 0 ≤ℤ p.topskip) (room : p.topskip ≤ℤ p.textheight) (deep : pos 0 ≤ℤ p.maxdepth) where
+    abbrev fired : Fired
+    fired = fired_of (ask_of p s) s.classes s.boxes w
+
+    fits : (q : ℤ) (tail : List PlainNode) → int_le q eject_penalty ≡ true → s.goal ≡ p.textheight → Fitted q tail s.waiting → FiresAt q tail s.boxes w fired
+    fits q tail f g h = fitted-fires s.goal (ask_of p s).max_depth p.topskip q _ (limit-deep deep) f low (subst (λ (x : ℤ). p.topskip ≤ℤ x) (sym g) room) s.waiting tail h s.boxes
+
+    -- behind a blank column the clear's page fits
+    behind-blank : (line : ℕ) (rest : List PlainNode) → Fitted Asked.clear_penalty rest (break_at line inf_penalty ∷ made whatsit ∷ made blank_box ∷ made (pen Asked.clear_penalty) ∷ rest)
+    behind-blank line rest = record { top = break_at line inf_penalty ∷ made whatsit ∷ []; box_line = 0; what = what.Blank; behind = []; line = 0; whole = refl; vanish = (tt, (tt, tt)); slim = tt; flat = refl }
+
+    known-once : Holds p s 0 once → (int_le eject_penalty fired.penalty ≡ true) × (fired.held ≡ []) × ((rest : List PlainNode) × Fitted Asked.clear_penalty rest fired.rest)
+    known-once i =
+        let x = fits eject_penalty (made whatsit ∷ made blank_box ∷ made (pen Asked.clear_penalty) ∷ i.2.rest) refl i.2.goal i.2.fit in
+        (paused-ends i.1, x.held, (i.2.rest, subst (Fitted Asked.clear_penalty i.2.rest) (sym x.rest) (behind-blank x.line i.2.rest)))
+
+    known-ready : Holds p s 0 ready → (Output.is_int fired.penalty Asked.clear_penalty ≡ true) × (footnotes (record s { boxes = fired.boxes }) ≡ [])
+    known-ready i =
+        let x = fits Asked.clear_penalty i.1.rest refl i.1.goal i.1.fit in
+        (ap (λ q. Output.is_int q Asked.clear_penalty) x.penalty, ap (λ bs. notes_in s.classes bs) x.boxes ∙ i.1.void)
+
+    pub open-well : (a : ℕ) (kind : Kind) (phase : Phase) → Again a (sorts s.waiting) → Holds p s a kind → PhaseHolds s phase → FiresWell p s (wait_cost fired.rest + sort_cost (pen_sort fired.penalty)) a kind phase fired
+    open-well a kind phase r holds at = record {
+      region = rest-again a r;
+      cost = omega arith;
+      held = held s refl refl refl z;
+      regular = regular s refl refl refl z;
+      body = body s refl refl refl z;
+      ending = phase-ends phase at;
+      halted = by_halted kind holds;
+      once = by_once kind holds;
+      ready = by_ready kind holds;
+      blank = λ h i. let x = front s refl refl refl z h in (ap held_insertions (none-there s refl refl refl z i), x.fits, x.idle, x.cost);
+    }
+      where
+        z : Frozen
+        z = frozen_for (ask_of p s) s.classes s.boxes
+
+        by_halted : (x : Kind) → Holds p s a x → x ≡ halted → int_le eject_penalty fired.penalty ≡ true
+        by_halted halted h e = paused-ends h.1
+        by_halted x h e = cc
+
+        by_once : (x : Kind) → Holds p s a x → x ≡ once → (int_le eject_penalty fired.penalty ≡ true) × (fired.held ≡ []) × ((rest : List PlainNode) × Fitted Asked.clear_penalty rest fired.rest)
+        by_once once h e = known-once h
+        by_once x h e = cc
+
+        by_ready : (x : Kind) → Holds p s a x → x ≡ ready → (Output.is_int fired.penalty Asked.clear_penalty ≡ true) × (footnotes (record s { boxes = fired.boxes }) ≡ [])
+        by_ready ready h e = known-ready h
+        by_ready x h e = cc

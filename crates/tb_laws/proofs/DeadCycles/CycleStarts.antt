@@ -1,0 +1,244 @@
+-- A run begins with four firings without a page for each float, note, clear and change of columns at most, and so never meets a limit that has room for them.
+use Rattle.std.proofs.Common.{◌≡◌, refl, ap, ℕ, zero, suc, ℤ, pos, ◌+◌, ◌*◌, ◌≤◌, Bool, true, false, List, [], ◌∷◌, ◌++◌, arith}
+use Rattle.std.specs.Prelude.{◌≤ℤ◌, int_lt, int_le, ◌&&◌, if◌then◌else◌}
+use Rattle.std.proofs.lemmas.Int.{ints}
+use Rattle.tb_scaled.specs.Scaled.{eject_penalty}
+use Rattle.tb_node.specs.declared.Act.{Act}
+use Rattle.tb_node.specs.declared.Act.TheVariants as acts
+use Rattle.tb_node.specs.PlainNodes.{act, on_line, clearpage_kinds}
+use Rattle.tb_param.specs.declared.Params.{Params}
+use Rattle.tb_param.specs.Release.{has_second}
+use Rattle.tb_galley.specs.declared.Item.{Item}
+use Rattle.tb_galley.specs.declared.ItemKind.{ItemKind}
+use Rattle.tb_galley.specs.declared.ItemKind.TheVariants as items
+use Rattle.tb_galley.specs.declared.Galley.{Galley}
+use Rattle.tb_galley.specs.GalleyNodes.{with_firings, item_kinds, two_after, item_nodes, expanded}
+use Rattle.tb_output.specs.State.{State, first_state}
+use Rattle.tb_laws.proofs.NothingLost.StateWeights.{class_numbers}
+use Rattle.tb_laws.proofs.Closed.Sorts.{pen_sort}
+use Rattle.tb_laws.proofs.DeadCycles.WaitCosts.{sort_cost, wait_cost, cost-append}
+use Rattle.tb_laws.proofs.DeadCycles.EndedLemmas.{Ended, ended-both, free-ended}
+use Rattle.tb_float.specs.Lists.{wide_part}
+use Rattle.tb_laws.proofs.StepLaws.SideLemmas.{no-sides}
+use Rattle.tb_laws.proofs.DeadCycles.CycleStates.{closed, starting, FloatsFit, Bounded}
+use Rattle.tb_steps.specs.Run.{End, dead_cycles, node_limit, run_from, run_of, firings_left, held_count, step}
+use Rattle.tb_items.specs.Classes.{classes_of}
+use Rattle.tb_laws.proofs.DeadCycles.SpacedLemmas.{Spaced, spaced-any, spaced-both, free-alone}
+use Rattle.tb_laws.proofs.DeadCycles.HighStates.{cleared, BoundedHigh}
+use Rattle.tb_laws.specs.Firings.{HasReason}
+use Rattle.tb_laws.specs.DeadCycles.{cycling_count, cycling_items, HasRoomForCycles, EndsWithinCycles}
+use Rattle.tb_laws.proofs.Defined.FuelLemmas.{run-reason}
+use Rattle.tb_laws.proofs.NothingLost.StartLemmas.{ItemFits, ItemsFit, NumbersDiffer, start-kept}
+use Rattle.tb_laws.proofs.NothingLost.RunWeights.{page_of, Kept}
+use Rattle.tb_laws.proofs.DeadCycles.CycleRuns.{ChangesEmpty, Cycled, StepStays, RunCycles, run-cycles, Goes}
+use Rattle.tb_builder.proofs.Cutting.CutLemmas.{acted_of}
+use Rattle.tb_laws.proofs.StepLaws.BreakSorts.{at-ordinary}
+
+-- ---- what the items cost
+
+high-cost : (q : ℤ) → int_le eject_penalty q ≡ true → sort_cost (pen_sort q) ≡ 0
+high-cost q h = at-ordinary (sort_cost (pen_sort q) ≡ 0) (λ x. pen_sort q ≡ x) q h (λ e. ap sort_cost e) (λ e. ap sort_cost e) refl
+
+-- an item costs four at most, and nothing if it is no float, note, clear or change of columns
+item-cost : (ks : List ℕ) (p : Params) (two : Bool) (line : ℕ) (k : ItemKind) → ItemFits ks k → wait_cost (on_line line (item_kinds p two k)) ≤ 4 * cycling_count k
+item-cost ks p two line (items.Penalty n) f = let h : sort_cost (pen_sort n) ≡ 0 = high-cost n f in omega arith
+item-cost ks p two line (items.Float x vert) f = by_taking (has_second p && two && x.wide) vert
+  where
+    by_taking : (t u : Bool) → wait_cost (on_line line (if t then act (acts.Take x) ∷ [] else with_firings (acts.Take x) u)) ≤ 4
+    by_taking true u = omega arith
+    by_taking false true = omega arith
+    by_taking false false = omega arith
+item-cost ks p two line (items.Margin x true) f = omega arith
+item-cost ks p two line (items.Margin x false) f = omega arith
+item-cost ks p two line (items.PageBreak zero) f = omega arith
+item-cost ks p two line (items.PageBreak (suc zero)) f = omega arith
+item-cost ks p two line (items.PageBreak (suc (suc zero))) f = omega arith
+item-cost ks p two line (items.PageBreak (suc (suc (suc zero)))) f = omega arith
+item-cost ks p two line (items.PageBreak (suc (suc (suc (suc n))))) f = omega arith
+item-cost ks p two line (items.NoPageBreak zero) f = omega arith
+item-cost ks p two line (items.NoPageBreak (suc zero)) f = omega arith
+item-cost ks p two line (items.NoPageBreak (suc (suc zero))) f = omega arith
+item-cost ks p two line (items.NoPageBreak (suc (suc (suc zero)))) f = omega arith
+item-cost ks p two line (items.NoPageBreak (suc (suc (suc (suc n))))) f = omega arith
+item-cost ks p two line k f = omega arith
+
+items-cost : (ks : List ℕ) (p : Params) (two : Bool) (ns : List Item) → ItemsFit ks ns → wait_cost (item_nodes p two ns) ≤ 4 * cycling_items ns
+items-cost ks p two [] f = omega arith
+items-cost ks p two (n ∷ ns) f =
+    let after = two_after two n.kind in
+    let a : wait_cost (on_line n.line (item_kinds p two n.kind) ++ item_nodes p after ns) ≡ wait_cost (on_line n.line (item_kinds p two n.kind)) + wait_cost (item_nodes p after ns) = cost-append (on_line n.line (item_kinds p two n.kind)) (item_nodes p after ns) in
+    let b : wait_cost (on_line n.line (item_kinds p two n.kind)) ≤ 4 * cycling_count n.kind = item-cost ks p two n.line n.kind f.0 in
+    let c : wait_cost (item_nodes p after ns) ≤ 4 * cycling_items ns = items-cost ks p after ns f.1 in
+    sums (wait_cost (item_nodes p two (n ∷ ns))) (wait_cost (on_line n.line (item_kinds p two n.kind))) (wait_cost (item_nodes p after ns)) (cycling_count n.kind) (cycling_items ns) a b c
+  where
+    sums : (x y z i j : ℕ) → x ≡ y + z → y ≤ 4 * i → z ≤ 4 * j → x ≤ 4 * (i + j)
+    sums x y z i j a b c = omega arith
+
+-- the classes of a galley have these numbers
+abbrev pub numbers : Galley → List ℕ
+numbers g = class_numbers (classes_of g)
+
+start-cost : (g : Galley) → ItemsFit (numbers g) g.items → wait_cost (expanded g) ≤ 4 * cycling_items g.items + 3
+unfolding expanded
+start-cost g f =
+    let a : wait_cost (item_nodes g.params false g.items ++ on_line g.end_line clearpage_kinds) ≡ wait_cost (item_nodes g.params false g.items) + wait_cost (on_line g.end_line clearpage_kinds) = cost-append (item_nodes g.params false g.items) (on_line g.end_line clearpage_kinds) in
+    let b : wait_cost (item_nodes g.params false g.items) ≤ 4 * cycling_items g.items = items-cost (numbers g) g.params false g.items f in
+    omega arith
+
+-- an item that costs nothing at most costs nothing
+no-cost : (x : ℕ) → x ≤ 0 → x ≡ 0
+no-cost x h = omega arith
+
+-- ---- each clear of the items comes behind its box
+
+clear-ended : (line : ℕ) → Ended false (on_line line clearpage_kinds)
+clear-ended line = (tt, (λ h. cc, (tt, (tt, (λ h. refl, tt)))))
+
+firings-ended : (line : ℕ) (a : Act) (vert : Bool) → Ended false (on_line line (with_firings a vert))
+firings-ended line a true = (tt, (λ h. cc, (tt, (λ h. cc, tt))))
+firings-ended line a false = (tt, (λ h. cc, (tt, (λ h. cc, tt))))
+
+free-item : (p : Params) (two : Bool) (line : ℕ) (k : ItemKind) → wait_cost (on_line line (item_kinds p two k)) ≤ 0 → Ended false (on_line line (item_kinds p two k))
+free-item p two line k h = free-ended false (on_line line (item_kinds p two k)) (no-cost (wait_cost (on_line line (item_kinds p two k))) h)
+
+item-ended : (ks : List ℕ) (p : Params) (two : Bool) (line : ℕ) (k : ItemKind) → ItemFits ks k → Ended false (on_line line (item_kinds p two k))
+item-ended ks p two line (items.Float x vert) f = by_taking (has_second p && two && x.wide)
+  where
+    by_taking : (t : Bool) → Ended false (on_line line (if t then act (acts.Take x) ∷ [] else with_firings (acts.Take x) vert))
+    by_taking true = (tt, tt)
+    by_taking false = firings-ended line (acts.Take x) vert
+item-ended ks p two line (items.Margin x vert) f = firings-ended line (acts.TakeMargin x) vert
+item-ended ks p two line items.ClearPage f = clear-ended line
+item-ended ks p two line items.OneColumn f = (tt, (λ h. cc, (tt, (tt, (λ h. refl, (tt, tt))))))
+item-ended ks p two line items.TwoColumn f = (tt, (λ h. cc, (tt, (tt, (λ h. refl, (tt, tt))))))
+item-ended ks p two line k f = free-item p two line k (item-cost ks p two line k f)
+
+items-ended : (ks : List ℕ) (p : Params) (two : Bool) (ns : List Item) → ItemsFit ks ns → Ended false (item_nodes p two ns)
+items-ended ks p two [] f = tt
+items-ended ks p two (n ∷ ns) f =
+    ended-both false (on_line n.line (item_kinds p two n.kind)) (item_nodes p (two_after two n.kind) ns) (item-ended ks p two n.line n.kind f.0) (items-ended ks p (two_after two n.kind) ns f.1)
+
+start-ended : (g : Galley) → ItemsFit (numbers g) g.items → Ended false (expanded g)
+unfolding expanded
+start-ended g f =
+    ended-both false (item_nodes g.params false g.items) (on_line g.end_line clearpage_kinds) (items-ended (numbers g) g.params false g.items f) (clear-ended g.end_line)
+
+-- ---- a whatsit comes before each clear of the items
+
+clear-spaced : (line : ℕ) → Spaced false (on_line line clearpage_kinds)
+clear-spaced line = (tt, (λ h. cc, (tt, (tt, (λ h. refl, tt)))))
+
+firings-spaced : (line : ℕ) (a : Act) (vert : Bool) → Spaced false (on_line line (with_firings a vert))
+firings-spaced line a true = (tt, (λ h. cc, (tt, (λ h. cc, tt))))
+firings-spaced line a false = (tt, (λ h. cc, (tt, (λ h. cc, tt))))
+
+light-item : (p : Params) (two : Bool) (line : ℕ) (k : ItemKind) → wait_cost (on_line line (item_kinds p two k)) ≤ 0 → Spaced false (on_line line (item_kinds p two k))
+light-item p two line k h = free-alone false (on_line line (item_kinds p two k)) (no-cost (wait_cost (on_line line (item_kinds p two k))) h)
+
+item-spaced : (ks : List ℕ) (p : Params) (two : Bool) (line : ℕ) (k : ItemKind) → ItemFits ks k → Spaced false (on_line line (item_kinds p two k))
+item-spaced ks p two line (items.Float x vert) f = by_taking (has_second p && two && x.wide)
+  where
+    by_taking : (t : Bool) → Spaced false (on_line line (if t then act (acts.Take x) ∷ [] else with_firings (acts.Take x) vert))
+    by_taking true = (tt, tt)
+    by_taking false = firings-spaced line (acts.Take x) vert
+item-spaced ks p two line (items.Margin x vert) f = firings-spaced line (acts.TakeMargin x) vert
+item-spaced ks p two line items.ClearPage f = clear-spaced line
+item-spaced ks p two line items.OneColumn f = (tt, (λ h. cc, (tt, (tt, (λ h. refl, (tt, tt))))))
+item-spaced ks p two line items.TwoColumn f = (tt, (λ h. cc, (tt, (tt, (λ h. refl, (tt, tt))))))
+item-spaced ks p two line k f = light-item p two line k (item-cost ks p two line k f)
+
+items-spaced : (ks : List ℕ) (p : Params) (two : Bool) (ns : List Item) → ItemsFit ks ns → Spaced false (item_nodes p two ns)
+items-spaced ks p two [] f = tt
+items-spaced ks p two (n ∷ ns) f =
+    spaced-both false (on_line n.line (item_kinds p two n.kind)) (item_nodes p (two_after two n.kind) ns) (item-spaced ks p two n.line n.kind f.0) (items-spaced ks p (two_after two n.kind) ns f.1)
+
+start-spaced : (g : Galley) → ItemsFit (numbers g) g.items → Spaced true (expanded g)
+unfolding expanded
+start-spaced g f =
+    spaced-any true (item_nodes g.params false g.items ++ on_line g.end_line clearpage_kinds)
+    (spaced-both false (item_nodes g.params false g.items) (on_line g.end_line clearpage_kinds) (items-spaced (numbers g) g.params false g.items f) (clear-spaced g.end_line))
+
+-- ---- the first state, and the run
+
+module _ (g : Galley) (calm : int_le g.params.interlinepenalty eject_penalty ≡ false) (differ : NumbersDiffer (classes_of g)) (items_fit : ItemsFit (numbers g) g.items) where
+  abbrev pub most : ℕ
+  most = 4 * cycling_items g.items + 3
+
+  abbrev pub first : State
+  first = first_state g.params (classes_of g) (expanded g)
+
+  -- no float is anywhere
+  start-floats : FloatsFit g.params first
+  start-floats = record {
+    fit = record { top = tt; bottom = tt; deferred = tt; double = tt; second = tt };
+    current = tt;
+    single = λ h. (record { top = tt; bottom = tt; deferred = tt; double = tt; second = tt }, tt);
+    double = record { wide = tt; none = λ h. refl };
+    sides = no-sides (wide_part g.params);
+    narrow = λ r. tt;
+  }
+
+  -- the bounds hold of the first state
+  pub low-start : Bounded g.params most first
+  low-start = record {
+    again = 0;
+    kind = closed;
+    phase = starting;
+    region = tt;
+    holds = refl;
+    at = tt;
+    coming = λ e. cc;
+    floats = start-floats;
+    weight = sums (wait_cost (expanded g)) (start-cost g items_fit);
+    bound = sums-with (wait_cost (expanded g)) (start-cost g items_fit);
+  }
+    where
+      sums : (x : ℕ) → x ≤ 4 * cycling_items g.items + 3 → x + 2 * 0 + 0 ≤ 4 * cycling_items g.items + 3 + 2 * 0
+      sums x h = omega arith
+
+      sums-with : (x : ℕ) → x ≤ 4 * cycling_items g.items + 3 → 0 + x + 2 * 0 + 0 + 2 ≤ 4 * cycling_items g.items + 3 + 2 + 2 * 0
+      sums-with x h = omega arith
+
+  pub high-start : BoundedHigh g.params most first
+  high-start = record {
+    again = 0;
+    stage = cleared;
+    region = tt;
+    holds = refl;
+    coming = λ e. cc;
+    floats = start-floats;
+    spaced = start-spaced g items_fit;
+    weight = sums (wait_cost (expanded g)) (start-cost g items_fit);
+    bound = sums-with (wait_cost (expanded g)) (start-cost g items_fit);
+  }
+    where
+      sums : (x : ℕ) → x ≤ 4 * cycling_items g.items + 3 → x + 2 * 0 ≤ 4 * cycling_items g.items + 3 + 3 * 0
+      sums x h = omega arith
+
+      sums-with : (x : ℕ) → x ≤ 4 * cycling_items g.items + 3 → 0 + x + 2 * 0 + 2 ≤ 4 * cycling_items g.items + 3 + 3 + 3 * 0
+      sums-with x h = omega arith
+
+  -- a run that has a reason to end for its dead cycles had as many as there may be, and those were few
+  no-reason : (e : End) → HasReason g.params e → RunCycles (most + 3) e → HasRoomForCycles g → EndsWithinCycles e
+  no-reason (dead_cycles n) h k c = no-room (cycling_items g.items) n g.params.maxdeadcycles c h k
+    where
+      no-room : (i n : ℕ) (d : ℤ) → pos (4 * i + 16) ≤ℤ d → d ≤ℤ pos n → n ≤ 4 * i + 3 + 3 → ⊥
+      no-room i n d a b e = let h : 4 * i + 16 ≤ n = grind (arith, ints, a, b) in omega arith
+  no-reason e h k c = tt
+
+  -- with a bound that each firing keeps, and an invariant by which the columns change only when no float is on the way, the run does not end for its dead cycles
+  module _ (B : State → Type 0) (few : (s : State) → B s → s.dead_cycles ≤ most + 3) (goes : Goes g.params B) (start : B first)
+      (I : State → Type 0) (empties : (s : State) → Kept s → I s → ChangesEmpty g.params s (acted_of (page_of g.params s).reached)) (keeps : (s : State) → Kept s → I s → StepStays I (step g.params s)) (begins : I first) where
+    pub not-cycles : HasRoomForCycles g → EndsWithinCycles (run_of g).end
+    unfolding run_of
+    not-cycles c = by_nodes (int_lt g.params.maxnodes (pos (held_count first)))
+      where
+        cycled : Cycled g.params calm B (most + 3) few goes first
+        cycled = record { kept = start-kept g differ items_fit; bounded = start; ended = start-ended g items_fit }
+
+        run : EndsWithinCycles (run_from g.params (suc (firings_left g.params first)) first).end
+        run = no-reason (run_from g.params (suc (firings_left g.params first)) first).end (run-reason g.params (suc (firings_left g.params first)) first (omega arith) (omega arith)) (run-cycles g.params calm B (most + 3) few goes I (λ s x i. empties s x.kept i) (λ s x i. keeps s x.kept i) (suc (firings_left g.params first)) first cycled begins) c
+
+        by_nodes : (t : Bool) → EndsWithinCycles (if t then record { events = []; records = []; end = node_limit (held_count first) } else run_from g.params (suc (firings_left g.params first)) first).end
+        by_nodes true = tt
+        by_nodes false = run

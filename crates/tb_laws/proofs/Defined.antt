@@ -1,0 +1,3 @@
+-- A run is defined for every galley, in reading order.
+pub mod RunParams
+pub mod FuelLemmas

@@ -1,0 +1,313 @@
+-- Each page that a run of a valid galley ships has bytes in a DVI file.
+use Rattle.std.proofs.Common.{ℕ, zero, suc, ℤ, pos, negsuc, ◌+ℤ◌, ◌≤◌, ◌<◌, Bool, true, false, List, [], ◌∷◌, ◌++◌, map, length, Option, Some, None, FitsSigned, arith}
+use Rattle.std.specs.Prelude.{pred, ◌&&◌, ◌||◌, ◌==◌, nat_le, int_lt, int_le, IsTrue, codes, decimal, if◌then◌else◌}
+use Rattle.std.specs.Int.{w32}
+use Rattle.std.specs.List.{AllByRecursion, list_all}
+use Rattle.std.proofs.lemmas.Int.{ints}
+use Rattle.std.proofs.lemmas.Bool.{and_parts}
+use Rattle.std.proofs.lemmas.Fmt.{length-decimal-le}
+use Rattle.std.proofs.lemmas.List.{length-append}
+use Rattle.tb_break.proofs.EachLemmas.{all-join}
+use Rattle.tb_scaled.specs.Scaled.{awful_bad, min_ℤ}
+use Rattle.tb_node.specs.declared.Act.{Act}
+use Rattle.tb_node.specs.declared.Act.TheVariants as acts
+use Rattle.tb_node.specs.declared.Float.{Float}
+use Rattle.tb_node.specs.declared.Margin.{Margin}
+use Rattle.tb_node.specs.declared.Side.{Side}
+use Rattle.tb_node.specs.declared.Side.TheVariants as sides
+use Rattle.tb_node.specs.declared.Where.{Where}
+use Rattle.tb_node.specs.declared.Where.TheVariants as places
+use Rattle.tb_node.specs.Names.{is_name, is_alphanumeric, is_name_byte, is_between}
+use Rattle.tb_node.specs.PlainNodes.{act, on_line, clearpage_kinds}
+use Rattle.tb_param.specs.declared.Params.{Params}
+use Rattle.tb_param.specs.Release.{has_second}
+use Rattle.tb_galley.specs.declared.Leaf.{Leaf}
+use Rattle.tb_galley.specs.declared.LeafKind.{LeafKind}
+use Rattle.tb_galley.specs.declared.LeafKind.TheVariants as leaves
+use Rattle.tb_galley.specs.declared.Item.{Item}
+use Rattle.tb_galley.specs.declared.ItemKind.{ItemKind}
+use Rattle.tb_galley.specs.declared.ItemKind.TheVariants as items
+use Rattle.tb_galley.specs.declared.Galley.{Galley}
+use Rattle.tb_galley.specs.GalleyNodes.{plain_leaf, with_firings, item_kinds, two_after, item_nodes, expanded}
+use Rattle.tb_galley.specs.Valid.{is_size, is_leaf, is_float, is_margin, is_item, IsValid}
+use Rattle.tb_insert.specs.declared.Class.{Class}
+use Rattle.tb_insert.specs.Account.{terms_after}
+use Rattle.tb_break.specs.PageTop.{pruned_nodes}
+use Rattle.tb_builder.specs.Reach.{Reached, acted, tried, Reach}
+use Rattle.tb_builder.specs.FiredPages.{frozen_for, reach_of, fired_of}
+use Rattle.tb_float.specs.declared.Entry.TheVariants as entries
+use Rattle.tb_float.specs.Lists.{FloatLists}
+use Rattle.tb_margin.specs.Margin.{note_height, note_depth}
+use Rattle.tb_report.specs.Lines.{where_text, side_text}
+use Rattle.tb_text.specs.Fields.{and_count, and_text}
+use Rattle.tb_sheet.specs.declared.Warn.{Warn}
+use Rattle.tb_sheet.specs.Sheet.{PlainSent, warned}
+use Rattle.tb_output.specs.State.{State, Work, Recorded, emptied, ask_of, first_state, void_boxes}
+use Rattle.tb_output.specs.Act.{Acted, went, full, act_on, taken_float, lists_with_taken}
+use Rattle.tb_output.specs.Output.{out}
+use Rattle.tb_steps.specs.Run.{Run, done, dead_cycles, page_limit, node_limit, Progress, progress_by, progress, Step, ends, goes_on, held_count, after_firing, fire, after_progress, step, run_by, run_from, firings_left, run_of}
+use Rattle.tb_items.specs.RunEvents.{RunEvent, offered, sent}
+use Rattle.tb_items.specs.Classes.{classes_of}
+use Rattle.tb_laws.proofs.DviFiles.WritableNodes.{WritableLeaves, WritableFloat, WritableNote, WritableAct, WritableNodes, nodes-join, nodes-pruned, WritableReached, WritableReach, reached-writable, WritableBoxes, fired-writable}
+use Rattle.tb_laws.proofs.DviFiles.WritableWorks.{WritableLists, WritableState, WritableSent, WritableWork, out-writable}
+
+-- ---- acts
+
+min-fits : (a b : ℤ) → FitsSigned w32 a → FitsSigned w32 b → FitsSigned w32 (min_ℤ a b)
+min-fits a b f g = by_order (int_le a b)
+  where
+    by_order : (t : Bool) → FitsSigned w32 (if t then a else b)
+    by_order true = f
+    by_order false = g
+
+abbrev WritableActed : Acted → Type 0
+WritableActed (went s ws rs) = WritableState s
+WritableActed (full line live) = Unit {0}
+
+module _ (p : Params) (height : FitsSigned w32 p.textheight) where
+  taken : (f : Float) (l : FloatLists) → WritableFloat f → WritableLists l → WritableLists (lists_with_taken p f l)
+  taken f l h k = by_list (has_second p && f.wide)
+    where
+      by_list : (t : Bool) → WritableLists (if t then record l { second = l.second ++ f ∷ [] } else record l { current = l.current ++ entries.Float f ∷ [] })
+      by_list true = (k.0, k.1, k.2, k.3, k.4, all-join WritableFloat l.second (f ∷ []) k.5 (h, tt))
+      by_list false = (all-join _ l.current (entries.Float f ∷ []) k.0 (h, tt), k.1, k.2, k.3, k.4, k.5)
+
+  acted-if : (t : Bool) (line live : ℕ) (s : State) (ws : List Warn) (rs : List Recorded) → WritableState s → WritableActed (if t then full line live else went s ws rs)
+  acted-if true line live s ws rs h = tt
+  acted-if false line live s ws rs h = h
+
+  acts-on : (s : State) (a : Act) → WritableState s → WritableAct a → WritableActed (act_on p s a)
+  acts-on s (acts.Take f) h g = acted-if _ _ _ _ _ _ (h.0, h.1, h.2, taken (taken_float p s f) s.floats (g.0, min-fits f.height p.textheight g.1 height) h.3, h.4)
+  acts-on s (acts.TakeMargin m) h g = acted-if _ _ _ _ _ _ (h.0, h.1, h.2, (all-join _ s.floats.current (entries.Left m ∷ entries.Right m ∷ []) h.3.0 (g, (tt, tt)), h.3.1, h.3.2, h.3.3, h.3.4, h.3.5), h.4)
+  acts-on s (acts.Suppress area) h g = h
+  acts-on s (acts.Columns pair) h g = (h.0, h.1, h.2, h.3, tt)
+
+  -- ---- events
+
+  abbrev pub WritableEvent : RunEvent → Type 0
+  WritableEvent (offered t) = Unit {0}
+  WritableEvent (sent e) = WritableSent p e
+
+  abbrev pub WritableEvents : List RunEvent → Type 0
+  WritableEvents es = AllByRecursion WritableEvent es
+
+  warnings : (ws : List Warn) → WritableEvents (map (λ w. sent (warned w)) ws)
+  warnings [] = tt
+  warnings (w ∷ ws) = (tt, warnings ws)
+
+  sent-events : (es : List PlainSent) → AllByRecursion (WritableSent p) es → WritableEvents (map sent es)
+  sent-events [] h = tt
+  sent-events (e ∷ es) h = (h.0, sent-events es h.1)
+
+  -- ---- one page and the firing after it
+
+  abbrev WritableProgress : Progress → Type 0
+  WritableProgress q = WritableState q.state × WritableEvents q.events
+
+  progresses-by : (later : State → Progress) → ((s : State) → WritableState s → WritableProgress (later s)) → (s : State) (x : Acted) → WritableState s → WritableActed x → WritableProgress (progress_by later s x)
+  progresses-by later f s (went t ws rs) h g = let k = f t g in (k.0, all-join WritableEvent (map (λ w. sent (warned w)) ws) (later t).events (warnings ws) k.1)
+  progresses-by later f s (full line live) h g = (h, tt)
+
+  progresses : (rs : List Reached) (least : ℤ) (s : State) → AllByRecursion WritableReached rs → WritableState s → WritableProgress (progress p rs least s)
+  progresses [] least s g h = (h, tt)
+  progresses (acted a ∷ rs) least s g h = progresses-by (λ t. progress p rs least t) (λ t k. progresses rs least t g.1 k) s (act_on p s a) h (acts-on s a h g.0)
+  progresses (tried line b ∷ rs) least s g h = let k = progresses rs (min_ℤ least b.cost) s g.1 h in (k.0, (tt, k.1))
+
+  abbrev WritableStep : Step → Type 0
+  WritableStep (ends es rs e) = WritableEvents es
+  WritableStep (goes_on es rs s) = WritableEvents es × WritableState s
+
+  abbrev page_of : State → Reach
+  page_of s = reach_of (ask_of p s) s.classes s.boxes [] s.waiting
+
+  page-reached : (s : State) → WritableState s → WritableReach (page_of s)
+  page-reached s h = reached-writable (ask_of p s).max_depth (terms_after (frozen_for (ask_of p s) s.classes s.boxes)) [] (pruned_nodes p.topskip s.waiting) tt (nodes-pruned p.topskip s.waiting h.0)
+
+  after-firing : (es : List RunEvent) (rs : List Recorded) (w : Work) → WritableEvents es → WritableWork p w → WritableStep (after_firing p es rs w)
+  after-firing es rs w g k = by_refused w.refused
+    where
+      events : WritableEvents (es ++ map sent w.sent)
+      events = all-join WritableEvent es (map sent w.sent) g (sent-events w.sent k.2)
+
+      by_nodes : (t : Bool) → WritableStep (if t then ends (es ++ map sent w.sent) (rs ++ w.records) (node_limit (held_count w.state)) else goes_on (es ++ map sent w.sent) (rs ++ w.records) w.state)
+      by_nodes true = events
+      by_nodes false = (events, k.0)
+
+      by_refused : (t : Bool) → WritableStep (if t then ends (es ++ map sent w.sent) (rs ++ w.records) (page_limit (pred w.state.page)) else (if int_lt p.maxnodes (pos (held_count w.state)) then ends (es ++ map sent w.sent) (rs ++ w.records) (node_limit (held_count w.state)) else goes_on (es ++ map sent w.sent) (rs ++ w.records) w.state))
+      by_refused true = events
+      by_refused false = by_nodes (int_lt p.maxnodes (pos (held_count w.state)))
+
+  fires : (w : Reach) (q : Progress) → WritableReach w → WritableProgress q → WritableStep (fire p w q)
+  fires w q h k = by_cycles (int_lt (pos q.state.dead_cycles) p.maxdeadcycles)
+    where
+      by_cycles : (t : Bool) → WritableStep (if t then after_firing p q.events q.records (out p q.state (fired_of (ask_of p q.state) q.state.classes q.state.boxes w)) else ends q.events q.records (dead_cycles q.state.dead_cycles))
+      by_cycles true = after-firing q.events q.records (out p q.state (fired_of (ask_of p q.state) q.state.classes q.state.boxes w)) k.1 (out-writable p q.state (fired_of (ask_of p q.state) q.state.classes q.state.boxes w) k.0 (fired-writable (frozen_for (ask_of p q.state) q.state.classes q.state.boxes) q.state.boxes w k.0.1 h))
+      by_cycles false = k.1
+
+  steps : (s : State) → WritableState s → WritableStep (step p s)
+  unfolding step
+  steps s h = by_fault q.fault
+    where
+      q : Progress
+      q = progress p (page_of s).reached awful_bad s
+
+      k : WritableProgress q
+      k = progresses (page_of s).reached awful_bad s (page-reached s h).reached h
+
+      by_firing : (t : Bool) → WritableStep (if t then fire p (page_of s) q else ends q.events (q.records ++ emptied q.state.floats ∷ []) (done (page_of s).passed))
+      by_firing true = fires (page_of s) q (page-reached s h) k
+      by_firing false = k.1
+
+      by_fault : (o : Option (ℕ × ℕ)) → WritableStep (after_progress p (page_of s) q o)
+      by_fault None = by_firing (page_of s).fires
+      by_fault (Some f) = k.1
+
+  -- ---- a run
+
+  runs-by : (later : State → Run) → ((s : State) → WritableState s → WritableEvents (later s).events) → (x : Step) → WritableStep x → WritableEvents (run_by later x).events
+  runs-by later f (ends es rs e) h = h
+  runs-by later f (goes_on es rs s) h = all-join WritableEvent es (later s).events h.0 (f s h.1)
+
+  runs : (fuel : ℕ) (s : State) → WritableState s → WritableEvents (run_from p fuel s).events
+  unfolding run_from
+  runs zero s h = tt
+  runs (suc fuel) s h = runs-by (λ t. run_from p fuel t) (runs fuel) (step p s) (steps s h)
+
+-- ---- the nodes of a valid galley
+
+-- a name has at most 63 bytes
+name-short : (name : List ℕ) → IsTrue (is_name name) → length name ≤ 63
+name-short [] v = cc
+name-short (b ∷ bs) v =
+    let short = (and_parts (is_alphanumeric b && list_all is_name_byte bs) (nat_le (length bs) 62) v).1 in
+    fits (length bs) short
+  where
+    fits : (n : ℕ) → IsTrue (nat_le n 62) → suc n ≤ 63
+    fits n h = grind (arith, h)
+
+size-fits : (h d : ℤ) → IsTrue (is_size h) → IsTrue (is_size d) → FitsSigned w32 (h +ℤ d)
+size-fits (pos h) (pos d) a b = record { sfits = grind (arith, ints, a, b) }
+size-fits (pos h) (negsuc d) a b = cc
+size-fits (negsuc h) (pos d) a b = cc
+size-fits (negsuc h) (negsuc d) a b = cc
+
+height-fits : (h : ℤ) → IsTrue (is_size h) → FitsSigned w32 h
+height-fits (pos h) a = record { sfits = grind (arith, ints, a) }
+height-fits (negsuc h) a = cc
+
+-- a name, and the sizes of a box
+sized : (name : List ℕ) (h d : ℤ) → IsTrue (is_name name && is_size h && is_size d) → (length name ≤ 63) × FitsSigned w32 (h +ℤ d)
+sized name h d v =
+    let parts = and_parts (is_name name && is_size h) (is_size d) v in
+    let front = and_parts (is_name name) (is_size h) parts.0 in
+    (name-short name front.0, size-fits h d front.1 parts.1)
+
+-- the label of a box, rule, mark or note of a short name
+short : (front name : List ℕ) → length front ≤ 100 → length name ≤ 63 → length (front ++ name) < 256
+short front name f n = omega (arith, f, n, length-append front name)
+
+leaf-kinds : (k : LeafKind) (n : ℕ) → IsTrue (is_leaf k) → WritableLeaves (plain_leaf (record { line = n; kind = k }) ∷ [])
+leaf-kinds (leaves.Hbox name h d) n v = let s = sized name h d v in ((short (codes "box ") name (omega arith) s.0, s.1), tt)
+leaf-kinds (leaves.Rule name h d) n v = let s = sized name h d v in ((short (codes "rule ") name (omega arith) s.0, s.1), tt)
+leaf-kinds k n v = (tt, tt)
+
+all-leaves : (ls : List Leaf) → IsTrue (list_all (λ l. is_leaf l.kind) ls) → WritableLeaves (map plain_leaf ls)
+all-leaves [] v = tt
+all-leaves (l ∷ ls) v = let parts = and_parts (is_leaf l.kind) (list_all (λ l. is_leaf l.kind) ls) v in ((leaf-kinds l.kind l.line parts.0).0, all-leaves ls parts.1)
+
+-- the word of a place and of a side is short
+where-short : (place : Where) → length (where_text place) ≤ 8
+where-short places.Here = omega arith
+where-short place = omega arith
+
+side-short : (side : Side) → length (side_text side) ≤ 5
+side-short sides.Left = omega arith
+side-short sides.Right = omega arith
+
+class-small : (k : ℕ) → IsTrue (is_between 1 26 k) → k < 100
+class-small k v = grind (arith, v)
+
+float-writable : (f : Float) → IsTrue (is_float f) → WritableFloat f
+float-writable f v =
+    let a = and_parts (is_name f.name && is_between 1 26 f.class && (f.places.h || f.places.t || f.places.b || f.places.p)) (is_size f.height) v in
+    let b = and_parts (is_name f.name && is_between 1 26 f.class) (f.places.h || f.places.t || f.places.b || f.places.p) a.0 in
+    let c = and_parts (is_name f.name) (is_between 1 26 f.class) b.0 in
+    let n : length f.name ≤ 63 = name-short f.name c.0 in
+    let k : f.class < 100 = class-small f.class c.1 in
+    let d : length (decimal f.class) ≤ 2 = length-decimal-le 2 f.class (omega arith) k (omega arith) in
+    ((λ place. label place n d), height-fits f.height a.1)
+  where
+    label : (place : Where) → length f.name ≤ 63 → length (decimal f.class) ≤ 2 → length (codes "float " ++ f.name ++ and_count f.class ++ and_text (where_text place)) < 256
+    label place n d =
+        let w = where-short place in
+        omega (arith, n, d, w, length-append (codes "float " ++ f.name ++ and_count f.class) (and_text (where_text place)), length-append (codes "float " ++ f.name) (and_count f.class), length-append (codes "float ") f.name)
+
+note-writable : (m : Margin) → IsTrue (is_margin m) → WritableNote m
+note-writable m v =
+    let a = and_parts (is_name m.name && is_size m.left_height && is_size m.left_depth && is_size m.right_height) (is_size m.right_depth) v in
+    let b = and_parts (is_name m.name && is_size m.left_height && is_size m.left_depth) (is_size m.right_height) a.0 in
+    let c = and_parts (is_name m.name && is_size m.left_height) (is_size m.left_depth) b.0 in
+    let d = and_parts (is_name m.name) (is_size m.left_height) c.0 in
+    ((λ side. label side (name-short m.name d.0)), by_side (size-fits m.left_height m.left_depth d.1 c.1) (size-fits m.right_height m.right_depth b.1 a.1))
+  where
+    label : (side : Side) → length m.name ≤ 63 → length (codes "margin " ++ m.name ++ and_text (side_text side)) < 256
+    label side n = let w = side-short side in omega (arith, n, w, length-append (codes "margin " ++ m.name) (and_text (side_text side)), length-append (codes "margin ") m.name)
+
+    by_side : FitsSigned w32 (m.left_height +ℤ m.left_depth) → FitsSigned w32 (m.right_height +ℤ m.right_depth) → (side : Side) → FitsSigned w32 (note_height side m +ℤ note_depth side m)
+    by_side l r sides.Left = l
+    by_side l r sides.Right = r
+
+item-writable : (p : Params) (two : Bool) (n : ℕ) (k : ItemKind) → IsTrue (is_item n k) → WritableNodes (on_line n (item_kinds p two k))
+item-writable p two n (items.Hbox name h d) v = let s = sized name h d v in ((short (codes "box ") name (omega arith) s.0, s.1), tt)
+item-writable p two n (items.Rule name h d) v = let s = sized name h d v in ((short (codes "rule ") name (omega arith) s.0, s.1), tt)
+item-writable p two n (items.Skip g) v = (tt, tt)
+item-writable p two n (items.Kern w) v = (tt, tt)
+item-writable p two n (items.Penalty q) v = (tt, tt)
+item-writable p two n (items.Mark name) v = ((short (codes "mark ") name (omega arith) (name-short name v), tt), tt)
+item-writable p two n (items.Note name) v = ((short (codes "note ") name (omega arith) (name-short name v), tt), tt)
+item-writable p two n (items.Foot class ls) v = (all-leaves ls v, tt)
+item-writable p two n (items.Float f vert) v = by_taking (has_second p && two && f.wide)
+  where
+    float : WritableFloat f
+    float = float-writable f (and_parts (f.line == n) (is_float f) v).1
+
+    by_taking : (t : Bool) → WritableNodes (on_line n (if t then act (acts.Take f) ∷ [] else with_firings (acts.Take f) vert))
+    by_taking true = (float, tt)
+    by_taking false = (float, (tt, (tt, (tt, tt))))
+item-writable p two n (items.Margin m vert) v = (note-writable m (and_parts (m.line == n) (is_margin m) v).1, (tt, (tt, (tt, tt))))
+item-writable p two n items.NewPage v = (tt, (tt, tt))
+item-writable p two n items.ClearPage v = (tt, (tt, (tt, (tt, (tt, tt)))))
+item-writable p two n (items.PageBreak q) v = (tt, tt)
+item-writable p two n (items.NoPageBreak q) v = (tt, tt)
+item-writable p two n items.OneColumn v = (tt, (tt, (tt, (tt, (tt, (tt, tt))))))
+item-writable p two n items.TwoColumn v = (tt, (tt, (tt, (tt, (tt, (tt, tt))))))
+item-writable p two n (items.Suppress area) v = (tt, tt)
+
+items-writable : (p : Params) (two : Bool) (ns : List Item) → IsTrue (list_all (λ n. is_item n.line n.kind) ns) → WritableNodes (item_nodes p two ns)
+items-writable p two [] v = tt
+items-writable p two (n ∷ ns) v =
+    let parts = and_parts (is_item n.line n.kind) (list_all (λ n. is_item n.line n.kind) ns) v in
+    nodes-join (on_line n.line (item_kinds p two n.kind)) (item_nodes p (two_after two n.kind) ns) (item-writable p two n.line n.kind parts.0) (items-writable p (two_after two n.kind) ns parts.1)
+
+expanded-writable : (g : Galley) → IsValid g → WritableNodes (expanded g)
+unfolding expanded
+expanded-writable g v = nodes-join (item_nodes g.params false g.items) (on_line g.end_line clearpage_kinds) (items-writable g.params false g.items v.items) (tt, (tt, (tt, (tt, (tt, tt)))))
+
+void : (cs : List Class) → WritableBoxes (void_boxes cs)
+void [] = tt
+void (c ∷ cs) = (tt, void cs)
+
+-- each page of the run of a valid galley has bytes
+pub run-writable : (g : Galley) → IsValid g → (height : FitsSigned w32 g.params.textheight) → WritableEvents g.params height (run_of g).events
+unfolding run_of
+run-writable g v height = by_nodes (int_lt g.params.maxnodes (pos (held_count s)))
+  where
+    s : State
+    s = first_state g.params (classes_of g) (expanded g)
+
+    start : WritableState s
+    start = (expanded-writable g v, void (classes_of g), tt, (tt, tt, tt, tt, tt, tt), tt)
+
+    by_nodes : (t : Bool) → WritableEvents g.params height (if t then record { events = []; records = []; end = node_limit (held_count s) } else run_from g.params (suc (firings_left g.params s)) s).events
+    by_nodes true = tt
+    by_nodes false = runs g.params height (suc (firings_left g.params s)) s start

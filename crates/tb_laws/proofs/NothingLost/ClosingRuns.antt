@@ -1,0 +1,348 @@
+-- Each step of a run keeps that what waits closes; so all lists are empty at each change of columns and at the end, and
+-- at the end nothing is left that has to ship.
+use Rattle.std.proofs.Common.{◌≡◌, refl, sym, ◌∙◌, ap, subst, ℕ, suc, pos, ◌+◌, ◌⊎◌, inl, inr, Bool, true, false, List, [], ◌∷◌, ◌++◌, map, take, drop, Option, Some, None, arith}
+use Rattle.std.specs.Prelude.{ℤ, pred, ◌==◌, int_lt, int_le, if◌then◌else◌}
+use Rattle.std.specs.List.{AllByRecursion}
+use Rattle.tb_scaled.specs.Scaled.{awful_bad, eject_penalty}
+use Rattle.tb_node.specs.declared.Act.TheVariants as acts
+use Rattle.tb_node.specs.declared.What.{What}
+use Rattle.tb_node.specs.declared.What.TheVariants as what
+use Rattle.tb_node.specs.PlainNodes.{Leaf, hbox, rule, PlainKind, plain, ins, act, PlainNode, without_acts, without_insertions}
+use Rattle.tb_node.proofs.Weights.{Weight, nodes_weight, kind_weight, weight-append}
+use Rattle.tb_param.specs.declared.Params.{Params}
+use Rattle.tb_insert.specs.Account.{Frozen, Labelled, labelled, labelled_from}
+use Rattle.tb_break.specs.PageTop.{pruned_nodes}
+use Rattle.tb_builder.specs.FiredPages.{Boxed, Fired, page_break, from_break, penalty_at, box_after, box_content, content_of, given_to, is_given, fired_by, fired_of, frozen_for, held_insertions}
+use Rattle.tb_builder.proofs.Cutting.CutLemmas.{acted_of, CutAt, held-ins}
+use Rattle.tb_builder.proofs.FiredPages.HeldLemmas.{GivesNone, none-labelled}
+use Rattle.tb_builder.proofs.FiredPages.PageWeights.{hits, IsOnce, AllOfClass, acted_weight, boxes_weight, fired-weight, labelled-class, LabelsOfClass}
+use Rattle.tb_float.specs.declared.Entry.{Entry}
+use Rattle.tb_float.specs.declared.Entry.TheVariants as entries
+use Rattle.tb_float.specs.Lists.{FloatLists, no_floats}
+use Rattle.tb_node.specs.declared.Float.{Float}
+use Rattle.tb_output.specs.State.{State, emptied, ask_of, Work, with_notes, notes_in}
+use Rattle.tb_insert.specs.declared.Class.{Class}
+use Rattle.tb_column.specs.Column.{Notes, PlainColumn}
+use Rattle.tb_param.specs.Release.{has_second}
+use Rattle.tb_laws.proofs.NothingLost.PutOutWeights.{other-box}
+use Rattle.std.proofs.lemmas.Bool.{eq-eqb, eqb-true}
+use Rattle.tb_output.specs.Output.{out}
+use Rattle.tb_laws.proofs.NothingLost.StateWeights.{BoxesFit, class_numbers, Paired, entries_weight, floats_weight, lists_weight, left_weight, state_weight, sent_weight}
+use Rattle.tb_laws.proofs.Closed.SortLemmas.{pen_sort, sorts, sorts-append, take-drop}
+use Rattle.tb_laws.proofs.Closed.PlaceLemmas.{AllSteady, body-steady}
+use Rattle.tb_column.proofs.PrintedLines.{printed, prints, left_prints}
+use Rattle.tb_laws.proofs.Closed.Closings.{Closes, Quiet, kind_token, tokens}
+use Rattle.tb_laws.proofs.Closed.ClosingPages.{owed_acts, ways_acts, pruned-closes, PageCloses, cut-closes, break-closes, tokens-take}
+use Rattle.tb_laws.proofs.DeadCycles.BoxesFirst.{RealFirst, HasReal, BreakReal, pruned-first, acts-first, break-real}
+use Rattle.tb_laws.proofs.Closed.ClosingStates.{ways_of, Clean, HereKept, Closing, OutClosed, out-closed}
+use Rattle.tb_laws.proofs.Limits.LimitLemmas.{out-records}
+use Rattle.tb_laws.proofs.NothingLost.ClosingActs.{acts-fit, ActsClosed, ProgressClosed, emptied-append, progress-closed, still-weight}
+use Rattle.tb_laws.proofs.NothingLost.RunWeights.{ActsFit, After, progress-adds, box-fired, fit-numbers, box_after-number, Kept, page_of, cut, cut_feet, cut_stands, reached, fired-keeps}
+use Rattle.tb_items.specs.RunEvents.{sent}
+use Rattle.tb_steps.specs.Run.{done, pool_full, dead_cycles, page_limit, node_limit, Progress, progress, Step, ends, goes_on, held_count, after_firing, fire, after_progress, step}
+use Rattle.tb_laws.specs.Laws.{IsEmptied}
+
+-- ---- lists that weigh nothing
+
+-- each box, float and note weighs one
+abbrev pub ones : Weight
+ones = record { box = λ n. 1; float = λ n. 1; margin = λ n. 1 }
+
+no-float : (fs : List Float) → floats_weight ones fs ≡ 0 → fs ≡ []
+no-float [] e = refl
+no-float (f ∷ fs) e = let no : ⊥ = omega arith in absurd no
+
+no-entry : (es : List Entry) → Paired es → entries_weight ones es ≡ 0 → es ≡ []
+no-entry [] q e = refl
+no-entry (entries.Float f ∷ es) q e = let no : ⊥ = omega arith in absurd no
+no-entry (entries.Left m ∷ es) q e = let no : ⊥ = omega arith in absurd no
+no-entry (entries.Right m ∷ es) q e = absurd q
+
+-- lists in which nothing weighs are empty
+weightless-lists : (l : FloatLists) → Paired l.current → l.here ≡ [] → lists_weight ones l ≡ 0 → l ≡ no_floats
+weightless-lists l q h e =
+    let a : l.current ≡ [] = no-entry l.current q (omega arith) in
+    let b : l.top ≡ [] = no-float l.top (omega arith) in
+    let c : l.bottom ≡ [] = no-float l.bottom (omega arith) in
+    let d : l.deferred ≡ [] = no-float l.deferred (omega arith) in
+    let g : l.double ≡ [] = no-float l.double (omega arith) in
+    let j : l.second ≡ [] = no-float l.second (omega arith) in
+    λ i. record { current = a i; here = h i; top = b i; bottom = c i; deferred = d i; double = g i; second = j i }
+
+-- nodes that weigh nothing show nothing
+kind-shows : (l : ℕ) (k : PlainKind) → kind_weight ones l k ≡ 0 → printed l k ≡ []
+kind-shows l (plain (hbox (what.Text name) h d)) e = let no : ⊥ = omega arith in absurd no
+kind-shows l (plain (rule (Some name) h d)) e = let no : ⊥ = omega arith in absurd no
+kind-shows l k e = refl
+
+pub weightless-prints : (ns : List PlainNode) → nodes_weight ones ns ≡ 0 → prints ns ≡ []
+weightless-prints [] e = refl
+weightless-prints (n ∷ ns) e =
+    let a : printed n.line n.kind ≡ [] = kind-shows n.line n.kind (omega arith) in
+    let b : prints ns ≡ [] = weightless-prints ns (omega arith) in
+    λ i. a i ++ b i
+
+pub weightless-left : (o : Option PlainColumn) → left_weight ones o ≡ 0 → left_prints o ≡ []
+weightless-left None e = refl
+weightless-left (Some c) e = weightless-prints c.nodes e
+
+-- ---- quiet nodes
+
+what-quiet : (v : Weight) (l : ℕ) (w : What) (h d : ℤ) → Quiet (kind_token (plain (hbox w h d))) → kind_weight v l (plain (hbox w h d)) ≡ 0
+what-quiet v l what.Blank h d q = refl
+what-quiet v l w h d q = absurd q
+
+kind-quiet : (v : Weight) (l : ℕ) (k : PlainKind) → Quiet (kind_token k) → kind_weight v l k ≡ 0
+kind-quiet v l (plain (hbox w h d)) q = what-quiet v l w h d q
+kind-quiet v l (plain (rule name h d)) q = absurd q
+kind-quiet v l (ins i) q = absurd q
+kind-quiet v l (act (acts.Take f)) q = absurd q
+kind-quiet v l (act (acts.TakeMargin m)) q = absurd q
+kind-quiet v l (act (acts.Columns two)) q = absurd q
+kind-quiet v l k q = refl
+
+-- they weigh nothing
+quiet-weight : (v : Weight) (ns : List PlainNode) → AllByRecursion Quiet (tokens ns) → nodes_weight v ns ≡ 0
+quiet-weight v [] q = refl
+quiet-weight v (n ∷ ns) q =
+    let a : kind_weight v n.line n.kind ≡ 0 = kind-quiet v n.line n.kind q.0 in
+    let b : nodes_weight v ns ≡ 0 = quiet-weight v ns q.1 in
+    omega arith
+
+body-more : (l : ℕ) (k : PlainKind) (ns : List PlainNode) → Quiet (kind_token k) → AllByRecursion Quiet (tokens (without_insertions ns)) → AllByRecursion Quiet (tokens (without_insertions (record { line = l; kind = k } ∷ ns)))
+body-more l (plain m) ns q h = (q, h)
+body-more l (ins i) ns q h = h
+body-more l (act a) ns q h = (q, h)
+
+quiet-body : (ns : List PlainNode) → AllByRecursion Quiet (tokens ns) → AllByRecursion Quiet (tokens (without_insertions ns))
+quiet-body [] q = tt
+quiet-body (n ∷ ns) q = body-more n.line n.kind ns q.0 (quiet-body ns q.1)
+
+-- and have no insertion
+node-labels : (z : Frozen) (before : List PlainNode) (l : ℕ) (k : PlainKind) (ns : List PlainNode) → Quiet (kind_token k) → labelled_from z [] (before ++ record { line = l; kind = k } ∷ []) ns ≡ [] → labelled_from z [] before (record { line = l; kind = k } ∷ ns) ≡ []
+node-labels z before l (plain m) ns q h = h
+node-labels z before l (ins i) ns q h = absurd q
+node-labels z before l (act a) ns q h = h
+
+no-labels : (z : Frozen) (before ns : List PlainNode) → AllByRecursion Quiet (tokens ns) → labelled_from z [] before ns ≡ []
+no-labels z before [] q = refl
+no-labels z before (n ∷ ns) q = node-labels z before n.line n.kind ns q.0 (no-labels z (before ++ n ∷ []) ns q.1)
+
+-- ---- the insertion box
+
+same-boxes : (v : Weight) (bs : List Boxed) → boxes_weight v (map (box_after []) bs) ≡ boxes_weight v bs
+same-boxes v [] = refl
+same-boxes v (b ∷ bs) = let h : boxes_weight v (map (box_after []) bs) ≡ boxes_weight v bs = same-boxes v bs in omega arith
+
+-- what a class's box holds is None if it comes before what no class holds
+void-first : (c : Class) (o : Option (List Leaf)) (ns : List Notes) → with_notes c o ns ≡ [] → (o ≡ None) × (ns ≡ [])
+void-first c None ns e = (refl, e)
+void-first c (Some ls) ns e = cc
+
+-- a box that holds nothing was given nothing
+void-box : (ls : List Labelled) (b : Boxed) → (box_after ls b).content ≡ None → is_given b.number ls ≡ false
+void-box ls b e = by_given (is_given b.number ls) e
+  where
+    by_given : (t : Bool) → (if t then record b { content = Some (content_of b.content ++ given_to b.number ls) } else b).content ≡ None → t ≡ false
+    by_given true e = cc
+    by_given false e = refl
+
+-- if all boxes are void, none of them was given anything
+pub void-given : (ls : List Labelled) (cs : List Class) (bs : List Boxed) → BoxesFit cs bs → notes_in cs (map (box_after ls) bs) ≡ [] → GivesNone (class_numbers cs) ls
+void-given ls [] [] h e k o = absurd (omega (arith, o))
+void-given ls [] (b ∷ bs) h e k o = absurd h
+void-given ls (c ∷ cs) [] h e k o = absurd h
+void-given ls (c ∷ cs) (b ∷ bs) h e k o = by_number (k == c.number) refl o (λ x y z. void-given ls cs bs x y k z)
+  where
+    a : Boxed
+    a = box_after ls b
+
+    rest : List Boxed
+    rest = map (box_after ls) bs
+
+    same : a.number ≡ c.number
+    same = box_after-number ls b ∙ h.0
+
+    first : (box_content (a ∷ rest) c.number ≡ None) × (notes_in cs (a ∷ rest) ≡ [])
+    first = void-first c (box_content (a ∷ rest) c.number) (notes_in cs (a ∷ rest)) e
+
+    empty : a.content ≡ None
+    empty = ap (λ t. if t then a.content else box_content rest c.number) (sym (eq-eqb a.number c.number same)) ∙ first.0
+
+    others : notes_in cs rest ≡ []
+    others = sym (other-box a cs rest (ap (λ n. hits n (class_numbers cs)) same ∙ h.1)) ∙ first.1
+
+    by_number : (t : Bool) → (k == c.number) ≡ t → (if t then suc (hits k (class_numbers cs)) else hits k (class_numbers cs)) ≡ 1 → (BoxesFit cs bs → notes_in cs (map (box_after ls) bs) ≡ [] → IsOnce (class_numbers cs) k → is_given k ls ≡ false) → is_given k ls ≡ false
+    by_number true u o again = subst (λ n. is_given n ls ≡ false) (h.0 ∙ sym (eqb-true k c.number u)) (void-box ls b empty)
+    by_number false u o again = again h.2 others o
+
+-- ---- a step
+
+-- a step keeps that what waits closes, and records empty lists alone; if it ends well nothing is left that has to ship
+abbrev pub StepCloses : Params → State → Step → Type 0
+StepCloses p s (goes_on es rs t) = AllByRecursion IsEmptied rs × Closing p t
+StepCloses p s (ends es rs (done left)) = AllByRecursion IsEmptied rs × ((v : Weight) → state_weight v s ≡ 0)
+StepCloses p s (ends es rs (pool_full line live)) = AllByRecursion IsEmptied rs
+StepCloses p s (ends es rs (dead_cycles n)) = AllByRecursion IsEmptied rs
+StepCloses p s (ends es rs (page_limit n)) = AllByRecursion IsEmptied rs
+StepCloses p s (ends es rs (node_limit n)) = AllByRecursion IsEmptied rs
+
+module _ (p : Params) (calm : int_le p.interlinepenalty eject_penalty ≡ false) (s : State) (kept : Kept s) (closing : Closing p s) where
+  pub page_cut : CutAt [] (pruned_nodes p.topskip s.waiting) (page_of p s)
+  page_cut = cut ones p calm s kept
+
+  pub page_closes : PageCloses (ways_of p s) closing.owed closing.done (page_break (page_of p s)).place (page_of p s)
+  page_closes = cut-closes (pruned_nodes p.topskip s.waiting) (page_of p s) (ways_of p s) closing.owed closing.done (page_break (page_of p s)).place page_cut (pruned-closes p.topskip s.waiting kept.placed.held (ways_of p s) closing.owed closing.done kept.placed.stands closing.closes)
+
+  left_fits : (v : Weight) → closing.done ≡ true → left_weight v s.left_column ≡ 0
+  left_fits v e = let k : boxes_weight v s.boxes + nodes_weight v s.held_page + lists_weight v s.floats + left_weight v s.left_column ≡ 0 = (closing.clean e).weightless v in omega arith
+
+  pub empty : closing.done ≡ true → s.floats ≡ no_floats
+  empty e = let k : boxes_weight ones s.boxes + nodes_weight ones s.held_page + lists_weight ones s.floats + left_weight ones s.left_column ≡ 0 = (closing.clean e).weightless ones in weightless-lists s.floats kept.sound.entries (closing.clean e).here (omega arith)
+
+  bare : closing.done ≡ true → left_prints s.left_column ≡ []
+  bare e = weightless-left s.left_column (left_fits ones e)
+
+  -- a change of columns drops nothing that weighs
+  pub changes-fit : (v : Weight) → ActsFit v s.left_column (acted_of (page_of p s).reached)
+  changes-fit v = acts-fit v s.left_column closing.done (acted_of (page_of p s).reached) (left_fits v) page_closes.acts_close
+
+  pub progressed : ProgressClosed p closing.owed (acted_of (page_of p s).reached) s (progress p (page_of p s).reached awful_bad s)
+  progressed = progress-closed p (page_of p s).reached awful_bad closing.owed closing.done s empty bare closing.items closing.single page_closes.acts_close
+
+  -- a box before the next forced break is on the page that breaks there
+  first_break : RealFirst (sorts s.waiting) → BreakReal (sorts (take (page_break (page_of p s)).place (page_of p s).passed)) (pen_sort (penalty_at (from_break (page_of p s))))
+  first_break r =
+      let w = page_of p s in
+      let k = (page_break w).place in
+      let a : RealFirst (sorts (page_cut.front ++ w.beyond)) = subst (λ l. RealFirst (sorts l)) page_cut.whole (pruned-first p.topskip s.waiting r) in
+      let b : RealFirst (sorts (without_acts page_cut.front) ++ sorts w.beyond) = acts-first page_cut.front (sorts w.beyond) (subst RealFirst (sorts-append page_cut.front w.beyond) a) in
+      let c : RealFirst (sorts (without_acts page_cut.front ++ w.beyond)) = subst RealFirst (sym (sorts-append (without_acts page_cut.front) w.beyond)) b in
+      let d : RealFirst (sorts (take k w.passed ++ (drop k w.passed ++ w.beyond))) = subst (λ l. RealFirst (sorts l)) (ap (λ l. l ++ w.beyond) (sym page_cut.passed) ∙ take-drop k w.passed w.beyond) c in
+      break-real (sorts (take k w.passed)) (drop k w.passed ++ w.beyond) (subst RealFirst (sorts-append (take k w.passed) (drop k w.passed ++ w.beyond)) d)
+
+  module _ (t : State) (after : (v : Weight) → After v (acted_weight v (page_of p s).reached) s t) (acts_done : ActsClosed p closing.owed (acted_of (page_of p s).reached) s t) (z : Frozen) where
+    here_now : HereKept s → (t.floats.here ≡ []) ⊎ (HasReal (sorts t.held_page) ⊎ BreakReal (sorts (take (page_break (page_of p s)).place (page_of p s).passed)) (pen_sort (penalty_at (from_break (page_of p s)))))
+    here_now (inl n) = inl (acts_done.here ∙ n)
+    here_now (inr (inl r)) = inr (inl (subst (λ l. HasReal (sorts l)) (sym (after ones).held) r))
+    here_now (inr (inr r)) = inr (inr (first_break r))
+
+    ks : List ℕ
+    ks = class_numbers s.classes
+
+    same_classes : class_numbers t.classes ≡ class_numbers s.classes
+    same_classes = ap class_numbers (after ones).classes
+
+    fit_boxes : BoxesFit t.classes t.boxes
+    fit_boxes = (after ones).sound.box
+
+    labels_class : LabelsOfClass (class_numbers s.classes) (labelled z (take (page_break (page_of p s)).place (page_of p s).passed))
+    labels_class = labelled-class (class_numbers s.classes) z [] [] (take (page_break (page_of p s)).place (page_of p s).passed) tt (cut_feet ones p calm s kept).0
+
+    unlabelled : page_closes.done ≡ true → labelled z (take (page_break (page_of p s)).place (page_of p s).passed) ≡ []
+    unlabelled e = no-labels z [] (take (page_break (page_of p s)).place (page_of p s).passed) (tokens-take Quiet (page_break (page_of p s)).place (page_of p s).passed (page_closes.still e).1)
+
+    -- the firing of the page in the state after its acts
+    pub fired_closes : let f = fired_by (labelled z (take (page_break (page_of p s)).place (page_of p s).passed)) t.boxes (page_of p s) in OutClosed (ways_acts (ways_of p s) (acted_of (page_of p s).reached)) page_closes.done f.rest (out p t f).state × ((out p t f).state.two_columns ≡ t.two_columns)
+    fired_closes =
+        let w = page_of p s in
+        let before = take (page_break w).place w.passed in
+        let ls = labelled z before in
+        let f = fired_by ls t.boxes w in
+        let stands = cut_stands ones p calm s kept in
+        let a = after ones in
+        out-closed (class_numbers s.classes) p calm t f before refl stands.calm stands.free kept.placed.held stands.rest (ways_acts (ways_of p s) (acted_of w.reached)) (owed_acts (ways_of p s) closing.owed (acted_of w.reached)) page_closes.done
+        (break-closes (from_break w) (ways_acts (ways_of p s) (acted_of w.reached)) (owed_acts (ways_of p s) closing.owed (acted_of w.reached)) page_closes.done page_closes.first page_closes.rest)
+        (λ h. a.held ∙ kept.placed.free h) (subst AllSteady (sym a.held) kept.placed.steady) (body-steady before stands.calm stands.free)
+        acts_done.items a.sound.entries acts_done.single a.sound.columns (here_now closing.here)
+        (held-ins (class_numbers s.classes) ls labels_class) (λ e. ap held_insertions (unlabelled e)) (λ e. ap held_insertions (none-labelled (class_numbers s.classes) z before labels_class (subst (λ ks. GivesNone ks ls) same_classes (void-given ls t.classes t.boxes fit_boxes e)))) (box-fired ls t.classes t.boxes fit_boxes)
+
+    -- if nothing came up to the stop, nothing is kept behind an ordinary firing
+    nothing_kept : let f = fired_by (labelled z (take (page_break (page_of p s)).place (page_of p s).passed)) t.boxes (page_of p s) in (out p t f).refused ≡ false → page_closes.done ≡ true → (v : Weight) → boxes_weight v (out p t f).state.boxes + nodes_weight v (out p t f).state.held_page + lists_weight v (out p t f).state.floats + left_weight v (out p t f).state.left_column ≡ 0
+    nothing_kept r e v =
+        let w = page_of p s in
+        let before = take (page_break w).place w.passed in
+        let ls = labelled z before in
+        let f = fired_by ls t.boxes w in
+        let u = (out p t f).state in
+        let q = page_closes.still e in
+        let k : state_weight v u + sent_weight v (out p t f).sent ≡ state_weight v s = (fired-keeps v p calm s kept t (after v) z r).1 in
+        sums (nodes_weight v u.waiting) (boxes_weight v u.boxes) (nodes_weight v u.held_page) (lists_weight v u.floats) (left_weight v u.left_column) (sent_weight v (out p t f).sent)
+        (nodes_weight v s.waiting) (boxes_weight v s.boxes) (nodes_weight v s.held_page) (lists_weight v s.floats) (left_weight v s.left_column)
+        (nodes_weight v w.passed) (acted_weight v w.reached) (nodes_weight v w.beyond)
+        (nodes_weight v f.body) (boxes_weight v f.boxes) (nodes_weight v f.held) (nodes_weight v f.rest) (boxes_weight v t.boxes) (nodes_weight v fired_closes.0.front)
+        k ((closing.clean q.0).weightless v) (quiet-weight v w.passed q.1) (still-weight v w.reached q.2) (reached v p calm s kept)
+        (fired-weight v z t.boxes w (subst (λ ms. AllOfClass ms before) (sym same_classes ∙ fit-numbers t.classes t.boxes fit_boxes) (cut_feet ones p calm s kept).0))
+        (quiet-weight v f.body (quiet-body before (tokens-take Quiet (page_break w).place w.passed q.1)))
+        (ap (λ l. boxes_weight v (map (box_after l) t.boxes)) (unlabelled e) ∙ same-boxes v t.boxes)
+        (ap (boxes_weight v) (after ones).boxes)
+        (ap (λ l. nodes_weight v (held_insertions l)) (unlabelled e))
+        (ap (nodes_weight v) fired_closes.0.whole ∙ weight-append v fired_closes.0.front f.rest)
+      where
+        sums : (Wu Bu Hu Lu Ku S Ws B H L K P A Y Fb Fx Fh Fr Bt F : ℕ) → Wu + Bu + Hu + Lu + Ku + S ≡ Ws + B + H + L + K → B + H + L + K ≡ 0 → P ≡ 0 → A ≡ 0 → P + A + Y ≡ Ws → Fb + Fx + Fh + Fr ≡ Bt + (P + Y) → Fb ≡ 0 → Fx ≡ Bt → Bt ≡ B → Fh ≡ 0 → Wu ≡ F + Fr → Bu + Hu + Lu + Ku ≡ 0
+        sums Wu Bu Hu Lu Ku S Ws B H L K P A Y Fb Fx Fh Fr Bt F a b c d e f g h i j k = omega arith
+
+    fired_closing : let f = fired_by (labelled z (take (page_break (page_of p s)).place (page_of p s).passed)) t.boxes (page_of p s) in (out p t f).refused ≡ false → Closing p (out p t f).state
+    fired_closing r =
+        let x = fired_closes.0 in
+        let f = fired_by (labelled z (take (page_break (page_of p s)).place (page_of p s).passed)) t.boxes (page_of p s) in
+        let ways : ways_acts (ways_of p s) (acted_of (page_of p s).reached) ≡ ways_of p (out p t f).state = sym acts_done.ways ∙ ap (λ t. record { second = has_second p; two = t }) (sym fired_closes.1) in
+        record { owed = x.owed; done = x.done; closes = subst (λ y. Closes y x.owed x.done (tokens (out p t f).state.waiting)) ways x.closes; items = x.items; single = x.single; here = x.here; clean = λ e. by_clean (nothing_kept r) (x.clean e) }
+      where
+        by_clean : {u : State} → (page_closes.done ≡ true → (v : Weight) → boxes_weight v u.boxes + nodes_weight v u.held_page + lists_weight v u.floats + left_weight v u.left_column ≡ 0) → ((page_closes.done ≡ true) × (u.floats.here ≡ [])) ⊎ Clean u → Clean u
+        by_clean h (inl y) = record { weightless = h y.0; here = y.1 }
+        by_clean h (inr y) = y
+
+  fire-closes : (q : Progress) → AllByRecursion IsEmptied q.records → ((v : Weight) → After v (acted_weight v (page_of p s).reached) s q.state) → ActsClosed p closing.owed (acted_of (page_of p s).reached) s q.state → StepCloses p s (fire p (page_of p s) q)
+  fire-closes q e a d = by_cycles (int_lt (pos q.state.dead_cycles) p.maxdeadcycles)
+    where
+      f : Fired
+      f = fired_of (ask_of p q.state) (q.state.classes) q.state.boxes (page_of p s)
+
+      o : Work
+      o = out p q.state f
+
+      records : AllByRecursion IsEmptied (q.records ++ o.records)
+      records = emptied-append q.records o.records e (out-records p (record { holds = IsEmptied; at_place = λ g place l k. tt; at_output = λ c. tt }) q.state f)
+
+      by_nodes : (u : Bool) → o.refused ≡ false → StepCloses p s (if u then ends (q.events ++ map sent o.sent) (q.records ++ o.records) (node_limit (held_count o.state)) else goes_on (q.events ++ map sent o.sent) (q.records ++ o.records) o.state)
+      by_nodes true r = records
+      by_nodes false r = (records, fired_closing q.state a d (frozen_for (ask_of p q.state) (q.state.classes) q.state.boxes) r)
+
+      by_refused : (u : Bool) → o.refused ≡ u → StepCloses p s (if u then ends (q.events ++ map sent o.sent) (q.records ++ o.records) (page_limit (pred o.state.page)) else (if int_lt p.maxnodes (pos (held_count o.state)) then ends (q.events ++ map sent o.sent) (q.records ++ o.records) (node_limit (held_count o.state)) else goes_on (q.events ++ map sent o.sent) (q.records ++ o.records) o.state))
+      by_refused true r = records
+      by_refused false r = by_nodes (int_lt p.maxnodes (pos (held_count o.state))) r
+
+      by_cycles : (u : Bool) → StepCloses p s (if u then after_firing p q.events q.records o else ends q.events q.records (dead_cycles q.state.dead_cycles))
+      by_cycles true = by_refused o.refused refl
+      by_cycles false = e
+
+  -- the state after the acts of the page
+  pub acts-after : (progress p (page_of p s).reached awful_bad s).fault ≡ None → (v : Weight) → After v (acted_weight v (page_of p s).reached) s (progress p (page_of p s).reached awful_bad s).state
+  acts-after f v = (progress-adds v p (page_of p s).reached awful_bad s kept.sound (changes-fit v)).after f
+
+  -- at the end nothing is left that has to ship
+  end-empty : (t : State) → ActsClosed p closing.owed (acted_of (page_of p s).reached) s t → (page_of p s).fires ≡ false → (t.floats ≡ no_floats) × ((v : Weight) → state_weight v s ≡ 0)
+  end-empty t d u =
+      let w = page_of p s in
+      let e : page_closes.done ≡ true = subst (λ l. Closes (ways_acts (ways_of p s) (acted_of w.reached)) (owed_acts (ways_of p s) closing.owed (acted_of w.reached)) page_closes.done (tokens l)) (page_cut.ended u) page_closes.beyond in
+      let q = page_closes.still e in
+      (d.still q.2 ∙ empty q.0, λ v. sums (nodes_weight v s.waiting) (boxes_weight v s.boxes) (nodes_weight v s.held_page) (lists_weight v s.floats) (left_weight v s.left_column) (nodes_weight v w.passed) (acted_weight v w.reached) (nodes_weight v w.beyond) ((closing.clean q.0).weightless v) (quiet-weight v w.passed q.1) (still-weight v w.reached q.2) (ap (nodes_weight v) (page_cut.ended u)) (reached v p calm s kept))
+    where
+      sums : (W B H L K P A Y : ℕ) → B + H + L + K ≡ 0 → P ≡ 0 → A ≡ 0 → Y ≡ 0 → P + A + Y ≡ W → W + B + H + L + K ≡ 0
+      sums W B H L K P A Y b c d e f = omega arith
+
+  pub step-closes : StepCloses p s (step p s)
+  unfolding step
+  step-closes = by_fault (progress p (page_of p s).reached awful_bad s).fault refl
+    where
+      q : Progress
+      q = progress p (page_of p s).reached awful_bad s
+
+      by_firing : (u : Bool) → (page_of p s).fires ≡ u → q.fault ≡ None → StepCloses p s (if u then fire p (page_of p s) q else ends q.events (q.records ++ emptied q.state.floats ∷ []) (done (page_of p s).passed))
+      by_firing true u f = fire-closes q progressed.records (acts-after f) (progressed.after f)
+      by_firing false u f = let x = end-empty q.state (progressed.after f) u in (emptied-append q.records (emptied q.state.floats ∷ []) progressed.records (x.0, tt), x.1)
+
+      by_fault : (o : Option (ℕ × ℕ)) → q.fault ≡ o → StepCloses p s (after_progress p (page_of p s) q o)
+      by_fault None f = by_firing (page_of p s).fires refl f
+      by_fault (Some y) f = progressed.records

@@ -1,0 +1,319 @@
+-- A run loses nothing: what is sent and what is on the way weighs as much as the galley.
+use Rattle.std.proofs.Common.{◌≡◌, refl, sym, ◌∙◌, ap, subst, ℕ, suc, pos, ◌+◌, Bool, true, false, List, [], ◌∷◌, ◌++◌, map, take, drop, Option, Some, None, arith}
+use Rattle.std.specs.Prelude.{ℤ, pred, ◌==◌, int_lt, int_le, ◌&&◌, if◌then◌else◌}
+use Rattle.std.specs.List.{AllByRecursion}
+use Rattle.tb_scaled.specs.Scaled.{awful_bad, min_ℤ, eject_penalty}
+use Rattle.tb_node.specs.declared.Act.{Act}
+use Rattle.tb_node.specs.declared.Act.TheVariants as acts
+use Rattle.tb_node.specs.declared.Float.{Float}
+use Rattle.tb_node.proofs.Weights.{Weight, act_weight, nodes_weight}
+use Rattle.tb_param.specs.declared.Params.{Params}
+use Rattle.tb_param.specs.Release.{has_second}
+use Rattle.std.proofs.lemmas.Bool.{eq-eqb, eqb-true, ne_eqb, true≢false}
+use Rattle.std.proofs.lemmas.Option.{none-some}
+use Rattle.tb_insert.specs.declared.Class.{Class}
+use Rattle.tb_insert.specs.Account.{terms_after, Frozen, Labelled, labelled}
+use Rattle.tb_break.specs.PageTop.{pruned_nodes}
+use Rattle.tb_builder.specs.Reach.{Reached, acted, tried, Reach}
+use Rattle.tb_builder.specs.FiredPages.{with_spent_break, Boxed, Fired, page_break, box_after, is_given, fired_by, fired_of, frozen_for, reach_of, content_of, given_to}
+use Rattle.tb_builder.proofs.FiredPages.PageWeights.{labelled-class, reach-weight, pruned_nodes-weight, acted_weight, boxes_weight, numbers, hits, IsOnce, fired_weight, fired-weight, AllOfClass}
+use Rattle.tb_builder.proofs.Cutting.CutLemmas.{acted_of, CutAt, reach-cut, cut-class, class-pruned, held-ins}
+use Rattle.tb_float.specs.declared.Entry.{Entry}
+use Rattle.tb_float.specs.declared.Entry.TheVariants as entries
+use Rattle.tb_float.specs.Lists.{FloatLists, live_count}
+use Rattle.tb_sheet.specs.declared.Warn.{Warn}
+use Rattle.tb_column.specs.Column.{PlainColumn}
+use Rattle.tb_sheet.specs.Sheet.{PlainSent, warned, shipped}
+use Rattle.tb_output.specs.State.{State, Recorded, emptied, ask_of, Work}
+use Rattle.tb_output.specs.Act.{Acted, went, full, act_on, taken_float, lists_with_taken}
+use Rattle.tb_output.specs.Output.{out}
+use Rattle.tb_laws.proofs.NothingLost.StateWeights.{floats_weight, floats-append}
+use Rattle.tb_laws.proofs.NothingLost.WorkWeights.{Sound, class_numbers, BoxesFit, Paired, entries_weight, lists_weight, left_weight, state_weight, sheet_weight, sent_weight, out-weight}
+use Rattle.tb_laws.proofs.Closed.SortLemmas.{PageStands, cut-stands, pruned-stands, page-careful}
+use Rattle.tb_laws.proofs.Closed.PutLemmas.{AreAmong}
+use Rattle.tb_laws.proofs.Closed.PlaceLemmas.{AllSteady, WellPlaced, body-steady, body-class, out-placed}
+use Rattle.tb_items.specs.RunEvents.{RunEvent, offered, sent}
+use Rattle.tb_steps.specs.Run.{done, pool_full, dead_cycles, page_limit, node_limit, Progress, progress_by, progress, Step, ends, goes_on, held_count, after_firing, fire, after_progress, step}
+
+abbrev pub events_weight : Weight → List RunEvent → ℕ
+events_weight v [] = 0
+events_weight v (offered t ∷ es) = events_weight v es
+events_weight v (sent (warned w) ∷ es) = events_weight v es
+events_weight v (sent (shipped page sheet) ∷ es) = sheet_weight v sheet + events_weight v es
+
+pub events-append : (v : Weight) (xs ys : List RunEvent) → events_weight v (xs ++ ys) ≡ events_weight v xs + events_weight v ys
+events-append v [] ys = omega arith
+events-append v (offered t ∷ xs) ys = events-append v xs ys
+events-append v (sent (warned w) ∷ xs) ys = events-append v xs ys
+events-append v (sent (shipped page sheet) ∷ xs) ys = let h : events_weight v (xs ++ ys) ≡ events_weight v xs + events_weight v ys = events-append v xs ys in omega arith
+
+warnings-weight : (v : Weight) (ws : List Warn) → events_weight v (map (λ w. sent (warned w)) ws) ≡ 0
+warnings-weight v [] = refl
+warnings-weight v (w ∷ ws) = warnings-weight v ws
+
+sent-events : (v : Weight) (es : List PlainSent) → events_weight v (map sent es) ≡ sent_weight v es
+sent-events v [] = refl
+sent-events v (warned w ∷ es) = sent-events v es
+sent-events v (shipped page sheet ∷ es) = let h : events_weight v (map sent es) ≡ sent_weight v es = sent-events v es in omega arith
+
+-- ---- acts
+
+entries-append : (v : Weight) (xs ys : List Entry) → entries_weight v (xs ++ ys) ≡ entries_weight v xs + entries_weight v ys
+entries-append v [] ys = omega arith
+entries-append v (entries.Float f ∷ xs) ys = let h : entries_weight v (xs ++ ys) ≡ entries_weight v xs + entries_weight v ys = entries-append v xs ys in omega arith
+entries-append v (entries.Left m ∷ xs) ys = let h : entries_weight v (xs ++ ys) ≡ entries_weight v xs + entries_weight v ys = entries-append v xs ys in omega arith
+entries-append v (entries.Right m ∷ xs) ys = entries-append v xs ys
+
+paired-append : (xs ys : List Entry) → Paired xs → Paired ys → Paired (xs ++ ys)
+paired-append [] ys a b = b
+paired-append (entries.Float f ∷ xs) ys a b = paired-append xs ys a b
+paired-append (entries.Left m ∷ []) ys a b = absurd a
+paired-append (entries.Left m ∷ entries.Float f ∷ xs) ys a b = absurd a
+paired-append (entries.Left m ∷ entries.Left n ∷ xs) ys a b = absurd a
+paired-append (entries.Left m ∷ entries.Right n ∷ xs) ys a b = paired-append xs ys a b
+paired-append (entries.Right m ∷ xs) ys a b = absurd a
+
+-- a change of columns, which drops a kept left column, comes only if that weighs nothing
+abbrev pub ActFits : Weight → Option PlainColumn → Act → Type 0
+ActFits v o (acts.Take f) = Unit {0}
+ActFits v o (acts.TakeMargin m) = Unit {0}
+ActFits v o (acts.Suppress area) = Unit {0}
+ActFits v o (acts.Columns two) = left_weight v o ≡ 0
+
+abbrev pub ActsFit : Weight → Option PlainColumn → List Act → Type 0
+ActsFit v o = AllByRecursion (ActFits v o)
+
+fits-none : (v : Weight) (ds : List Act) → ActsFit v None ds
+fits-none v [] = tt
+fits-none v (a ∷ ds) = (by_act a, fits-none v ds)
+  where
+    by_act : (a : Act) → ActFits v None a
+    by_act (acts.Columns two) = refl
+    by_act a = tt
+
+-- the state after acts that weigh this much
+pub record After (v : Weight) (n : ℕ) (s t : State) : Type 0 where
+  pub sound : Sound t
+  pub waiting : t.waiting ≡ s.waiting
+  pub held : t.held_page ≡ s.held_page
+  pub boxes : t.boxes ≡ s.boxes
+  pub classes : t.classes ≡ s.classes
+  pub weight : lists_weight v t.floats + left_weight v t.left_column ≡ lists_weight v s.floats + left_weight v s.left_column + n
+
+ActAdds : Weight → State → Act → List Act → Acted → Type 0
+ActAdds v s a ds (went t ws rs) = After v (act_weight v a) s t × ActsFit v t.left_column ds
+ActAdds v s a ds (full line live) = Unit {0}
+
+room-adds : (v : Weight) (s : State) (a : Act) (ds : List Act) (u : Bool) (line live : ℕ) (t : State) (ws : List Warn) (rs : List Recorded) → After v (act_weight v a) s t × ActsFit v t.left_column ds → ActAdds v s a ds (if u then full line live else went t ws rs)
+unfolding ActAdds
+room-adds v s a ds true line live t ws rs h = tt
+room-adds v s a ds false line live t ws rs h = h
+
+-- a float is taken into the current list or into the second
+taken-weight : (v : Weight) (p : Params) (f : Float) (l : FloatLists) → lists_weight v (lists_with_taken p f l) ≡ lists_weight v l + v.float f.line
+taken-weight v p f l = by_list (has_second p && f.wide)
+  where
+    by_list : (t : Bool) → lists_weight v (if t then record l { second = l.second ++ f ∷ [] } else record l { current = l.current ++ entries.Float f ∷ [] }) ≡ lists_weight v l + v.float f.line
+    by_list true = let e : floats_weight v (l.second ++ f ∷ []) ≡ floats_weight v l.second + (v.float f.line + 0) = floats-append v l.second (f ∷ []) in omega arith
+    by_list false = let e : entries_weight v (l.current ++ entries.Float f ∷ []) ≡ entries_weight v l.current + (v.float f.line + 0) = entries-append v l.current (entries.Float f ∷ []) in omega arith
+
+taken-paired : (p : Params) (f : Float) (l : FloatLists) → Paired l.current → Paired (lists_with_taken p f l).current
+taken-paired p f l h = by_list (has_second p && f.wide)
+  where
+    by_list : (t : Bool) → Paired (if t then record l { second = l.second ++ f ∷ [] } else record l { current = l.current ++ entries.Float f ∷ [] }).current
+    by_list true = h
+    by_list false = paired-append l.current (entries.Float f ∷ []) h tt
+
+act-adds : (v : Weight) (p : Params) (s : State) (a : Act) (ds : List Act) → Sound s → ActsFit v s.left_column (a ∷ ds) → ActAdds v s a ds (act_on p s a)
+unfolding ActAdds
+act-adds v p s (acts.Take f) ds d h =
+    let e : lists_weight v (lists_with_taken p (taken_float p s f) s.floats) ≡ lists_weight v s.floats + v.float f.line = taken-weight v p (taken_float p s f) s.floats in
+    room-adds v s (acts.Take f) ds (int_le p.pool (pos (live_count s.floats))) _ _ _ _ _ (record { sound = record { box = d.box; columns = d.columns; entries = taken-paired p (taken_float p s f) s.floats d.entries }; waiting = refl; held = refl; boxes = refl; classes = refl; weight = omega (arith, e) }, h.1)
+act-adds v p s (acts.TakeMargin m) ds d h =
+    let e : entries_weight v (s.floats.current ++ entries.Left m ∷ entries.Right m ∷ []) ≡ entries_weight v s.floats.current + (v.margin m.line + 0) = entries-append v s.floats.current (entries.Left m ∷ entries.Right m ∷ []) in
+    room-adds v s (acts.TakeMargin m) ds (int_lt p.pool (pos (live_count s.floats + 2))) _ _ _ _ _ (record { sound = record { box = d.box; columns = d.columns; entries = paired-append s.floats.current (entries.Left m ∷ entries.Right m ∷ []) d.entries tt }; waiting = refl; held = refl; boxes = refl; classes = refl; weight = omega arith }, h.1)
+act-adds v p s (acts.Suppress area) ds d h = (record { sound = record { box = d.box; columns = d.columns; entries = d.entries }; waiting = refl; held = refl; boxes = refl; classes = refl; weight = omega arith }, h.1)
+act-adds v p s (acts.Columns two) ds d h =
+    let e : left_weight v s.left_column ≡ 0 = h.0 in
+    (record { sound = record { box = d.box; columns = tt; entries = d.entries }; waiting = refl; held = refl; boxes = refl; classes = refl; weight = omega arith }, fits-none v ds)
+
+-- what is reached weighs nothing, and its acts bring what they take
+pub record Progressed (v : Weight) (n : ℕ) (s : State) (q : Progress) : Type 0 where
+  pub events : events_weight v q.events ≡ 0
+  pub after : q.fault ≡ None → After v n s q.state
+
+progress_by-adds : (v : Weight) (n : ℕ) (a : Act) (ds : List Act) (s : State) (later : State → Progress) → ((t : State) → Sound t → ActsFit v t.left_column ds → Progressed v n t (later t)) → (x : Acted) → ActAdds v s a ds x → Progressed v (act_weight v a + n) s (progress_by later s x)
+unfolding ActAdds
+progress_by-adds v n a ds s later h (went t ws rs) k =
+    let r : Progressed v n t (later t) = h t k.0.sound k.1 in
+    let e : events_weight v (map (λ w. sent (warned w)) ws ++ (later t).events) ≡ events_weight v (map (λ w. sent (warned w)) ws) + events_weight v (later t).events = events-append v (map (λ w. sent (warned w)) ws) (later t).events in
+    let d : events_weight v (map (λ w. sent (warned w)) ws) ≡ 0 = warnings-weight v ws in
+    let g : events_weight v (later t).events ≡ 0 = r.events in
+    record { events = omega arith; after = λ f. both (r.after f) }
+  where
+    both : After v n t (later t).state → After v (act_weight v a + n) s (later t).state
+    both x =
+        let i : lists_weight v t.floats + left_weight v t.left_column ≡ lists_weight v s.floats + left_weight v s.left_column + act_weight v a = k.0.weight in
+        let j : lists_weight v (later t).state.floats + left_weight v (later t).state.left_column ≡ lists_weight v t.floats + left_weight v t.left_column + n = x.weight in
+        record { sound = x.sound; waiting = x.waiting ∙ k.0.waiting; held = x.held ∙ k.0.held; boxes = x.boxes ∙ k.0.boxes; classes = x.classes ∙ k.0.classes; weight = omega arith }
+progress_by-adds v n a ds s later h (full line live) k = record { events = refl; after = λ f. absurd (none-some (line, live) (sym f)) }
+
+pub progress-adds : (v : Weight) (p : Params) (rs : List Reached) (least : ℤ) (s : State) → Sound s → ActsFit v s.left_column (acted_of rs) → Progressed v (acted_weight v rs) s (progress p rs least s)
+progress-adds v p [] least s d h = record { events = refl; after = λ f. record { sound = d; waiting = refl; held = refl; boxes = refl; classes = refl; weight = omega arith } }
+progress-adds v p (acted a ∷ rs) least s d h =
+    progress_by-adds v (acted_weight v rs) a (acted_of rs) s (λ t. progress p rs least t) (λ t x y. progress-adds v p rs least t x y) (act_on p s a) (act-adds v p s a (acted_of rs) d h)
+progress-adds v p (tried line b ∷ rs) least s d h = let r = progress-adds v p rs (min_ℤ least b.cost) s d h in record { events = r.events; after = r.after }
+
+-- ---- a page and its firing
+
+pub box_after-number : (ls : List Labelled) (b : Boxed) → (box_after ls b).number ≡ b.number
+box_after-number ls b = by_given (is_given b.number ls)
+  where
+    by_given : (t : Bool) → (if t then record b { content = Some (content_of b.content ++ given_to b.number ls) } else b).number ≡ b.number
+    by_given true = refl
+    by_given false = refl
+
+pub box-fired : (ls : List Labelled) (cs : List Class) (bs : List Boxed) → BoxesFit cs bs → BoxesFit cs (map (box_after ls) bs)
+box-fired ls [] [] h = h
+box-fired ls [] (b ∷ bs) h = absurd h
+box-fired ls (c ∷ cs) [] h = absurd h
+box-fired ls (c ∷ cs) (b ∷ bs) h = (box_after-number ls b ∙ h.0, h.1, box-fired ls cs bs h.2)
+
+-- the boxes have the numbers of the classes
+pub fit-numbers : (cs : List Class) (bs : List Boxed) → BoxesFit cs bs → class_numbers cs ≡ numbers bs
+fit-numbers [] [] h = refl
+fit-numbers [] (b ∷ bs) h = absurd h
+fit-numbers (c ∷ cs) [] h = absurd h
+fit-numbers (c ∷ cs) (b ∷ bs) h = λ i. sym h.0 i ∷ fit-numbers cs bs h.2 i
+
+-- a class is once among numbers that differ from a number before them
+once-more : (n : ℕ) (ks : List ℕ) (cs : List Class) → hits n (class_numbers cs) ≡ 0 → AreAmong ks cs → AreAmong (n ∷ ks) cs
+once-more n ks [] h a = tt
+once-more n ks (c ∷ cs) h a = by_number (c.number == n) refl (λ e. once-more n ks cs e a.1)
+  where
+    by_number : (t : Bool) → (c.number == n) ≡ t → (hits n (class_numbers cs) ≡ 0 → AreAmong (n ∷ ks) cs) → ((if t then suc (hits c.number ks) else hits c.number ks) ≡ 1) × AreAmong (n ∷ ks) cs
+    by_number true e again = absurd (omega (arith, ap (λ u. if u then suc (hits n (class_numbers cs)) else hits n (class_numbers cs)) (sym (eq-eqb n c.number (sym (eqb-true c.number n e)))) ∙ h))
+    by_number false e again = (a.0, again (ap (λ u. if u then suc (hits n (class_numbers cs)) else hits n (class_numbers cs)) (sym (ne_eqb n c.number (λ q. true≢false (sym (eq-eqb c.number n (sym q)) ∙ e)))) ∙ h))
+
+-- each class is once among them all
+pub fit-among : (cs : List Class) (bs : List Boxed) → BoxesFit cs bs → AreAmong (class_numbers cs) cs
+fit-among [] [] h = tt
+fit-among [] (b ∷ bs) h = absurd h
+fit-among (c ∷ cs) [] h = absurd h
+fit-among (c ∷ cs) (b ∷ bs) h =
+    let once : IsOnce (class_numbers (c ∷ cs)) c.number = ap (λ t. if t then suc (hits c.number (class_numbers cs)) else hits c.number (class_numbers cs)) (eq-eqb c.number c.number refl) ∙ ap suc h.1 in
+    (once, once-more c.number (class_numbers cs) cs h.1 (fit-among cs bs h.2))
+
+-- ---- one page and the firing after it
+
+-- what holds between two firings
+pub record Kept (s : State) : Type 0 where
+  pub sound : Sound s
+  pub placed : WellPlaced s
+
+-- a step sends and keeps what was there; and at its end what is left on the page and what was taken from it is what waited
+abbrev pub StepWeighs : Weight → State → Step → Type 0
+StepWeighs v s (goes_on es rs t) = Kept t × (events_weight v es + state_weight v t ≡ state_weight v s)
+StepWeighs v s (ends es rs (done left)) = (events_weight v es ≡ 0) × ((n : ℕ) × (nodes_weight v left + n ≡ nodes_weight v s.waiting))
+StepWeighs v s (ends es rs (pool_full line live)) = Unit {0}
+StepWeighs v s (ends es rs (dead_cycles n)) = Unit {0}
+StepWeighs v s (ends es rs (page_limit n)) = Unit {0}
+StepWeighs v s (ends es rs (node_limit n)) = Unit {0}
+
+-- the page of a state
+abbrev pub page_of : Params → State → Reach
+page_of p s = reach_of (ask_of p s) s.classes s.boxes [] s.waiting
+
+module _ (v : Weight) (p : Params) (calm : int_le p.interlinepenalty eject_penalty ≡ false) (s : State) (kept : Kept s) where
+  limit : ℤ
+  limit = (ask_of p s).max_depth
+
+  pub cut : CutAt [] (pruned_nodes p.topskip s.waiting) (page_of p s)
+  cut = reach-cut (ask_of p s).max_depth (terms_after (frozen_for (ask_of p s) s.classes s.boxes)) [] (pruned_nodes p.topskip s.waiting)
+
+  pub cut_feet : AllOfClass (class_numbers s.classes) (take (page_break (page_of p s)).place (page_of p s).passed) × AllOfClass (class_numbers s.classes) (with_spent_break (drop (page_break (page_of p s)).place (page_of p s).passed ++ (page_of p s).beyond))
+  cut_feet = cut-class (class_numbers s.classes) (page_break (page_of p s)).place (pruned_nodes p.topskip s.waiting) (page_of p s) cut (class-pruned (class_numbers s.classes) p.topskip s.waiting kept.placed.feet)
+
+  pub cut_stands : PageStands kept.placed.held (page_break (page_of p s)).place (page_of p s)
+  cut_stands = cut-stands (pruned_nodes p.topskip s.waiting) (page_of p s) kept.placed.held (page_break (page_of p s)).place cut (pruned-stands p.topskip s.waiting kept.placed.held kept.placed.stands)
+
+  pub reached : nodes_weight v (page_of p s).passed + acted_weight v (page_of p s).reached + nodes_weight v (page_of p s).beyond ≡ nodes_weight v s.waiting
+  reached =
+      let a : nodes_weight v (page_of p s).passed + acted_weight v (page_of p s).reached + nodes_weight v (page_of p s).beyond ≡ 0 + nodes_weight v (pruned_nodes p.topskip s.waiting) = reach-weight v (ask_of p s).max_depth (terms_after (frozen_for (ask_of p s) s.classes s.boxes)) [] (pruned_nodes p.topskip s.waiting) in
+      let b : nodes_weight v (pruned_nodes p.topskip s.waiting) ≡ nodes_weight v s.waiting = pruned_nodes-weight v p.topskip s.waiting in
+      omega arith
+
+  -- the firing of the page in the state after its acts
+  pub fired-keeps : (t : State) → After v (acted_weight v (page_of p s).reached) s t → (z : Frozen) → let f = fired_by (labelled z (take (page_break (page_of p s)).place (page_of p s).passed)) t.boxes (page_of p s) in (out p t f).refused ≡ false → Kept (out p t f).state × (state_weight v (out p t f).state + sent_weight v (out p t f).sent ≡ state_weight v s)
+  fired-keeps t a z r =
+      let w = page_of p s in
+      let ls = labelled z (take (page_break w).place w.passed) in
+      let f = fired_by ls t.boxes w in
+      let free : kept.placed.held ≡ false → t.held_page ≡ [] = λ h. a.held ∙ kept.placed.free h in
+      let ks = class_numbers s.classes in
+      let same : class_numbers t.classes ≡ ks = ap class_numbers a.classes in
+      let fit : BoxesFit t.classes t.boxes = a.sound.box in
+      let whole : AllOfClass (numbers t.boxes) (take (page_break w).place w.passed) = subst (λ ms. AllOfClass ms (take (page_break w).place w.passed)) (sym same ∙ fit-numbers t.classes t.boxes fit) cut_feet.0 in
+      let x = out-weight v p t f (record { box = box-fired ls t.classes t.boxes fit; columns = a.sound.columns; entries = a.sound.entries }) (page-careful v kept.placed.held ls t.boxes w t.held_page free cut_stands) r in
+      let y = out-placed ks p calm t f kept.placed.held _ free (subst AllSteady (sym a.held) kept.placed.steady) (subst (AllOfClass ks) (sym a.held) kept.placed.held_feet) (body-steady (take (page_break w).place w.passed) cut_stands.calm cut_stands.free) (body-class ks (take (page_break w).place w.passed)) (held-ins ks ls (labelled-class ks z [] [] (take (page_break w).place w.passed) tt cut_feet.0)) cut_feet.1 cut_stands.rest same (subst (λ ms. AreAmong ms t.classes) same (fit-among t.classes t.boxes fit)) in
+      let i : fired_weight v f ≡ boxes_weight v t.boxes + (nodes_weight v w.passed + nodes_weight v w.beyond) = fired-weight v z t.boxes w whole in
+      let j : nodes_weight v w.passed + acted_weight v w.reached + nodes_weight v w.beyond ≡ nodes_weight v s.waiting = reached in
+      let k : lists_weight v t.floats + left_weight v t.left_column ≡ lists_weight v s.floats + left_weight v s.left_column + acted_weight v w.reached = a.weight in
+      let l : boxes_weight v t.boxes ≡ boxes_weight v s.boxes = ap (boxes_weight v) a.boxes in
+      let m : nodes_weight v t.held_page ≡ nodes_weight v s.held_page = ap (nodes_weight v) a.held in
+      let g : state_weight v (out p t f).state + sent_weight v (out p t f).sent ≡ fired_weight v f + (nodes_weight v t.held_page + lists_weight v t.floats + left_weight v t.left_column) = x.1 in
+      (record { sound = x.0; placed = y }, sums (state_weight v (out p t f).state + sent_weight v (out p t f).sent) (fired_weight v f) (nodes_weight v t.held_page) (lists_weight v t.floats) (left_weight v t.left_column) (boxes_weight v t.boxes) (nodes_weight v w.passed) (nodes_weight v w.beyond) (acted_weight v w.reached) (nodes_weight v s.waiting) (boxes_weight v s.boxes) (nodes_weight v s.held_page) (lists_weight v s.floats) (left_weight v s.left_column) g i j k l m)
+    where
+      sums : (G F Ht Lt Ct Bt P Y A W Bs Hs Ls Cs : ℕ) → G ≡ F + (Ht + Lt + Ct) → F ≡ Bt + (P + Y) → P + A + Y ≡ W → Lt + Ct ≡ Ls + Cs + A → Bt ≡ Bs → Ht ≡ Hs → G ≡ W + Bs + Hs + Ls + Cs
+      sums G F Ht Lt Ct Bt P Y A W Bs Hs Ls Cs g i j k l m = omega arith
+
+  fire-weighs : (q : Progress) → events_weight v q.events ≡ 0 → After v (acted_weight v (page_of p s).reached) s q.state → StepWeighs v s (fire p (page_of p s) q)
+  fire-weighs q e a = by_cycles (int_lt (pos q.state.dead_cycles) p.maxdeadcycles)
+    where
+      f : Fired
+      f = fired_of (ask_of p q.state) q.state.classes q.state.boxes (page_of p s)
+
+      o : Work
+      o = out p q.state f
+
+      goes : o.refused ≡ false → Kept o.state × (events_weight v (q.events ++ map sent o.sent) + state_weight v o.state ≡ state_weight v s)
+      goes r =
+          let x = fired-keeps q.state a (frozen_for (ask_of p q.state) q.state.classes q.state.boxes) r in
+          (x.0, sums (state_weight v o.state) (sent_weight v o.sent) (events_weight v q.events) (events_weight v (map sent o.sent)) (events_weight v (q.events ++ map sent o.sent)) (state_weight v s) e (events-append v q.events (map sent o.sent)) (sent-events v o.sent) x.1)
+        where
+          sums : (S T Q M E U : ℕ) → Q ≡ 0 → E ≡ Q + M → M ≡ T → S + T ≡ U → E + S ≡ U
+          sums S T Q M E U d a b c = omega arith
+
+      by_nodes : (u : Bool) → o.refused ≡ false → StepWeighs v s (if u then ends (q.events ++ map sent o.sent) (q.records ++ o.records) (node_limit (held_count o.state)) else goes_on (q.events ++ map sent o.sent) (q.records ++ o.records) o.state)
+      by_nodes true r = tt
+      by_nodes false r = goes r
+
+      by_refused : (u : Bool) → o.refused ≡ u → StepWeighs v s (if u then ends (q.events ++ map sent o.sent) (q.records ++ o.records) (page_limit (pred o.state.page)) else (if int_lt p.maxnodes (pos (held_count o.state)) then ends (q.events ++ map sent o.sent) (q.records ++ o.records) (node_limit (held_count o.state)) else goes_on (q.events ++ map sent o.sent) (q.records ++ o.records) o.state))
+      by_refused true r = tt
+      by_refused false r = by_nodes (int_lt p.maxnodes (pos (held_count o.state))) r
+
+      by_cycles : (u : Bool) → StepWeighs v s (if u then after_firing p q.events q.records o else ends q.events q.records (dead_cycles q.state.dead_cycles))
+      by_cycles true = by_refused o.refused refl
+      by_cycles false = tt
+
+  -- a step keeps what there is, if a change of columns drops nothing that weighs
+  pub step-weighs : ActsFit v s.left_column (acted_of (page_of p s).reached) → StepWeighs v s (step p s)
+  unfolding step
+  step-weighs h = by_fault (progress p (page_of p s).reached awful_bad s).fault refl
+    where
+      q : Progress
+      q = progress p (page_of p s).reached awful_bad s
+
+      x : Progressed v (acted_weight v (page_of p s).reached) s q
+      x = progress-adds v p (page_of p s).reached awful_bad s kept.sound h
+
+      by_firing : (u : Bool) → (page_of p s).fires ≡ u → q.fault ≡ None → StepWeighs v s (if u then fire p (page_of p s) q else ends q.events (q.records ++ emptied q.state.floats ∷ []) (done (page_of p s).passed))
+      by_firing true u f = fire-weighs q x.events (x.after f)
+      by_firing false u f =
+          let a : nodes_weight v (page_of p s).passed + acted_weight v (page_of p s).reached + nodes_weight v (page_of p s).beyond ≡ nodes_weight v s.waiting = reached in
+          let b : nodes_weight v (page_of p s).beyond ≡ 0 = ap (nodes_weight v) (cut.ended u) in
+          (x.events, (acted_weight v (page_of p s).reached, omega arith))
+
+      by_fault : (o : Option (ℕ × ℕ)) → q.fault ≡ o → StepWeighs v s (after_progress p (page_of p s) q o)
+      by_fault None f = by_firing (page_of p s).fires refl f
+      by_fault (Some y) f = tt

@@ -1,0 +1,7 @@
+pub mod Totals
+pub mod DviPages
+pub mod DviFiles
+pub mod Laws
+pub mod AreaNumbers
+pub mod DeadCycles
+pub mod Firings

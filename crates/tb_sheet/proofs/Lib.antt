@@ -1,0 +1,3 @@
+pub mod PrintedSheets
+pub mod ListsApart
+pub mod StandLemmas

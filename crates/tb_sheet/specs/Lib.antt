@@ -1,0 +1,4 @@
+pub mod Sheet
+pub mod StoredSheets
+pub mod ApartLists
+pub mod Asked

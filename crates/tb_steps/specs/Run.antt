@@ -1,0 +1,132 @@
+-- Whole runs.
+use Rattle.std.specs.Prelude.{ℕ, zero, suc, pred, ℤ, pos, nat_abs, ◌+◌, ◌*◌, ◌-◌, List, [], ◌∷◌, ◌++◌, map, Option, Some, None, int_lt, if◌then◌else◌}
+use Rattle.tb_scaled.specs.Scaled.{awful_bad, min_ℤ}
+use Rattle.tb_node.specs.PlainNodes.{PlainNode}
+use Rattle.tb_param.specs.declared.Params.{Params}
+use Rattle.tb_galley.specs.declared.Galley.{Galley}
+use Rattle.tb_galley.specs.GalleyNodes.{expanded}
+use Rattle.tb_builder.specs.Reach.{Reached, acted, tried, Reach, try_of}
+use Rattle.tb_builder.specs.Contents.{node_count, box_count}
+use Rattle.tb_builder.specs.FiredPages.{Fired, reach_of, fired_of}
+use Rattle.tb_sheet.specs.Sheet.{warned}
+use Rattle.tb_output.specs.State.{State, first_state, ask_of, Recorded, emptied, Work}
+use Rattle.tb_output.specs.Act.{Acted, went, full, act_on}
+use Rattle.tb_output.specs.Output.{out}
+use Rattle.tb_items.specs.RunEvents.{RunEvent, offered, sent}
+use Rattle.tb_items.specs.Classes.{classes_of}
+
+-- how a run ends: with the nodes left on the page; or at a full pool, too many firings without a page, too many pages, or too many nodes
+pub data End : Type 0 where
+  done : List PlainNode → End
+  pool_full : ℕ → ℕ → End
+  dead_cycles : ℕ → End
+  page_limit : ℕ → End
+  node_limit : ℕ → End
+
+-- what a run shows, what it records for its laws, and how it ends
+pub record Run : Type 0 where
+  pub events : List RunEvent
+  pub records : List Recorded
+  pub end : End
+
+-- ---- the acts and places of a page
+
+-- after the acts and places of a page: the state, the events, the records, and the line and number at which the pool was full
+pub record Progress : Type 0 where
+  pub state : State
+  pub events : List RunEvent
+  pub records : List Recorded
+  pub fault : Option (ℕ × ℕ)
+
+-- a progress that these events and records come before
+abbrev pub after_events : List RunEvent → List Recorded → Progress → Progress
+after_events es rs q = record q { events = es ++ q.events; records = rs ++ q.records }
+
+-- the progress by what an act led to: with its warnings, or up to the full pool
+abbrev pub progress_by : (State → Progress) → State → Acted → Progress
+progress_by later s (went s' ws rs) = after_events (map (λ w. sent (warned w)) ws) rs (later s')
+progress_by later s (full line live) = record { state = s; events = []; records = []; fault = Some (line, live) }
+
+-- the tries with their champions, and the acts one after another
+abbrev pub progress : Params → List Reached → ℤ → State → Progress
+progress p [] least s = record { state = s; events = []; records = []; fault = None }
+progress p (acted a ∷ rs) least s = progress_by (λ s'. progress p rs least s') s (act_on p s a)
+progress p (tried line b ∷ rs) least s = after_events (offered (try_of line b least) ∷ []) [] (progress p rs (min_ℤ least b.cost) s)
+
+-- ---- one page and the firing after it
+
+-- a step that ends the run, or after which it goes on; each with its events and records
+pub data Step : Type 0 where
+  ends : List RunEvent → List Recorded → End → Step
+  goes_on : List RunEvent → List Recorded → State → Step
+
+-- the events of a step
+abbrev pub step_events : Step → List RunEvent
+step_events (ends es rs e) = es
+step_events (goes_on es rs s) = es
+
+-- the nodes that are held between two firings
+abbrev pub held_count : State → ℕ
+held_count s = node_count s.waiting + node_count s.held_page + box_count s.boxes
+
+-- a firing by its work: the run ends at the page limit or the node limit, or goes on
+abbrev pub after_firing : Params → List RunEvent → List Recorded → Work → Step
+after_firing p es rs w =
+    let events = es ++ map sent w.sent in
+    let records = rs ++ w.records in
+    let held = held_count w.state in
+    if w.refused then ends events records (page_limit (pred w.state.page))
+    else (if int_lt p.maxnodes (pos held) then ends events records (node_limit held) else goes_on events records w.state)
+
+-- the firing of a page in this state, after these events and records, if it is allowed
+abbrev pub firing_step : Params → List RunEvent → List Recorded → State → Fired → Step
+firing_step p es rs s f =
+    let fired = after_firing p es rs (out p s f) in
+    if int_lt (pos s.dead_cycles) p.maxdeadcycles then fired else ends es rs (dead_cycles s.dead_cycles)
+
+-- the firing of the page that is reached
+abbrev pub fire : Params → Reach → Progress → Step
+fire p w q = firing_step p q.events q.records q.state (fired_of (ask_of p q.state) q.state.classes q.state.boxes w)
+
+-- a step by the progress of its page: it ends at a full pool, fires, or is done when nothing fires
+abbrev pub after_progress : Params → Reach → Progress → Option (ℕ × ℕ) → Step
+after_progress p w q None = let fired = fire p w q in if w.fires then fired else ends q.events (q.records ++ emptied q.state.floats ∷ []) (done w.passed)
+after_progress p w q (Some f) = ends q.events q.records (pool_full f.0 f.1)
+
+-- a step by what is reached
+abbrev pub step_of : Params → State → Reach → Step
+step_of p s w = let q = progress p w.reached awful_bad s in after_progress p w q q.fault
+
+-- one step of a run: a page and its firing
+unfoldable pub step : Params → State → Step
+step p s = step_of p s (reach_of (ask_of p s) s.classes s.boxes [] s.waiting)
+
+-- ---- the run
+
+-- a run after these events and records
+abbrev pub run_after : List RunEvent → List Recorded → Run → Run
+run_after es rs r = record r { events = es ++ r.events; records = rs ++ r.records }
+
+-- a run by its first step
+abbrev pub run_by : (State → Run) → Step → Run
+run_by later (ends es rs e) = record { events = es; records = rs; end = e }
+run_by later (goes_on es rs s) = run_after es rs (later s)
+
+-- the run from a state; each firing lowers the fuel, and a run that has enough never uses it up
+unfoldable pub run_from : Params → ℕ → State → Run
+run_from p zero s = record { events = []; records = []; end = dead_cycles s.dead_cycles }
+run_from p (suc fuel) s = run_by (λ s'. run_from p fuel s') (step p s)
+
+-- more firings than can follow: each ships a page, or adds to the dead cycles
+abbrev pub firings_left : Params → State → ℕ
+firings_left p s = (nat_abs p.maxpages - pred s.page) * (nat_abs p.maxdeadcycles + 1) + (nat_abs p.maxdeadcycles - s.dead_cycles)
+
+-- the run from a state, which ends at once if it holds too many nodes
+abbrev pub run_of_state : Params → State → Run
+run_of_state p s =
+    let run = run_from p (suc (firings_left p s)) s in
+    if int_lt p.maxnodes (pos (held_count s)) then record { events = []; records = []; end = node_limit (held_count s) } else run
+
+-- the run of a galley
+unfoldable pub run_of : Galley → Run
+run_of g = run_of_state g.params (first_state g.params (classes_of g) (expanded g))

@@ -1,5 +1,0 @@
-use Rattle.tb_top.proofs.Limits.NumberedRuns.{numbers_hold}
-use Rattle.tb_top.proofs.laws.areas_keep_their_numbers.Goals as goal
-
-pub returns : goal.returns
-returns _ = numbers_hold

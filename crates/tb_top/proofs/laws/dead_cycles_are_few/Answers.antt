@@ -1,5 +1,0 @@
-use Rattle.tb_top.proofs.DeadCycles.CycleBound.{dead-cycle-bound}
-use Rattle.tb_top.proofs.laws.dead_cycles_are_few.Goals as goal
-
-pub returns : goal.returns
-returns _ = dead-cycle-bound

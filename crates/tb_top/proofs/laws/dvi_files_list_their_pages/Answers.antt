@@ -1,5 +1,0 @@
-use Rattle.tb_top.proofs.DviFiles.WritablePages.{files-list}
-use Rattle.tb_top.proofs.laws.dvi_files_list_their_pages.Goals as goal
-
-pub returns : goal.returns
-returns _ = files-list

@@ -1,5 +1,0 @@
-use Rattle.tb_top.proofs.Limits.LimitedRuns.{run-within}
-use Rattle.tb_top.proofs.laws.floats_keep_the_limits.Goals as goal
-
-pub returns : goal.returns
-returns _ = run-within

@@ -1,0 +1,16 @@
+# Completion of galley-pages for bash.
+_galley_pages() {
+  local word=${COMP_WORDS[COMP_CWORD]} before=${COMP_WORDS[COMP_CWORD-1]}
+  case $before in
+    --count) COMPREPLY=(); return ;;
+    -o) compopt -o filenames; mapfile -t COMPREPLY < <(compgen -f -- "$word"); return ;;
+  esac
+  case $word in
+    -*) mapfile -t COMPREPLY < <(compgen -W '-o --json --points --count --quiet --help --version' -- "$word"); return ;;
+  esac
+  mapfile -t COMPREPLY < <(compgen -f -- "$word")
+  compopt -o filenames
+  [ "$COMP_CWORD" -ne 1 ] ||
+    mapfile -t -O "${#COMPREPLY[@]}" COMPREPLY < <(compgen -W 'report trace plain print lines dvi dvilist gen' -- "$word")
+}
+complete -F _galley_pages galley-pages
