@@ -167,3 +167,18 @@ def read(path):
             except (ValueError, IndexError, ZeroDivisionError):
                 raise ReportFault('%s, line %d: no line of a page report: %s' % (path, number, line.strip())) from None
     return reader.report
+
+
+def document_pages(paths):
+    """The pages of a document, by the reports of its parts, numbered through. Those that the exporter put in are left
+    out; their warnings go to the page after."""
+    pages, warnings = [], []
+    for path in paths:
+        for page in read(path).pages:
+            page.warnings = warnings + page.warnings
+            warnings = page.warnings if page.is_skipped() else []
+            if not page.is_skipped():
+                pages.append(page)
+    for number, page in enumerate(pages, 1):
+        page.number = number
+    return pages

@@ -8,13 +8,14 @@ import sys
 import tempfile
 import unittest
 import xml.etree.ElementTree as xml
+from unittest import mock
 
 HERE = os.path.dirname(os.path.abspath(__file__))
 STORED = os.path.join(HERE, 'stored')
 DOCUMENT = os.path.join(HERE, os.pardir, os.pardir, 'examples', 'document')
 sys.path.insert(0, os.path.join(HERE, os.pardir))
 
-from pagetools import check, column, compare, galley, picture, places, report, tries  # noqa: E402
+from pagetools import check, column, compare, galley, paginate, picture, places, report, tries  # noqa: E402
 
 
 def stored(name):
@@ -102,7 +103,7 @@ class Comparisons(Scratch):
             status, said = run(compare.main, pages, own)
             self.assertEqual(status, 0)
             self.assertNotIn('difference', said)
-            self.assertNotIn('other', said)
+            self.assertRegex(said, r'^all \d pages are the same in every place\n')
 
     def test_the_totals(self):
         _, said = run(compare.main, document('paper.pages'), document('paper.report'), '--quiet')
@@ -124,6 +125,15 @@ class Comparisons(Scratch):
         said = self.differ('float figure.1 1 top', 'float figure.1 1 here',
                            'page 1: LaTeX has in column 2 float figure.1 top, the report in column 2 float figure.1 here')
         self.assertIn('floats and notes in the same place 13 of 14', said)
+
+    def test_which_pages_are_listed(self):
+        path = self.changed(document('paper.report'), 'float figure.1 1 top', 'float figure.1 1 here')
+        _, said = run(compare.main, document('paper.pages'), path)
+        self.assertEqual(said.splitlines()[1:3], ['   1  other     -         -       1',
+                                                  'the other 3 pages are the same in every place'])
+        _, said = run(compare.main, document('paper.pages'), path, '--every-page')
+        self.assertEqual([line.split()[:2] for line in said.splitlines()[1:5]],
+                         [['1', 'other'], ['2', 'same'], ['3', 'same'], ['4', 'same']])
 
     def test_a_line_on_another_side_of_a_break(self):
         self.differ('box b18.A-page', 'box b18.The-page', 'page 1: LaTeX has in column 1 box b18.A-page')
@@ -148,10 +158,12 @@ class Comparisons(Scratch):
         arguments = (compare.main, document('paper.pages'), document('paper.report'), '--log', self.path('log'), '--quiet')
         self.assertEqual(run(*arguments)[0], 0)
         with open(self.path('log'), 'w', encoding='latin-1') as log:
-            log.write('none\n')
+            log.write("galleyexport: page 1\ngalleyexport: waits figure.2\n"
+                      "LaTeX Warning: `h' float specifier changed to `ht'.\n")
         status, said = run(*arguments)
         self.assertEqual(status, 1)
-        self.assertIn('warnings differ: large 0 in LaTeX, 0 in the report, ht 0', said)
+        self.assertIn('warnings differ: ht 1 in LaTeX (figure.2 page 2), ht 0 in the report, '
+                      'moved 0 in LaTeX, moved 1 in the report (margin.5 page 3)', said)
 
     def test_files_that_cannot_be_read(self):
         self.assertEqual(run(compare.main, self.path('none'), stored('notes.report'))[0], 2)
@@ -241,6 +253,89 @@ class Pictures(Scratch):
     def test_badness(self):
         for wanted, available, value in ((0, 0, 0), (10, 0, 10000), (10, 5, 800), (10, 10, 100), (7230585, 7230585, 100)):
             self.assertEqual(column.badness(wanted, available), value)
+
+
+# Stands for lualatex: the stored files of notes.tex under the name of the job, or a log with an error.
+FAKE_LATEX = '''#!/usr/bin/env python3
+import os, shutil, sys
+name = sys.argv[2].partition('=')[2]
+with open('runs', 'a') as runs: runs.write('run\\n')
+if os.environ.get('FAILS'):
+    with open(name + '.log', 'w') as log: log.write("text\\n! LaTeX Error: File `none.sty' not found.\\n! Emergency stop.\\n")
+    sys.exit(1)
+for ending in ('galley', 'galleylog', 'pages', 'log'):
+    shutil.copy(os.path.join(%r, 'notes.' + ending), name + '.' + ending)
+open(name + '.aux', 'w').close()
+'''
+
+# Stands for galley_pages: the stored report and trace of notes.tex.
+FAKE_PROGRAM = '''#!/usr/bin/env python3
+import sys
+sys.stdin.read()
+print(open(%r + sys.argv[2]).read(), end='')
+'''
+
+
+class Documents(Scratch):
+    def setUp(self):
+        super().setUp()
+        self.script('lualatex', FAKE_LATEX % STORED)
+        self.script('program', FAKE_PROGRAM % stored('notes.'))
+        settings = {'PATH': self.folder + os.pathsep + os.environ['PATH'], 'GALLEY_PAGES': self.path('program')}
+        patch = mock.patch.dict(os.environ, settings)
+        patch.start()
+        self.addCleanup(patch.stop)
+        with open(self.path('my notes.tex'), 'w', encoding='utf-8') as out:
+            out.write('text')
+
+    def script(self, name, text):
+        with open(self.path(name), 'w', encoding='utf-8') as out:
+            out.write(text)
+        os.chmod(self.path(name), 0o755)
+
+    def paginate(self, *arguments):
+        return run(paginate.main, *arguments, '--out', self.path('out of it'))
+
+    def test_a_document_with_a_space_in_its_name(self):
+        status, said = self.paginate(self.path('my notes.tex'))
+        self.assertEqual(status, 0, said)
+        self.assertIn('LaTeX, run 2 of at most 3\ngalleyexport: ', said)
+        self.assertIn('all 3 pages are the same in every place\nmy notes: LaTeX made 3 pages', said)
+        self.assertTrue(os.path.exists(self.path('out of it/pictures/index.html')))
+
+    def test_auxiliary_files_of_an_earlier_call_save_a_run(self):
+        for _ in range(2):
+            self.paginate(self.path('my notes.tex'), '--no-pictures')
+        with open(self.path('out of it/runs'), encoding='utf-8') as runs:
+            self.assertEqual(runs.read().count('run'), 3)
+
+    def test_why_no_galley_was_written(self):
+        with mock.patch.dict(os.environ, FAILS='yes'):
+            status, said = self.paginate(self.path('my notes.tex'))
+        self.assertEqual(status, 2)
+        self.assertIn("  ! LaTeX Error: File `none.sty' not found.\n  ! Emergency stop.\n", said)
+        self.assertEqual(said.count('LaTeX, run'), 1)
+
+    def test_wrong_arguments(self):
+        for arguments in ([], ['a.tex', '--out'], ['a.tex', 'b.tex'], ['--none', 'a.tex']):
+            with self.assertRaises(SystemExit) as ended:
+                run(paginate.main, *arguments)
+            self.assertEqual(ended.exception.code, 2)
+        with self.assertRaises(SystemExit) as ended:
+            run(paginate.main, '--help')
+        self.assertEqual(ended.exception.code, 0)
+        self.assertEqual(self.paginate(self.path('none.tex'))[0], 2)
+
+    def test_names(self):
+        for path, name in (('a/b.tex', 'b'), ('b.ltx', 'b'), ('b.dtx', 'b.dtx'), ('a.b.tex', 'a.b')):
+            self.assertEqual(paginate.document_name(path), name)
+
+    def test_parts_in_order(self):
+        notes = paginate.Document('a [b].tex', self.folder, '')
+        for name in ('a [b].galley', 'a [b].10.galley', 'a [b].2.galley', 'a [b] c.galley', 'a b.galley'):
+            open(self.path(name), 'w', encoding='utf-8').close()
+        self.assertEqual([os.path.basename(path) for path in notes.parts('.galley')],
+                         ['a [b].galley', 'a [b].2.galley', 'a [b].10.galley'])
 
 
 class Galleys(Scratch):
