@@ -5,6 +5,7 @@ import os
 import sys
 from collections import Counter
 from dataclasses import dataclass
+from itertools import zip_longest
 
 from . import report
 
@@ -46,6 +47,11 @@ def key(item):
     return (item.kind, item.name)
 
 
+def sizes(item):
+    """What must be the same for an item to be in the same place."""
+    return (item.top, item.height, item.depth, item.number)
+
+
 def contents(page):
     """The items of a page in order, each with its column, and the kinds of its columns."""
     out = [('page', page.kind)] + [(0,) + key(item) for item in page.wide]
@@ -80,7 +86,7 @@ def place_difference(page, other):
     """The first item that is in another place, '' if none is."""
     for (number, item), (_, twin) in zip(
             (x for x in page.items() if x[1].kind not in APART), (x for x in other.items() if x[1].kind not in APART)):
-        if (item.top, item.height, item.depth, item.number) != (twin.top, twin.height, twin.depth, twin.number):
+        if sizes(item) != sizes(twin):
             return '%s %s in column %d: top %d, height %d, depth %d in LaTeX, %d, %d, %d in the report' % (
                 item.kind, item.name, number, item.top, item.height, item.depth, twin.top, twin.height, twin.depth)
     return ''
@@ -110,6 +116,15 @@ def compare_pages(page, other):
     return verdict
 
 
+def first_items(page, other):
+    """The first items that are not the same on two pages; None on a page that has no such item."""
+    a, b = ([entry for entry in p.items() if entry[1].kind not in APART] for p in (page, other))
+    for x, y in zip_longest(a, b):
+        if not x or not y or x[0] != y[0] or key(x[1]) != key(y[1]) or sizes(x[1]) != sizes(y[1]):
+            return x and x[1], y and y[1]
+    return None, None
+
+
 def pair(pages, others):
     """Pages that belong together by their contents, so that a page too many does not shift the rest."""
     a = [tuple(contents(page)) for page in pages]
@@ -123,12 +138,13 @@ class Comparison:
     """All pages of a document, and where its floats, notes and footnote lines stand."""
 
     def __init__(self, pages, others):
-        self.verdicts = []
+        self.verdicts, self.pairs = [], []
         self.floats, self.boxes, self.footnotes = ({}, {}), ({}, {}), set()
         for page, other in pair(pages, others):
             for side, p in enumerate((page, other)):
                 if p:
                     self._note(side, p, len(self.verdicts))
+            self.pairs.append((page, other))
             if page and other:
                 self.verdicts.append(compare_pages(page, other))
             else:
@@ -179,11 +195,12 @@ def table(comparison, every):
             'the other' if shown else 'all', others, ' is' if others == 1 else 's are')
 
 
-def summary(name, comparison, columns, theirs):
+def totals(comparison):
     """The totals on one line, as tools/check takes them in."""
-    return ('%s: LaTeX made %d pages (%d columns), the report has %d; %d agree in contents, %d in glue set, %d in every '
+    latex, others = ([p[side] for p in comparison.pairs if p[side]] for side in (0, 1))
+    return ('LaTeX made %d pages (%d columns), the report has %d; %d agree in contents, %d in glue set, %d in every '
             'place; floats and notes in the same place %d of %d; footnote lines %d of %d') % (
-        (name, sum(1 for v in comparison.verdicts if v.latex), columns, theirs, comparison.count('contents'),
+        (len(latex), sum(len(page.columns) for page in latex), len(others), comparison.count('contents'),
          comparison.count('setting'), comparison.count('places')) + shared(comparison.floats)
         + shared(comparison.boxes, comparison.footnotes))
 
@@ -245,8 +262,7 @@ def main(arguments):
     if not options.quiet:
         for line in table(comparison, options.every_page):
             print(line)
-    print(summary(os.path.splitext(os.path.basename(options.pages))[0], comparison,
-                  sum(len(page.columns) for page in latex.pages), len(others)))
+    print('%s: %s' % (os.path.splitext(os.path.basename(options.pages))[0], totals(comparison)))
     differences = ['page %d: %s' % (v.latex or v.report, v.difference) for v in comparison.verdicts if v.difference]
     if warnings:
         differences.append(warnings)

@@ -173,6 +173,7 @@ def paginate(document, options):
     same = tries.main([log] + traces + ['--quiet']) == 0 and same
     if not options.no_pictures:
         picture.main(reports + ['--galley'] + galleys + ['--trace'] + traces + [
+            '--latex', pages, '--log', log, '--galleylog', document.path('.galleylog'),
             '--out', os.path.join(document.out, 'pictures')])
     return same
 

@@ -111,6 +111,20 @@ def first_difference(number, places, others):
         number, k, text(a), text(b), len(places), len(others))
 
 
+def of_files(log, traces):
+    """The comparison of a log with the traces of all parts."""
+    latex, program = tex_pages(log), program_pages(traces)
+    for pages in (latex, program):
+        if pages:
+            pages[0] = without_first_clear(pages[0])
+    return Comparison(latex, program)
+
+
+def summary(comparison):
+    return 'TeX weighed %d places, %d were found the same; %d of %d pages agree in every place, its order and its best' % (
+        comparison.total(1), comparison.total(2), comparison.total(3), len(comparison.rows))
+
+
 def main(arguments):
     parser = argparse.ArgumentParser(prog='tries', description=USAGE)
     parser.add_argument('log', help="LaTeX's log")
@@ -118,20 +132,15 @@ def main(arguments):
     parser.add_argument('--quiet', action='store_true', help='no line for each page')
     options = parser.parse_args(arguments)
     try:
-        latex, program = tex_pages(options.log), program_pages(options.traces)
+        comparison = of_files(options.log, options.traces)
     except (OSError, ValueError, report.ReportFault) as fault:
         print('tries: %s' % fault, file=sys.stderr)
         return 2
-    for pages in (latex, program):
-        if pages:
-            pages[0] = without_first_clear(pages[0])
-    comparison = Comparison(latex, program)
     if not options.quiet:
         print('page  places by TeX  found the same')
         for number, weighed, agreeing, same in comparison.rows:
             print('%4d  %13d  %14d%s' % (number, weighed, agreeing, '' if same else '  differs'))
-    print('TeX weighed %d places, %d were found the same; %d of %d pages agree in every place, its order and its best' % (
-        comparison.total(1), comparison.total(2), comparison.total(3), len(comparison.rows)))
+    print(summary(comparison))
     if comparison.first:
         print('first difference: ' + comparison.first)
     return 1 if comparison.first else 0

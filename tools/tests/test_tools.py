@@ -3,7 +3,9 @@ examples/document. They need Python alone. Run by tools/test."""
 import contextlib
 import io
 import os
+import re
 import shutil
+import subprocess
 import sys
 import tempfile
 import unittest
@@ -15,7 +17,8 @@ STORED = os.path.join(HERE, 'stored')
 DOCUMENT = os.path.join(HERE, os.pardir, os.pardir, 'examples', 'document')
 sys.path.insert(0, os.path.join(HERE, os.pardir))
 
-from pagetools import check, column, compare, galley, paginate, picture, places, report, tries  # noqa: E402
+from pagetools import (check, column, compare, galley, index, paginate, picture, places, reasons, report,  # noqa: E402
+                       tries)
 
 
 def stored(name):
@@ -200,6 +203,10 @@ class Places(Scratch):
                          (3997696, (196608, 65536, 0, 0), 65536, 36044800, '*', -51, '*', True))
 
 
+FIRST_PAGE_ENDS = ['ends here, cost 413 (badness 13, penalty 150, footnotes 250): the next line does not fit, by 11.0pt',
+                   'second best: one line earlier, cost 3635 (badness 3635)']
+
+
 class Pictures(Scratch):
     def draw(self, *arguments):
         status, said = run(picture.main, *arguments, '--out', self.path('out'))
@@ -214,8 +221,81 @@ class Pictures(Scratch):
     def test_pages_and_index(self):
         names = self.draw(document('paper.report'), '--galley', document('paper.galley'))
         self.assertEqual(names, ['index.html', 'page001.svg', 'page002.svg', 'page003.svg', 'page004.svg'])
+        text = self.index()
+        self.assertEqual((text.count('<figure id="page-'), text.count('<svg viewBox=')), (4, 4))
+        self.assertIn('<a href="#page-4">4</a>', text)
+        self.assertIn('data-tip="b12.Abstract  top 0.00pt', text)
+        self.assertIn('page 3</a>: marginal note margin.5 moved down by 19.10pt', text)
+        self.assertNotIn('1252000', text)
+
+    def test_floats_of_the_index(self):
+        self.draw(document('paper.report'), '--galley', document('paper.galley'))
+        rows = re.findall(r'<tr><td>(.*?)<td>\d+<td>.*?page (\d+)</a><td>.*?page (\d+)</a><td>(\w+)<td>', self.index())
+        self.assertEqual(len(rows), 9)
+        self.assertIn(('figure.1', '1', '1', 'top'), rows)
+        self.assertIn(('table.2', '2', '3', 'wide'), rows)
+
+    def test_what_the_index_tells(self):
+        with open(self.path('log'), 'w', encoding='utf-8') as log:
+            log.write("galleyexport: 9 records\ngalleyexport: can't say: leaders: 1 times (page 1)\n")
+        self.draw(stored('notes.report'), '--galley', stored('notes.galley'), '--trace', stored('notes.trace'), '--latex',
+                  stored('notes.pages'), '--log', stored('notes.log'), '--galleylog', self.path('log'))
+        text = self.index()
+        self.assertIn('<p>LaTeX made 3 pages (3 columns), the report has 3; 3 agree', text)
+        self.assertIn('<p>TeX weighed 17 places, 17 were found the same', text)
+        self.assertIn('<li>can&#x27;t say: leaders: 1 times (page 1)</li>', text)
+        self.assertEqual(text.count("the same as LaTeX's"), 3)
+
+    def test_a_page_that_differs_stands_beside_latex_s(self):
+        path = self.changed(document('paper.report'), 'float figure.1 1 top', 'float figure.1 1 here')
+        names = self.draw(path, '--galley', document('paper.galley'), '--latex', document('paper.pages'))
+        self.assertIn('page001-latex.svg', names)
+        self.assertEqual(len([name for name in names if 'latex' in name]), 1)
+        for name in ('page001.svg', 'page001-latex.svg'):
+            self.assertEqual(len(self.shapes(name, 'first')), 1)
+        text = self.index()
+        self.assertEqual((text.count('<figure id="page-1" class="right pair"'), text.count(' pair"')), (1, 1))
+        self.assertIn('<a href="#page-1" class="differs">1</a>', text)
+
+    def test_a_page_that_stands_in_latex_alone(self):
+        with open(stored('notes.report'), encoding='latin-1') as file:
+            lines = file.read().splitlines(True)
+        third = next(k for k, line in enumerate(lines) if line.startswith('page 3'))
+        with open(self.path('short.report'), 'w', encoding='latin-1') as out:
+            out.write(''.join(lines[:third]) + 'end pages 2 boxes 0 floats 0 warnings 0\n')
+        names = self.draw(self.path('short.report'), '--latex', stored('notes.pages'))
+        self.assertEqual(names, ['index.html', 'page001.svg', 'page002.svg', 'page003-latex.svg'])
+        self.assertIn('<figure id="latex-3"', self.index())
+
+    def test_links_between_pages(self):
+        self.draw(stored('notes.report'))
+        tree = xml.parse(os.path.join(self.path('out'), 'page002.svg'))
+        links = {element.get('id'): element.get('href') for element in tree.iter() if element.tag.endswith('}a')}
+        self.assertEqual(links, {'previous': 'page001.svg', None: 'index.html#page-2', 'next': 'page003.svg'})
+
+    def test_penalties(self):
+        self.draw(document('paper.report'), '--galley', document('paper.galley'))
+        self.assertIn('penalty 10000: no break here', self.shapes('page001.svg', 'forbids'))
+        shown = self.shapes('page001.svg', 'hinders')
+        self.assertTrue(shown)
+        self.assertFalse([text for text in shown if text.endswith('10000')])
+
+    @unittest.skipUnless(shutil.which('chromium'), 'no browser')
+    def test_the_index_in_a_browser(self):
+        self.draw(document('paper.report'), '--galley', document('paper.galley'))
+        command = ['chromium', '--headless', '--no-sandbox', '--disable-gpu', '--user-data-dir=' + self.path('profile'),
+                   '--dump-dom', 'file://' + os.path.join(self.path('out'), 'index.html')]
+        try:
+            shown = subprocess.run(command, stdout=subprocess.PIPE, stderr=subprocess.DEVNULL, timeout=120, check=True)
+        except (subprocess.SubprocessError, OSError):
+            self.skipTest('the browser did not start')
+        text = shown.stdout.decode('utf-8', 'replace')
+        self.assertTrue('<button data-view="whole" aria-pressed="true">' in text)
+        self.assertTrue('<a href="#page-1" aria-current="page">1</a>' in text)
+
+    def index(self):
         with open(os.path.join(self.path('out'), 'index.html'), encoding='utf-8') as index:
-            self.assertEqual(index.read().count('<figure>'), 4)
+            return index.read()
 
     def test_items_of_a_page(self):
         self.draw(document('paper.report'), '--galley', document('paper.galley'))
@@ -235,6 +315,8 @@ class Pictures(Scratch):
         told = [[text for text in self.shapes('page%03d.svg' % number, 'ends') if 'ends: ' in text] for number in (1, 2, 3)]
         self.assertEqual([len(texts) for texts in told], [1, 1, 1])
         self.assertTrue(told[2][0].endswith('ends: forced'), told)
+        self.assertEqual(self.shapes('page003.svg', 'words')[-1], 'ends here: forced by a clear')
+        self.assertEqual(self.shapes('page001.svg', 'words')[-2:], FIRST_PAGE_ENDS)
         self.assertEqual(len(self.shapes('page001.svg', 'overfull')), 0)
 
     def test_some_pages(self):
@@ -249,6 +331,18 @@ class Pictures(Scratch):
     def test_names(self):
         self.assertEqual(column.words('b812.The-line-begins-so'), ('The line begins so', 'b812'))
         self.assertEqual(column.words('p1.1'), ('p1.1', ''))
+        name = 'b50.and-how-far-it-may-stretch-and-shrink.-Penalties-tel'
+        self.assertEqual(column.words(name), ('and how far it may stretch and shrink. Penalties\u2026', 'b50'))
+
+    def test_words_are_cut_at_words(self):
+        for letters, text in ((20, 'one two three'), (12, 'one two\u2026'), (9, 'one two\u2026'), (8, 'one\u2026'), (3, 'on\u2026')):
+            self.assertEqual(column.cut('one two three', letters), text)
+
+    def test_warnings_in_points(self):
+        for warning, text in (('large a 65536', 'float a is higher than the page by 1.00pt'),
+                              ('ht a', 'float a may go to the top too'), ('floats 3', 'text page 3 has floats alone'),
+                              ('moved a 32768', 'marginal note a moved down by 0.50pt')):
+            self.assertEqual(index.warning_text(warning), text)
 
     def test_badness(self):
         for wanted, available, value in ((0, 0, 0), (10, 0, 10000), (10, 5, 800), (10, 10, 100), (7230585, 7230585, 100)):
@@ -336,6 +430,48 @@ class Documents(Scratch):
             open(self.path(name), 'w', encoding='utf-8').close()
         self.assertEqual([os.path.basename(path) for path in notes.parts('.galley')],
                          ['a [b].galley', 'a [b].2.galley', 'a [b].10.galley'])
+
+
+class Reasons(Scratch):
+    """Why a column ends, told by a galley of three lines of text, a footnote and a float."""
+
+    def setUp(self):
+        super().setUp()
+        with open(self.path('galley'), 'w', encoding='latin-1') as out:
+            out.write('galley 1\nbox a 9pt 0\nglue 1\nbox b 9pt 0\nfoot\nbox f 1 0\nendfoot\nglue 1\nbox c 9pt 0\n'
+                      'penalty 10000\nglue 1\nbox d 9pt 2.5pt\nnewpage\nbox e 50pt 0\nglue 1\nend\n')
+        self.galley = galley.read(self.path('galley'))
+
+    def told(self, *tries):
+        end = next(k for k in reversed(range(len(tries))) if tries[k].best)
+        return reasons.of_column([places.Mark(one, 0, k == end, k > end) for k, one in enumerate(tries)], self.galley)
+
+    @staticmethod
+    def attempt(line, badness, penalty=0, cost=None, best=False, total=0):
+        return report.Try(line, total, (0, 0, 0, 0), 0, 100 * 65536, badness, penalty, cost or badness, best)
+
+    def test_a_line_and_its_footnote(self):
+        self.assertEqual(self.told(self.attempt(3, '20', best=True), self.attempt(8, '*', total=102 * 65536)),
+                         ['ends here, cost 20 (badness 20): the next line and its footnote do not fit, by 2.0pt',
+                          'no other place was weighed'])
+
+    def test_lines_without_a_break_between(self):
+        told = self.told(self.attempt(3, '300', 150, '450'), self.attempt(8, '20', best=True),
+                         self.attempt(13, '*', -10000, '*', total=101 * 65536))
+        self.assertEqual(told, ['ends here, cost 20 (badness 20): the next two lines, with no break between, do not fit, '
+                                'by 1.0pt', 'second best: one line earlier, cost 450 (badness 300, penalty 150)'])
+
+    def test_a_high_box(self):
+        told = self.told(self.attempt(11, '100000'), self.attempt(13, '0', best=True),
+                         self.attempt(15, '*', total=150 * 65536))
+        self.assertEqual(told, ['ends here, cost 0 (badness 0): the next box, 50.0pt high, does not fit, by 50.0pt',
+                                'at every other place the page would be far too short'])
+
+    def test_other_ends(self):
+        self.assertEqual(self.told(self.attempt(13, '5', -10000, '-10000', True)), ['ends here: forced by a new page'])
+        self.assertIn('a footnote would be put off', self.told(self.attempt(3, '9', best=True), self.attempt(8, '8', 0, '*'))[0])
+        self.assertIn('the next place would cost 80', self.told(self.attempt(3, '9', best=True), self.attempt(8, '80'))[0])
+        self.assertEqual(reasons.of_column([], self.galley), [])
 
 
 class Galleys(Scratch):
