@@ -111,7 +111,7 @@ function M.nothing(box)
 end
 
 -- Prints the sizes of what \footnoterule puts above the footnotes: the sum of what stands before the rule, its height,
--- and the sum of what stands after it; "" for nothing at all. Glue that stretches or shrinks is told.
+-- and the sum of what stands after it; `nothing` for nothing at all. Glue that stretches or shrinks is told.
 function M.rule(box)
   local above, height, below, flexible = 0, nil, 0, ""
   for n in node.traverse(tex.box[box] and tex.box[box].head) do
@@ -122,7 +122,7 @@ function M.rule(box)
     elseif n.height and (room ~= 0 or kind == "rule") then height = room
     else above = above + room end
   end
-  local sizes = (height or above ~= 0) and string.format("%d %d %d", above, height or 0, below) or ""
+  local sizes = (height or above ~= 0) and string.format("%d %d %d", above, height or 0, below) or "nothing"
   tex.sprint(-2, sizes .. flexible)
 end
 
@@ -237,7 +237,7 @@ local FORMS = {
   end,
   rule = function(_, value)
     if first_foot and value ~= FOOTNOTE_RULE then
-      lost(string.format("the footnote rule %s (a galley's is %s)", value == "" and "of nothing" or value, FOOTNOTE_RULE))
+      lost(string.format("the footnote rule %s (a galley's is %s)", value, FOOTNOTE_RULE))
     end
   end,
 }

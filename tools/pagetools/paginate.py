@@ -21,6 +21,7 @@ PROGRAM_HELP = """galley_pages is proved and built before its first use, which t
 GALLEY_PAGES names another program in its place. `bench/unproved.py OUT' makes one in two minutes, without its proofs."""
 
 TOOLS = os.path.dirname(os.path.dirname(os.path.abspath(__file__)))
+WRAPPER = 'galleyexport-document.tex'        # what LaTeX reads: the package, and the document
 MOST_RUNS = 3
 SHOWN_ERRORS = 3
 ENDED_WITH_PAGES = (0, 5, 6, 7, 11)          # the statuses of galley_pages that leave a report
@@ -51,7 +52,10 @@ class Document:
     def __init__(self, source, out, before):
         self.source, self.before = os.path.realpath(source), before
         self.name = document_name(source)
-        self.out = out or self.name + '.paginated'
+        # a folder that begins with a hyphen is no option of a tool
+        self.out = os.path.normpath(os.path.join(os.curdir, out or self.name + '.paginated'))
+        if self.out.startswith('-'):
+            self.out = os.path.join(os.curdir, self.out)
 
     def path(self, ending):
         return os.path.join(self.out, self.name + ending)
@@ -75,15 +79,14 @@ class Document:
 
     def run_latex(self):
         """One run of LaTeX. What it says on the terminal goes to a file."""
-        wrapper = self.name + '.wrapped.tex'
-        with open(os.path.join(self.out, wrapper), 'w', encoding='utf-8') as out:
+        with open(os.path.join(self.out, WRAPPER), 'w', encoding='utf-8') as out:
             # the path comes from the environment, since it may have any letter
             out.write('%s\\RequirePackage[trace]{galleyexport}\\input{\\directlua{tex.sprint(-2,'
                       'os.getenv("GALLEY_SOURCE"))}}\n' % self.before)
         folders = ['.', os.path.join(TOOLS, 'galleyexport'), os.path.dirname(self.source), os.environ.get('TEXINPUTS', '')]
         settings = {'TEXINPUTS': ':'.join(folders), 'max_print_line': '100000', 'GALLEY_SOURCE': self.source}
         with open(self.path('.terminal'), 'wb') as terminal:
-            subprocess.run(['lualatex', '-interaction=nonstopmode', '-jobname=' + self.name, wrapper], cwd=self.out,
+            subprocess.run(['lualatex', '-interaction=nonstopmode', '-jobname=' + self.name, WRAPPER], cwd=self.out,
                            stdin=subprocess.DEVNULL, stdout=terminal, stderr=subprocess.STDOUT, check=False,
                            env=dict(os.environ, **settings))
 
