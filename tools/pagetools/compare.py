@@ -7,7 +7,7 @@ from collections import Counter
 from dataclasses import dataclass
 from itertools import zip_longest
 
-from . import report
+from . import document, report
 
 USAGE = """Compares the pages that LaTeX made of a document (NAME.pages, by galleyexport) with the reports on its
 galleys. A line for each page that differs tells whether it agrees in its contents (the same boxes, rules, footnotes,
@@ -253,7 +253,7 @@ def main(arguments):
     parser.add_argument('--quiet', action='store_true', help='no line for any page')
     options = parser.parse_args(arguments)
     try:
-        latex, others = report.read(options.pages), report.document_pages(options.reports)
+        latex, others = report.read(options.pages), document.pages(options.reports)
         warnings = warnings_line(options.log, others) if options.log else ''
     except (OSError, report.ReportFault) as fault:
         print('compare: %s' % fault, file=sys.stderr)

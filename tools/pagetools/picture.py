@@ -6,7 +6,7 @@ import re
 import sys
 from dataclasses import dataclass
 
-from . import compare, index, places, report, tries
+from . import compare, document, index, places, report, tries
 from . import galley as galleys
 from .column import LANE, PT, ColumnDrawing, draw_float, mark_first
 from .svg import Drawing
@@ -91,7 +91,7 @@ class Book:
             galley = galleys.read(options.galley[k]) if k < len(options.galley) else None
             if galley:
                 self.entries.update(entries_of(own.pages, galley, k))
-            pages += [(page, galley) for page in report.shown_pages(own.pages)]
+            pages += [(page, galley) for page in document.shown_pages(own.pages)]
         for number, (page, galley) in enumerate(pages, 1):
             page.number = number
             self.sheets.append(Sheet(page, galley))

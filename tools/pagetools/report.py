@@ -167,22 +167,3 @@ def read(path):
             except (ValueError, IndexError, ZeroDivisionError):
                 raise ReportFault('%s, line %d: no line of a page report: %s' % (path, number, line.strip())) from None
     return reader.report
-
-
-def shown_pages(pages):
-    """The pages without those that the exporter put in, whose warnings go to the page after."""
-    shown, warnings = [], []
-    for page in pages:
-        page.warnings = warnings + page.warnings
-        warnings = page.warnings if page.is_skipped() else []
-        if not page.is_skipped():
-            shown.append(page)
-    return shown
-
-
-def document_pages(paths):
-    """The pages of a document, by the reports of its parts, numbered through."""
-    pages = [page for path in paths for page in shown_pages(read(path).pages)]
-    for number, page in enumerate(pages, 1):
-        page.number = number
-    return pages
