@@ -17,8 +17,9 @@ is 0 if all agrees, 1 if anything differs, and 2 or more if no pages were made: 
 lualatex or galley_pages is missing, 4 if galley_pages refused a galley. Errors that TeX reports in the document are
 counted, and change no status."""
 
-PROGRAM_HELP = """galley_pages is proved and built before its first use, which takes about 40 minutes; the variable
-GALLEY_PAGES names another program in its place. `bench/unproved.py OUT' makes one in two minutes, without its proofs."""
+PROGRAM_HELP = """Which galley_pages is run, and how long it takes to build one, is told by `tools/program --help'. The
+variable GALLEY_PAGES names another program in its place; `bench/unproved.py OUT' makes one in two minutes, without its
+proofs."""
 
 TOOLS = os.path.dirname(os.path.dirname(os.path.abspath(__file__)))
 WRAPPER = 'galleyexport-document.tex'        # what LaTeX reads: the package, and the document
