@@ -83,7 +83,7 @@ class ColumnDrawing:
         self.height = column.height / PT
         self.spring_x, self.box_x, self.box_width = x + 5, x + 11, width - 13 - (STRIP if entries else 0)
         self.live = {'stretch': 'stretch', 'shrink': 'shrink'}.get(column.sign, 'still')
-        self.feet = column.footnotes_top()
+        self.feet, self.baselines = column.footnotes_top(), []
 
     def draw(self, marks, passes, galley=None):
         self._feet_ground()
@@ -99,6 +99,7 @@ class ColumnDrawing:
                 reach = item.bottom() / PT
                 bottom = max(bottom, reach) if reach > bottom - 40 else reach
                 begun = True
+        self.drawing.lines(self.box_x, self.box_x + self.box_width, self.baselines, 'baseline')
         self._foot(bottom, begun)
         self.drawing.rect(self.x, self.y, self.width, self.height, 'frame')
         self._label(passes)
@@ -142,7 +143,7 @@ class ColumnDrawing:
         self.drawing.rect(self.box_x, top, self.box_width, height + depth, 'box',
                           '%s  top %.2fpt  height %.2fpt  depth %.2fpt' % (item.name, item.top / PT, height, depth))
         if depth > SMALLEST_GAP and height > SMALLEST_GAP:
-            self.drawing.line(self.box_x, top + height, self.box_x + self.box_width, top + height, 'baseline')
+            self.baselines.append(top + height)
         text, number = words(item.name)
         size = 6.6 if height + depth >= 5.2 else max(3.0, (height + depth) * 1.2)
         base = top + (height - 0.2 if height + depth < 14 else size + 1.5)

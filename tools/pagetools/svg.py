@@ -117,8 +117,16 @@ class Drawing:
         self._add('line', ends, tip=tip)
 
     def text(self, x, y, words, size, shape, anchor='start', tip=''):
-        self._add('text', {'x': float(x), 'y': float(y), 'font_size': float(size), 'text_anchor': anchor, 'class': shape},
-                  escape(words), tip)
+        place = {'x': float(x), 'y': float(y), 'font_size': float(size), 'class': shape}
+        if anchor != 'start':
+            place['text_anchor'] = anchor
+        self._add('text', place, escape(words), tip)
+
+    def lines(self, x, x2, heights, shape):
+        """Lines from x to x2 at these heights, as one shape."""
+        if heights:
+            path = ''.join('M%s %sH%s' % (number(float(x)), number(float(y)), number(float(x2))) for y in heights)
+            self._add('path', {'d': path, 'class': shape})
 
     def dot(self, x, y, shape, tip):
         self._add('circle', {'cx': float(x), 'cy': float(y), 'r': 1.3, 'class': shape}, tip=tip)
