@@ -22,8 +22,10 @@ PAGE = '''<!doctype html>
 <header>
 <div class="bar">
 <h1>%(title)s</h1> <span>%(pages)s</span>
-<span class="steps"><button id="previous" title="left arrow">\u2039 previous</button> <button id="next" title="right arrow">next \u203a</button></span>
-<span class="views"><button data-view="small">small</button> <button data-view="whole">whole page</button> <button data-view="wide">width</button> <button data-view="spread">spread</button></span>
+<span class="steps"><button id="previous" title="left arrow">\u2039 previous</button>
+<button id="next" title="right arrow">next \u203a</button></span>
+<span class="views"><button data-view="small">small</button> <button data-view="whole">whole page</button>
+<button data-view="wide">width</button> <button data-view="spread">spread</button></span>
 </div>
 <nav>%(numbers)s</nav>
 </header>
@@ -48,7 +50,7 @@ class Facts:
     totals: list = field(default_factory=list)       # of the comparison with LaTeX's pages and places
     losses: list = field(default_factory=list)       # what the galley can't say
     warnings: list = field(default_factory=list)     # the number of the page, the words of the report
-    floats: list = field(default_factory=list)       # see float_rows
+    floats: list = field(default_factory=list)       # a FloatRow for each
 
 
 def points(text):
@@ -67,47 +69,56 @@ def warning_text(warning):
     return 'text page %s has floats alone' % name
 
 
-def float_rows(pages, entries):
-    """A row for each float, in the order of pages: its name, class, the page with the text where it was called (0 where
-    that is unknown), its page, its area, and its height."""
-    lines = {}                                       # by galley: the lines of the text's boxes, with their pages
+@dataclass
+class FloatRow:
+    """Where a float was called and where it stands."""
+    item: object         # of the report
+    page: int
+    called: int          # the page with the text before its call, 0 where that is unknown
+
+
+def text_lines(pages, entries):
+    """By galley the lines of the text's boxes, rising, each with its page."""
+    lines = {}
     for page in pages:
         for _, item in page.items():
             entry = entries.get(id(item))
             if entry and item.kind == 'box' and not entry.foot:
                 lines.setdefault(entry.part, []).append((entry.line, page.number))
-    for rows in lines.values():
-        rows.sort()
-    out = []
+    return {part: sorted(rows) for part, rows in lines.items()}
+
+
+def float_rows(pages, entries):
+    """A row for each float, in the order of pages."""
+    lines, rows = text_lines(pages, entries), []
     for page in pages:
         for _, item in page.items():
             if item.kind == 'float':
-                entry, called = entries.get(id(item)), 0
-                rows = lines.get(entry.part) if entry else None
-                if rows:
-                    called = rows[max(bisect_right(rows, (entry.line, 0)) - 1, 0)][1]
-                out.append((item.name, item.number, called, page.number, item.place, item.height))
-    return out
+                entry = entries.get(id(item))
+                text = lines.get(entry.part, []) if entry else []
+                called = text[max(bisect_right(text, (entry.line, 0)) - 1, 0)][1] if text else 0
+                rows.append(FloatRow(item, page.number, called))
+    return rows
 
 
 def page_link(number):
     return '<a href="#page-%d">page %d</a>' % (number, number)
 
 
-def details(title, rows, is_open=False):
+def details(title, rows):
     """A heading that opens its rows; '' without any."""
     if not rows:
         return ''
-    return '<details%s><summary>%s (%d)</summary><ul>%s</ul></details>' % (
-        ' open' if is_open else '', title, len(rows), ''.join('<li>%s</li>' % row for row in rows))
+    return '<details><summary>%s (%d)</summary><ul>%s</ul></details>' % (
+        title, len(rows), ''.join('<li>%s</li>' % row for row in rows))
 
 
 def float_table(rows):
     if not rows:
         return ''
     lines = ''.join('<tr><td>%s<td>%d<td>%s<td>%s<td>%s<td>%.1fpt' % (
-        escape(name), number, page_link(called) if called else '', page_link(page), escape(place), height / PT)
-        for name, number, called, page, place, height in rows)
+        escape(row.item.name), row.item.number, page_link(row.called) if row.called else '', page_link(row.page),
+        escape(row.item.place), row.item.height / PT) for row in rows)
     return ('<details><summary>Floats (%d)</summary><table><tr><th>Float<th>Class<th>Called on<th>Placed on<th>Area'
             '<th>Height%s</table></details>') % (len(rows), lines)
 
@@ -115,7 +126,7 @@ def float_table(rows):
 def facts_text(facts, figures):
     told = ['<p>%s</p>' % escape(line) for line in facts.totals]
     told.append(details("Pages that differ from LaTeX's",
-                        ['%s: %s' % (page_link(figure.number), escape(figure.difference))
+                        ['%s: %s' % (figure.link('page %d' % figure.number), escape(figure.difference))
                          for figure in figures if figure.difference]))
     told.append(details('Warnings', ['%s: %s' % (page_link(number), escape(warning_text(warning)))
                                      for number, warning in facts.warnings]))
@@ -129,9 +140,14 @@ def facts_text(facts, figures):
 @dataclass
 class Figure:
     """A page of the index, or two that differ."""
+    identity: str        # in the page of HTML
     number: int
     difference: str
     text: str
+
+    def link(self, words):
+        kind = ' class="differs"' if self.difference else ''
+        return '<a href="#%s"%s>%s</a>' % (self.identity, kind, words)
 
 
 def figure(sheet, drawings):
@@ -147,12 +163,9 @@ def figure(sheet, drawings):
     told = ' <em>%s</em>' % escape(difference) if difference else " the same as LaTeX's" if verdict else ''
     pictures = '\n'.join(drawing.inline(name) for drawing, name in zip(drawings, names))
     identity = 'page-%d' % number if sheet.page else 'latex-%d' % number
-    return Figure(number, difference, '<figure id="%s" class="%s" style="--ratio:%.4f">\n%s\n<figcaption>%s%s</figcaption>\n'
-                  '</figure>' % (identity, ' '.join(kinds), ratio, pictures, link, told))
-
-
-def number_link(figure):
-    return '<a href="#page-%d"%s>%d</a>' % (figure.number, ' class="differs"' if figure.difference else '', figure.number)
+    text = '<figure id="%s" class="%s" style="--ratio:%.4f">\n%s\n<figcaption>%s%s</figcaption>\n</figure>' % (
+        identity, ' '.join(kinds), ratio, pictures, link, told)
+    return Figure(identity, number, difference, text)
 
 
 def stored(name):
@@ -164,7 +177,7 @@ def write(path, title, pages, figures, facts):
     """Writes the index of so many pages."""
     parts = {'title': escape(title), 'pages': '%d page%s' % (pages, '' if pages == 1 else 's'),
              'style': svg.style() + '\n' + stored('index.css'), 'patterns': svg.patterns(),
-             'numbers': ' '.join(number_link(figure) for figure in figures), 'facts': facts_text(facts, figures),
+             'numbers': ' '.join(figure.link(str(figure.number)) for figure in figures), 'facts': facts_text(facts, figures),
              'figures': '\n'.join(figure.text for figure in figures), 'script': stored('index.js')}
     with open(path, 'w', encoding='utf-8') as out:
         out.write(PAGE % parts)
