@@ -246,13 +246,13 @@ local function stretches()
   return out
 end
 
--- The galleys: stretches whose pages have the same measures.
-local function parts()
-  local out, values, two = {}, nil, two_columns
+-- The galleys: stretches whose pages have the same measures, and follow one another as odd and even ones.
+local function parts(pages)
+  local out, values, two, jumps = {}, nil, two_columns, sides.jumps(pages)
   for k, stretch in ipairs(stretches()) do
     local own = parameters.of_part(k - 1)
     local part = out[#out]
-    if not part or (own and values and parameters.differ(own, values)) then
+    if not part or jumps[k - 1] or (own and values and parameters.differ(own, values)) then
       part = { lines = {}, classes = {}, stretches = {}, two_columns = two, first_clear = k - 1 }
       out[#out + 1] = part
     end
@@ -294,10 +294,17 @@ local function write_part(part, path, title)
   out:close()
 end
 
+-- How many whatsits a part's first page begins with: those that the class left, or the one of the clear before. Below a
+-- box over both columns one stands already.
+local function notes_at_start(part, is_first)
+  if is_first then return part.titled and 0 or start_notes end
+  return part.stretches[1].titled and 0 or 1
+end
+
 -- Writes all galleys of the document. Gives their number, and the counts of what stands in them.
 function M.write(job, pages)
   parameters.settle()
-  local list = parts()
+  local list = parts(pages)
   for _, part in ipairs(list) do
     part.values = part.values or parameters.whole()
     for k, stretch in ipairs(part.stretches) do put_stretch(part, stretch, k == #part.stretches) end
@@ -306,7 +313,7 @@ function M.write(job, pages)
   for k = queued + 1, #floats.queue do log.lost("a float that never reached the page builder", floats.queue[k].place) end
   for k, part in ipairs(list) do
     sides.choose(part, sides.pages_of(part, list[k + 1], pages))
-    part.start_notes = k == 1 and not part.titled and start_notes or 0
+    part.start_notes = notes_at_start(part, k == 1)
     local title = string.format("%s%s, written by galleyexport from %s", job,
       #list > 1 and string.format(", part %d of %d", k, #list) or "", status.banner:sub(1, 60))
     write_part(part, job .. (k > 1 and "." .. k or "") .. ".galley", title)

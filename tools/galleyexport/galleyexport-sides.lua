@@ -1,10 +1,31 @@
 -- The sides of marginal notes. In one column LaTeX puts a note to the right; to the left on even pages if `mparswitch` is
 -- on, and all the other way round if `reversemargin` is on. A class may have a rule of its own, or change the page's
--- number. The sides are known when the pages are made, so that setting is written by which all notes stand where they do.
+-- number. The sides are known when the pages are made, so that setting is written by which all notes stand where they do,
+-- and a new galley begins at a clear after which odd and even pages change places.
 local log = require("galleyexport-log")
 local parameters = require("galleyexport-parameters")
 
 local M = {}
+
+local function has_notes(pages)
+  for _, page in ipairs(pages) do
+    for _, item in ipairs(page.kind == "one" and page.columns[1].items or {}) do
+      if item.kind == "margin" then return true end
+    end
+  end
+end
+
+-- The clears (as numbers of clears before) after which the next page is odd where it would be even, or the other way
+-- round. None where no note depends on it.
+function M.jumps(pages)
+  local out = {}
+  if parameters.value({}, "mparswitch") ~= "on" or not has_notes(pages) then return out end
+  for k = 2, #pages do
+    local page, before = pages[k], pages[k - 1]
+    if page.clears > before.clears and (page.number - before.number) % 2 == 0 then out[page.clears] = true end
+  end
+  return out
+end
 
 -- The pages that LaTeX made of a part: those after its first clear, up to the next part's.
 function M.pages_of(part, next_part, pages)

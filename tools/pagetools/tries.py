@@ -69,15 +69,14 @@ def tex_pages(path):
 
 
 def without_first_clear(places):
-    """The places without those of the clear that a class or title begins with: it ships nothing."""
+    """The places without those of the clear that a class, a title or a part begins with: it ships nothing."""
     clears = [k for k, place in enumerate(places[:6]) if place[5] == CLEAR_PENALTY]
     return places[clears[-1] + 1:] if clears else places
 
 
-def program_pages(paths):
-    """The same of traces. A page that the exporter put in is left out with its places."""
-    return [[place.sums() for place in page.tries] for path in paths for page in report.read(path).pages
-            if not page.is_skipped()]
+def program_pages(path):
+    """The same of a trace. A page that the exporter put in is left out with its places."""
+    return [[place.sums() for place in page.tries] for page in report.read(path).pages if not page.is_skipped()]
 
 
 class Comparison:
@@ -113,10 +112,12 @@ def first_difference(number, places, others):
 
 def of_files(log, traces):
     """The comparison of a log with the traces of all parts."""
-    latex, program = tex_pages(log), program_pages(traces)
-    for pages in (latex, program):
-        if pages:
-            pages[0] = without_first_clear(pages[0])
+    latex, program = tex_pages(log), []
+    for trace in traces:
+        first = len(program)
+        program += program_pages(trace)
+        for pages in (latex, program):
+            pages[first:first + 1] = [without_first_clear(places) for places in pages[first:first + 1]]
     return Comparison(latex, program)
 
 
