@@ -27,7 +27,7 @@ PAGE = '''<!doctype html>
 <span class="views"><button data-view="small">small</button> <button data-view="whole">whole page</button>
 <button data-view="wide">width</button> <button data-view="spread">spread</button></span>
 </div>
-<nav>%(numbers)s</nav>
+<nav aria-label="pages">%(numbers)s</nav>
 </header>
 <section>
 %(facts)s
