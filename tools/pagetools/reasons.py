@@ -63,24 +63,25 @@ def what_came_next(end, later, galley):
     return '%s %s not fit, by %.1fpt' % (what, 'do' if several else 'does', over)
 
 
-def distance(place, end, galley):
-    """How far a place is from the end, in lines."""
-    if not place.line or not end.line:
-        return 'elsewhere'
-    first, last = sorted((place.line, end.line))
-    lines = len(boxes(galley.between(first, last)))
-    return count(lines, 'line') + (' earlier' if place.line < end.line else ' later') if lines else 'right beside it'
+def distance(mark, end, galley):
+    """How far a place is from the end: in lines, or in points where the output routine made one of the two."""
+    first, last = mark.attempt.line, end.attempt.line
+    if first and last:
+        lines = len(boxes(galley.between(min(first, last), max(first, last))))
+        return count(lines, 'line') + (' earlier' if first < last else ' later') if lines else 'right beside it'
+    room = (mark.y - end.y) / PT
+    return '%.1fpt %s' % (abs(room), 'above' if room < 0 else 'below') if abs(room) > 0.05 else 'right beside it'
 
 
 def rival(end, others, galley):
     """The second best place."""
-    costs = [(int(other.cost), -k, other) for k, other in enumerate(others) if other.cost != '*']
+    costs = [(int(mark.attempt.cost), -k, mark) for k, mark in enumerate(others) if mark.attempt.cost != '*']
     if not costs:
         return 'no other place was weighed'
-    cost, _, other = min(costs, key=lambda row: row[:2])
+    cost, _, mark = min(costs, key=lambda row: row[:2])
     if cost >= HOPELESS:
         return 'at every other place the page would be far too short'
-    return 'second best: %s, cost %d (%s)' % (distance(other, end, galley), cost, parts_of_cost(other))
+    return 'second best: %s, cost %d (%s)' % (distance(mark, end, galley), cost, parts_of_cost(mark.attempt))
 
 
 def of_column(marks, galley):
@@ -88,10 +89,9 @@ def of_column(marks, galley):
     at = next((k for k, mark in enumerate(marks) if mark.ends), None)
     if at is None:
         return []
-    tries = [mark.attempt for mark in marks]
-    end, later = tries[at], tries[at + 1:]
+    end, later = marks[at].attempt, [mark.attempt for mark in marks[at + 1:]]
     if end.penalty <= FORCED:
         return ['ends here: ' + what_came_next(end, later, galley)]
     cost = 'cost %s (%s)' % (end.cost, parts_of_cost(end)) if end.cost != '*' else 'too full'
     return ['ends here, %s: %s' % (cost, what_came_next(end, later, galley)),
-            rival(end, tries[:at] + later, galley)]
+            rival(marks[at], marks[:at] + marks[at + 1:], galley)]

@@ -197,5 +197,11 @@ class Reasons(Scratch):
         self.assertIn('the next place would cost 80', self.told(self.attempt(3, '9', best=True), self.attempt(8, '80'))[0])
         self.assertEqual(reasons.of_column([], self.galley), [])
 
+    def test_a_place_that_the_output_routine_made(self):
+        end, other = self.attempt(8, '9', best=True), self.attempt(0, '80')
+        for y, told in ((0, '12.0pt above'), (12 * 65536, 'right beside it')):
+            marks = [places.Mark(other, y, False, False), places.Mark(end, 12 * 65536, True, False)]
+            self.assertEqual(reasons.of_column(marks, self.galley)[1], 'second best: %s, cost 80 (badness 80)' % told)
+
 if __name__ == '__main__':
     unittest.main()
