@@ -191,8 +191,8 @@ def table(comparison, every):
             '' if verdict.rule else '  another footnote rule')
     others = len(comparison.verdicts) - len(shown)
     if others:
-        yield '%s %d page%s the same in every place' % (
-            'the other' if shown else 'all', others, ' is' if others == 1 else 's are')
+        which = '%d %spage%s' % (others, 'other ' if shown else '', ' is' if others == 1 else 's are')
+        yield which + ' the same in every place'
 
 
 def totals(comparison):

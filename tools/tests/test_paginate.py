@@ -52,7 +52,7 @@ class Documents(Scratch):
         status, said = self.paginate(self.path('my notes.tex'))
         self.assertEqual(status, 0, said)
         self.assertIn('LaTeX, run 2 of at most 3\ngalleyexport: ', said)
-        self.assertIn('all 3 pages are the same in every place\nmy notes: LaTeX made 3 pages', said)
+        self.assertIn('3 pages are the same in every place\nmy notes: LaTeX made 3 pages', said)
         self.assertTrue(os.path.exists(self.path('out of it/pictures/index.html')))
 
     def test_auxiliary_files_of_an_earlier_call_save_a_run(self):
