@@ -1,8 +1,6 @@
 """Draws the pages of a report: one SVG for each, and an index that shows them all and prints one on a sheet."""
 import argparse
-import glob
 import os
-import re
 import sys
 from dataclasses import dataclass
 
@@ -236,9 +234,6 @@ def main(arguments):
         print('picture: %s' % fault, file=sys.stderr)
         return 2
     os.makedirs(folder, exist_ok=True)
-    for old in glob.glob(os.path.join(glob.escape(folder), 'page*.svg')):
-        if re.fullmatch(r'page\d+(-latex)?\.svg', os.path.basename(old)):
-            os.remove(old)
     figures = write_sheets(folder, book, sheets, options)
     index.write(os.path.join(folder, 'index.html'), os.path.basename(name), len(book.pages()), figures, told)
     print('%d pages drawn in %s' % (len(figures), folder))

@@ -25,9 +25,19 @@ def parts_of_cost(attempt):
     if attempt.penalty:
         parts.append('penalty %d' % attempt.penalty)
     rest = int(attempt.cost) - int(attempt.badness) - attempt.penalty
-    if rest > 0 and int(attempt.cost) < HOPELESS:
+    if rest > 0:
         parts.append('footnotes %d' % rest)
     return ', '.join(parts)
+
+
+def is_hopeless(attempt):
+    return attempt.cost != '*' and int(attempt.cost) >= HOPELESS
+
+
+def cost_in_words(attempt):
+    if attempt.cost == '*':
+        return 'too full'
+    return 'far too short' if is_hopeless(attempt) else 'cost %s (%s)' % (attempt.cost, parts_of_cost(attempt))
 
 
 def block(lines):
@@ -80,7 +90,7 @@ def rival(end, others, galley):
         return 'no other place was weighed'
     cost, _, mark = min(costs, key=lambda row: row[:2])
     if cost >= HOPELESS:
-        return 'at every other place the page would be far too short'
+        return 'at every other place the page would be far too short' + (' too' if is_hopeless(end.attempt) else '')
     return 'second best: %s, cost %d (%s)' % (distance(mark, end, galley), cost, parts_of_cost(mark.attempt))
 
 
@@ -92,6 +102,5 @@ def of_column(marks, galley):
     end, later = marks[at].attempt, [mark.attempt for mark in marks[at + 1:]]
     if end.penalty <= FORCED:
         return ['ends here: ' + what_came_next(end, later, galley)]
-    cost = 'cost %s (%s)' % (end.cost, parts_of_cost(end)) if end.cost != '*' else 'too full'
-    return ['ends here, %s: %s' % (cost, what_came_next(end, later, galley)),
+    return ['ends here, %s: %s' % (cost_in_words(end), what_came_next(end, later, galley)),
             rival(marks[at], marks[:at] + marks[at + 1:], galley)]

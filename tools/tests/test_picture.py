@@ -193,6 +193,10 @@ class Reasons(Scratch):
 
     def test_other_ends(self):
         self.assertEqual(self.told(self.attempt(13, '5', -10000, '-10000', True)), ['ends here: forced by a new page'])
+        self.assertEqual(self.told(self.attempt(3, '10000', 0, '100000'), self.attempt(8, '10000', 0, '100000', True),
+                                   self.attempt(13, '*', total=100 * 65536)),
+                         ['ends here, far too short: the next two lines, with no break between, do not fit, by 0.0pt',
+                          'at every other place the page would be far too short too'])
         self.assertIn('a footnote would be put off', self.told(self.attempt(3, '9', best=True), self.attempt(8, '8', 0, '*'))[0])
         self.assertIn('the next place would cost 80', self.told(self.attempt(3, '9', best=True), self.attempt(8, '80'))[0])
         self.assertEqual(reasons.of_column([], self.galley), [])
