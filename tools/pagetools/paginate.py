@@ -104,19 +104,20 @@ class Document:
         if os.path.exists(last):
             os.remove(last)
 
-    def errors(self):
-        """The lines of LaTeX's log that begin with an exclamation mark."""
+    def log_lines(self, start):
+        """The lines of LaTeX's log that begin with these letters."""
         if not os.path.exists(self.path('.log')):
             return []
         with open(self.path('.log'), encoding='utf-8', errors='replace') as log:
-            return [line.rstrip() for line in log if line.startswith('!')]
+            return [line.rstrip() for line in log if line.startswith(start)]
 
     def galleys(self):
         """The galleys that LaTeX's last run wrote."""
-        errors, found = self.errors(), self.parts('.galley')
+        errors, found = self.log_lines('!'), self.parts('.galley')
         if not found or not report.read(self.path('.pages')).pages:
             what = 'LaTeX made no page' if found else 'no galley was written'
-            told = ''.join('\n  ' + line for line in errors[-SHOWN_ERRORS:]) or ' none'
+            shown = errors[-SHOWN_ERRORS:] + self.log_lines('Package galleyexport Warning')
+            told = ''.join('\n  ' + line for line in shown) or ' none'
             raise Refusal('%s; the last errors in %s:%s' % (what, self.path('.log'), told))
         if errors:
             print('TeX reported %d error%s, the first: %s (see %s)' % (
@@ -201,6 +202,9 @@ def main(arguments):
             raise Refusal('lualatex is needed; on Debian it comes with the packages texlive-luatex and '
                           'texlive-latex-recommended', 3)
         return 0 if paginate(Document(options.file, options.out, options.before), options) else 1
-    except (Refusal, OSError) as fault:
+    except (Refusal, report.ReportFault, OSError) as fault:
         print('paginate: %s' % fault, file=sys.stderr)
         return getattr(fault, 'status', 2)
+    except KeyboardInterrupt:
+        print('\npaginate: stopped', file=sys.stderr)
+        return 130
