@@ -252,7 +252,8 @@ local function parts(pages)
   for k, stretch in ipairs(stretches()) do
     local own = parameters.of_part(k - 1)
     local part = out[#out]
-    if not part or jumps[k - 1] or (own and values and parameters.differ(own, values)) then
+    local turns = jumps and (jumps[k - 1] or #titles_at(stretch.first, stretch.last) > 0)
+    if not part or turns or (own and values and parameters.differ(own, values)) then
       part = { lines = {}, classes = {}, stretches = {}, two_columns = two, first_clear = k - 1 }
       out[#out + 1] = part
     end

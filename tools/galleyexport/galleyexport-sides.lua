@@ -1,7 +1,8 @@
 -- The sides of marginal notes. In one column LaTeX puts a note to the right; to the left on even pages if `mparswitch` is
 -- on, and all the other way round if `reversemargin` is on. A class may have a rule of its own, or change the page's
 -- number. The sides are known when the pages are made, so that setting is written by which all notes stand where they do,
--- and a new galley begins at a clear after which odd and even pages change places.
+-- and a new galley begins at a clear after which odd and even pages change places: in the document, or by the page of
+-- its own that a box over both columns has in the galley.
 local log = require("galleyexport-log")
 local parameters = require("galleyexport-parameters")
 
@@ -16,10 +17,10 @@ local function has_notes(pages)
 end
 
 -- The clears (as numbers of clears before) after which the next page is odd where it would be even, or the other way
--- round. None where no note depends on it.
+-- round. Nil where no note depends on that.
 function M.jumps(pages)
+  if parameters.value({}, "mparswitch") ~= "on" or not has_notes(pages) then return nil end
   local out = {}
-  if parameters.value({}, "mparswitch") ~= "on" or not has_notes(pages) then return out end
   for k = 2, #pages do
     local page, before = pages[k], pages[k - 1]
     if page.clears > before.clears and (page.number - before.number) % 2 == 0 then out[page.clears] = true end

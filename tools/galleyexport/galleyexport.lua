@@ -34,7 +34,7 @@ function M.call(what)
   fault = message
   texio.write_nl("log", "galleyexport: " .. message)
   texio.write_nl("term and log", "Package galleyexport Warning: the export stopped at line " .. status.linenumber
-    .. ", so no galley is written; the log has the fault.")
+    .. ", so no galley is written; the log has the fault.\n")
 end
 
 -- The page builder is about to run, for the reason `info`.

@@ -60,6 +60,12 @@ class Exporter(Scratch):
         self.assertIn('box skip.even.1 0 0\nnewpage\nnote start.1\n', self.read('test.2.galley'))
         self.assertNotIn('sides', self.read('test.galleylog'))
 
+    def test_a_box_over_both_columns_between_notes(self):
+        self.export(PAGE * 2 + r'\twocolumn[A head]Words. \onecolumn ' + PAGE * 2, options='twoside')
+        self.assertNotIn('skip.', self.read('test.galley'))
+        self.assertIn('\nbox skip.title.1.1 0 0\n', self.read('test.2.galley'))
+        self.assertNotIn('sides', self.read('test.galleylog'))
+
     def test_what_the_output_routine_changes(self):
         self.export(PAGE * 2, preamble=r'\topskip20pt \let\old\@outputpage \def\@outputpage{\old\global\topskip10pt }')
         self.assertRegex(self.read('test.galleylog'),
