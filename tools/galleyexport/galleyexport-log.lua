@@ -6,7 +6,7 @@ local PLACES_SHOWN = 6
 local losses = {}      -- text -> { count, places }
 local uneven = {}      -- text -> number of columns
 local redefined = {}   -- names of commands, in the order of the kernel's list
-local chosen = {}      -- what was written by what LaTeX's pages show
+local chosen = {}      -- what was chosen so that it fits LaTeX's pages
 
 -- The place in the sources that TeX has read up to. Nodes reach the page builder at the end of their paragraph.
 function M.here()
@@ -32,8 +32,8 @@ function M.uneven(what, columns)
   uneven[what] = columns
 end
 
--- Notes what was written by what LaTeX's pages show, in place of the document's own parameters.
-function M.told(what)
+-- Notes what was chosen so that it fits LaTeX's pages, in place of the document's own parameters.
+function M.chosen(what)
   chosen[#chosen + 1] = what
 end
 

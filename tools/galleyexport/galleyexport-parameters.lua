@@ -57,7 +57,7 @@ local PAGE_BUILDER = {
 local seen = {}        -- their values when they were looked at last
 
 -- Looks at what the page builder goes by. What the output routine changed (`by_routine`) holds from the first node that
--- came back, in the middle of what a galley has on one page after another, so it is told.
+-- it returned, which may be anywhere in a galley. A galley sets a parameter once, so the log names the change.
 function M.watch(by_routine)
   for name, value in pairs(PAGE_BUILDER) do
     local now = value()

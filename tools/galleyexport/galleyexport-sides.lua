@@ -93,7 +93,7 @@ function M.choose(part, pages)
       part.values.mparswitch, part.values.reversemargin = setting.mparswitch, setting.reversemargin
       part.even = setting.even
       if k > 1 and (setting.mparswitch ~= all[1].mparswitch or setting.reversemargin ~= all[1].reversemargin) then
-        log.told(string.format("mparswitch %s and reversemargin %s are written, by which all marginal notes stand",
+        log.chosen(string.format("mparswitch %s and reversemargin %s are written, by which all marginal notes stand",
           setting.mparswitch, setting.reversemargin))
       end
       return
