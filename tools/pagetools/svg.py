@@ -57,6 +57,9 @@ def _float_rules(colour):
         yield '.float%d{fill:%s;font-weight:bold}' % (number, c)
 
 
+# The size of type that a class has unless another is said.
+SIZES = {'words': 6.6, 'label': 5.4, 'hinders': 5.8, 'invites': 5.8}
+
 # Keys of a page that stands alone: the arrows go to the pages beside it.
 KEYS = '''<script>addEventListener("keydown",function(e){
 var a=document.getElementById({ArrowLeft:"previous",ArrowRight:"next"}[e.key]);if(a)location.href=a.getAttribute("href")})</script>'''
@@ -64,6 +67,7 @@ var a=document.getElementById({ArrowLeft:"previous",ArrowRight:"next"}[e.key]);i
 
 def style():
     light = ['.%s{%s}' % (name, light) for name, light, _ in STYLE] + list(_float_rules(0))
+    light += ['.%s{font-size:%spx}' % sizes for sizes in SIZES.items()]
     dark = ['.%s{%s}' % (name, dark) for name, _, dark in STYLE] + list(_float_rules(1))
     return '%s\n%s\n@media screen and (prefers-color-scheme:dark){\n%s\n}' % (GENERAL, '\n'.join(light), '\n'.join(dark))
 
@@ -77,8 +81,8 @@ def patterns():
 
 
 def number(value):
-    """A number with two decimals at most."""
-    return ('%.2f' % value).rstrip('0').rstrip('.') if isinstance(value, float) else str(value)
+    """A number with one decimal at most: a drawing is in points."""
+    return ('%.1f' % value).rstrip('0').rstrip('.') if isinstance(value, float) else str(value)
 
 
 def float_number(number):
@@ -117,7 +121,11 @@ class Drawing:
         self._add('line', ends, tip=tip)
 
     def text(self, x, y, words, size, shape, anchor='start', tip=''):
-        place = {'x': float(x), 'y': float(y), 'font_size': float(size), 'class': shape}
+        place = {'x': float(x), 'y': float(y), 'class': shape}
+        if shape not in SIZES:
+            place['font_size'] = float(size)
+        elif size != SIZES[shape]:
+            place['style'] = 'font-size:%spx' % number(float(size))
         if anchor != 'start':
             place['text_anchor'] = anchor
         self._add('text', place, escape(words), tip)
