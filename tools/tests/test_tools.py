@@ -1,6 +1,7 @@
 """Tests of the comparers and of the table of documents on stored files: what LaTeX and the program made of
 stored/notes.tex and of the paper in examples/document. They need Python alone. Run by tools/test."""
 import os
+import subprocess
 import unittest
 
 from support import HERE, Scratch, document, run, stored
@@ -122,6 +123,16 @@ class Comparisons(Scratch):
         self.assertEqual(run(compare.main, self.path('none'), stored('notes.report'))[0], 2)
         status, said = run(compare.main, stored('notes.galley'), stored('notes.report'))
         self.assertEqual((status, said.count('is no page report')), (2, 1))
+
+
+class Commands(Scratch):
+    def test_a_reader_that_stops(self):
+        read, write = os.pipe()
+        os.close(read)
+        tool = subprocess.run([os.path.join(HERE, os.pardir, 'compare'), document('paper.pages'), document('paper.report')],
+                              stdout=write, stderr=subprocess.PIPE, check=False)
+        os.close(write)
+        self.assertEqual((tool.returncode, tool.stderr), (141, b''))
 
 
 class Places(Scratch):
