@@ -1,5 +1,6 @@
 -- Texts that are written piece by piece.
 use Rattle.std.proofs.Common.{◌≡◌, refl, ◌∙◌, ap, sym, ℕ, suc, ◌+◌, ◌<◌, List, [], ◌∷◌, ◌++◌, length, drop, slice_index_or, append_assoc, zero, not-suc-le-zero, true≢false, is_some, unwrap_or, cond, Bool, true, false, ℤ, Some, None, Result, Ok, Err, OnOk, arith}
+use Rattle.tb_text.specs.Fronts.{PutsAfter}
 use Rattle.tb_dvi.specs.File.{near, is_far_down}
 use Rattle.tb_dvi.specs.Listing.{shown, shown_byte}
 
@@ -9,7 +10,7 @@ joins old mid new a b p q = q ∙ ap (λ m. m ++ b) p ∙ append_assoc old a b
 
 module _ {X E : Type 0} where
   -- the last piece
-  pub joins-last : (r : Result X E) (old mid new a b : List ℕ) → mid ≡ old ++ a → OnOk r (new ≡ mid ++ b) → OnOk r (new ≡ old ++ (a ++ b))
+  pub joins-last : (r : Result X E) (old mid new a b : List ℕ) → mid ≡ old ++ a → PutsAfter r mid b new → OnOk r (new ≡ old ++ (a ++ b))
   joins-last (Ok v) old mid new a b p q = joins old mid new a b p q
   joins-last (Err v) old mid new a b p q = tt
 

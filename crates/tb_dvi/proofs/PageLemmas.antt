@@ -1,6 +1,10 @@
 -- The length of a page, and what is out of range.
-use Rattle.std.proofs.Common.{◌≡◌, ◌∙◌, ap, sym, ℕ, ◌+◌, ◌-◌, ◌≤◌, ℤ, pos, false, ◌||◌, nat_lt, List, [], ◌∷◌, ◌++◌, length, flat_map, arith, length-append, le-ltb}
-use Rattle.tb_dvi.specs.File.{Page, placement_bytes, page_bytes, has_far, is_too_far}
+use Rattle.std.proofs.Common.{◌≡◌, ◌∙◌, ap, sym, ℕ, ◌+◌, ◌-◌, ◌≤◌, ℤ, pos, false, ◌||◌, nat_lt, List, [], ◌∷◌, ◌++◌, length, flat_map, Err, arith, length-append, le-ltb}
+use Rattle.tb_text.proofs.FrontLemmas.{cut, past}
+use Rattle.tb_dvi.specs.declared.placement.PlaceFault.{PlaceFault}
+use Rattle.tb_dvi.specs.declared.placement.PlaceFault.TheVariants as faults
+use Rattle.tb_dvi.specs.File.{Page, placement_bytes, page_start, page_bytes, has_far, is_too_far}
+use Rattle.tb_dvi.specs.Page.{Writes, WritesPage}
 
 pub length-page : (last : ℤ) (p : Page) → length (page_bytes last p) ≡ 46 + length (flat_map placement_bytes p.placed)
 length-page last p = omega (arith, length-append (flat_map placement_bytes p.placed) (140 ∷ []))
@@ -18,3 +22,8 @@ in_range place last p near ends =
 -- how many bytes were appended
 pub appended : (old new page : List ℕ) → new ≡ old ++ page → length new - length old ≡ length page
 appended old new page e = omega (arith, length-append old page, ap length e)
+
+-- it stops within the items of a page
+pub page-stops : (e : PlaceFault) (old mid new : List ℕ) (last : ℤ) (p : Page) → mid ≡ old ++ page_start p.number last → Writes (Err e) mid new p.placed → WritesPage (Err e) old new last p
+page-stops faults.Far old mid new last p m w = (w.0, past (page_start p.number last) m (cut (140 ∷ []) w.1))
+page-stops faults.Memory old mid new last p m w = past (page_start p.number last) m (cut (140 ∷ []) w)

@@ -18,6 +18,7 @@ use Rattle.tb_pack.proofs.WalkLemmas.{next_natural_fits, next_glue_fits}
 use Rattle.tb_column.proofs.ShownLemmas.{shapes-held}
 use Rattle.tb_column.specs.declared.Column.{Column}
 use Rattle.tb_report.specs.Printable.{IsPrintable}
+use Rattle.tb_text.proofs.FrontLemmas.{PutSoFar, put-begins, put-more, put-stops, put-ends}
 use Rattle.tb_dvi.specs.declared.page.Part.{Part}
 use Rattle.tb_dvi.specs.declared.placement.PlaceFault.{PlaceFault}
 use Rattle.tb_dvi.specs.declared.placement.PlaceFault.TheVariants as faults
@@ -45,27 +46,32 @@ far-first ps qs e = far-append ps qs ∙ ap (λ b. b || has_far qs) e
 
 -- these are written, and those are left
 pub record Left (all : List Placement) (old now : List ℕ) (rest : List Placement) : Type 0 where
-  pub text : now ++ bytes_of rest ≡ old ++ bytes_of all
+  pub text : PutSoFar old (bytes_of all) now (bytes_of rest)
   pub near : has_far all ≡ has_far rest
 
 pub all_left : (all : List Placement) (old : List ℕ) → Left all old old all
-all_left all old = record { text = refl; near = refl }
+all_left all old = record { text = put-begins old (bytes_of all); near = refl }
+
+-- what is left, as bytes
+parts_left : (all : List Placement) (old now : List ℕ) (first rest : List Placement) → Left all old now (first ++ rest) → PutSoFar old (bytes_of all) now (bytes_of first ++ bytes_of rest)
+parts_left all old now first rest left = subst (PutSoFar old (bytes_of all) now) (bytes-append first rest) left.text
 
 -- some more are written
 pub fewer_left : (all : List Placement) (old now new : List ℕ) (first rest : List Placement) → Left all old now (first ++ rest) → new ≡ now ++ bytes_of first → has_far first ≡ false → Left all old new rest
 fewer_left all old now new first rest left wrote near = record {
-  text = ap (λ t. t ++ bytes_of rest) wrote ∙ append_assoc now (bytes_of first) (bytes_of rest) ∙ ap (λ t. now ++ t) (sym (bytes-append first rest)) ∙ left.text;
+  text = put-more new (bytes_of first) (bytes_of rest) (parts_left all old now first rest left) wrote;
   near = left.near ∙ near-first first rest near;
 }
 
 -- a fault at the next
 pub fault_left : (e : PlaceFault) (all : List Placement) (old now new : List ℕ) (first rest : List Placement) → Left all old now (first ++ rest) → Writes (Err e) now new first → Writes (Err e) old new all
-fault_left faults.Far all old now new first rest left far = left.near ∙ far-first first rest far
-fault_left faults.Memory all old now new first rest left far = tt
+fault_left faults.Far all old now new first rest left far =
+    (left.near ∙ far-first first rest far.0, put-stops (bytes_of first) (bytes_of rest) (parts_left all old now first rest left) far.1)
+fault_left faults.Memory all old now new first rest left far = put-stops (bytes_of first) (bytes_of rest) (parts_left all old now first rest left) far
 
 -- all is written
 pub none_left : (all : List Placement) (old now : List ℕ) → Left all old now [] → Writes (Ok tt) old now all
-none_left all old now left = (sym (append-nil now) ∙ left.text, left.near)
+none_left all old now left = (put-ends left.text, left.near)
 
 -- ---- the nodes of a list
 

@@ -5,6 +5,7 @@ use Rattle.tb_pool.specs.Lists.{Lists}
 use Rattle.tb_node.specs.declared.Node.{Node}
 use Rattle.tb_node.specs.PlainNodes.{plain_list}
 use Rattle.tb_report.specs.Printable.{IsPrintableList}
+use Rattle.tb_text.specs.Fronts.{PutsFront}
 use Rattle.tb_dvi.specs.declared.placement.Extent.{Extent}
 use Rattle.tb_dvi.specs.declared.placement.PlaceFault.{PlaceFault}
 use Rattle.tb_dvi.specs.declared.placement.PlaceFault.TheVariants as place_faults
@@ -38,17 +39,17 @@ Shows (Ok None) label spot = spot ≡ None
 Shows (Ok (Some e)) label spot = spot ≡ Some (record { down = e.height +ℤ e.depth; label = label; rule = e.rule })
 Shows (Err e) label spot = Unit {0}
 
--- the bytes of these placements are appended, and none is too far up or down; or one is; or there was no memory
+-- the bytes of these placements are appended, and none is too far up or down; or one is, or there was no memory, and a front of them is there
 abbrev pub Writes : Result (Unit {0}) PlaceFault → List ℕ → List ℕ → List Placement → Type 0
 Writes (Ok u) old new ps = (new ≡ old ++ flat_map placement_bytes ps) × (has_far ps ≡ false)
-Writes (Err place_faults.Far) old new ps = has_far ps ≡ true
-Writes (Err place_faults.Memory) old new ps = Unit {0}
+Writes (Err place_faults.Far) old new ps = (has_far ps ≡ true) × PutsFront old (flat_map placement_bytes ps) new
+Writes (Err place_faults.Memory) old new ps = PutsFront old (flat_map placement_bytes ps) new
 
--- the bytes of a page are appended, and no item is too far up or down; or one is; or there was no memory
+-- the bytes of a page are appended, and no item is too far up or down; or one is, or there was no memory, and a front of them is there
 abbrev pub WritesPage : Result (Unit {0}) PlaceFault → List ℕ → List ℕ → ℤ → Page → Type 0
 WritesPage (Ok u) old new last p = (new ≡ old ++ page_bytes last p) × (has_far p.placed ≡ false)
-WritesPage (Err place_faults.Far) old new last p = has_far p.placed ≡ true
-WritesPage (Err place_faults.Memory) old new last p = Unit {0}
+WritesPage (Err place_faults.Far) old new last p = (has_far p.placed ≡ true) × PutsFront old (page_bytes last p) new
+WritesPage (Err place_faults.Memory) old new last p = PutsFront old (page_bytes last p) new
 
 -- the page is out of range, or there was no memory
 abbrev pub MissesPage : DviFault → ℕ → Page → Type 0

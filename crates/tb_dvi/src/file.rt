@@ -1,7 +1,8 @@
 //! The start and the end of a file, and numbers in its bytes.
-ghost use Rattle.std.specs.Prelude.{◌≡◌, ◌≤◌, ◌<◌, ◌++◌, [], pos, negsuc, ◌≤ℤ◌, FitsSigned, replicate, ◌%◌, OnOk, IfOk};
+ghost use Rattle.std.specs.Prelude.{◌≡◌, ◌≤◌, ◌<◌, ◌++◌, [], pos, negsuc, ◌≤ℤ◌, FitsSigned, replicate, ◌%◌, IfOk};
 ghost use Rattle.std.specs.Int.{w32};
 ghost use Rattle.tb_dvi.specs.File.{signed_4, low_4, four, two_bytes, units, preamble, greatest_depth, post_fields, file_end, post_bytes};
+ghost use Rattle.tb_text.specs.Fronts.{PutsAfter};
 
 use std::alloc::{AllocError, Global};
 use tb_param::Params;
@@ -9,14 +10,14 @@ use tb_text::put;
 
 // A number with a sign in four bytes.
 pub(crate) fn put_signed(out: &mut Vec<u8>, number: i32) -> Result<(), AllocError>
-    ensures { OnOk result (out.new.items ≡ out.old.items ++ signed_4 number) }
+    ensures { PutsAfter result out.old.items (signed_4 number) out.new.items }
 {
     put(out, &number.to_be_bytes())
 }
 
 // The low four bytes of a number: all of it if it has 32 bits.
 pub(crate) fn put_low(out: &mut Vec<u8>, number: i128) -> Result<(), AllocError>
-    ensures { OnOk result (out.new.items ≡ out.old.items ++ low_4 number) }
+    ensures { PutsAfter result out.old.items (low_4 number) out.new.items }
 {
     let bytes = number.to_be_bytes();
     put(out, &bytes[12..])
@@ -24,20 +25,20 @@ pub(crate) fn put_low(out: &mut Vec<u8>, number: i128) -> Result<(), AllocError>
 
 // A number in four bytes.
 pub(crate) fn put_four(out: &mut Vec<u8>, number: u32) -> Result<(), AllocError>
-    ensures { OnOk result (out.new.items ≡ out.old.items ++ four number) }
+    ensures { PutsAfter result out.old.items (four number) out.new.items }
 {
     put(out, &number.to_be_bytes())
 }
 
 fn put_two(out: &mut Vec<u8>, number: u16) -> Result<(), AllocError>
-    ensures { OnOk result (out.new.items ≡ out.old.items ++ two_bytes number) }
+    ensures { PutsAfter result out.old.items (two_bytes number) out.new.items }
 {
     put(out, &number.to_be_bytes())
 }
 
 // The unit of length and the magnification.
 fn put_units(out: &mut Vec<u8>) -> Result<(), AllocError>
-    ensures { OnOk result (out.new.items ≡ out.old.items ++ units) }
+    ensures { PutsAfter result out.old.items units out.new.items }
 {
     put_four(out, 25_400_000)?;
     put_four(out, 473_628_672)?;
@@ -65,7 +66,7 @@ fn greatest_depth(any: bool) -> u16
 
 // The greatest height and width, the greatest depth of the stack, and the count of pages.
 fn put_sizes(out: &mut Vec<u8>, textheight: i32, pages: u64, any: bool) -> Result<(), AllocError>
-    ensures { OnOk result (out.new.items ≡ out.old.items ++ (signed_4 textheight ++ four 19726336 ++ two_bytes (greatest_depth any) ++ two_bytes (pages % 65536))) }
+    ensures { PutsAfter result out.old.items (signed_4 textheight ++ four 19726336 ++ two_bytes (greatest_depth any) ++ two_bytes (pages % 65536)) out.new.items }
 {
     put_signed(out, textheight)?;
     put_four(out, 19_726_336)?;
@@ -81,7 +82,7 @@ fn put_fields(
     any: bool,
     last: i32,
 ) -> Result<(), AllocError>
-    ensures { OnOk result (out.new.items ≡ out.old.items ++ post_fields textheight pages any last) }
+    ensures { PutsAfter result out.old.items (post_fields textheight pages any last) out.new.items }
 {
     put_signed(out, last)?;
     put_units(out)?;
@@ -91,7 +92,7 @@ fn put_fields(
 // The end of a file whose postamble begins at this place.
 fn put_end(out: &mut Vec<u8>, place: u32) -> Result<(), AllocError>
     requires { place ≤ 2147483000 }
-    ensures { OnOk result (out.new.items ≡ out.old.items ++ file_end place) }
+    ensures { PutsAfter result out.old.items (file_end place) out.new.items }
 {
     put(out, b"\xf9")?;
     put_four(out, place)?;
@@ -103,7 +104,7 @@ fn put_end(out: &mut Vec<u8>, place: u32) -> Result<(), AllocError>
 #[tactic(auto, using(crate::proofs::ByteLemmas::fills))]
 fn put_filling(out: &mut Vec<u8>, count: u32) -> Result<(), AllocError>
     requires { count ≤ 7 }
-    ensures { OnOk result (out.new.items ≡ out.old.items ++ replicate count 223) }
+    ensures { PutsAfter result out.old.items (replicate count 223) out.new.items }
 {
     for _ in 0..count {
         out.push(223)?;
@@ -112,8 +113,8 @@ fn put_filling(out: &mut Vec<u8>, count: u32) -> Result<(), AllocError>
 }
 
 /// Appends all bytes of a DVI file from its postamble on, which begins at `place` (TeX: The Program §642): `pages` pages,
-/// the last of which begins at `last` (-1 if there is none). `any` says whether a page shows anything. It fails only if
-/// there is no memory for them; a part may then be appended.
+/// the last of which begins at `last` (-1 if there is none). `any` says whether a page shows anything. If memory
+/// runs out, what stood in `out` is still there, and a front of them may follow.
 pub fn put_post(
     out: &mut Vec<u8>,
     p: &Params,
@@ -126,7 +127,7 @@ pub fn put_post(
     requires last_low { negsuc 0 ≤ℤ last }
     requires last_high { last ≤ℤ pos 2147483000 }
     requires place { place ≤ 2147483000 }
-    ensures { OnOk result (out.new.items ≡ out.old.items ++ post_bytes p.now.textheight pages any last place) }
+    ensures { PutsAfter result out.old.items (post_bytes p.now.textheight pages any last place) out.new.items }
 {
     put(out, b"\xf8")?;
     put_fields(out, p.textheight as i32, pages, any, last as i32)?;

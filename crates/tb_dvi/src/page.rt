@@ -1,5 +1,5 @@
 //! The bytes of a page.
-ghost use Rattle.std.specs.Prelude.{◌≡◌, ◌≤◌, ◌<◌, ◌++◌, pos, negsuc, ◌≤ℤ◌, All, false, IfOk, OnOk, IfErr};
+ghost use Rattle.std.specs.Prelude.{◌≡◌, ◌≤◌, ◌<◌, ◌++◌, pos, negsuc, ◌≤ℤ◌, All, false, IfOk, OnOk, OnErr, IfErr};
 ghost use Rattle.tb_sheet.specs.Sheet.{one};
 ghost use Rattle.tb_column.specs.StoredColumns.{column_shown};
 ghost use Rattle.tb_sheet.specs.StoredSheets.{sheet_shown};
@@ -7,6 +7,7 @@ ghost use Rattle.tb_report.specs.Printable.{IsPrintable, IsPrintableSheet};
 ghost use Rattle.tb_dvi.specs.Placement.{part_placed, parts_placed};
 ghost use Rattle.tb_dvi.specs.Page.{Writes, part_shown, parts_shown, parts_page, IsShowable, WritesPage, PutsPage, MissesPage};
 ghost use Rattle.tb_dvi.specs.File.{sheet_page, page_start, page_bytes, is_too_far};
+ghost use Rattle.tb_text.specs.Fronts.{PutsAfter, PutsFront};
 
 use crate::file::{put_four, put_signed};
 use crate::placement::{PlaceFault, put_node};
@@ -93,7 +94,7 @@ fn put_parts(
 
 // The first 45 bytes of a page: its number, nine numbers 0, and the place of the page before.
 fn put_start(out: &mut Vec<u8>, number: u64, last: i32) -> Result<(), AllocError>
-    ensures { OnOk result (out.new.items ≡ out.old.items ++ page_start number last) }
+    ensures { PutsAfter result out.old.items (page_start number last) out.new.items }
 {
     put(out, b"\x8b")?;
     put_four(out, (number % 4_294_967_296) as u32)?;
@@ -124,7 +125,7 @@ fn put_whole(
 /// -1. Each item is a special with its label and, but for marks and notes, a rule.
 ///
 /// It fails if an item is too far up or down for four bytes, if the page would end past place 2147483000, or if there is
-/// no memory. A part of the page may be appended then.
+/// no memory. What stood in `out` is still there then, and a front of the page may follow.
 pub fn put_page(
     out: &mut Vec<u8>,
     alloc: Global,
@@ -138,7 +139,8 @@ pub fn put_page(
     requires place { place ≤ 2147483000 }
     requires last_low { negsuc 0 ≤ℤ last }
     requires last_high { last ≤ℤ pos 2147483000 }
-    ensures { PutsPage result out.old.items out.new.items place last (parts_page store.now number parts.now) }
+    ensures bytes { PutsPage result out.old.items out.new.items place last (parts_page store.now number parts.now) }
+    ensures err { OnErr result (PutsFront out.old.items (page_bytes last (parts_page store.now number parts.now)) out.new.items) }
 {
     let before = out.len();
     match put_whole(out, alloc, store, number, parts, last as i32) {
@@ -178,7 +180,8 @@ fn put_column(
     requires place { place ≤ 2147483000 }
     requires last_low { negsuc 0 ≤ℤ last }
     requires last_high { last ≤ℤ pos 2147483000 }
-    ensures { PutsPage result out.old.items out.new.items place last (sheet_page number (one (column_shown store.now column.now))) }
+    ensures bytes { PutsPage result out.old.items out.new.items place last (sheet_page number (one (column_shown store.now column.now))) }
+    ensures err { OnErr result (PutsFront out.old.items (page_bytes last (sheet_page number (one (column_shown store.now column.now)))) out.new.items) }
 {
     let parts = [column_part(0, 0, column)];
     put_page(out, alloc, store, number, &parts, place, last)
@@ -199,7 +202,8 @@ pub fn put_sheet(
     requires place { place ≤ 2147483000 }
     requires last_low { negsuc 0 ≤ℤ last }
     requires last_high { last ≤ℤ pos 2147483000 }
-    ensures { PutsPage result out.old.items out.new.items place last (sheet_page number (sheet_shown store.now sheet.now)) }
+    ensures bytes { PutsPage result out.old.items out.new.items place last (sheet_page number (sheet_shown store.now sheet.now)) }
+    ensures err { OnErr result (PutsFront out.old.items (page_bytes last (sheet_page number (sheet_shown store.now sheet.now))) out.new.items) }
 {
     match sheet {
         Sheet::One(column) => put_column(out, alloc, store, number, column, place, last),

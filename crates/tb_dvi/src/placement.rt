@@ -2,9 +2,10 @@
 ghost use Rattle.std.specs.Prelude.{◌≡◌, ◌++◌, ℤ, pos, negsuc, ◌+ℤ◌, ◌≤ℤ◌, ◌∷◌, [], codes, Option, OnOk};
 ghost use Rattle.tb_report.specs.Lines.{where_text, side_text};
 ghost use Rattle.tb_text.specs.Fields.{and_count, and_text};
+ghost use Rattle.tb_text.specs.Fronts.{PutsAfter};
 ghost use Rattle.tb_node.specs.PlainNodes.{matter_of};
 ghost use Rattle.tb_dvi.specs.Placement.{box_spot, rule_label, matter_spot, spot_placed};
-ghost use Rattle.tb_dvi.specs.File.{near, rule_bytes};
+ghost use Rattle.tb_dvi.specs.File.{near, rule_bytes, placement_bytes};
 ghost use Rattle.tb_dvi.specs.Page.{Writes, Shows};
 
 use crate::file::{put_four, put_low, put_signed};
@@ -226,7 +227,7 @@ fn node_label(label: &mut Vec<u8>, node: &Node) -> Result<Option<Extent>, AllocE
 
 // A rule of this height and a point of width, if there is one.
 fn put_height(out: &mut Vec<u8>, rule: Option<i128>) -> Result<(), AllocError>
-    ensures { OnOk result (out.new.items ≡ out.old.items ++ rule_bytes rule) }
+    ensures { PutsAfter result out.old.items (rule_bytes rule) out.new.items }
 {
     match rule {
         Some(height) => {
@@ -239,6 +240,26 @@ fn put_height(out: &mut Vec<u8>, rule: Option<i128>) -> Result<(), AllocError>
 }
 
 // A label at a place, and its rule.
+fn put_placement(
+    out: &mut Vec<u8>,
+    h: i32,
+    v: i32,
+    label: &[u8],
+    rule: Option<i128>,
+) -> Result<(), AllocError>
+    ensures { PutsAfter result out.old.items (placement_bytes (record { h = h; v = v; label = label.now; rule = rule })) out.new.items }
+{
+    put(out, b"\x8d\xa0")?;
+    put_signed(out, v)?;
+    put(out, b"\x92")?;
+    put_signed(out, h)?;
+    put(out, &[239, (label.len() % 256) as u8])?;
+    put(out, label)?;
+    put_height(out, rule)?;
+    put(out, b"\x8e")
+}
+
+// The same, if the place fits in four bytes.
 fn put_placed(
     out: &mut Vec<u8>,
     h: i32,
@@ -251,14 +272,7 @@ fn put_placed(
     let Some(v) = v else {
         return Err(PlaceFault::Far);
     };
-    put(out, b"\x8d\xa0")?;
-    put_signed(out, v)?;
-    put(out, b"\x92")?;
-    put_signed(out, h)?;
-    put(out, &[239, (label.len() % 256) as u8])?;
-    put(out, label)?;
-    put_height(out, rule)?;
-    put(out, b"\x8e")?;
+    put_placement(out, h, v, label, rule)?;
     Ok(())
 }
 

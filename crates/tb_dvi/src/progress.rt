@@ -3,8 +3,9 @@ ghost use Rattle.std.specs.Prelude.{◌≡◌, ◌≤◌, ◌<◌, ◌+◌, ◌+
 ghost use Rattle.std.specs.Int.{w32};
 ghost use Rattle.tb_sheet.specs.StoredSheets.{sheet_shown};
 ghost use Rattle.tb_report.specs.Printable.{IsPrintableSheet};
-ghost use Rattle.tb_dvi.specs.File.{sheet_page, post_bytes};
+ghost use Rattle.tb_dvi.specs.File.{sheet_page, page_bytes, post_bytes};
 ghost use Rattle.tb_dvi.specs.Page.{PutsPage};
+ghost use Rattle.tb_text.specs.Fronts.{PutsAfter, PutsFront};
 
 use crate::file::put_post;
 use crate::page::{DviFault, put_sheet};
@@ -44,7 +45,8 @@ impl Progress {
     }
 
     /// Appends the bytes of the next page as it is shipped, under its number. It fails if the page is out of range
-    /// (`TooFar`) or there is no memory, and the progress is then as before; a part of the page may be appended.
+    /// (`TooFar`) or there is no memory, and the progress is then as before; what stood in `out` is still there, and a
+    /// front of the page may follow.
     pub fn put_next(
         &mut self,
         out: &mut Vec<u8>,
@@ -58,6 +60,7 @@ impl Progress {
         ensures page { PutsPage result out.old.items out.new.items self.old.place self.old.last (sheet_page number (sheet_shown store.now sheet.now)) }
         ensures ok { OnOk result (self.new ≡ with_page (sheet_page number (sheet_shown store.now sheet.now)) self.old) }
         ensures err { OnErr result (self.new ≡ self.old) }
+        ensures front { OnErr result (PutsFront out.old.items (page_bytes self.old.last (sheet_page number (sheet_shown store.now sheet.now))) out.new.items) }
         ensures in_file { IsInFile self.new }
     {
         let before = out.len();
@@ -82,11 +85,12 @@ impl Progress {
         };
     }
 
-    /// Appends the postamble and the end of the file. It fails only if there is no memory; a part may then be appended.
+    /// Appends the postamble and the end of the file. If memory runs out, what stood in `out` is still there, and a front of
+    /// them may follow.
     pub fn put_end(&self, out: &mut Vec<u8>, p: &Params) -> Result<(), AllocError>
         requires in_file { IsInFile self.now }
         requires height { FitsSigned w32 p.now.textheight }
-        ensures { OnOk result (out.new.items ≡ out.old.items ++ post_bytes p.now.textheight self.now.pages self.now.any self.now.last self.now.place) }
+        ensures { PutsAfter result out.old.items (post_bytes p.now.textheight self.now.pages self.now.any self.now.last self.now.place) out.new.items }
     {
         put_post(out, p, self.pages, self.any, self.last, self.place)
     }

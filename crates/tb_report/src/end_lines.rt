@@ -1,9 +1,10 @@
 //! The lines at the end of a report.
-ghost use Rattle.std.specs.Prelude.{◌≡◌, ◌++◌, codes, OnOk, IfOk};
+ghost use Rattle.std.specs.Prelude.{◌≡◌, ◌++◌, codes, IfOk};
 ghost use Rattle.tb_pool.specs.Lists.{IsLive};
 ghost use Rattle.tb_node.specs.PlainNodes.{plain, matter_of, plain_list};
 ghost use Rattle.tb_report.specs.Lines.{left_line, left_lines, end_lines};
 ghost use Rattle.tb_text.specs.Fields.{and_count, line};
+ghost use Rattle.tb_text.specs.Fronts.{PutsAfter};
 
 use crate::Totals;
 use crate::fields::{put_line, put_total};
@@ -14,7 +15,7 @@ use tb_text::end_line;
 
 // The line of a mark or a note that is left on the page; other nodes have none.
 fn put_left(out: &mut Vec<u8>, node: &Node) -> Result<(), AllocError>
-    ensures { OnOk result (out.new.items ≡ out.old.items ++ left_line (plain (matter_of node.now.kind))) }
+    ensures { PutsAfter result out.old.items (left_line (plain (matter_of node.now.kind))) out.new.items }
 {
     match &node.kind {
         Kind::Mark(name) => put_line(out, b"left mark ", name.as_bytes()),
@@ -32,7 +33,7 @@ fn put_left(out: &mut Vec<u8>, node: &Node) -> Result<(), AllocError>
 
 fn put_left_nodes(out: &mut Vec<u8>, store: &Lists<Node>, left: ListId) -> Result<(), AllocError>
     requires { IsLive store.now left }
-    ensures { OnOk result (out.new.items ≡ out.old.items ++ left_lines (plain_list store.now left)) }
+    ensures { PutsAfter result out.old.items (left_lines (plain_list store.now left)) out.new.items }
 {
     for node in store.iter(left) {
         put_left(out, node)?;
@@ -40,10 +41,10 @@ fn put_left_nodes(out: &mut Vec<u8>, store: &Lists<Node>, left: ListId) -> Resul
     Ok(())
 }
 
-/// Appends the totals, after a word for that of the pages, and the end of the line. It fails only if there is no memory; a
-/// part may then be there.
+/// Appends the totals, after a word for that of the pages, and the end of the line. If memory runs out, what
+/// stood in `out` is still there, and a front of the line may follow.
 pub fn put_totals(out: &mut Vec<u8>, pages: &[u8], t: &Totals) -> Result<(), AllocError>
-    ensures { OnOk result (out.new.items ≡ out.old.items ++ line (pages.now ++ and_count t.now.pages ++ codes " boxes" ++ and_count t.now.boxes ++ codes " floats" ++ and_count t.now.floats ++ codes " warnings" ++ and_count t.now.warnings)) }
+    ensures { PutsAfter result out.old.items (line (pages.now ++ and_count t.now.pages ++ codes " boxes" ++ and_count t.now.boxes ++ codes " floats" ++ and_count t.now.floats ++ codes " warnings" ++ and_count t.now.warnings)) out.new.items }
 {
     put_total(out, pages, t.pages)?;
     put_total(out, b" boxes", t.boxes)?;
@@ -52,7 +53,7 @@ pub fn put_totals(out: &mut Vec<u8>, pages: &[u8], t: &Totals) -> Result<(), All
 
 // The totals from that of floats on.
 fn end_totals(out: &mut Vec<u8>, t: &Totals) -> Result<(), AllocError>
-    ensures { OnOk result (out.new.items ≡ out.old.items ++ line (codes " floats" ++ and_count t.now.floats ++ codes " warnings" ++ and_count t.now.warnings)) }
+    ensures { PutsAfter result out.old.items (line (codes " floats" ++ and_count t.now.floats ++ codes " warnings" ++ and_count t.now.warnings)) out.new.items }
 {
     put_total(out, b" floats", t.floats)?;
     put_total(out, b" warnings", t.warnings)?;

@@ -1,7 +1,8 @@
 //! The line of a column, before its items.
-ghost use Rattle.std.specs.Prelude.{◌≡◌, ◌++◌, codes, OnOk};
+ghost use Rattle.std.specs.Prelude.{◌≡◌, ◌++◌, codes};
 ghost use Rattle.tb_report.specs.Lines.{order_text, ratio_text, sign_text, over_text, set_text, kind_text};
 ghost use Rattle.tb_text.specs.Fields.{and_number, and_count, and_text, line};
+ghost use Rattle.tb_text.specs.Fronts.{PutsAfter};
 
 use crate::fields::{put_measure, put_total};
 use std::alloc::AllocError;
@@ -32,7 +33,7 @@ fn kind_text(kind: ColumnKind) -> &'static [u8]
 
 // The fraction by which glue is set.
 fn put_ratio(out: &mut Vec<u8>, set: &Set) -> Result<(), AllocError>
-    ensures { OnOk result (out.new.items ≡ out.old.items ++ ratio_text set.now) }
+    ensures { PutsAfter result out.old.items (ratio_text set.now) out.new.items }
 {
     put_amount(out, set.num)?;
     put(out, b"/")?;
@@ -40,7 +41,7 @@ fn put_ratio(out: &mut Vec<u8>, set: &Set) -> Result<(), AllocError>
 }
 
 fn put_sign(out: &mut Vec<u8>, set: &Set) -> Result<(), AllocError>
-    ensures { OnOk result (out.new.items ≡ out.old.items ++ sign_text set.now.sign set.now) }
+    ensures { PutsAfter result out.old.items (sign_text set.now.sign set.now) out.new.items }
 {
     match set.sign {
         Sign::None => put(out, b"none"),
@@ -57,7 +58,7 @@ fn put_sign(out: &mut Vec<u8>, set: &Set) -> Result<(), AllocError>
 }
 
 fn put_over(out: &mut Vec<u8>, over: i64) -> Result<(), AllocError>
-    ensures { OnOk result (out.new.items ≡ out.old.items ++ over_text over) }
+    ensures { PutsAfter result out.old.items (over_text over) out.new.items }
 {
     if over == 0 {
         return Ok(());
@@ -67,7 +68,7 @@ fn put_over(out: &mut Vec<u8>, over: i64) -> Result<(), AllocError>
 
 // How the glue of a column is set, and the end of the line.
 fn end_set(out: &mut Vec<u8>, set: &Set) -> Result<(), AllocError>
-    ensures { OnOk result (out.new.items ≡ out.old.items ++ line (codes " set " ++ set_text set.now)) }
+    ensures { PutsAfter result out.old.items (line (codes " set " ++ set_text set.now)) out.new.items }
 {
     put(out, b" set ")?;
     put_sign(out, set)?;
@@ -77,7 +78,7 @@ fn end_set(out: &mut Vec<u8>, set: &Set) -> Result<(), AllocError>
 
 // The height of a column and its natural height, and the rest of its line.
 fn end_column(out: &mut Vec<u8>, set: &Set) -> Result<(), AllocError>
-    ensures { OnOk result (out.new.items ≡ out.old.items ++ line (codes " height" ++ and_number set.now.height ++ codes " natural" ++ and_number set.now.natural ++ codes " set " ++ set_text set.now)) }
+    ensures { PutsAfter result out.old.items (line (codes " height" ++ and_number set.now.height ++ codes " natural" ++ and_number set.now.natural ++ codes " set " ++ set_text set.now)) out.new.items }
 {
     put_measure(out, b" height", set.height)?;
     end_natural(out, set)
@@ -85,7 +86,7 @@ fn end_column(out: &mut Vec<u8>, set: &Set) -> Result<(), AllocError>
 
 // The natural height of a column, and the rest of its line.
 fn end_natural(out: &mut Vec<u8>, set: &Set) -> Result<(), AllocError>
-    ensures { OnOk result (out.new.items ≡ out.old.items ++ line (codes " natural" ++ and_number set.now.natural ++ codes " set " ++ set_text set.now)) }
+    ensures { PutsAfter result out.old.items (line (codes " natural" ++ and_number set.now.natural ++ codes " set " ++ set_text set.now)) out.new.items }
 {
     put_measure(out, b" natural", set.natural)?;
     end_set(out, set)
@@ -98,7 +99,7 @@ pub(crate) fn put_head(
     kind: ColumnKind,
     set: &Set,
 ) -> Result<(), AllocError>
-    ensures { OnOk result (out.new.items ≡ out.old.items ++ line (codes "column" ++ and_count number ++ and_text (kind_text kind) ++ codes " height" ++ and_number set.now.height ++ codes " natural" ++ and_number set.now.natural ++ codes " set " ++ set_text set.now)) }
+    ensures { PutsAfter result out.old.items (line (codes "column" ++ and_count number ++ and_text (kind_text kind) ++ codes " height" ++ and_number set.now.height ++ codes " natural" ++ and_number set.now.natural ++ codes " set " ++ set_text set.now)) out.new.items }
 {
     put_total(out, b"column", number)?;
     put_text(out, kind_text(kind))?;

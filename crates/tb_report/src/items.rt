@@ -1,8 +1,9 @@
 //! The line of a node.
-ghost use Rattle.std.specs.Prelude.{◌≡◌, ◌≤◌, ◌+◌, ◌++◌, drop, length, codes, OnOk, Some, None};
+ghost use Rattle.std.specs.Prelude.{◌≡◌, ◌≤◌, ◌+◌, ◌++◌, drop, length, codes, Some, None};
 ghost use Rattle.tb_node.specs.PlainNodes.{matter_of};
 ghost use Rattle.tb_report.specs.Lines.{where_text, side_text, box_line, rule_line, matter_line};
 ghost use Rattle.tb_text.specs.Fields.{and_number, and_count, and_text, line};
+ghost use Rattle.tb_text.specs.Fronts.{PutsAfter};
 
 use crate::fields::put_named;
 use std::alloc::AllocError;
@@ -35,7 +36,7 @@ pub fn side_text(side: Side) -> &'static [u8]
 
 // A top and the end of the line.
 fn end_at(out: &mut Vec<u8>, top: i128) -> Result<(), AllocError>
-    ensures { OnOk result (out.new.items ≡ out.old.items ++ line (and_number top)) }
+    ensures { PutsAfter result out.old.items (line (and_number top)) out.new.items }
 {
     put_field(out, top)?;
     end_line(out)
@@ -45,7 +46,7 @@ fn end_at(out: &mut Vec<u8>, top: i128) -> Result<(), AllocError>
 // once.
 #[inline(always)]
 fn end_box(out: &mut Vec<u8>, top: i128, height: i64, depth: i64) -> Result<(), AllocError>
-    ensures { OnOk result (out.new.items ≡ out.old.items ++ line (and_number top ++ and_number height ++ and_number depth)) }
+    ensures { PutsAfter result out.old.items (line (and_number top ++ and_number height ++ and_number depth)) out.new.items }
 {
     if top < 0 || top > i128::from(u64::MAX) || height < 0 || depth < 0 {
         return end_any_box(out, top, height, depth);
@@ -56,14 +57,14 @@ fn end_box(out: &mut Vec<u8>, top: i128, height: i64, depth: i64) -> Result<(), 
 #[cold]
 #[inline(never)]
 fn end_any_box(out: &mut Vec<u8>, top: i128, height: i64, depth: i64) -> Result<(), AllocError>
-    ensures { OnOk result (out.new.items ≡ out.old.items ++ line (and_number top ++ and_number height ++ and_number depth)) }
+    ensures { PutsAfter result out.old.items (line (and_number top ++ and_number height ++ and_number depth)) out.new.items }
 {
     put_field(out, top)?;
     end_sizes(out, height, depth)
 }
 
 fn end_plain_box(out: &mut Vec<u8>, top: u64, height: u64, depth: u64) -> Result<(), AllocError>
-    ensures { OnOk result (out.new.items ≡ out.old.items ++ line (and_count top ++ and_count height ++ and_count depth)) }
+    ensures { PutsAfter result out.old.items (line (and_count top ++ and_count height ++ and_count depth)) out.new.items }
 {
     let mut text = [0; 64];
     let start = write_end(top, height, depth, &mut text, 64);
@@ -88,7 +89,7 @@ fn write_end(top: u64, height: u64, depth: u64, text: &mut [u8], end: usize) -> 
 
 // A height and a depth, and the end of the line.
 fn end_sizes(out: &mut Vec<u8>, height: i64, depth: i64) -> Result<(), AllocError>
-    ensures { OnOk result (out.new.items ≡ out.old.items ++ line (and_number height ++ and_number depth)) }
+    ensures { PutsAfter result out.old.items (line (and_number height ++ and_number depth)) out.new.items }
 {
     put_amount(out, height)?;
     put_amount(out, depth)?;
@@ -103,7 +104,7 @@ fn put_sized(
     height: i64,
     depth: i64,
 ) -> Result<(), AllocError>
-    ensures { OnOk result (out.new.items ≡ out.old.items ++ line (text.now ++ and_number top ++ and_number height ++ and_number depth)) }
+    ensures { PutsAfter result out.old.items (line (text.now ++ and_number top ++ and_number height ++ and_number depth)) out.new.items }
 {
     put(out, text)?;
     end_box(out, top, height, depth)
@@ -120,7 +121,7 @@ fn put_item(
     depth: i64,
 ) -> Result<(), AllocError>
     requires { length word.now ≤ 8 }
-    ensures { OnOk result (out.new.items ≡ out.old.items ++ line (word.now ++ name.now ++ and_number top ++ and_number height ++ and_number depth)) }
+    ensures { PutsAfter result out.old.items (line (word.now ++ name.now ++ and_number top ++ and_number height ++ and_number depth)) out.new.items }
 {
     let known = name.as_bytes();
     if known.len() > 63 || top < 0 || top > i128::from(u64::MAX) || height < 0 || depth < 0 {
@@ -139,7 +140,7 @@ fn put_any_item(
     height: i64,
     depth: i64,
 ) -> Result<(), AllocError>
-    ensures { OnOk result (out.new.items ≡ out.old.items ++ line (word.now ++ name.now ++ and_number top ++ and_number height ++ and_number depth)) }
+    ensures { PutsAfter result out.old.items (line (word.now ++ name.now ++ and_number top ++ and_number height ++ and_number depth)) out.new.items }
 {
     put_named(out, word, name.as_bytes())?;
     end_box(out, top, height, depth)
@@ -156,7 +157,7 @@ fn put_plain_item(
 ) -> Result<(), AllocError>
     requires word { length word.now ≤ 8 }
     requires name { length name.now ≤ 63 }
-    ensures { OnOk result (out.new.items ≡ out.old.items ++ ((word.now ++ name.now) ++ line (and_count top ++ and_count height ++ and_count depth))) }
+    ensures { PutsAfter result out.old.items ((word.now ++ name.now) ++ line (and_count top ++ and_count height ++ and_count depth)) out.new.items }
 {
     let mut text = [0; 136];
     let at = write_end(top, height, depth, &mut text, 136);
@@ -185,7 +186,7 @@ fn put_float(
     top: i128,
     height: i64,
 ) -> Result<(), AllocError>
-    ensures { OnOk result (out.new.items ≡ out.old.items ++ line (codes "float " ++ name.now ++ and_count class ++ and_text (where_text place) ++ and_number top ++ and_number height)) }
+    ensures { PutsAfter result out.old.items (line (codes "float " ++ name.now ++ and_count class ++ and_text (where_text place) ++ and_number top ++ and_number height)) out.new.items }
 {
     put_named(out, b"float ", name.as_bytes())?;
     put_count(out, u64::from(class))?;
@@ -194,7 +195,7 @@ fn put_float(
 
 // Where a float is, its top and its height, and the end of the line.
 fn put_place(out: &mut Vec<u8>, place: Where, top: i128, height: i64) -> Result<(), AllocError>
-    ensures { OnOk result (out.new.items ≡ out.old.items ++ line (and_text (where_text place) ++ and_number top ++ and_number height)) }
+    ensures { PutsAfter result out.old.items (line (and_text (where_text place) ++ and_number top ++ and_number height)) out.new.items }
 {
     put_text(out, where_text(place))?;
     put_field(out, top)?;
@@ -210,7 +211,7 @@ fn put_moved(
     side: Side,
     shift: i64,
 ) -> Result<(), AllocError>
-    ensures { OnOk result (out.new.items ≡ out.old.items ++ (word.now ++ name.now ++ and_text (side_text side) ++ and_number shift)) }
+    ensures { PutsAfter result out.old.items (word.now ++ name.now ++ and_text (side_text side) ++ and_number shift) out.new.items }
 {
     put_named(out, word, name.as_bytes())?;
     put_text(out, side_text(side))?;
@@ -228,7 +229,7 @@ fn put_noted(
     height: i64,
     depth: i64,
 ) -> Result<(), AllocError>
-    ensures { OnOk result (out.new.items ≡ out.old.items ++ line (word.now ++ name.now ++ and_text (side_text side) ++ and_number shift ++ and_number top ++ and_number height ++ and_number depth)) }
+    ensures { PutsAfter result out.old.items (line (word.now ++ name.now ++ and_text (side_text side) ++ and_number shift ++ and_number top ++ and_number height ++ and_number depth)) out.new.items }
 {
     put_moved(out, word, name, side, shift)?;
     end_box(out, top, height, depth)
@@ -236,7 +237,7 @@ fn put_noted(
 
 // A line of a word, a name and a top.
 fn put_at(out: &mut Vec<u8>, word: &[u8], name: &Name, top: i128) -> Result<(), AllocError>
-    ensures { OnOk result (out.new.items ≡ out.old.items ++ line (word.now ++ name.now ++ and_number top)) }
+    ensures { PutsAfter result out.old.items (line (word.now ++ name.now ++ and_number top)) out.new.items }
 {
     put_named(out, word, name.as_bytes())?;
     end_at(out, top)
@@ -249,7 +250,7 @@ fn put_box(
     height: i64,
     depth: i64,
 ) -> Result<(), AllocError>
-    ensures { OnOk result (out.new.items ≡ out.old.items ++ box_line what.now top height depth) }
+    ensures { PutsAfter result out.old.items (box_line what.now top height depth) out.new.items }
 {
     match what {
         What::Text(name) => put_item(out, b"box ", name, top, height, depth),
@@ -278,7 +279,7 @@ fn put_rule(
     height: i64,
     depth: i64,
 ) -> Result<(), AllocError>
-    ensures { OnOk result (out.new.items ≡ out.old.items ++ rule_line name.now top height depth) }
+    ensures { PutsAfter result out.old.items (rule_line name.now top height depth) out.new.items }
 {
     match name {
         Some(name) => put_item(out, b"rule ", name, top, height, depth),
@@ -288,7 +289,7 @@ fn put_rule(
 
 /// Writes the line of a node whose top is at this many scaled points; most kinds have none.
 pub(crate) fn put_node(out: &mut Vec<u8>, node: &Node, top: i128) -> Result<(), AllocError>
-    ensures { OnOk result (out.new.items ≡ out.old.items ++ matter_line (matter_of node.now.kind) top) }
+    ensures { PutsAfter result out.old.items (matter_line (matter_of node.now.kind) top) out.new.items }
 {
     match &node.kind {
         Kind::Hbox {

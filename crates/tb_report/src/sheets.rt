@@ -1,5 +1,5 @@
 //! The lines of a page.
-ghost use Rattle.std.specs.Prelude.{◌≡◌, ◌≢◌, ◌++◌, [], List, pos, codes, OnOk, IfOk};
+ghost use Rattle.std.specs.Prelude.{◌≡◌, ◌≢◌, ◌++◌, [], List, pos, codes, IfOk};
 ghost use Rattle.tb_node.specs.PlainNodes.{plain_list, matter_of};
 ghost use Rattle.tb_node.specs.Shape.{Shape};
 ghost use Rattle.tb_pack.specs.declared.Set.{Set as SetOf};
@@ -10,6 +10,7 @@ ghost use Rattle.tb_sheet.specs.StoredSheets.{sheet_shown, sent_shown};
 ghost use Rattle.tb_report.specs.Printable.{IsPrintableList, IsPrintable, IsPrintableSheet, IsPrintableSent};
 ghost use Rattle.tb_report.specs.Lines.{matter_line, item_lines, column_lines, unset, sheet_lines, sent_lines};
 ghost use Rattle.tb_text.specs.Fields.{and_number, and_count, line};
+ghost use Rattle.tb_text.specs.Fronts.{PutsAfter};
 
 use crate::fields::{put_measure, put_total};
 use crate::heads::put_head;
@@ -33,7 +34,7 @@ fn put_items(
 ) -> Result<(), AllocError>
     requires list { IsPrintableList store.now list }
     requires share { set.den ≢ pos 0 }
-    ensures { OnOk result (out.new.items ≡ out.old.items ++ item_lines set [] (plain_list store.now list)) }
+    ensures { PutsAfter result out.old.items (item_lines set [] (plain_list store.now list)) out.new.items }
 {
     let mut tops = Tops::new(set);
     for node in store.iter(list) {
@@ -47,7 +48,7 @@ fn put_items(
 // are not asked for.
 fn put_next(out: &mut Vec<u8>, node: &Node, tops: &Tops) -> Result<(), AllocError>
     requires { tops.now.set.den ≢ pos 0 }
-    ensures { OnOk result ((set : SetOf) (before : List Shape) → HasPassed tops.now set before → out.new.items ≡ out.old.items ++ matter_line (matter_of node.now.kind) (top_after set before)) }
+    ensures { (set : SetOf) (before : List Shape) → HasPassed tops.now set before → PutsAfter result out.old.items (matter_line (matter_of node.now.kind) (top_after set before)) out.new.items }
 {
     match node.kind {
         Kind::Skip(_) => Ok(()),
@@ -65,7 +66,7 @@ fn put_column(
     column: &Column,
 ) -> Result<(), AllocError>
     requires { IsPrintable store.now column.now }
-    ensures { OnOk result (out.new.items ≡ out.old.items ++ column_lines number (column_shown store.now column.now)) }
+    ensures { PutsAfter result out.old.items (column_lines number (column_shown store.now column.now)) out.new.items }
 {
     put_head(out, number, column.kind, &column.set)?;
     put_items(out, store, column.list, column.set)
@@ -89,7 +90,7 @@ pub fn unset() -> Set
 
 // The first line of a page.
 fn put_page(out: &mut Vec<u8>, page: u64, form: &[u8]) -> Result<(), AllocError>
-    ensures { OnOk result (out.new.items ≡ out.old.items ++ line (codes "page" ++ and_count page ++ form.now)) }
+    ensures { PutsAfter result out.old.items (line (codes "page" ++ and_count page ++ form.now)) out.new.items }
 {
     put_total(out, b"page", page)?;
     put(out, form)?;
@@ -98,7 +99,7 @@ fn put_page(out: &mut Vec<u8>, page: u64, form: &[u8]) -> Result<(), AllocError>
 
 // The first line of a page of two columns, which begin at this many scaled points.
 fn put_pair(out: &mut Vec<u8>, page: u64, at: i64) -> Result<(), AllocError>
-    ensures { OnOk result (out.new.items ≡ out.old.items ++ line (codes "page" ++ and_count page ++ codes " two at" ++ and_number at)) }
+    ensures { PutsAfter result out.old.items (line (codes "page" ++ and_count page ++ codes " two at" ++ and_number at)) out.new.items }
 {
     put_total(out, b"page", page)?;
     put_measure(out, b" two at", at)?;
@@ -113,7 +114,7 @@ fn put_columns(
 ) -> Result<(), AllocError>
     requires left { IsPrintable store.now left.now }
     requires right { IsPrintable store.now right.now }
-    ensures { OnOk result (out.new.items ≡ out.old.items ++ (column_lines 1 (column_shown store.now left.now) ++ column_lines 2 (column_shown store.now right.now))) }
+    ensures { PutsAfter result out.old.items (column_lines 1 (column_shown store.now left.now) ++ column_lines 2 (column_shown store.now right.now)) out.new.items }
 {
     put_column(out, store, 1, left)?;
     put_column(out, store, 2, right)
@@ -126,7 +127,7 @@ fn put_sheet(
     sheet: &Sheet,
 ) -> Result<(), AllocError>
     requires { IsPrintableSheet store.now sheet.now }
-    ensures { OnOk result (out.new.items ≡ out.old.items ++ sheet_lines page (sheet_shown store.now sheet.now)) }
+    ensures { PutsAfter result out.old.items (sheet_lines page (sheet_shown store.now sheet.now)) out.new.items }
 {
     match sheet {
         Sheet::One(column) => {
@@ -154,11 +155,11 @@ fn put_sheet(
 /// page.
 ///
 /// A page has its own line, and for each column a line with its height, its natural height and how its glue is set, and one
-/// for each box, rule, float, note and mark with its top, all in scaled points. It fails only if there is no memory for the
-/// text, which may then have a part of the lines.
+/// for each box, rule, float, note and mark with its top, all in scaled points. If memory runs out, what stood in
+/// `out` is still there, and a front of the lines may follow.
 pub fn put_sent(out: &mut Vec<u8>, store: &Lists<Node>, s: &Sent) -> Result<(), AllocError>
     requires { IsPrintableSent store.now s.now }
-    ensures { OnOk result (out.new.items ≡ out.old.items ++ sent_lines (sent_shown store.now s.now)) }
+    ensures { PutsAfter result out.old.items (sent_lines (sent_shown store.now s.now)) out.new.items }
 {
     match s {
         Sent::Warn(warning) => put_warning(out, warning),

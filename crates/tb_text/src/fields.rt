@@ -1,38 +1,42 @@
 //! Fields of a line: appended to a text, or written from the last to the first into an array that ends with the line.
-ghost use Rattle.std.specs.Prelude.{◌≡◌, ◌≤◌, ◌++◌, ◌∷◌, ◌+◌, [], decimal, drop, length, OnOk};
+ghost use Rattle.std.specs.Prelude.{◌≡◌, ◌≤◌, ◌++◌, ◌∷◌, ◌+◌, [], decimal, drop, length};
 ghost use Rattle.tb_text.specs.Fields.{and_number, and_count, and_text};
+ghost use Rattle.tb_text.specs.Fronts.{PutsAfter};
 
 use crate::number::put_number;
 use itoa::write_digits;
 use std::alloc::AllocError;
 
-/// Appends bytes as they are. It fails only if there is no memory for them.
+/// Appends bytes as they are. If memory runs out, what stood in `out` is still there, and a front of the bytes may follow.
 pub fn put(out: &mut Vec<u8>, text: &[u8]) -> Result<(), AllocError>
-    ensures { OnOk result (out.new.items ≡ out.old.items ++ text.now) }
+    ensures { PutsAfter result out.old.items text.now out.new.items }
 {
     out.extend_from_slice(text)
 }
 
-/// Appends a text and a number in decimal. It fails only if there is no memory; a part may then be there.
+/// Appends a text and a number in decimal. If memory runs out, what stood in `out` is still there, and a front of the text may
+/// follow.
 pub fn put_counted(out: &mut Vec<u8>, text: &[u8], number: u64) -> Result<(), AllocError>
-    ensures { OnOk result (out.new.items ≡ out.old.items ++ (text.now ++ decimal number)) }
+    ensures { PutsAfter result out.old.items (text.now ++ decimal number) out.new.items }
 {
     put(out, text)?;
     put_number(out, i128::from(number))
 }
 
-/// Appends a space and a text. It fails only if there is no memory; a part may then be there.
+/// Appends a space and a text. If memory runs out, what stood in `out` is still there, and a front of the text may
+/// follow.
 pub fn put_text(out: &mut Vec<u8>, text: &[u8]) -> Result<(), AllocError>
-    ensures { OnOk result (out.new.items ≡ out.old.items ++ and_text text.now) }
+    ensures { PutsAfter result out.old.items (and_text text.now) out.new.items }
 {
     put(out, b" ")?;
     put(out, text)
 }
 
-/// Appends a space and a number. It fails only if there is no memory; a part may then be there.
+/// Appends a space and a number. If memory runs out, what stood in `out` is still there, and a front of the text may
+/// follow.
 #[inline]
 pub fn put_field(out: &mut Vec<u8>, number: i128) -> Result<(), AllocError>
-    ensures { OnOk result (out.new.items ≡ out.old.items ++ and_number number) }
+    ensures { PutsAfter result out.old.items (and_number number) out.new.items }
 {
     if number < 0 || number > i128::from(u64::MAX) {
         return put_any_field(out, number);
@@ -40,10 +44,11 @@ pub fn put_field(out: &mut Vec<u8>, number: i128) -> Result<(), AllocError>
     put_count(out, number as u64)
 }
 
-/// Appends a space and an amount in scaled points. It fails only if there is no memory; a part may then be there.
+/// Appends a space and an amount in scaled points. If memory runs out, what stood in `out` is still there, and a front of the
+/// text may follow.
 #[inline]
 pub fn put_amount(out: &mut Vec<u8>, amount: i64) -> Result<(), AllocError>
-    ensures { OnOk result (out.new.items ≡ out.old.items ++ and_number amount) }
+    ensures { PutsAfter result out.old.items (and_number amount) out.new.items }
 {
     if amount < 0 {
         return put_any_field(out, i128::from(amount));
@@ -55,24 +60,24 @@ pub fn put_amount(out: &mut Vec<u8>, amount: i64) -> Result<(), AllocError>
 #[cold]
 #[inline(never)]
 fn put_any_field(out: &mut Vec<u8>, number: i128) -> Result<(), AllocError>
-    ensures { OnOk result (out.new.items ≡ out.old.items ++ and_number number) }
+    ensures { PutsAfter result out.old.items (and_number number) out.new.items }
 {
     put(out, b" ")?;
     put_number(out, number)
 }
 
-/// Appends a space and a count. It fails only if there is no memory.
+/// Appends a space and a count. If memory runs out, what stood in `out` is still there, and a front of the text may follow.
 pub fn put_count(out: &mut Vec<u8>, count: u64) -> Result<(), AllocError>
-    ensures { OnOk result (out.new.items ≡ out.old.items ++ and_count count) }
+    ensures { PutsAfter result out.old.items (and_count count) out.new.items }
 {
     let mut field = [0; 21];
     let start = write_field(count, &mut field, 21);
     put(out, &field[start..])
 }
 
-/// Appends the end of a line. It fails only if there is no memory for it.
+/// Appends the end of a line. It fails only if there is no memory for it, and what stood in `out` is then still there.
 pub fn end_line(out: &mut Vec<u8>) -> Result<(), AllocError>
-    ensures { OnOk result (out.new.items ≡ out.old.items ++ 10 ∷ []) }
+    ensures { PutsAfter result out.old.items (10 ∷ []) out.new.items }
 {
     put(out, b"\n")
 }

@@ -1,5 +1,11 @@
 -- The parts of a line, one after another.
-use Rattle.std.proofs.Common.{◌≡◌, ℕ, List, ◌++◌, ap, ◌∙◌, append_assoc}
+use Rattle.std.proofs.Common.{◌≡◌, ℕ, List, ◌++◌, Result, Ok, Err, OnOk, ap, ◌∙◌, append_assoc}
+
+module _ {X E : Type 0} where
+  -- a text and another after it
+  pub on_joined : (r : Result X E) (old mid new a b c : List ℕ) → a ++ b ≡ c → mid ≡ old ++ a → OnOk r (new ≡ mid ++ b) → OnOk r (new ≡ old ++ c)
+  on_joined (Ok v) old mid new a b c e p q = q ∙ ap (λ m. m ++ b) p ∙ append_assoc old a b ∙ ap (λ t. old ++ t) e
+  on_joined (Err v) old mid new a b c e p q = tt
 
 -- two texts of four parts
 pub fours : (a b c d e f g h : List ℕ) → (a ++ b ++ c ++ d) ++ (e ++ f ++ g ++ h) ≡ a ++ b ++ c ++ d ++ e ++ f ++ g ++ h

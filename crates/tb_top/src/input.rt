@@ -65,9 +65,9 @@ impl Input for Vec<u8> {
 
 const PIECE: usize = 4096;
 
-/// Reads pieces of at most 4096 bytes into an empty input, to the end of the source or up to the piece with which more than
-/// 8388608 bytes were taken; whatever it returns, no more was taken. It fails if the source fails or memory runs out, and
-/// what `input` holds is open then.
+/// Reads pieces of at most 4096 bytes into an empty input, to the end of the source or until more than 8388608 bytes were
+/// taken, at most 4096 bytes more, whatever it returns. It fails if the source fails or memory runs out, and what `input`
+/// holds is open then.
 pub(crate) fn read_input<S: Source, I: Input>(
     source: &mut S,
     input: &mut I,

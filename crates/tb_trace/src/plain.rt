@@ -1,8 +1,9 @@
 //! Parts of a line whose numbers are not below 0, as those of most places are: each part is written at once.
-ghost use Rattle.std.specs.Prelude.{◌≡◌, ◌≤◌, ◌+◌, ◌++◌, drop, length, codes, OnOk, IfSome};
+ghost use Rattle.std.specs.Prelude.{◌≡◌, ◌≤◌, ◌+◌, ◌++◌, drop, length, codes, IfSome};
 ghost use Rattle.tb_text.specs.Fields.{and_count};
 ghost use Rattle.tb_trace.specs.Lines.{and_numbers};
 ghost use Rattle.tb_trace.specs.Plain.{stretch_text};
+ghost use Rattle.tb_text.specs.Fronts.{PutsAfter};
 
 use std::alloc::AllocError;
 use tb_text::{put, write_field, write_text};
@@ -40,10 +41,10 @@ pub(crate) fn put_plain_sums(
     stretch: Stretch,
     shrink: u64,
 ) -> Result<(), AllocError>
-    ensures { OnOk result (out.new.items ≡ out.old.items ++ (codes "try" ++ and_count line
+    ensures { PutsAfter result out.old.items (codes "try" ++ and_count line
         ++ (codes " t" ++ and_count total)
         ++ (codes " s" ++ stretch_text stretch)
-        ++ (codes " z" ++ and_count shrink))) }
+        ++ (codes " z" ++ and_count shrink)) out.new.items }
 {
     let mut text = [0; 160];
     let at = write_field(shrink, &mut text, 160);
@@ -95,10 +96,10 @@ pub(crate) fn put_plain_costs(
     penalty: u64,
     cost: u64,
 ) -> Result<(), AllocError>
-    ensures { OnOk result (out.new.items ≡ out.old.items ++ (codes " g" ++ and_count goal
+    ensures { PutsAfter result out.old.items (codes " g" ++ and_count goal
         ++ (codes " b" ++ and_count badness)
         ++ (codes " p" ++ and_count penalty)
-        ++ (codes " c" ++ and_count cost))) }
+        ++ (codes " c" ++ and_count cost)) out.new.items }
 {
     let mut text = [0; 92];
     let at = write_field(cost, &mut text, 92);

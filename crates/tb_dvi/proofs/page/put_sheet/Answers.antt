@@ -1,6 +1,11 @@
-use Rattle.std.proofs.Common.{rules, pos, [], ◌∷◌, FitsSigned, w64}
+use Rattle.std.proofs.Common.{rules, pos, [], ◌∷◌, sym, subst, OnErr, FitsSigned, w64}
+use Rattle.std.proofs.lemmas.Int.{to_z-of_z}
 use Rattle.std.proofs.lemmas.List.Elements.{All-cons}
 use Rattle.tb_dvi.specs.declared.page.Part.{Part}
+use Rattle.tb_column.specs.declared.Sheet.{Sheet}
+use Rattle.tb_column.specs.StoredColumns.{sheet_shown}
+use Rattle.tb_text.specs.Fronts.{PutsFront}
+use Rattle.tb_dvi.specs.File.{sheet_page, page_bytes}
 use Rattle.tb_dvi.specs.Page.{IsShowable}
 use Rattle.tb_dvi.proofs.PlacementLemmas.{column-showable}
 use Rattle.tb_dvi.proofs.page.put_sheet.Goals as goal
@@ -17,3 +22,11 @@ put_page-requires-clause-parts c =
     All-cons (IsShowable store) first (c.column_part.result ∷ c.column_part-in-Two.result ∷ []) tops
     (All-cons (IsShowable store) c.column_part.result (c.column_part-in-Two.result ∷ []) left
     (All-cons (IsShowable store) c.column_part-in-Two.result [] right (search rules)))
+
+pub returns-in-Two-clause-err : goal.returns-in-Two-clause-err
+returns-in-Two-clause-err c =
+    let at : FitsSigned w64 c.in-Two.at = search rules in
+    let last : FitsSigned w64 c.args.last = c.ranges.last in
+    let put = simp (to_z-of_z, c.unset.ensures, c.column_part.ensures, c.column_part-in-Two.ensures) at c.put_page.ensures.err in
+    subst (λ (s : Sheet). OnErr c.put_page.result (PutsFront c.args.out.now.items (page_bytes c.args.last (sheet_page c.args.number (sheet_shown c.args.store.now s))) c.put_page.new.out.items))
+    (sym c.in-Two.is) put

@@ -1,18 +1,27 @@
-use Rattle.std.proofs.Common.{◌++◌, append_assoc, FitsSigned, w64}
+use Rattle.std.proofs.Common.{FitsSigned, List, [], append_assoc, refl, subst, w64, ℕ, ◌++◌, ◌∷◌, ◌≡◌}
 use Rattle.std.specs.Int.{w128}
 use Rattle.std.proofs.lemmas.Int.{to_z-of_z}
-use Rattle.tb_text.specs.Fields.{and_number, line}
-use Rattle.tb_report.proofs.JoinedTexts.{on_joined}
+use Rattle.tb_text.specs.Fields.{and_number}
+use Rattle.tb_text.specs.Fronts.{PutsFront, PutsAfter}
+use Rattle.tb_text.proofs.FrontLemmas.{cut, fails, on_joined}
 use Rattle.tb_report.proofs.items.end_any_box.Goals as goal
+
+-- the parts, one after another
+joined : (a b d e : List ℕ) → a ++ (b ++ d ++ e) ≡ a ++ b ++ d ++ e
+joined a b d e = simp append_assoc
+
+pub returns-in_err-put_field : goal.returns-in_err-put_field
+returns-in_err-put_field c =
+    let ft : FitsSigned w128 c.args.top = c.ranges.top in
+    let fh : FitsSigned w64 c.args.height = c.ranges.height in
+    let fd : FitsSigned w64 c.args.depth = c.ranges.depth in
+    fails _ _ _ _ c.from_residual.ensures.0 (subst (λ (t : List ℕ). PutsFront c.args.out.now.items t c.put_field.new.out.items) (joined (and_number c.args.top) (and_number c.args.height) (and_number c.args.depth) (10 ∷ []))
+    (cut (and_number c.args.height ++ and_number c.args.depth ++ 10 ∷ []) (simp to_z-of_z at c.in_err-put_field.ensures)))
 
 pub returns : goal.returns
 returns c =
-    let t : FitsSigned w128 c.args.top = c.ranges.top in
-    let h : FitsSigned w64 c.args.height = c.ranges.height in
-    let d : FitsSigned w64 c.args.depth = c.ranges.depth in
-    let front = simp to_z-of_z at c.in_ok-put_field.ensures in
-    let back = simp to_z-of_z at c.end_sizes.ensures in
-    on_joined c.end_sizes.result c.args.out.now.items c.put_field.new.out.items c.end_sizes.new.out.items
-    (and_number c.args.top) (line (and_number c.args.height ++ and_number c.args.depth))
-    (line (and_number c.args.top ++ and_number c.args.height ++ and_number c.args.depth))
-    (simp append_assoc) front back
+    let ft : FitsSigned w128 c.args.top = c.ranges.top in
+    let fh : FitsSigned w64 c.args.height = c.ranges.height in
+    let fd : FitsSigned w64 c.args.depth = c.ranges.depth in
+    subst (λ (t : List ℕ). PutsAfter c.end_sizes.result c.args.out.now.items t c.end_sizes.new.out.items) (joined (and_number c.args.top) (and_number c.args.height) (and_number c.args.depth) (10 ∷ []))
+    (on_joined c.end_sizes.result c.args.out.now.items c.put_field.new.out.items c.end_sizes.new.out.items _ _ _ refl (simp to_z-of_z at c.in_ok-put_field.ensures) (simp to_z-of_z at c.end_sizes.ensures))

@@ -1,17 +1,27 @@
-use Rattle.std.proofs.Common.{rules, ◌++◌, append_assoc, FitsSigned, w64}
+use Rattle.std.proofs.Common.{FitsSigned, List, [], append_assoc, refl, subst, w64, ℕ, ◌++◌, ◌∷◌, ◌≡◌}
 use Rattle.std.specs.Int.{w128}
 use Rattle.std.proofs.lemmas.Int.{to_z-of_z}
-use Rattle.tb_text.specs.Fields.{and_number, line}
-use Rattle.tb_report.proofs.JoinedTexts.{on_joined}
+use Rattle.tb_text.specs.Fields.{and_number}
+use Rattle.tb_text.specs.Fronts.{PutsFront, PutsAfter}
+use Rattle.tb_text.proofs.FrontLemmas.{cut, fails, on_joined}
 use Rattle.tb_report.proofs.items.put_any_item.Goals as goal
+
+-- the parts, one after another
+joined : (a b d e f g : List ℕ) → a ++ b ++ (d ++ e ++ f ++ g) ≡ a ++ b ++ d ++ e ++ f ++ g
+joined a b d e f g = simp append_assoc
+
+pub returns-in_err-put_named : goal.returns-in_err-put_named
+returns-in_err-put_named c =
+    let ft : FitsSigned w128 c.args.top = c.ranges.top in
+    let fh : FitsSigned w64 c.args.height = c.ranges.height in
+    let fd : FitsSigned w64 c.args.depth = c.ranges.depth in
+    fails _ _ _ _ c.from_residual.ensures.0 (subst (λ (t : List ℕ). PutsFront c.args.out.now.items t c.put_named.new.out.items) (joined c.args.word.now c.args.name.now (and_number c.args.top) (and_number c.args.height) (and_number c.args.depth) (10 ∷ []))
+    (cut (and_number c.args.top ++ and_number c.args.height ++ and_number c.args.depth ++ 10 ∷ []) (simp c.as_bytes.ensures at c.in_err-put_named.ensures)))
 
 pub returns : goal.returns
 returns c =
-    let t : FitsSigned w128 c.args.top = c.ranges.top in
-    let h : FitsSigned w64 c.args.height = c.ranges.height in
-    let d : FitsSigned w64 c.args.depth = c.ranges.depth in
-    let back = simp to_z-of_z at c.end_box.ensures in
-    on_joined c.end_box.result c.args.out.now.items c.put_named.new.out.items c.end_box.new.out.items
-    (c.args.word.now ++ c.args.name.now) (line (and_number c.args.top ++ and_number c.args.height ++ and_number c.args.depth))
-    (line (c.args.word.now ++ c.args.name.now ++ and_number c.args.top ++ and_number c.args.height ++ and_number c.args.depth))
-    (simp append_assoc) (search rules) back
+    let ft : FitsSigned w128 c.args.top = c.ranges.top in
+    let fh : FitsSigned w64 c.args.height = c.ranges.height in
+    let fd : FitsSigned w64 c.args.depth = c.ranges.depth in
+    subst (λ (t : List ℕ). PutsAfter c.end_box.result c.args.out.now.items t c.end_box.new.out.items) (joined c.args.word.now c.args.name.now (and_number c.args.top) (and_number c.args.height) (and_number c.args.depth) (10 ∷ []))
+    (on_joined c.end_box.result c.args.out.now.items c.put_named.new.out.items c.end_box.new.out.items _ _ _ refl (simp c.as_bytes.ensures at c.in_ok-put_named.ensures) (simp to_z-of_z at c.end_box.ensures))

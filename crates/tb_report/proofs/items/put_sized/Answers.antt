@@ -1,17 +1,27 @@
-use Rattle.std.proofs.Common.{rules, ◌++◌, ◌∷◌, [], FitsSigned, w64}
+use Rattle.std.proofs.Common.{FitsSigned, List, [], append_assoc, refl, subst, w64, ℕ, ◌++◌, ◌∷◌, ◌≡◌}
 use Rattle.std.specs.Int.{w128}
 use Rattle.std.proofs.lemmas.Int.{to_z-of_z}
-use Rattle.tb_text.specs.Fields.{and_number, line}
-use Rattle.tb_report.proofs.JoinedTexts.{on_joined, line-three}
+use Rattle.tb_text.specs.Fields.{and_number}
+use Rattle.tb_text.specs.Fronts.{PutsFront, PutsAfter}
+use Rattle.tb_text.proofs.FrontLemmas.{cut, fails, on_joined}
 use Rattle.tb_report.proofs.items.put_sized.Goals as goal
+
+-- the parts, one after another
+joined : (a b d e f : List ℕ) → a ++ (b ++ d ++ e ++ f) ≡ a ++ b ++ d ++ e ++ f
+joined a b d e f = simp append_assoc
+
+pub returns-in_err-put : goal.returns-in_err-put
+returns-in_err-put c =
+    let ft : FitsSigned w128 c.args.top = c.ranges.top in
+    let fh : FitsSigned w64 c.args.height = c.ranges.height in
+    let fd : FitsSigned w64 c.args.depth = c.ranges.depth in
+    fails _ _ _ _ c.from_residual.ensures.0 (subst (λ (t : List ℕ). PutsFront c.args.out.now.items t c.put.new.out.items) (joined c.args.text.now (and_number c.args.top) (and_number c.args.height) (and_number c.args.depth) (10 ∷ []))
+    (cut (and_number c.args.top ++ and_number c.args.height ++ and_number c.args.depth ++ 10 ∷ []) c.in_err-put.ensures))
 
 pub returns : goal.returns
 returns c =
-    let t : FitsSigned w128 c.args.top = c.ranges.top in
-    let h : FitsSigned w64 c.args.height = c.ranges.height in
-    let d : FitsSigned w64 c.args.depth = c.ranges.depth in
-    let back = simp to_z-of_z at c.end_box.ensures in
-    on_joined c.end_box.result c.args.out.now.items c.put.new.out.items c.end_box.new.out.items
-    c.args.text.now (line (and_number c.args.top ++ and_number c.args.height ++ and_number c.args.depth))
-    (line (c.args.text.now ++ and_number c.args.top ++ and_number c.args.height ++ and_number c.args.depth))
-    (line-three c.args.text.now (and_number c.args.top) (and_number c.args.height) (and_number c.args.depth) (10 ∷ [])) (search rules) back
+    let ft : FitsSigned w128 c.args.top = c.ranges.top in
+    let fh : FitsSigned w64 c.args.height = c.ranges.height in
+    let fd : FitsSigned w64 c.args.depth = c.ranges.depth in
+    subst (λ (t : List ℕ). PutsAfter c.end_box.result c.args.out.now.items t c.end_box.new.out.items) (joined c.args.text.now (and_number c.args.top) (and_number c.args.height) (and_number c.args.depth) (10 ∷ []))
+    (on_joined c.end_box.result c.args.out.now.items c.put.new.out.items c.end_box.new.out.items _ _ _ refl c.in_ok-put.ensures (simp to_z-of_z at c.end_box.ensures))

@@ -1,6 +1,7 @@
 use Rattle.std.proofs.Common.{◌∙◌}
 use Rattle.tb_pool.specs.Lists.{list_at}
-use Rattle.tb_report.proofs.PrintLemmas.{begins, shares, node_fits, natural_fits, glue_fits, goes_on, ends}
+use Rattle.tb_report.proofs.PrintLemmas.{begins, shares, node_fits, natural_fits, glue_fits, stops, goes_on, ends}
+use Rattle.tb_text.proofs.FrontLemmas.{fails}
 use Rattle.tb_report.proofs.sheets.put_items.Goals as goal
 
 pub loop-node-init : goal.loop-node-init
@@ -23,7 +24,10 @@ pass-requires-clause-glue c = glue_fits _ _ _ _ _ _ _ _ (rw c.in-Some.ensures.st
 pub loop-node-preserved : goal.loop-node-preserved
 loop-node-preserved c =
     let so_far = rw c.in-Some.ensures.steps at c.loop-node.invariant.printing in
-    record { can_next = tt; is_finite = tt; printing = goes_on _ _ _ _ _ _ _ _ _ _ so_far c.in_ok-put_next.ensures c.pass.ensures.passed }
+    record { can_next = tt; is_finite = tt; printing = goes_on _ _ _ _ _ _ _ _ so_far _ _ c.in_ok-put_next.ensures c.pass.ensures.passed }
 
 pub returns : goal.returns
 returns c = ends _ _ _ _ _ _ (rw c.in-None.ensures.steps.0 at c.loop-node.invariant.printing)
+
+pub returns-in_err-put_next : goal.returns-in_err-put_next
+returns-in_err-put_next c = fails _ _ _ _ c.from_residual.ensures.0 (stops _ _ _ _ _ _ _ _ (rw c.in-Some.ensures.steps at c.loop-node.invariant.printing) _ c.in_err-put_next.ensures)

@@ -1,8 +1,7 @@
 use Rattle.std.proofs.Common.{[], ◌∷◌, ◌++◌, codes, rules, FitsSigned, w64}
 use Rattle.std.proofs.lemmas.Int.{to_z-of_z}
 use Rattle.tb_text.specs.Fields.{and_number, and_text, line}
-use Rattle.tb_report.proofs.JoinedTexts.{on_joined}
-use Rattle.tb_told.proofs.LineLemmas.{grown, count-line}
+use Rattle.tb_told.proofs.LineLemmas.{on_joined, grown, count-line}
 use Rattle.tb_told.specs.Lines.{verdict_text, count_text}
 use Rattle.tb_told.proofs.decisions.put_at_bottom.Goals as goal
 

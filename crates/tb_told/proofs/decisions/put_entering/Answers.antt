@@ -1,7 +1,6 @@
 use Rattle.std.proofs.Common.{[], ◌∷◌, ◌++◌, codes}
 use Rattle.tb_text.specs.Fields.{and_number, and_text, line}
-use Rattle.tb_report.proofs.JoinedTexts.{on_joined}
-use Rattle.tb_told.proofs.LineLemmas.{grown, blocked-line}
+use Rattle.tb_told.proofs.LineLemmas.{on_joined, grown, blocked-line}
 use Rattle.tb_told.specs.Lines.{verdict_text, blocker_text, count_text}
 use Rattle.tb_told.proofs.decisions.put_entering.Goals as goal
 

@@ -1,8 +1,7 @@
 use Rattle.std.proofs.Common.{◌++◌, codes, rules, FitsSigned, w64}
 use Rattle.std.proofs.lemmas.Int.{to_z-of_z}
 use Rattle.tb_text.specs.Fields.{and_number}
-use Rattle.tb_report.proofs.JoinedTexts.{on_joined}
-use Rattle.tb_told.proofs.LineLemmas.{fours}
+use Rattle.tb_told.proofs.LineLemmas.{on_joined, fours}
 use Rattle.tb_told.proofs.decisions.put_needs.Goals as goal
 
 pub returns : goal.returns

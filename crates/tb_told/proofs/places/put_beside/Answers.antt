@@ -1,8 +1,7 @@
 use Rattle.std.proofs.Common.{[], ◌∷◌, ◌++◌, codes}
 use Rattle.std.proofs.lemmas.Int.{to_z-of_z}
 use Rattle.tb_text.specs.Fields.{and_number, and_text, and_count, line}
-use Rattle.tb_report.proofs.JoinedTexts.{on_joined}
-use Rattle.tb_told.proofs.LineLemmas.{grown, note-line}
+use Rattle.tb_told.proofs.LineLemmas.{on_joined, grown, note-line}
 use Rattle.tb_report.specs.Lines.{side_text}
 use Rattle.tb_margin.specs.Margin.{note_height}
 use Rattle.tb_told.specs.Lines.{spot_text}

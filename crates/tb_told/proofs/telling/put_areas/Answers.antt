@@ -2,7 +2,7 @@ use Rattle.std.proofs.Common.{sym, ◌∙◌, FitsSigned, w64, rules}
 use Rattle.std.proofs.lemmas.Int.{to_z-of_z}
 use Rattle.tb_node.specs.declared.Where.TheVariants.{Top}
 use Rattle.tb_report.specs.Lines.{where_text}
-use Rattle.tb_report.proofs.JoinedTexts.{on_joined}
+use Rattle.tb_told.proofs.LineLemmas.{on_joined}
 use Rattle.tb_told.specs.AreaTold.{told_bottom, told_areas}
 use Rattle.tb_told.specs.Lines.{top_line, goes_line, told_lines}
 use Rattle.tb_told.proofs.TellingLemmas.{top-goes, top-fails}

@@ -1,6 +1,6 @@
 use Rattle.std.proofs.lemmas.Int.{to_z-of_z}
 use Rattle.tb_report.specs.Lines.{where_text}
-use Rattle.tb_report.proofs.JoinedTexts.{on_joined}
+use Rattle.tb_told.proofs.LineLemmas.{on_joined}
 use Rattle.tb_told.specs.AreaTold.{told_bottom}
 use Rattle.tb_told.specs.Lines.{bottom_line, goes_line, told_lines}
 use Rattle.tb_told.proofs.TellingLemmas.{bottom-lines}

@@ -4,7 +4,7 @@ use Rattle.std.proofs.lemmas.Int.{to_z-of_z}
 use Rattle.tb_scaled.specs.Scaled.{max_ℤ}
 use Rattle.tb_node.specs.declared.Where.TheVariants.{Deferred}
 use Rattle.tb_report.specs.Lines.{where_text}
-use Rattle.tb_report.proofs.JoinedTexts.{on_joined}
+use Rattle.tb_told.proofs.LineLemmas.{on_joined}
 use Rattle.tb_area.specs.Area.{text_minimum}
 use Rattle.tb_told.specs.AreaTold.{told_column, told_call}
 use Rattle.tb_told.specs.Lines.{enter_line, goes_line, told_lines}

@@ -3,7 +3,7 @@ use Rattle.std.specs.Prelude.{is_some}
 use Rattle.std.proofs.lemmas.Int.{to_z-of_z}
 use Rattle.tb_node.specs.declared.Where.TheVariants.{Here}
 use Rattle.tb_report.specs.Lines.{where_text}
-use Rattle.tb_report.proofs.JoinedTexts.{on_joined}
+use Rattle.tb_told.proofs.LineLemmas.{on_joined}
 use Rattle.tb_told.specs.AreaTold.{told_bottom, told_areas, told_column}
 use Rattle.tb_told.specs.Lines.{here_line, goes_line, told_lines}
 use Rattle.tb_told.proofs.TestedLemmas.{first_is}

@@ -1,6 +1,6 @@
 use Rattle.std.proofs.Common.{◌++◌, take, sym, ap, ◌∙◌, append-nil}
 use Rattle.tb_report.specs.Lines.{where_text}
-use Rattle.tb_report.proofs.JoinedTexts.{on_joined}
+use Rattle.tb_told.proofs.LineLemmas.{on_joined}
 use Rattle.tb_float.specs.Lists.{floats_of}
 use Rattle.tb_told.specs.AreaTold.{told_wide}
 use Rattle.tb_told.specs.Lines.{wide_line, goes_line, told_lines}

@@ -11,7 +11,7 @@ returns-clause-ok c =
     let w = c.args.self.now in
     let p = sheet_page c.args.number (sheet_shown c.args.store.now c.args.sheet.now) in
     let last : FitsSigned w64 w.last = search rules in
-    let wrote = simp to_z-of_z at c.in_ok-put_sheet.ensures in
+    let wrote = simp to_z-of_z at c.in_ok-put_sheet.ensures.bytes in
     let size : c.len.result - c.len-before.result ≡ length (page_bytes w.last p) =
     omega (arith, c.len.ensures, c.len-before.ensures, c.put_sheet.new.out.ok.0, c.args.out.now.ok.0, appended c.args.out.now.items c.put_sheet.new.out.items (page_bytes w.last p) wrote.0) in
     let any : nat_lt 46 (c.len.result - c.len-before.result) ≡ nat_lt 0 (length p.placed) = ap (λ n. nat_lt 46 n) size ∙ shows_any w.last p in
