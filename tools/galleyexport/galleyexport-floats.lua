@@ -9,6 +9,7 @@ local FLOAT = luatexbase.new_attribute("gx@float")     -- the number of the floa
 local SIDE = luatexbase.new_attribute("gx@side")       -- of a marginal note's two boxes: LEFT or RIGHT
 local LEFT, RIGHT = 1, 2
 
+local BANG = 16                                        -- the bit of a float's places that is set where it has no !
 local OTHER_CLASS = 26                                 -- of a float whose type is none of LaTeX's powers of two
 local ORDERS = { [0] = "", "sfil", "sfil", "sfill", "sfilll" }
 
@@ -24,11 +25,27 @@ local function new(float, name)
   return float
 end
 
--- The float, title or marginal note whose box this node is; for a note also "left" or "right".
+-- The float, title or marginal note whose box this node is; for a note also "left" or "right". Nothing for nil: after
+-- an error a box that a macro names may be void, and LuaTeX ends at once if `node` is asked about nil.
 function M.of(n)
+  if not n then return nil end
   local float = by_number[node.get_attribute(n, FLOAT) or 0]
   local side = node.get_attribute(n, SIDE)
   return float, side and (side == LEFT and "left" or "right")
+end
+
+-- The height and depth of a box. A void one counts as empty: the page builder meets its penalties all the same.
+local function size_of(b, what)
+  if b then return b.height, b.depth end
+  log.lost(what .. " whose box is void (its sizes are 0)")
+  return 0, 0
+end
+
+-- Puts the number of a float, title or note on its box, and the side on that of a note.
+local function number(b, float, side)
+  if not b then return end
+  node.set_attribute(b, FLOAT, float.number)
+  if side then node.set_attribute(b, SIDE, side) end
 end
 
 -- A float is about to be handed to the page builder. `count` is its type times 32, plus a bit for each place.
@@ -38,11 +55,12 @@ function M.float(box, count, double, captype, no_break)
   if M.of(b) then return end
   local g = tex.parskip
   local name = nodes.clean(captype)
+  local height, depth = size_of(b, "a float")
   local float = new({
-    kind = "float", type = count // 32, places = count % 32, double = double, height = b.height, depth = b.depth,
+    kind = "float", type = count // 32, places = count % 32, double = double, height = height, depth = depth,
     parskip = string.format("%d plus %d%s minus %d", g.width, g.stretch, ORDERS[g.stretch_order], g.shrink),
     no_break = no_break, place = log.here() }, name == "" and "float" or name)
-  node.set_attribute(b, FLOAT, float.number)
+  number(b, float)
   M.queue[#M.queue + 1] = float
 end
 
@@ -50,21 +68,21 @@ end
 function M.margin(left, right, no_break)
   local l, r = tex.box[left], tex.box[right]
   if M.of(r) then return end
-  local note = new({ kind = "margin", left = { l.height, l.depth }, right = { r.height, r.depth },
+  local what = "a marginal note"
+  local note = new({ kind = "margin", left = { size_of(l, what) }, right = { size_of(r, what) },
     no_break = no_break, place = log.here() }, "margin")
-  for side, box in pairs { [LEFT] = l, [RIGHT] = r } do
-    node.set_attribute(box, FLOAT, note.number)
-    node.set_attribute(box, SIDE, side)
-  end
+  number(l, note, LEFT)
+  number(r, note, RIGHT)
   M.queue[#M.queue + 1] = note
 end
 
 local function add_title(box, height)
   local b = tex.box[box]
   if M.of(b) then return end
+  if not b then return log.lost("a box over both columns that is void (it is left out)") end
   if height ~= b.height then log.lost("a box over both columns that takes other room than its height") end
   local title = new({ kind = "title", height = math.max(height, 0) }, "title")
-  node.set_attribute(b, FLOAT, title.number)
+  number(b, title)
   nodes.add { kind = "title", float = title }
 end
 
@@ -92,6 +110,12 @@ function M.stands(box, area)
   if float then float.area = area end
 end
 
+-- A float waits, and LaTeX warns if it may go into the text alone: which one it is stands before that in the log.
+function M.waits(box, places)
+  local float = M.of(tex.box[box])
+  if float and places % BANG == 1 then texio.write_nl("log", "galleyexport: waits " .. float.name) end
+end
+
 -- ---- \suppressfloats, and classes that set a count to 0, at a chapter say
 
 local AREA_OF_COUNT = { ["@colnum"] = "", ["@topnum"] = "t", ["@botnum"] = "b" }
@@ -110,7 +134,6 @@ end
 
 -- ---- Lines of a galley
 
-local BANG = 16                                        -- the bit is set where the float has no !
 local PLACE_BITS = { { 1, "h" }, { 2, "t" }, { 4, "b" }, { 8, "p" } }
 
 local function places(float)

@@ -4,6 +4,7 @@ local log = require("galleyexport-log")
 local nodes = require("galleyexport-nodes")
 local floats = require("galleyexport-floats")
 local parameters = require("galleyexport-parameters")
+local sides = require("galleyexport-sides")
 
 local M = {}
 
@@ -167,9 +168,11 @@ end
 
 -- A galley has no word for a box over both columns. It is called as a float on a page of its own before, whose boxes
 -- are named skip; the float is then the first that the next page takes, and all below it stands as LaTeX has it.
-local function put_titles(part, put, titles)
+local function put_titles(part, stretch, put)
+  local titles = titles_at(stretch.first, stretch.last)
   if #titles == 0 then return end
   part.titled = part.titled or counts.boxes == 0
+  stretch.titled = true
   local name = titles[1].float.name
   put("# a box over both columns: called on a page of its own before")
   put("box skip." .. name .. ".1 0 0")
@@ -222,7 +225,7 @@ end
 -- Puts what stands between two clears. `ends_part`: the clear that ends it ends the galley too.
 local function put_stretch(part, stretch, ends_part)
   local function put(line) part.lines[#part.lines + 1] = line end
-  put_titles(part, put, titles_at(stretch.first, stretch.last))
+  put_titles(part, stretch, put)
   local last_clear = ends_part and stretch.last or math.huge
   local k = stretch.first
   while k <= stretch.last do k = put_record(part, put, k, last_clear) end
@@ -243,13 +246,14 @@ local function stretches()
   return out
 end
 
--- The galleys: stretches whose pages have the same measures.
-local function parts()
-  local out, values, two = {}, nil, two_columns
+-- The galleys: stretches whose pages have the same measures, and follow one another as odd and even ones.
+local function parts(pages)
+  local out, values, two, jumps = {}, nil, two_columns, sides.jumps(pages)
   for k, stretch in ipairs(stretches()) do
     local own = parameters.of_part(k - 1)
     local part = out[#out]
-    if not part or (own and values and parameters.differ(own, values)) then
+    local turns = jumps and (jumps[k - 1] or #titles_at(stretch.first, stretch.last) > 0)
+    if not part or turns or (own and values and parameters.differ(own, values)) then
       part = { lines = {}, classes = {}, stretches = {}, two_columns = two, first_clear = k - 1 }
       out[#out + 1] = part
     end
@@ -259,18 +263,6 @@ local function parts()
     if stretch.columns then two = stretch.columns == "twocolumn" end
   end
   return out
-end
-
--- Marginal notes change sides by the page's number where `mparswitch` is on: a part whose first page is even in the
--- document gets a page of its own before.
-local function set_parity(part, pages)
-  if parameters.value(part.values, "mparswitch") ~= "on" or counts.margins == 0 then return end
-  for _, page in ipairs(pages) do
-    if page.clears >= part.first_clear then
-      part.even = page.number % 2 == 0
-      return
-    end
-  end
 end
 
 -- A galley that is longer than the program takes is written all the same, and told.
@@ -293,20 +285,27 @@ local function write_part(part, path, title)
   for _, line in ipairs(parameters.lines(part.values)) do put(line) end
   for _, line in ipairs(parameters.class_lines(part.classes)) do put(line) end
   if part.two_columns then put("twocolumn") end
-  for k = 1, part.start_notes do put("note start." .. k) end
-  if part.even then
-    put("box skip.even 0 0")
+  for column = 1, part.even and (part.two_columns and 2 or 1) or 0 do
+    put("box skip.even." .. column .. " 0 0")
     put("newpage")
   end
+  for k = 1, part.start_notes do put("note start." .. k) end
   for _, line in ipairs(part.lines) do put(line) end
   put("end")
   out:close()
 end
 
+-- How many whatsits a part's first page begins with: those that the class left, or the one of the clear before. Below a
+-- box over both columns one stands already.
+local function notes_at_start(part, is_first)
+  if is_first then return part.titled and 0 or start_notes end
+  return part.stretches[1].titled and 0 or 1
+end
+
 -- Writes all galleys of the document. Gives their number, and the counts of what stands in them.
 function M.write(job, pages)
   parameters.settle()
-  local list = parts()
+  local list = parts(pages)
   for _, part in ipairs(list) do
     part.values = part.values or parameters.whole()
     for k, stretch in ipairs(part.stretches) do put_stretch(part, stretch, k == #part.stretches) end
@@ -314,8 +313,8 @@ function M.write(job, pages)
   parameters.settle_parskip()
   for k = queued + 1, #floats.queue do log.lost("a float that never reached the page builder", floats.queue[k].place) end
   for k, part in ipairs(list) do
-    set_parity(part, pages)
-    part.start_notes = k == 1 and not part.titled and start_notes or 0
+    sides.choose(part, sides.pages_of(part, list[k + 1], pages))
+    part.start_notes = notes_at_start(part, k == 1)
     local title = string.format("%s%s, written by galleyexport from %s", job,
       #list > 1 and string.format(", part %d of %d", k, #list) or "", status.banner:sub(1, 60))
     write_part(part, job .. (k > 1 and "." .. k or "") .. ".galley", title)

@@ -6,7 +6,7 @@ local log = require("galleyexport-log")
 local M = {}
 
 local MAX_DIMEN = 1073741823
-local FOOTNOTE_RULE = "-196608 26214 170394"   -- a kern, the rule's height, a kern: the only one that a galley has
+local FOOTNOTE_RULE = "-196608 26214 170394"   -- room above, the rule's height, room below: the only one of a galley
 local ORDERS = { [0] = "", "sfil", "sfil", "sfill", "sfilll" }
 
 -- In the order of the galley: name, form, least and greatest value. `part`: a change begins a new galley.
@@ -44,6 +44,31 @@ function M.document(name, value) own[name] = value end
 -- The columns to come stand after so many clears.
 function M.enter(clears) part = clears end
 function M.current() return part end
+
+-- ---- Changes by the output routine
+
+-- The width of glue and the dimensions by which the page builder makes a page.
+local PAGE_BUILDER = {
+  topskip = function() return tex.topskip.width end,
+  baselineskip = function() return tex.baselineskip.width end,
+  textheight = function() return tex.dimen.textheight end,
+  ["@maxdepth"] = function() return tex.dimen["@maxdepth"] end,
+}
+local seen = {}        -- their values when they were looked at last
+
+-- Looks at what the page builder goes by. What the output routine changed (`by_routine`) holds from the first node that
+-- it returned, which may be anywhere in a galley. A galley sets a parameter once, so the log names the change.
+function M.watch(by_routine)
+  for name, value in pairs(PAGE_BUILDER) do
+    local now = value()
+    if by_routine and seen[name] and seen[name] ~= now then
+      log.lost(string.format("%s, which the output routine changes from %d to %d", name, seen[name], now))
+    end
+    seen[name] = now
+  end
+end
+
+-- ---- Votes
 
 local function add_vote(name, value)
   votes[part] = votes[part] or {}
@@ -85,16 +110,20 @@ function M.nothing(box)
   tex.sprint(-2, word)
 end
 
--- Prints the sizes of what \footnoterule puts above the footnotes.
+-- Prints the sizes of what \footnoterule puts above the footnotes: the sum of what stands before the rule, its height,
+-- and the sum of what stands after it; `nothing` for nothing at all. Glue that stretches or shrinks is told.
 function M.rule(box)
-  local sizes = {}
+  local above, height, below, flexible = 0, nil, 0, ""
   for n in node.traverse(tex.box[box] and tex.box[box].head) do
     local kind = node.type(n.id)
-    if kind == "kern" then sizes[#sizes + 1] = n.kern
-    elseif kind == "glue" then sizes[#sizes + 1] = n.width
-    elseif n.height then sizes[#sizes + 1] = n.height + n.depth end
+    local room = kind == "kern" and n.kern or kind == "glue" and n.width or n.height and n.height + n.depth or 0
+    if kind == "glue" and (n.stretch ~= 0 or n.shrink ~= 0) then flexible = " with glue that stretches or shrinks" end
+    if height then below = below + room
+    elseif n.height and (room ~= 0 or kind == "rule") then height = room
+    else above = above + room end
   end
-  tex.sprint(-2, table.concat(sizes, " "))
+  local sizes = (height or above ~= 0) and string.format("%d %d %d", above, height or 0, below) or "nothing"
+  tex.sprint(-2, sizes .. flexible)
 end
 
 -- ---- What the page builder met in the nodes themselves
@@ -208,7 +237,7 @@ local FORMS = {
   end,
   rule = function(_, value)
     if first_foot and value ~= FOOTNOTE_RULE then
-      lost(string.format("the footnote rule %s (a galley's is %s)", value == "" and "of nothing" or value, FOOTNOTE_RULE))
+      lost(string.format("the footnote rule %s (a galley's is %s)", value, FOOTNOTE_RULE))
     end
   end,
 }

@@ -4,6 +4,7 @@
 --   galleyexport-floats       floats, marginal notes, boxes over both columns
 --   galleyexport-parameters   parameters, and the classes of insertions
 --   galleyexport-pages        the columns and pages that LaTeX made
+--   galleyexport-sides        the sides of marginal notes, by LaTeX's pages
 --   galleyexport-galley       records as the lines of galleys
 -- The galley is written when the document ends, since a float's place and most parameters are known late.
 
@@ -25,16 +26,15 @@ local M = {
 -- The fault that stopped the export. The document itself goes on.
 local fault
 
--- Does what a macro asks. A fault in it is told once, and no galley is written then.
+-- Does what a macro asks. A fault in it is told once, as a warning, and no galley is written then.
 function M.call(what)
   if fault then return end
   local done, message = xpcall(what, debug.traceback)
   if done then return end
   fault = message
   texio.write_nl("log", "galleyexport: " .. message)
-  tex.error("Package galleyexport Error: the galley of this document can't be written", {
-    "The export stopped at this line. The pages of the document are not touched;",
-    "the log has where the fault came." })
+  texio.write_nl("term and log", "Package galleyexport Warning: the export stopped at line " .. status.linenumber
+    .. ", so no galley is written; the log has the fault.\n")
 end
 
 -- The page builder is about to run, for the reason `info`.
@@ -42,9 +42,11 @@ local function before_page_builder(info)
   M.call(function()
     if info == "after_output" then
       M.floats.suppressed(false)
+      M.parameters.watch(true)
       M.nodes.skip_routine()
     else
       M.floats.suppressed(true)
+      M.parameters.watch(false)
       M.parameters.enter(M.nodes.clears)
       M.floats.titles()
       M.nodes.take()
@@ -59,17 +61,23 @@ function M.begin(two_columns)
   luatexbase.add_to_callback("buildpage_filter", before_page_builder, "galleyexport")
 end
 
+-- The document's first text may come: from here on a count of floats that becomes 0 is a suppression.
+function M.begun()
+  M.floats.suppressed(false)
+end
+
 -- Each page is told in the log, between the places that TeX weighs for it.
 function M.trace()
   M.pages.traced = true
   texio.write_nl("log", "galleyexport: trace")
 end
 
--- The document has ended: all files are written.
+-- The document has ended: all files are written. A name with spaces has quotes round it in TeX, and none in a folder.
 function M.finish()
-  local parts, counts = M.galley.write(tex.jobname, M.pages.list)
-  M.pages.write(tex.jobname .. ".pages")
-  M.log.write(tex.jobname .. ".galleylog", string.format(
+  local job = tex.jobname:gsub('"', "")
+  local parts, counts = M.galley.write(job, M.pages.list)
+  M.pages.write(job .. ".pages")
+  M.log.write(job .. ".galleylog", string.format(
     "%d records, %d boxes, %d footnotes, %d floats, %d marginal notes, %d pages, %d parts",
     #M.nodes.records, counts.boxes, counts.footnotes, counts.floats, counts.margins, #M.pages.list, parts))
 end

@@ -1,6 +1,8 @@
 """A column of a page as a drawing: its frame, items, the room between them, and what was weighed."""
+import textwrap
+
 from . import galley as galleys
-from . import svg
+from . import reasons, svg
 from .places import FORCED
 
 PT = 65536.0
@@ -8,6 +10,11 @@ LANE = 46.0              # the width of the lane at the right where places are t
 SMALLEST_GAP = 0.05
 SHOWN_BEYOND = 3         # so many places past a column's end are told
 HOPELESS = '100000'      # the cost of a place where the page would be far too short: a mark without its cost
+STRIP = 24.0             # the width of the strip at the right of boxes where penalties stand
+NO_BREAK = 10000         # a penalty that forbids a break: a bar without its number
+LETTER = 0.56            # the width of a letter, of the size of the type
+LONGEST_WORDS = 52       # so many letters has a name that galleyexport cut
+ELLIPSIS = '\u2026'
 
 
 def badness(wanted, available):
@@ -25,11 +32,21 @@ def badness(wanted, available):
     return 10000 if r > 1290 else (r * r * r + 131072) // 262144
 
 
+def cut(text, letters):
+    """The words that fit into so many letters; with an ellipsis, if these are not all."""
+    if len(text) <= letters:
+        return text
+    kept = text[:max(letters - 1, 1)]
+    return (kept[:kept.rfind(' ')] if ' ' in kept else kept) + ELLIPSIS
+
+
 def words(name):
-    """The words in a name that galleyexport made (`b12.The-line`), and its number; else the name and ''."""
+    """The words in a name that galleyexport made (`b12.The-line`), and its number; else the name and ''. The last word
+    of a name that was cut is left out, since it may be a part of one."""
     number, point, text = name.partition('.')
     if point and text and number[:1] in 'bvw' and number[1:].isdigit():
-        return text.replace('-', ' ').strip(), number
+        text = text.replace('-', ' ').strip()
+        return cut(text, LONGEST_WORDS - 1) if len(text) >= LONGEST_WORDS else text, number
     return name, ''
 
 
@@ -49,18 +66,26 @@ def draw_float(drawing, item, x, y, width):
                         'float%d' % number)
 
 
-class ColumnDrawing:
-    """Draws one column at (x, y), `width` points wide, with a lane at its right for the places that were weighed."""
+def mark_first(drawing, x, y, width, height):
+    """Marks the first difference from LaTeX's page, or from the report's."""
+    drawing.rect(x, y, width, height, 'first', radius=2)
+    drawing.rect(x + width - 62, y - 9, 62, 9, 'plate')
+    drawing.text(x + width - 1, y - 2, 'first difference', 6.4, 'alarm', 'end')
 
-    def __init__(self, drawing, column, x, y, width, entries, lane=0.0):
-        self.drawing, self.column, self.entries = drawing, column, entries
+
+class ColumnDrawing:
+    """Draws one column at (x, y), `width` points wide, with a lane at its right for the places that were weighed. The
+    item `marked` is that with the first difference from LaTeX's page."""
+
+    def __init__(self, drawing, column, x, y, width, entries, lane=0.0, marked=None):
+        self.drawing, self.column, self.entries, self.marked = drawing, column, entries, marked
         self.x, self.y, self.width, self.lane = x, y, width, lane
         self.height = column.height / PT
-        self.spring_x, self.box_x, self.box_width = x + 5, x + 11, width - 13
+        self.spring_x, self.box_x, self.box_width = x + 5, x + 11, width - 13 - (STRIP if entries else 0)
         self.live = {'stretch': 'stretch', 'shrink': 'shrink'}.get(column.sign, 'still')
-        self.feet = column.footnotes_top()
+        self.feet, self.baselines = column.footnotes_top(), []
 
-    def draw(self, marks, passes):
+    def draw(self, marks, passes, galley=None):
         self._feet_ground()
         bottom, begun = 0.0, False
         for item in self.column.items:
@@ -74,10 +99,18 @@ class ColumnDrawing:
                 reach = item.bottom() / PT
                 bottom = max(bottom, reach) if reach > bottom - 40 else reach
                 begun = True
+        self.drawing.lines(self.box_x, self.box_x + self.box_width, self.baselines, 'baseline')
         self._foot(bottom, begun)
         self.drawing.rect(self.x, self.y, self.width, self.height, 'frame')
         self._label(passes)
-        self._places(marks)
+        ends = reasons.of_column(marks, galley) if galley else []
+        self._ends(ends)
+        self._places(marks, '\n'.join(ends))
+        for item in self.column.items:
+            if item is self.marked:
+                shift = item.number if item.kind == 'margin' else 0
+                mark_first(self.drawing, self.x - 3, self.y + (item.top + shift) / PT - 2, self.width + 6,
+                           (item.height + item.depth) / PT + 4)
 
     # ---- Items
 
@@ -92,7 +125,7 @@ class ColumnDrawing:
     def _item(self, item):
         top = self.y + item.top / PT
         if item.kind == 'float':
-            draw_float(self.drawing, item, self.box_x, top, self.box_width)
+            draw_float(self.drawing, item, self.box_x, top, self.width - 13)
         elif item.kind == 'footrule':
             middle = top + item.height / PT / 2
             self.drawing.line(self.box_x, middle, self.box_x + self.box_width * 0.4, middle, 'footrule', width=0.9)
@@ -110,14 +143,15 @@ class ColumnDrawing:
         self.drawing.rect(self.box_x, top, self.box_width, height + depth, 'box',
                           '%s  top %.2fpt  height %.2fpt  depth %.2fpt' % (item.name, item.top / PT, height, depth))
         if depth > SMALLEST_GAP and height > SMALLEST_GAP:
-            self.drawing.line(self.box_x, top + height, self.box_x + self.box_width, top + height, 'baseline')
+            self.baselines.append(top + height)
         text, number = words(item.name)
         size = 6.6 if height + depth >= 5.2 else max(3.0, (height + depth) * 1.2)
         base = top + (height - 0.2 if height + depth < 14 else size + 1.5)
-        room = int((self.box_width - 5 - len(number) * 3.0) / (size * 0.55))
-        self.drawing.text(self.box_x + 3, base, text[:max(room, 3)], size, 'words')
+        small = min(size, 5.4)
+        room = int((self.box_width - 5 - len(number) * small * 0.62) / (size * LETTER))
+        self.drawing.text(self.box_x + 3, base, cut(text, max(room, 3)), size, 'words')
         if number:
-            self.drawing.text(self.box_x + self.box_width - 2, base, number, 4.6, 'label', 'end')
+            self.drawing.text(self.box_x + self.box_width - 2, base, number, small, 'label', 'end')
 
     def _margin(self, item):
         """A marginal note stands with its first baseline at its line's, moved by its shift."""
@@ -128,7 +162,7 @@ class ColumnDrawing:
         self.drawing.rect(x, base - height, 56, height + depth, 'margin', 'marginal note %s, moved down by %.2fpt' % (
             item.name, shift), radius=1.5)
         self.drawing.text(x + 3, base - height + min(height + depth, 8) - 1.5,
-                          words(item.name)[0][:14] + (' moved' if shift else ''), 5.5, 'aside')
+                          cut(words(item.name)[0], 14) + (' moved' if shift else ''), 5.5, 'aside')
         self.drawing.line(x + 56 if left else x, base, self.x if left else self.x + self.width, base, 'leader')
 
     # ---- Room between items
@@ -146,7 +180,7 @@ class ColumnDrawing:
             else:
                 self.drawing.line(self.spring_x, self.y + bottom, self.spring_x, self.y + top, shape + ' tick', tip)
             if gap >= 7.0 and (bottom > 0 or gap > 14):
-                self.drawing.text(self.box_x, self.y + (bottom + top) / 2 + 1.7, '%.1f' % gap, 4.6, shape)
+                self.drawing.text(self.box_x, self.y + (bottom + top) / 2 + 1.7, '%.1f' % gap, 5.2, shape)
         elif gap < -SMALLEST_GAP and begun:
             self.drawing.line(self.spring_x - 3, self.y + top, self.spring_x + 3, self.y + top, 'awful')
         if entry and begun and bottom > 0:
@@ -162,10 +196,14 @@ class ColumnDrawing:
 
     def _penalty(self, entry, y):
         found = galleys.penalties(entry)
-        if found:
-            value = found[0] if len(found) > 1 and found[-1] == 10000 else found[-1]
-            self.drawing.text(self.x + self.width - 3, self.y + y + 1.5, str(value), 4.4,
-                              'hinders' if value > 0 else 'invites', 'end')
+        if not found:
+            return
+        value = found[0] if len(found) > 1 and found[-1] == NO_BREAK else found[-1]
+        right, tip = self.x + self.width - 3, 'penalty %d' % value
+        if value >= NO_BREAK:
+            self.drawing.line(right - 7, self.y + y, right, self.y + y, 'forbids', tip + ': no break here')
+        else:
+            self.drawing.text(right, self.y + y + 2, str(value), 5.8, 'hinders' if value > 0 else 'invites', 'end', tip)
 
     def _foot(self, bottom, begun):
         """The room below the last item."""
@@ -175,7 +213,7 @@ class ColumnDrawing:
             self.drawing.spring(self.spring_x, self.y + bottom, self.y + self.height, shape,
                                 "room %.2fpt to the column's foot" % left)
             if left > 14:
-                self.drawing.text(self.box_x, self.y + (bottom + self.height) / 2 + 1.7, '%.1f' % left, 4.6, shape)
+                self.drawing.text(self.box_x, self.y + (bottom + self.height) / 2 + 1.7, '%.1f' % left, 5.2, shape)
 
     # ---- What is told of the whole column
 
@@ -201,7 +239,15 @@ class ColumnDrawing:
             label += '   built %d times' % passes
         self.drawing.text(self.x, foot, label, 5.6, 'quiet')
 
-    def _places(self, marks):
+    def _ends(self, sentences):
+        """Why the column ends here, below its label."""
+        y = self.y + self.height + self.column.overfull / PT + 9
+        letters = int((self.width + self.lane) / (5.6 * 0.5))
+        for line in [line for sentence in sentences for line in textwrap.wrap(sentence, letters)]:
+            y += 7.6
+            self.drawing.text(self.x, y, line, 5.6, 'words')
+
+    def _places(self, marks, why):
         """The places that were weighed, at the right edge: each with its cost, and where the column ends."""
         x, beyond, told = self.x + self.width, 0, -PT
         end = next((mark.y / PT for mark in marks if mark.ends), -PT)
@@ -215,14 +261,15 @@ class ColumnDrawing:
             tip = 'galley line %d: total %.2fpt, goal %.2fpt, badness %s, penalty %d, cost %s' % (
                 attempt.line, attempt.total / PT, attempt.goal / PT, attempt.badness, attempt.penalty, attempt.cost)
             if mark.ends:
+                tip += '\n' + why
                 self.drawing.line(x, self.y + y + 1.2, x + 9, self.y + y + 1.2, 'ends', tip, 1.2)
-                self.drawing.text(x + 11, self.y + y + 2.7, 'ends: ' + self._cost(attempt), 4.4, 'ends', tip=tip)
+                self.drawing.text(x + 11, self.y + y + 2.9, 'ends: ' + self._cost(attempt), 5.0, 'ends', tip=tip)
             else:
                 shape = 'awful' if attempt.cost == '*' else 'best' if attempt.best else 'tried'
                 self.drawing.line(x, self.y + y + 1.2, x + 4, self.y + y + 1.2, shape + ' thin', tip)
-                if attempt.cost != HOPELESS and abs(y - end) > 4 and abs(y - told) > 4:
+                if attempt.cost != HOPELESS and abs(y - end) > 5 and abs(y - told) > 5:
                     told = y
-                    self.drawing.text(x + 6, self.y + y + 2.7, self._cost(attempt), 4.4, shape, tip=tip)
+                    self.drawing.text(x + 6, self.y + y + 2.9, self._cost(attempt), 5.0, shape, tip=tip)
 
     @staticmethod
     def _cost(attempt):

@@ -5,14 +5,15 @@ import os
 import sys
 from collections import Counter
 from dataclasses import dataclass
+from itertools import zip_longest
 
-from . import report
+from . import document, report
 
 USAGE = """Compares the pages that LaTeX made of a document (NAME.pages, by galleyexport) with the reports on its
-galleys. A line for each page tells whether it agrees in its contents (the same boxes, rules, footnotes, floats and
-notes in the same order and column, floats in the same area), in the natural height and glue set of each column, and in
-every place; then come the totals and the first difference. Pages that the exporter put in are left out. The exit status
-is 0 if all agrees, 1 if anything differs, 2 if a file can't be read."""
+galleys. A line for each page that differs tells whether it agrees in its contents (the same boxes, rules, footnotes,
+floats and notes in the same order and column, floats in the same area), in the natural height and glue set of each
+column, and in every place; then come the totals and the first difference. Pages that the exporter put in are left out.
+The exit status is 0 if all agrees, 1 if anything differs, 2 if a file can't be read."""
 
 # What no galley says and LaTeX's pages have otherwise: it takes no part in the comparison of contents and places.
 APART = ('mark', 'note', 'footrule')
@@ -20,6 +21,8 @@ APART = ('mark', 'note', 'footrule')
 # The warnings of a report, by how LaTeX's own are told in its log.
 LATEX_WARNINGS = {'large': 'LaTeX Warning: Float too large for page', 'ht': 'float specifier changed to',
                   'moved': 'LaTeX Warning: Marginpar on page', 'floats': 'contains only floats'}
+# What galleyexport writes to the log: a page is made, and a float waits.
+PAGE_MADE, WAITS = 'galleyexport: page ', 'galleyexport: waits '
 
 
 @dataclass
@@ -42,6 +45,11 @@ def key(item):
     if item.kind in ('float', 'margin'):
         return (item.kind, item.name, item.place)
     return (item.kind, item.name)
+
+
+def sizes(item):
+    """What must be the same for an item to be in the same place."""
+    return (item.top, item.height, item.depth, item.number)
 
 
 def contents(page):
@@ -78,7 +86,7 @@ def place_difference(page, other):
     """The first item that is in another place, '' if none is."""
     for (number, item), (_, twin) in zip(
             (x for x in page.items() if x[1].kind not in APART), (x for x in other.items() if x[1].kind not in APART)):
-        if (item.top, item.height, item.depth, item.number) != (twin.top, twin.height, twin.depth, twin.number):
+        if sizes(item) != sizes(twin):
             return '%s %s in column %d: top %d, height %d, depth %d in LaTeX, %d, %d, %d in the report' % (
                 item.kind, item.name, number, item.top, item.height, item.depth, twin.top, twin.height, twin.depth)
     return ''
@@ -108,6 +116,15 @@ def compare_pages(page, other):
     return verdict
 
 
+def first_items(page, other):
+    """The first items that are not the same on two pages; None on a page that has no such item."""
+    a, b = ([entry for entry in p.items() if entry[1].kind not in APART] for p in (page, other))
+    for x, y in zip_longest(a, b):
+        if not x or not y or x[0] != y[0] or key(x[1]) != key(y[1]) or sizes(x[1]) != sizes(y[1]):
+            return x and x[1], y and y[1]
+    return None, None
+
+
 def pair(pages, others):
     """Pages that belong together by their contents, so that a page too many does not shift the rest."""
     a = [tuple(contents(page)) for page in pages]
@@ -121,12 +138,13 @@ class Comparison:
     """All pages of a document, and where its floats, notes and footnote lines stand."""
 
     def __init__(self, pages, others):
-        self.verdicts = []
+        self.verdicts, self.pairs = [], []
         self.floats, self.boxes, self.footnotes = ({}, {}), ({}, {}), set()
         for page, other in pair(pages, others):
             for side, p in enumerate((page, other)):
                 if p:
                     self._note(side, p, len(self.verdicts))
+            self.pairs.append((page, other))
             if page and other:
                 self.verdicts.append(compare_pages(page, other))
             else:
@@ -160,34 +178,69 @@ def shared(sides, names=None):
     return sum(1 for name in names if name in a and a[name] == b.get(name)), len(names)
 
 
-def table(comparison):
-    yield 'page  contents  glue set  places  of the report'
+def table(comparison, every):
+    """A line for each page that differs, or for every page; and how many others there are."""
+    shown = [verdict for verdict in comparison.verdicts if every or not verdict.agrees()]
+    if shown:
+        yield 'page  contents  glue set  places  of the report'
     mark = {True: 'same', False: 'other'}
-    for verdict in comparison.verdicts:
+    for verdict in shown:
         yield '%4s  %-8s  %-8s  %-6s  %s%s' % (
             verdict.latex or '-', mark[verdict.contents], mark[verdict.setting] if verdict.contents else '-',
             mark[verdict.places] if verdict.setting else '-', verdict.report or '-',
             '' if verdict.rule else '  another footnote rule')
+    others = len(comparison.verdicts) - len(shown)
+    if others:
+        which = '%d %spage%s' % (others, 'other ' if shown else '', ' is' if others == 1 else 's are')
+        yield which + ' the same in every place'
 
 
-def summary(name, comparison, columns, theirs):
+def totals(comparison):
     """The totals on one line, as tools/check takes them in."""
-    return ('%s: LaTeX made %d pages (%d columns), the report has %d; %d agree in contents, %d in glue set, %d in every '
+    latex, others = ([p[side] for p in comparison.pairs if p[side]] for side in (0, 1))
+    return ('LaTeX made %d pages (%d columns), the report has %d; %d agree in contents, %d in glue set, %d in every '
             'place; floats and notes in the same place %d of %d; footnote lines %d of %d') % (
-        (name, sum(1 for v in comparison.verdicts if v.latex), columns, theirs, comparison.count('contents'),
+        (len(latex), sum(len(page.columns) for page in latex), len(others), comparison.count('contents'),
          comparison.count('setting'), comparison.count('places')) + shared(comparison.floats)
         + shared(comparison.boxes, comparison.footnotes))
 
 
-def warnings_line(log, warnings):
-    """The four warnings of the output routine, counted in LaTeX's log and in the reports; '' if they agree."""
-    with open(log, encoding='latin-1') as file:
-        text = file.read()
-    ours = Counter(warning.split()[0] for warning in warnings)
-    counts = [(kind, text.count(words), ours[kind]) for kind, words in LATEX_WARNINGS.items()]
-    if all(latex == here for _, latex, here in counts):
-        return ''
-    return 'warnings differ: ' + ', '.join('%s %d in LaTeX, %d in the report' % count for count in counts)
+def latex_warnings(log):
+    """The four warnings of the output routine in LaTeX's log: for each kind where it came, as far as the log tells."""
+    found, page, traced, waiting = {kind: [] for kind in LATEX_WARNINGS}, 1, False, ''
+    with open(log, encoding='latin-1') as lines:
+        for line in lines:
+            if line.startswith(PAGE_MADE):
+                page, traced = page + 1, True
+            elif line.startswith(WAITS):
+                waiting = line[len(WAITS):].strip()
+            for kind, words in LATEX_WARNINGS.items():
+                if words in line:
+                    found[kind].append((page, waiting if kind == 'ht' else ''))
+    return {kind: [' '.join(([name] if name else []) + (['page %d' % at] if traced else [])) for at, name in places]
+            for kind, places in found.items()}
+
+
+def report_warnings(pages):
+    """The same of the pages of reports."""
+    found = {kind: [] for kind in LATEX_WARNINGS}
+    for page in pages:
+        for warning in page.warnings:
+            kind, name = warning.split()[:2]
+            found[kind].append(('' if kind == 'floats' else name + ' ') + 'page %d' % page.number)
+    return found
+
+
+def warnings_line(log, pages):
+    """The kinds of warnings of which LaTeX's log and the reports have not as many; '' if all agree."""
+    latex, ours = latex_warnings(log), report_warnings(pages)
+    told = []
+    for kind, places in latex.items():
+        if len(places) != len(ours[kind]):
+            told.append(', '.join('%s %d in %s%s' % (
+                kind, len(where), side, ' (%s)' % '; '.join(where) if any(where) else '')
+                for side, where in (('LaTeX', places), ('the report', ours[kind]))))
+    return 'warnings differ: ' + ', '.join(told) if told else ''
 
 
 def main(arguments):
@@ -196,23 +249,20 @@ def main(arguments):
     parser.add_argument('reports', nargs='+', help='NAME.report, NAME.2.report ..: of all parts, in order')
     parser.add_argument('--log', help="LaTeX's log, whose warnings are compared too")
     parser.add_argument('--all', action='store_true', help='tell every difference, not the first alone')
-    parser.add_argument('--quiet', action='store_true', help='no line for each page')
+    parser.add_argument('--every-page', action='store_true', help='a line for each page, not for those alone that differ')
+    parser.add_argument('--quiet', action='store_true', help='no line for any page')
     options = parser.parse_args(arguments)
     try:
-        latex = report.read(options.pages)
-        reports = [report.read(path) for path in options.reports]
-        warnings = warnings_line(options.log, [w for r in reports for w in r.warnings]) if options.log else ''
+        latex, others = report.read(options.pages), document.pages(options.reports)
+        warnings = warnings_line(options.log, others) if options.log else ''
     except (OSError, report.ReportFault) as fault:
         print('compare: %s' % fault, file=sys.stderr)
         return 2
-    others = [page for r in reports for page in r.pages if not page.is_skipped()]
-    for number, page in enumerate(others, 1):
-        page.number = number
     comparison = Comparison(latex.pages, others)
     if not options.quiet:
-        print('\n'.join(table(comparison)))
-    print(summary(os.path.splitext(os.path.basename(options.pages))[0], comparison,
-                  sum(len(page.columns) for page in latex.pages), len(others)))
+        for line in table(comparison, options.every_page):
+            print(line)
+    print('%s: %s' % (os.path.splitext(os.path.basename(options.pages))[0], totals(comparison)))
     differences = ['page %d: %s' % (v.latex or v.report, v.difference) for v in comparison.verdicts if v.difference]
     if warnings:
         differences.append(warnings)

@@ -1,5 +1,8 @@
 """The lines of a galley, as far as a picture needs them: which line an item has, and what stands before it."""
+from bisect import bisect_left, bisect_right
 from dataclasses import dataclass, field
+
+from .tries import scaled
 
 # What may stand between two boxes: room, and what says whether a page may end there.
 BETWEEN = ('glue', 'kern', 'penalty', 'newpage', 'clearpage', 'onecolumn', 'twocolumn', 'pagebreak', 'nopagebreak',
@@ -12,16 +15,51 @@ class Entry:
     line: int
     before: list         # the lines of glue, kerns, penalties and words since the last box or rule, as text
     foot: bool           # whether it stands in a foot
+    part: int = 0        # which of a document's galleys it stands in
+
+
+@dataclass
+class Line:
+    """A line of the text: one outside of footnotes, or the `foot` that begins one."""
+    number: int
+    word: str
+    size: int = 0        # of a box or rule: its height and depth in sp
 
 
 @dataclass
 class Galley:
     entries: dict = field(default_factory=dict)     # (word, name) -> its entries in order
+    lines: list = field(default_factory=list)       # those of the text, in order
+    numbers: list = field(default_factory=list)     # the numbers of these lines
+
+    def add(self, line):
+        self.lines.append(line)
+        self.numbers.append(line.number)
+
+    def between(self, first, last):
+        """The lines of the text after the line `first` and before the line `last`."""
+        return self.lines[bisect_right(self.numbers, first):bisect_left(self.numbers, last)]
+
+    def word(self, number):
+        """The word of a line, '' if it is none of the text."""
+        return next((line.word for line in self.between(number - 1, number + 1)), '')
 
     def take(self, kind, name):
         """The entry of the next item with this word and name, None if there is none left."""
         found = self.entries.get((kind, name))
         return found.pop(0) if found else None
+
+
+def sp(text):
+    """A size of a galley in sp."""
+    if text.endswith('pt'):
+        return scaled(text[:-2])
+    return int(text[:-2] if text.endswith('sp') else text)
+
+
+def text_line(number, words):
+    sizes = words[2:4] if words[0] in ('box', 'rule') else []
+    return Line(number, words[0], sum(sp(size) for size in sizes))
 
 
 def read(path):
@@ -33,6 +71,8 @@ def read(path):
             words = line.split()
             if not words or words[0].startswith('#'):
                 continue
+            if not foot:
+                galley.add(text_line(number, words))
             if words[0] in ('foot', 'endfoot'):
                 foot = words[0] == 'foot'
                 before[True] = []

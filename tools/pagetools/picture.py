@@ -2,11 +2,11 @@
 import argparse
 import os
 import sys
-from html import escape
+from dataclasses import dataclass
 
+from . import compare, document, index, places, report, tries
 from . import galley as galleys
-from . import places, report
-from .column import LANE, PT, ColumnDrawing, draw_float
+from .column import LANE, PT, ColumnDrawing, draw_float, mark_first
 from .svg import Drawing
 
 USAGE = """Draws the pages of a report. Frames are columns; boxes stand with their baseline and words; a spring is the
@@ -14,41 +14,14 @@ room between two of them, green where the column stretches through it, orange wh
 in that; floats are hatched by class, with their area; footnotes stand on a ground of their own, marginal notes outside;
 below a column stand its natural height, how far its glue is set, and the badness. With --galley glue and penalties are
 told by what the galley says of them, with --trace the places that were weighed and their costs, and where and why the
-column ends. Several reports, as of the parts of one document, are drawn one after another."""
+column ends. With --latex a page that differs from LaTeX's stands beside LaTeX's own, with the first difference marked.
+Several reports, as of the parts of one document, are drawn one after another."""
 
 COLUMN_GAP = 22.0
 MARGIN_ROOM = 96.0
 EDGE = 38.0
-TOP = 34.0
-
-INDEX = '''<!doctype html>
-<html lang="en">
-<meta charset="utf-8">
-<meta name="viewport" content="width=device-width">
-<title>%(title)s</title>
-<style>
-:root { color-scheme: light dark }
-body { margin: 1rem; font-family: system-ui, sans-serif; background: #e9ebee; color: #222 }
-main { display: flex; flex-wrap: wrap; gap: 1rem }
-figure { margin: 0 }
-img { display: block; height: 94vh; max-width: 100%% }
-@media screen and (prefers-color-scheme: dark) { body { background: #15171a; color: #dbe2ea } a { color: #7fb0e0 } }
-@media print {
-  @page { margin: 8mm }
-  body { margin: 0; background: none }
-  header { display: none }
-  main { display: block }
-  figure { break-after: page; break-inside: avoid; height: 98vh; text-align: center }
-  figure:last-child { break-after: auto }
-  img { display: inline; height: auto; width: auto; max-width: 100%%; max-height: 98vh }
-}
-</style>
-<header><p>%(title)s: %(pages)s</p></header>
-<main>
-%(figures)s
-</main>
-</html>
-'''
+TOP = 40.0
+FOOT = 64.0              # the room below the columns: what is told of them, and links
 
 
 class PageDrawing:
@@ -66,95 +39,202 @@ class PageDrawing:
         self.left = MARGIN_ROOM if margins else EDGE
         self.right = self.left + self.lane
 
-    def draw(self, path):
+    def draw(self, galley=None, title='', marked=None):
+        """The drawing. `galley` is that of the page, `marked` the item with the first difference."""
         page, left = self.page, self.left
-        drawing = Drawing(self.width + left + self.right, self.height + 86)
-        drawing.rect(12, 6, drawing.width - 24, self.height + 74, 'sheet', radius=3)
-        drawing.text(left, 22, 'page %d' % page.number, 10, 'title')
+        drawing = Drawing(self.width + left + self.right, self.height + TOP + FOOT + 6)
+        drawing.rect(6, 4, drawing.width - 12, drawing.height - 8, 'sheet', radius=3)
+        drawing.text(left, 22, title or 'page %d' % page.number, 10, 'title')
         told = page.kind + (', floats over both columns %.1fpt' % self.at if page.at else '')
         drawing.text(left + self.width, 22, told, 7, 'quiet', 'end')
         if page.warnings:
-            drawing.text(left + 60, 22, 'warning: ' + '; '.join(page.warnings[:3]), 6.5, 'warning')
+            told = '; '.join(index.warning_text(warning) for warning in page.warnings[:3])
+            drawing.text(left, 32, 'warning: ' + told, 6.5, 'warning')
         for item in page.wide:
             draw_float(drawing, item, left, TOP + item.top / PT, self.width)
+            if item is marked:
+                mark_first(drawing, left - 3, TOP + item.top / PT - 2, self.width + 6, item.height / PT + 4)
         marks = places.of_page(page, self.entries)
         for column, x, (own, passes) in zip(page.columns, self.columns_x, marks):
-            ColumnDrawing(drawing, column, left + x, TOP + self.at, self.column_width, self.entries, self.lane).draw(
-                own, passes)
-        drawing.write(path)
+            ColumnDrawing(drawing, column, left + x, TOP + self.at, self.column_width, self.entries, self.lane,
+                          marked).draw(own, passes, galley)
+        return drawing
 
 
-def entries_of(pages, galley):
+# ---- What is drawn
+
+@dataclass
+class Sheet:
+    """A page of the report, or of LaTeX's, or both where they differ: a figure of the index."""
+    page: object = None
+    galley: object = None
+    latex: object = None             # LaTeX's page, where it differs
+    verdict: object = None           # of compare; None if nothing was compared
+
+    def number(self):
+        return (self.page or self.latex).number
+
+
+class Book:
+    """All pages of a document: those of its reports without the ones that the exporter put in."""
+
+    def __init__(self, options):
+        self.sheets, self.entries = [], {}
+        pages = []
+        for k, path in enumerate(options.reports):
+            own = report.read(path)
+            if k < len(options.trace):
+                for page, traced in zip(own.pages, report.read(options.trace[k]).pages):
+                    page.tries = traced.tries
+            galley = galleys.read(options.galley[k]) if k < len(options.galley) else None
+            if galley:
+                self.entries.update(entries_of(own.pages, galley, k))
+            pages += [(page, galley) for page in document.shown_pages(own.pages)]
+        for number, (page, galley) in enumerate(pages, 1):
+            page.number = number
+            self.sheets.append(Sheet(page, galley))
+        self.comparison = self._compare(options) if options.latex else None
+
+    def _compare(self, options):
+        """Puts LaTeX's pages beside those that differ."""
+        latex = report.read(options.latex).pages
+        for k, path in enumerate(options.galley):
+            self.entries.update(entries_of(latex, galleys.read(path), k))
+        own = {id(sheet.page): sheet for sheet in self.sheets}
+        comparison = compare.Comparison(latex, self.pages())
+        self.sheets = []
+        for verdict, (page, other) in zip(comparison.verdicts, comparison.pairs):
+            sheet = own[id(other)] if other else Sheet()
+            sheet.verdict, sheet.latex = verdict, None if verdict.agrees() else page
+            self.sheets.append(sheet)
+        return comparison
+
+    def pages(self):
+        return [sheet.page for sheet in self.sheets if sheet.page]
+
+    def drawn_pages(self):
+        return [page for sheet in self.sheets for page in (sheet.page, sheet.latex) if page]
+
+    def text_height(self):
+        return max([column.height + page.at for page in self.drawn_pages() for column in page.columns] + [int(PT)])
+
+    def has_margins(self):
+        return any(item.kind == 'margin' for page in self.drawn_pages() for _, item in page.items())
+
+
+def entries_of(pages, galley, part):
     """The entry in the galley of each item, by the item's id."""
     entries = {}
     for page in pages:
         for _, item in page.items():
             entry = galley.take(item.kind, item.name) if item.kind in ('box', 'rule', 'float', 'margin') else None
             if entry:
+                entry.part = part
                 entries[id(item)] = entry
     return entries
 
 
-def text_height(pages):
-    return max([column.height + page.at for page in pages for column in page.columns] + [int(PT)])
-
-
-def chosen(pages, words):
+def chosen(sheets, words):
     """The pages A-B, or A alone."""
     if not words:
-        return pages
+        return sheets
     first, _, last = words.partition('-')
-    return [page for page in pages if int(first) <= page.number <= int(last or first)]
+    return [sheet for sheet in sheets if int(first) <= sheet.number() <= int(last or first)]
 
 
-def read(options):
-    """The pages of all reports without those that the exporter put in, and the entries of their items."""
-    pages, entries = [], {}
-    for k, path in enumerate(options.reports):
-        own = report.read(path)
-        if k < len(options.trace):
-            for page, traced in zip(own.pages, report.read(options.trace[k]).pages):
-                page.tries = traced.tries
-        if k < len(options.galley):
-            entries.update(entries_of(own.pages, galleys.read(options.galley[k])))
-        pages += [page for page in own.pages if not page.is_skipped()]
-    for number, page in enumerate(pages, 1):
-        page.number = number
-    return pages, entries
+# ---- Files
+
+def drawings(sheet, book, measures):
+    """The drawings of a sheet: LaTeX's page first, if it stands beside the other."""
+    ours, theirs = None, None
+    if sheet.page and sheet.latex:
+        theirs, ours = compare.first_items(sheet.latex, sheet.page)
+    out = []
+    if sheet.latex:
+        page = PageDrawing(sheet.latex, book.entries, *measures)
+        out.append(page.draw(title="page %d, LaTeX's own" % sheet.latex.number, marked=theirs))
+    if sheet.page:
+        title = 'page %d, galley_pages' % sheet.page.number if sheet.latex else ''
+        out.append(PageDrawing(sheet.page, book.entries, *measures).draw(sheet.galley, title, ours))
+    return out
 
 
-def write_index(folder, title, pages, names):
-    figures = '\n'.join('<figure><a href="%s"><img src="%s" alt="page %d"></a></figure>' % (name, name, number)
-                        for number, name in names)
-    with open(os.path.join(folder, 'index.html'), 'w', encoding='utf-8') as out:
-        out.write(INDEX % {'title': escape(title), 'pages': '%d pages' % pages, 'figures': figures})
+def file_name(number, latex=False):
+    return 'page%03d%s.svg' % (number, '-latex' if latex else '')
 
 
-def main(arguments):
+def add_links(drawing, number, numbers):
+    """Links to the pages beside this one, and to all."""
+    at = numbers.index(number)
+    y, middle = drawing.height - 9, drawing.width / 2
+    if at > 0:
+        drawing.link(20, y, '\u2039 page %d' % numbers[at - 1], file_name(numbers[at - 1]), 'previous')
+    drawing.link(middle, y, 'all pages', 'index.html#page-%d' % number, anchor='middle')
+    if at + 1 < len(numbers):
+        drawing.link(drawing.width - 20, y, 'page %d \u203a' % numbers[at + 1], file_name(numbers[at + 1]), 'next', 'end')
+
+
+def write_sheets(folder, book, sheets, options):
+    """Writes the SVG files. Gives the figures of the index."""
+    figures = []
+    measures = (book.text_height(), book.has_margins(), bool(options.trace))
+    numbers = [sheet.page.number for sheet in sheets if sheet.page]
+    for sheet in sheets:
+        shapes = drawings(sheet, book, measures)
+        figures.append(index.figure(sheet, shapes))
+        if sheet.page:
+            add_links(shapes[-1], sheet.page.number, numbers)
+            shapes[-1].write(os.path.join(folder, file_name(sheet.page.number)))
+        if sheet.latex:
+            shapes[0].write(os.path.join(folder, file_name(sheet.latex.number, latex=True)))
+    return figures
+
+
+def facts(book, options):
+    """What the index says of the whole document."""
+    out = index.Facts(warnings=[(page.number, warning) for page in book.pages() for warning in page.warnings],
+                      floats=index.float_rows(book.pages(), book.entries))
+    if book.comparison:
+        out.totals.append(compare.totals(book.comparison))
+    if options.log and options.trace:
+        weighed = tries.of_files(options.log, options.trace)
+        out.totals.append(tries.summary(weighed))
+        out.totals += ['first difference: ' + weighed.first] if weighed.first else []
+    if options.galleylog:
+        with open(options.galleylog, encoding='utf-8', errors='replace') as lines:
+            out.losses = [line.partition(': ')[2].strip() for line in lines][1:]
+    return out
+
+
+def parsed(arguments):
     parser = argparse.ArgumentParser(prog='picture', description=USAGE)
     parser.add_argument('reports', nargs='+', help='NAME.report, NAME.2.report ..: or NAME.pages of galleyexport')
     parser.add_argument('--galley', nargs='+', default=[], help='the galleys of these reports, in the same order')
     parser.add_argument('--trace', nargs='+', default=[], help='the traces of these galleys, which need --galley too')
+    parser.add_argument('--latex', metavar='NAME.pages', help="LaTeX's own pages, to stand beside those that differ")
+    parser.add_argument('--log', help="LaTeX's log, with the places that TeX weighed, for the index")
+    parser.add_argument('--galleylog', help="what the galley can't say, for the index")
     parser.add_argument('--out', help='the folder to write to (NAME.pictures)')
     parser.add_argument('--pages', help='A-B: these pages alone')
     options = parser.parse_args(arguments)
     if options.trace and not options.galley:
         parser.error('--trace needs --galley: the places are told by the lines of the galley')
+    return options
+
+
+def main(arguments):
+    options = parsed(arguments)
+    name = os.path.splitext(options.reports[0])[0]
+    folder = options.out or name + '.pictures'
     try:
-        pages, entries = read(options)
-        drawn = chosen(pages, options.pages)
+        book = Book(options)
+        sheets = chosen(book.sheets, options.pages)
+        told = facts(book, options)
     except (OSError, ValueError, report.ReportFault) as fault:
         print('picture: %s' % fault, file=sys.stderr)
         return 2
-    name = os.path.splitext(options.reports[0])[0]
-    folder = options.out or name + '.pictures'
     os.makedirs(folder, exist_ok=True)
-    height = text_height(pages)
-    margins = any(item.kind == 'margin' for page in pages for _, item in page.items())
-    names = []
-    for page in drawn:
-        names.append((page.number, 'page%03d.svg' % page.number))
-        PageDrawing(page, entries, height, margins, bool(options.trace)).draw(os.path.join(folder, names[-1][1]))
-    write_index(folder, os.path.basename(name), len(pages), names)
-    print('%d pages drawn in %s' % (len(names), folder))
+    figures = write_sheets(folder, book, sheets, options)
+    index.write(os.path.join(folder, 'index.html'), os.path.basename(name), len(book.pages()), figures, told)
+    print('%d pages drawn in %s' % (len(figures), folder))
     return 0

@@ -1,10 +1,10 @@
 """One drawing in the form of SVG, in points. Colours are classes, each for a light and for a dark screen; on paper the
-light ones hold."""
+light ones hold. A drawing stands in a file of its own, or within a page of HTML that has the style and patterns once."""
 from html import escape
 
 # A class, what it is on a light ground, and on a dark one.
 STYLE = [
-    ('back', 'fill:#e9ebee', 'fill:#15171a'),
+    ('alone', 'background:#e9ebee;display:block;margin:auto', 'background:#15171a'),
     ('sheet', 'fill:#fdfdfb;stroke:#c4cad1;stroke-width:.8', 'fill:#1f2328;stroke:#3a4149'),
     ('frame', 'fill:none;stroke:#5b6b7b;stroke-width:.7', 'stroke:#8794a2'),
     ('box', 'fill:#fff;stroke:#9fb3c8;stroke-width:.4', 'fill:#2a3037;stroke:#52667b'),
@@ -16,7 +16,7 @@ STYLE = [
     ('title', 'fill:#222;font-weight:bold', 'fill:#e8ebee'),
     ('words', 'fill:#1f2d3d', 'fill:#dbe2ea'),
     ('quiet', 'fill:#66727f', 'fill:#98a3af'),
-    ('label', 'fill:#aab4bf', 'fill:#66717c'),
+    ('label', 'fill:#7d8893', 'fill:#8b96a1'),
     ('still', 'stroke:#9aa0a6;fill:#7b828a', 'stroke:#727b85;fill:#8d97a1'),
     ('stretch', 'stroke:#2a9d4b;fill:#1f7a39', 'stroke:#45c26b;fill:#5bd07e'),
     ('shrink', 'stroke:#e07b00;fill:#b96500', 'stroke:#f09a3e;fill:#f3aa5c'),
@@ -35,6 +35,9 @@ STYLE = [
     ('alarm', 'fill:#d62728;font-weight:bold', 'fill:#ff7d6e'),
     ('warning', 'fill:#a86400', 'fill:#f0b45c'),
     ('plate', 'fill:#fff;fill-opacity:.85', 'fill:#1f2328'),
+    ('first', 'fill:none;stroke:#d62728;stroke-width:1.6', 'stroke:#ff7d6e'),
+    ('forbids', 'stroke:#c0392b;stroke-width:1.4', 'stroke:#ff7d6e'),
+    ('link', 'fill:#1f5f99;text-decoration:underline', 'fill:#7fb0e0'),
 ]
 
 # The classes of floats: their colour on a light ground and on a dark one. A class past the last begins again.
@@ -54,11 +57,19 @@ def _float_rules(colour):
         yield '.float%d{fill:%s;font-weight:bold}' % (number, c)
 
 
+# The size of type that a class has unless another is said.
+SIZES = {'words': 6.6, 'label': 5.4, 'hinders': 5.8, 'invites': 5.8}
+
+# Keys of a page that stands alone: the arrows go to the pages beside it.
+KEYS = '''<script>addEventListener("keydown",function(e){
+var a=document.getElementById({ArrowLeft:"previous",ArrowRight:"next"}[e.key]);if(a)location.href=a.getAttribute("href")})</script>'''
+
+
 def style():
     light = ['.%s{%s}' % (name, light) for name, light, _ in STYLE] + list(_float_rules(0))
+    light += ['.%s{font-size:%spx}' % sizes for sizes in SIZES.items()]
     dark = ['.%s{%s}' % (name, dark) for name, _, dark in STYLE] + list(_float_rules(1))
-    return '<style>%s\n%s\n@media screen and (prefers-color-scheme:dark){\n%s\n}</style>' % (
-        GENERAL, '\n'.join(light), '\n'.join(dark))
+    return '%s\n%s\n@media screen and (prefers-color-scheme:dark){\n%s\n}' % (GENERAL, '\n'.join(light), '\n'.join(dark))
 
 
 def patterns():
@@ -69,25 +80,33 @@ def patterns():
             number, number, number) for number in range(len(FLOATS)))
 
 
+def number(value):
+    """A number with one decimal at most: a drawing is in points."""
+    return ('%.1f' % value).rstrip('0').rstrip('.') if isinstance(value, float) else str(value)
+
+
 def float_number(number):
     """The colour of a class of floats."""
     return (number - 1) % len(FLOATS)
+
+
+def element(tag, words, inner):
+    return '<%s %s>%s</%s>' % (tag, words, inner, tag) if inner else '<%s %s/>' % (tag, words)
+
+
+def points_text(points):
+    return ' '.join('%s,%s' % (number(float(x)), number(float(y))) for x, y in points)
 
 
 class Drawing:
     """Shapes, drawn one over the other. A `tip` is shown under the pointer."""
 
     def __init__(self, width, height):
-        self.width, self.height, self.shapes = width, height, []
+        self.width, self.height, self.shapes, self.links = width, height, [], []
 
     def _add(self, tag, attributes, content='', tip=''):
-        words = []
-        for name, value in attributes.items():
-            text = '%.2f' % value if isinstance(value, float) else escape(str(value))
-            words.append('%s="%s"' % (name.replace('_', '-'), text))
-        words = ' '.join(words)
-        inner = ('<title>%s</title>' % escape(tip) if tip else '') + content
-        self.shapes.append('<%s %s>%s</%s>' % (tag, words, inner, tag) if inner else '<%s %s/>' % (tag, words))
+        words = ['%s="%s"' % (name.replace('_', '-'), escape(number(value))) for name, value in attributes.items()]
+        self.shapes.append((tag, ' '.join(words), tip, content))
 
     def rect(self, x, y, width, height, shape, tip='', radius=0.0):
         size = {'x': float(x), 'y': float(y), 'width': max(float(width), 0.0), 'height': max(float(height), 0.0)}
@@ -98,29 +117,59 @@ class Drawing:
     def line(self, x, y, x2, y2, shape, tip='', width=None):
         ends = {'x1': float(x), 'y1': float(y), 'x2': float(x2), 'y2': float(y2), 'class': shape}
         if width is not None:
-            ends['style'] = 'stroke-width:%.2f' % width
+            ends['style'] = 'stroke-width:' + number(width)
         self._add('line', ends, tip=tip)
 
     def text(self, x, y, words, size, shape, anchor='start', tip=''):
-        self._add('text', {'x': float(x), 'y': float(y), 'font_size': float(size), 'text_anchor': anchor, 'class': shape},
-                  escape(words), tip)
+        place = {'x': float(x), 'y': float(y), 'class': shape}
+        if shape not in SIZES:
+            place['font_size'] = float(size)
+        elif size != SIZES[shape]:
+            place['style'] = 'font-size:%spx' % number(float(size))
+        if anchor != 'start':
+            place['text_anchor'] = anchor
+        self._add('text', place, escape(words), tip)
+
+    def lines(self, x, x2, heights, shape):
+        """Lines from x to x2 at these heights, as one shape."""
+        if heights:
+            path = ''.join('M%s %sH%s' % (number(float(x)), number(float(y)), number(float(x2))) for y in heights)
+            self._add('path', {'d': path, 'class': shape})
 
     def dot(self, x, y, shape, tip):
         self._add('circle', {'cx': float(x), 'cy': float(y), 'r': 1.3, 'class': shape}, tip=tip)
 
     def polygon(self, points, shape):
-        self._add('polygon', {'points': ' '.join('%.2f,%.2f' % point for point in points), 'class': shape})
+        self._add('polygon', {'points': points_text(points), 'class': shape})
 
     def spring(self, x, top, bottom, shape, tip):
         turns = max(2, min(40, int((bottom - top) / 2.2)))
         step = (bottom - top) / turns
         bends = [(x + (2.2 if k % 2 == 0 else -2.2), top + (k + 0.5) * step) for k in range(turns)]
-        points = ' '.join('%.2f,%.2f' % point for point in [(x, top)] + bends + [(x, bottom)])
-        self._add('polyline', {'points': points, 'class': shape + ' spring'}, tip=tip)
+        points = [(x, top)] + bends + [(x, bottom)]
+        self._add('polyline', {'points': points_text(points), 'class': shape + ' spring'}, tip=tip)
+
+    def link(self, x, y, words, target, name='', anchor='start'):
+        """A link that stands only where the drawing has a file of its own."""
+        self.links.append('<a href="%s"%s><text x="%s" y="%s" font-size="8" text-anchor="%s" class="link">%s</text></a>' % (
+            escape(target), ' id="%s"' % name if name else '', number(float(x)), number(float(y)), anchor, escape(words)))
+
+    def _view(self):
+        return 'viewBox="0 0 %s %s"' % (number(float(self.width)), number(float(self.height)))
+
+    def inline(self, label):
+        """The drawing within a page of HTML. So that a long document opens soon, tips are attributes here, and there is
+        nothing between two shapes: a browser takes its time by the number of nodes."""
+        shapes = [element(tag, words + (' data-tip="%s"' % escape(tip) if tip else ''), content)
+                  for tag, words, tip, content in self.shapes]
+        return '<svg %s role="img" aria-label="%s">%s</svg>' % (self._view(), escape(label), ''.join(shapes))
 
     def write(self, path):
+        """The drawing in a file of its own."""
         with open(path, 'w', encoding='utf-8') as out:
-            out.write('<svg xmlns="http://www.w3.org/2000/svg" width="%.0f" height="%.0f" viewBox="0 0 %.2f %.2f">\n' % (
-                self.width * 1.35, self.height * 1.35, self.width, self.height))
-            out.write(style() + '\n<defs>%s</defs>\n<rect width="100%%" height="100%%" class="back"/>\n' % patterns())
-            out.write('\n'.join(self.shapes) + '\n</svg>\n')
+            out.write('<svg xmlns="http://www.w3.org/2000/svg" class="alone" width="%.0f" height="%.0f" %s>\n' % (
+                self.width * 1.35, self.height * 1.35, self._view()))
+            out.write('<style>%s</style>\n<defs>%s</defs>\n' % (style(), patterns()))
+            shapes = [element(tag, words, ('<title>%s</title>' % escape(tip) if tip else '') + content)
+                      for tag, words, tip, content in self.shapes]
+            out.write('\n'.join(shapes + self.links + ([KEYS] if self.links else [])) + '\n</svg>\n')

@@ -69,15 +69,22 @@ def tex_pages(path):
 
 
 def without_first_clear(places):
-    """The places without those of the clear that a class or title begins with: it ships nothing."""
+    """The places without those of the clear that a class, a title or a part begins with: it ships nothing."""
     clears = [k for k, place in enumerate(places[:6]) if place[5] == CLEAR_PENALTY]
     return places[clears[-1] + 1:] if clears else places
 
 
-def program_pages(paths):
-    """The same of traces. A page that the exporter put in is left out with its places."""
-    return [[place.sums() for place in page.tries] for path in paths for page in report.read(path).pages
-            if not page.is_skipped()]
+def program_pages(path):
+    """The same of a trace, and the numbers of the pages that begin with a clear of LaTeX's. A page that the exporter put
+    in is left out with its places; in LaTeX the next page begins with a clear there."""
+    pages, begun, skipped = [], [0], False
+    for page in report.read(path).pages:
+        if not page.is_skipped():
+            if skipped:
+                begun.append(len(pages))
+            pages.append([place.sums() for place in page.tries])
+        skipped = page.is_skipped()
+    return pages, begun
 
 
 class Comparison:
@@ -111,6 +118,24 @@ def first_difference(number, places, others):
         number, k, text(a), text(b), len(places), len(others))
 
 
+def of_files(log, traces):
+    """The comparison of a log with the traces of all parts."""
+    latex, program = tex_pages(log), []
+    for trace in traces:
+        first = len(program)
+        pages, begun = program_pages(trace)
+        program += pages
+        for side in (latex, program):
+            for k in begun:
+                side[first + k:first + k + 1] = [without_first_clear(places) for places in side[first + k:first + k + 1]]
+    return Comparison(latex, program)
+
+
+def summary(comparison):
+    return 'TeX weighed %d places, %d were found the same; %d of %d pages agree in every place, its order and its best' % (
+        comparison.total(1), comparison.total(2), comparison.total(3), len(comparison.rows))
+
+
 def main(arguments):
     parser = argparse.ArgumentParser(prog='tries', description=USAGE)
     parser.add_argument('log', help="LaTeX's log")
@@ -118,20 +143,15 @@ def main(arguments):
     parser.add_argument('--quiet', action='store_true', help='no line for each page')
     options = parser.parse_args(arguments)
     try:
-        latex, program = tex_pages(options.log), program_pages(options.traces)
+        comparison = of_files(options.log, options.traces)
     except (OSError, ValueError, report.ReportFault) as fault:
         print('tries: %s' % fault, file=sys.stderr)
         return 2
-    for pages in (latex, program):
-        if pages:
-            pages[0] = without_first_clear(pages[0])
-    comparison = Comparison(latex, program)
     if not options.quiet:
         print('page  places by TeX  found the same')
         for number, weighed, agreeing, same in comparison.rows:
             print('%4d  %13d  %14d%s' % (number, weighed, agreeing, '' if same else '  differs'))
-    print('TeX weighed %d places, %d were found the same; %d of %d pages agree in every place, its order and its best' % (
-        comparison.total(1), comparison.total(2), comparison.total(3), len(comparison.rows)))
+    print(summary(comparison))
     if comparison.first:
         print('first difference: ' + comparison.first)
     return 1 if comparison.first else 0

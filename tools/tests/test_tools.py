@@ -1,57 +1,12 @@
-"""Tests of the tools on stored files: what LaTeX and the program made of stored/notes.tex and of the paper in
-examples/document. They need Python alone. Run by tools/test."""
-import contextlib
-import io
+"""Tests of the comparers and of the table of documents on stored files: what LaTeX and the program made of
+stored/notes.tex and of the paper in examples/document. They need Python alone. Run by tools/test."""
 import os
-import shutil
-import sys
-import tempfile
+import subprocess
 import unittest
-import xml.etree.ElementTree as xml
 
-HERE = os.path.dirname(os.path.abspath(__file__))
-STORED = os.path.join(HERE, 'stored')
-DOCUMENT = os.path.join(HERE, os.pardir, os.pardir, 'examples', 'document')
-sys.path.insert(0, os.path.join(HERE, os.pardir))
+from support import HERE, Scratch, document, run, stored
 
-from pagetools import check, column, compare, galley, picture, places, report, tries  # noqa: E402
-
-
-def stored(name):
-    return os.path.join(STORED, name)
-
-
-def document(name):
-    return os.path.join(DOCUMENT, name)
-
-
-def run(main, *arguments):
-    """The exit status of a tool and what it printed."""
-    out = io.StringIO()
-    with contextlib.redirect_stdout(out), contextlib.redirect_stderr(out):
-        status = main(list(arguments))
-    return status, out.getvalue()
-
-
-class Scratch(unittest.TestCase):
-    """A test with a folder of its own, and changed copies of stored files."""
-
-    def setUp(self):
-        self.folder = tempfile.mkdtemp()
-        self.addCleanup(shutil.rmtree, self.folder)
-
-    def path(self, name):
-        return os.path.join(self.folder, name)
-
-    def changed(self, source, old, new):
-        """A copy of the file with the first `old` replaced."""
-        with open(source, encoding='latin-1') as file:
-            text = file.read()
-        self.assertIn(old, text)
-        path = self.path(os.path.basename(source))
-        with open(path, 'w', encoding='latin-1') as file:
-            file.write(text.replace(old, new, 1))
-        return path
+from pagetools import check, compare, galley, places, report, tries
 
 
 class Reports(Scratch):
@@ -102,7 +57,7 @@ class Comparisons(Scratch):
             status, said = run(compare.main, pages, own)
             self.assertEqual(status, 0)
             self.assertNotIn('difference', said)
-            self.assertNotIn('other', said)
+            self.assertRegex(said, r'^\d pages are the same in every place\n')
 
     def test_the_totals(self):
         _, said = run(compare.main, document('paper.pages'), document('paper.report'), '--quiet')
@@ -124,6 +79,15 @@ class Comparisons(Scratch):
         said = self.differ('float figure.1 1 top', 'float figure.1 1 here',
                            'page 1: LaTeX has in column 2 float figure.1 top, the report in column 2 float figure.1 here')
         self.assertIn('floats and notes in the same place 13 of 14', said)
+
+    def test_which_pages_are_listed(self):
+        path = self.changed(document('paper.report'), 'float figure.1 1 top', 'float figure.1 1 here')
+        _, said = run(compare.main, document('paper.pages'), path)
+        self.assertEqual(said.splitlines()[1:3], ['   1  other     -         -       1',
+                                                  '3 other pages are the same in every place'])
+        _, said = run(compare.main, document('paper.pages'), path, '--every-page')
+        self.assertEqual([line.split()[:2] for line in said.splitlines()[1:5]],
+                         [['1', 'other'], ['2', 'same'], ['3', 'same'], ['4', 'same']])
 
     def test_a_line_on_another_side_of_a_break(self):
         self.differ('box b18.A-page', 'box b18.The-page', 'page 1: LaTeX has in column 1 box b18.A-page')
@@ -148,15 +112,27 @@ class Comparisons(Scratch):
         arguments = (compare.main, document('paper.pages'), document('paper.report'), '--log', self.path('log'), '--quiet')
         self.assertEqual(run(*arguments)[0], 0)
         with open(self.path('log'), 'w', encoding='latin-1') as log:
-            log.write('none\n')
+            log.write("galleyexport: page 1\ngalleyexport: waits figure.2\n"
+                      "LaTeX Warning: `h' float specifier changed to `ht'.\n")
         status, said = run(*arguments)
         self.assertEqual(status, 1)
-        self.assertIn('warnings differ: large 0 in LaTeX, 0 in the report, ht 0', said)
+        self.assertIn('warnings differ: ht 1 in LaTeX (figure.2 page 2), ht 0 in the report, '
+                      'moved 0 in LaTeX, moved 1 in the report (margin.5 page 3)', said)
 
     def test_files_that_cannot_be_read(self):
         self.assertEqual(run(compare.main, self.path('none'), stored('notes.report'))[0], 2)
         status, said = run(compare.main, stored('notes.galley'), stored('notes.report'))
         self.assertEqual((status, said.count('is no page report')), (2, 1))
+
+
+class Commands(Scratch):
+    def test_a_reader_that_stops(self):
+        read, write = os.pipe()
+        os.close(read)
+        tool = subprocess.run([os.path.join(HERE, os.pardir, 'compare'), document('paper.pages'), document('paper.report')],
+                              stdout=write, stderr=subprocess.PIPE, check=False)
+        os.close(write)
+        self.assertEqual((tool.returncode, tool.stderr), (141, b''))
 
 
 class Places(Scratch):
@@ -186,61 +162,6 @@ class Places(Scratch):
     def test_a_line_of_tracingpages(self):
         self.assertEqual(tries.tex_place('% t=61.0 plus 3.0 plus 1.0fil minus 1.0 g=550.0 b=* p=-51 c=*#'),
                          (3997696, (196608, 65536, 0, 0), 65536, 36044800, '*', -51, '*', True))
-
-
-class Pictures(Scratch):
-    def draw(self, *arguments):
-        status, said = run(picture.main, *arguments, '--out', self.path('out'))
-        self.assertEqual(status, 0, said)
-        return sorted(os.listdir(self.path('out')))
-
-    def shapes(self, name, shape):
-        """The texts or tips of the elements of a class in a drawing; reading it shows that it is well-formed."""
-        tree = xml.parse(os.path.join(self.path('out'), name))
-        return [''.join(element.itertext()) for element in tree.iter() if shape in element.get('class', '').split()]
-
-    def test_pages_and_index(self):
-        names = self.draw(document('paper.report'), '--galley', document('paper.galley'))
-        self.assertEqual(names, ['index.html', 'page001.svg', 'page002.svg', 'page003.svg', 'page004.svg'])
-        with open(os.path.join(self.path('out'), 'index.html'), encoding='utf-8') as index:
-            self.assertEqual(index.read().count('<figure>'), 4)
-
-    def test_items_of_a_page(self):
-        self.draw(document('paper.report'), '--galley', document('paper.galley'))
-        pages = [page for page in report.read(document('paper.report')).pages if not page.is_skipped()]
-        for number, page in enumerate(pages, 1):
-            name = 'page%03d.svg' % number
-            kinds = [item.kind for _, item in page.items()]
-            boxes = [item for _, item in page.items() if item.kind == 'box' and item.height + item.depth > 3276]
-            self.assertEqual(len(self.shapes(name, 'box')), len(boxes))
-            self.assertEqual(len(self.shapes(name, 'margin')), kinds.count('margin'))
-            self.assertEqual(len(self.shapes(name, 'frame')), len(page.columns))
-            self.assertEqual(len(self.shapes(name, 'footrule')), kinds.count('footrule'))
-        self.assertIn('moved down by 19.10pt', ' '.join(self.shapes('page003.svg', 'margin')))
-
-    def test_where_pages_end(self):
-        self.draw(stored('notes.report'), '--galley', stored('notes.galley'), '--trace', stored('notes.trace'))
-        told = [[text for text in self.shapes('page%03d.svg' % number, 'ends') if 'ends: ' in text] for number in (1, 2, 3)]
-        self.assertEqual([len(texts) for texts in told], [1, 1, 1])
-        self.assertTrue(told[2][0].endswith('ends: forced'), told)
-        self.assertEqual(len(self.shapes('page001.svg', 'overfull')), 0)
-
-    def test_some_pages(self):
-        self.assertEqual(self.draw(stored('notes.pages'), '--pages', '2-3'), ['index.html', 'page002.svg', 'page003.svg'])
-        self.assertEqual(run(picture.main, stored('notes.pages'), '--pages', 'x')[0], 2)
-
-    def test_an_overfull_column(self):
-        path = self.changed(stored('notes.report'), 'set shrink 95007/131072', 'set shrink 1/1 overfull 200000')
-        self.draw(path)
-        self.assertEqual(self.shapes('page001.svg', 'overfull'), ['overfull by 3.05pt'])
-
-    def test_names(self):
-        self.assertEqual(column.words('b812.The-line-begins-so'), ('The line begins so', 'b812'))
-        self.assertEqual(column.words('p1.1'), ('p1.1', ''))
-
-    def test_badness(self):
-        for wanted, available, value in ((0, 0, 0), (10, 0, 10000), (10, 5, 800), (10, 10, 100), (7230585, 7230585, 100)):
-            self.assertEqual(column.badness(wanted, available), value)
 
 
 class Galleys(Scratch):

@@ -19,7 +19,7 @@ def scripts():
     for folder in ('bench', 'tools'):
         for name in sorted(os.listdir(os.path.join(TOP, folder))):
             path = os.path.join(folder, name)
-            if os.path.isfile(os.path.join(TOP, path)) and path not in READ + ('tools/paginate',):
+            if os.path.isfile(os.path.join(TOP, path)) and path not in READ:
                 with open(os.path.join(TOP, path), 'rb') as file:
                     found += [path] * file.read(2).startswith(b'#!')
     return found

@@ -1,12 +1,13 @@
 -- A company takes a float, and if floats are cleared, the first one that suits heads a company.
-use Rattle.std.proofs.Common.{◌≡◌, refl, sym, ◌∙◌, subst, ℕ, ◌+◌, ◌≤◌, Bool, true, false, not, ◌||◌, ◌&&◌, List, [], ◌∷◌, ◌++◌, length, Some, None, arith, length-append}
+use Rattle.std.proofs.Common.{◌≡◌, refl, sym, ◌∙◌, subst, ℕ, ◌+◌, ◌≤◌, Bool, true, false, not, ◌||◌, ◌&&◌, List, [], ◌∷◌, ◌++◌, map, length, Some, None, arith, length-append}
 use Rattle.std.specs.Prelude.{if◌then◌else◌}
 use Rattle.std.specs.List.{AllByRecursion}
 use Rattle.std.proofs.lemmas.Option.{same_Some}
 use Rattle.tb_node.specs.declared.Float.{Float}
 use Rattle.tb_fpage.specs.declared.Wanted.{Wanted}
-use Rattle.tb_fpage.specs.Company.{Choice, suits, passed_over, joins, choices_from, company_of_head, is_head, is_made, company_from, company, left_floats}
+use Rattle.tb_fpage.specs.Company.{Choice, suits, passed_over, joins, choices_from, company_of_head, is_head, is_made, company_from, company, chosen_floats, left_floats}
 use Rattle.tb_fpage.proofs.CompanyLemmas.{length-choices}
+use Rattle.tb_fpage.proofs.LawLemmas.{company-is-lawful}
 
 -- ---- the first float
 
@@ -106,44 +107,19 @@ from-fewer z before (f ∷ fs) cs e = by_test (is_head z before f && is_made z (
 pub company-takes : (z : Wanted) (fs : List Float) (cs : List Choice) → company z fs ≡ Some cs → length (left_floats cs) + 1 ≤ length fs
 company-takes z fs cs e = let h : length (left_floats cs) + 1 ≤ 0 + length fs = from-fewer z [] fs cs e in omega arith
 
--- ---- what all floats are, those that are left are
+-- ---- what all floats are, those of a company and those that are left are
 
-choices-all : (P : Float → Type 0) (z : Wanted) (before : List Choice) (fs : List Float) → AllByRecursion (λ c. P c.float) before → AllByRecursion P fs → AllByRecursion (λ c. P c.float) (choices_from z before fs)
-choices-all P z before [] h k = h
-choices-all P z before (f ∷ fs) h k = choices-all P z (before ++ record { float = f; chosen = joins z before f } ∷ []) fs (one-more before h) k.1
+parted-all : (P : Float → Type 0) (cs : List Choice) → AllByRecursion P (map (λ c. c.float) cs) → AllByRecursion P (chosen_floats cs) × AllByRecursion P (left_floats cs)
+parted-all P [] h = (tt, tt)
+parted-all P (c ∷ cs) h = by_choice c.chosen (parted-all P cs h.1)
   where
-    one-more : (cs : List Choice) → AllByRecursion (λ c. P c.float) cs → AllByRecursion (λ c. P c.float) (cs ++ record { float = f; chosen = joins z before f } ∷ [])
-    one-more [] h = (k.0, tt)
-    one-more (c ∷ cs) h = (h.0, one-more cs h.1)
+    by_choice : (t : Bool) → AllByRecursion P (chosen_floats cs) × AllByRecursion P (left_floats cs) → AllByRecursion P (if t then c.float ∷ chosen_floats cs else chosen_floats cs) × AllByRecursion P (if t then left_floats cs else c.float ∷ left_floats cs)
+    by_choice true k = ((h.0, k.0), k.1)
+    by_choice false k = (k.0, (h.0, k.1))
 
-left-all : (P : Float → Type 0) (cs : List Choice) → AllByRecursion (λ c. P c.float) cs → AllByRecursion P (left_floats cs)
-left-all P [] h = tt
-left-all P (c ∷ cs) h = by_choice c.chosen (left-all P cs h.1)
-  where
-    by_choice : (t : Bool) → AllByRecursion P (left_floats cs) → AllByRecursion P (if t then left_floats cs else c.float ∷ left_floats cs)
-    by_choice true k = k
-    by_choice false k = (h.0, k)
+-- what holds of all floats holds of those that a company takes, and of those that it leaves
+pub company-all : (P : Float → Type 0) (z : Wanted) (fs : List Float) (cs : List Choice) → company z fs ≡ Some cs → AllByRecursion P fs → AllByRecursion P (chosen_floats cs) × AllByRecursion P (left_floats cs)
+company-all P z fs cs e h = parted-all P cs (subst (AllByRecursion P) (sym (company-is-lawful z fs cs e).floats) h)
 
-passed-all : (P : Float → Type 0) (fs : List Float) → AllByRecursion P fs → AllByRecursion (λ c. P c.float) (passed_over fs)
-passed-all P [] h = tt
-passed-all P (f ∷ fs) h = (h.0, passed-all P fs h.1)
-
-passed-joined : (P : Float → Type 0) (cs : List Choice) (f : Float) → AllByRecursion (λ c. P c.float) cs → P f → AllByRecursion (λ c. P c.float) (cs ++ record { float = f; chosen = true } ∷ [])
-passed-joined P [] f h k = (k, tt)
-passed-joined P (c ∷ cs) f h k = (h.0, passed-joined P cs f h.1 k)
-
-floats-all : (P : Float → Type 0) (fs : List Float) (f : Float) → AllByRecursion P fs → P f → AllByRecursion P (fs ++ f ∷ [])
-floats-all P [] f h k = (k, tt)
-floats-all P (g ∷ fs) f h k = (h.0, floats-all P fs f h.1 k)
-
-from-all : (P : Float → Type 0) (z : Wanted) (before fs : List Float) (cs : List Choice) → company_from z before fs ≡ Some cs → AllByRecursion P before → AllByRecursion P fs → AllByRecursion P (left_floats cs)
-from-all P z before [] cs e h k = cc
-from-all P z before (f ∷ fs) cs e h k = by_test (is_head z before f && is_made z (company_of_head z before f fs)) (λ i. from-all P z (before ++ f ∷ []) fs cs i (floats-all P before f h k.0) k.1) e
-  where
-    by_test : (t : Bool) → (company_from z (before ++ f ∷ []) fs ≡ Some cs → AllByRecursion P (left_floats cs)) → (if t then Some (company_of_head z before f fs) else company_from z (before ++ f ∷ []) fs) ≡ Some cs → AllByRecursion P (left_floats cs)
-    by_test true later i = subst (λ (ds : List Choice). AllByRecursion P (left_floats ds)) (same_Some (company_of_head z before f fs) cs i) (left-all P (company_of_head z before f fs) (choices-all P z (passed_over before ++ record { float = f; chosen = true } ∷ []) fs (passed-joined P (passed_over before) f (passed-all P before h) k.0) k.1))
-    by_test false later i = later i
-
--- what holds of all floats holds of those that a company leaves
 pub company-leaves : (P : Float → Type 0) (z : Wanted) (fs : List Float) (cs : List Choice) → company z fs ≡ Some cs → AllByRecursion P fs → AllByRecursion P (left_floats cs)
-company-leaves P z fs cs e h = from-all P z [] fs cs e tt h
+company-leaves P z fs cs e h = (company-all P z fs cs e h).1

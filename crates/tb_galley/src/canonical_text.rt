@@ -5,7 +5,7 @@ ghost use Rattle.tb_galley.specs.ReadBack.{ReadsBack};
 ghost use Rattle.tb_galley.specs.Valid.{IsValid};
 ghost use Rattle.tb_param.specs.TableRows.{row_seen};
 ghost use Rattle.tb_param.specs.Table.{is_known_in};
-ghost use Rattle.tb_galley.specs.CanonicalText.{unit_text, plus_text, minus_text, glue_text, choice_text, value_text, set_lines, text_if, places_text, box_text, leaf_text, leaf_lines, paragraph_text, header_text, class_text, class_lines, foot_text, float_text, margin_text, sides_text, pair_text, area_text, item_text, item_lines, printed};
+ghost use Rattle.tb_galley.specs.CanonicalText.{unit_text, plus_text, minus_text, glue_text, choice_text, value_text, set_lines, text_if, places_text, wide_text, box_text, leaf_text, leaf_lines, paragraph_text, header_text, class_text, class_lines, foot_text, float_text, margin_text, sides_text, pair_text, area_text, item_text, item_lines, printed};
 ghost use Rattle.tb_text.specs.Fields.{and_count, line};
 
 use crate::{ClassLine, Galley, Item, ItemKind, Leaf, LeafKind};
@@ -214,13 +214,19 @@ fn put_places(out: &mut Vec<u8>, bang: bool, places: &Places) -> Result<(), Allo
     put_if(out, places.p, b"p")
 }
 
+fn wide(wide: bool) -> &'static [u8]
+    ensures { result.now ≡ wide_text wide }
+{
+    if wide { b" double" } else { b" single" }
+}
+
 fn put_float(out: &mut Vec<u8>, float: &Float) -> Result<(), AllocError>
     ensures { OnOk result (out.new.items ≡ out.old.items ++ float_text float.now) }
 {
     put(out, b"float")?;
     put_text(out, float.name.as_bytes())?;
     put_count(out, u64::from(float.class))?;
-    put(out, if float.wide { b" double" } else { b" single" })?;
+    put(out, wide(float.wide))?;
     put_places(out, float.bang, &float.places)?;
     put_amount(out, float.height)
 }

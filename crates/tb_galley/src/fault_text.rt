@@ -1,10 +1,11 @@
 //! The texts of faults, and the kinds of their causes.
-ghost use Rattle.std.specs.Prelude.{◌≡◌, ◌++◌, OnOk};
+ghost use Rattle.std.specs.Prelude.{◌≡◌};
+ghost use Rattle.tb_text.specs.Fronts.{PutsAfter};
 ghost use Rattle.tb_galley.specs.FaultText.{cause_name, is_range_cause, fault_text};
 
 use crate::{Cause, Fault};
 use std::alloc::AllocError;
-use tb_text::put_counted;
+use tb_text::{put, put_counted};
 
 /// The name of the cause, as the line on standard error gives it: `line L field F: CAUSE`.
 pub fn cause_text(cause: Cause) -> &'static [u8]
@@ -60,13 +61,13 @@ pub fn is_range_cause(cause: Cause) -> bool
     )
 }
 
-/// Appends where and why an input is at fault: `line L field F: CAUSE`. `Err` comes only if memory runs out; a part of the
-/// text may be in `out` then.
+/// Appends where and why an input is at fault: `line L field F: CAUSE`. If memory runs out, what stood in `out` is still
+/// there, and a front of the text may follow.
 pub fn put_fault(out: &mut Vec<u8>, fault: &Fault) -> Result<(), AllocError>
-    ensures { OnOk result (out.new.items ≡ out.old.items ++ fault_text fault.now) }
+    ensures { PutsAfter result out.old.items (fault_text fault.now) out.new.items }
 {
     put_counted(out, b"line ", u64::from(fault.line))?;
     put_counted(out, b" field ", u64::from(fault.field))?;
-    out.extend_from_slice(b": ")?;
-    out.extend_from_slice(cause_text(fault.cause))
+    put(out, b": ")?;
+    put(out, cause_text(fault.cause))
 }

@@ -35,7 +35,7 @@ pub enum Happening {
     Sent(Event),
 }
 
-/// Appends a place that was tried, if `wanted` is set.
+/// Appends a place that was tried, if `wanted` is set. It fails only if memory runs out.
 pub fn note_try(happened: &mut Vec<Happening>, wanted: bool, tried: Try) -> Result<(), AllocError>
     ensures { OnOk result (happened.new.items ≡ happened.old.items ++ noted_try wanted tried) }
 {

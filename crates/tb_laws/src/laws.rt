@@ -1,5 +1,6 @@
 //! Laws of whole runs: each function is a theorem, stated by its contract, and does nothing.
 
+ghost use Rattle.tb_laws.specs.AreaNumbers.{NumbersHold};
 ghost use Rattle.tb_laws.specs.DeadCycles.{DeadCyclesAreFew};
 ghost use Rattle.tb_laws.specs.Firings.{BoundsAgree, EndsHaveReasons};
 ghost use Rattle.tb_laws.specs.Laws.{ClassesKeepOrder, EachShipsOnce, FilesListTheirPages, LimitsHold, ListsAreEmptied, TotalsAreKept};
@@ -17,6 +18,14 @@ pub fn runs_are_defined()
 /// fewer floats than `totalnumber`.
 pub fn floats_keep_the_limits()
     ensures { LimitsHold }
+{}
+
+/// No area overflows, however the run of a valid galley ends: at no moment are more floats without the mark `!` at the top,
+/// at the bottom or above both columns than `topnumber`, `bottomnumber` or `dbltopnumber`, nor in the text, at the top and
+/// at the bottom together more than `totalnumber`. It is said of the lists just before and after each float is placed,
+/// since nothing else adds to an area.
+pub fn areas_keep_their_numbers()
+    ensures { NumbersHold }
 {}
 
 /// The float lists are emptied: all seven are empty at each change of columns, however the run of a valid galley ends, and

@@ -1,5 +1,6 @@
 -- A page is filled, in reading order.
 pub mod RunLemmas
+pub mod TriedLemmas
 pub mod LedLemmas
 pub mod HoldLemmas
 pub mod ComingLemmas

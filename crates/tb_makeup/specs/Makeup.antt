@@ -1,20 +1,19 @@
 -- The page makeup between two firings, and what one of its turns shows.
-use Rattle.std.specs.Prelude.{◌≡◌, ℕ, suc, pred, nat_abs, ◌+◌, ◌*◌, ◌-◌, ◌<◌, ◌≤◌, ℤ, pos, ◌≤ℤ◌, int_lt, false, List, [], map, Option, Some, None, All, if◌then◌else◌}
+use Rattle.std.specs.Prelude.{◌≡◌, ℕ, suc, pred, nat_abs, ◌+◌, ◌*◌, ◌-◌, ◌<◌, ◌≤◌, ℤ, pos, ◌≤ℤ◌, int_lt, Bool, false, List, [], length, map, Option, Some, None, All, if◌then◌else◌}
 use Rattle.tb_param.specs.declared.Params.{Params}
 use Rattle.tb_builder.specs.FiredPages.{Fired}
 use Rattle.tb_builder.specs.Contents.{Contents, contents_of, node_count}
 use Rattle.tb_builder.specs.Courses.{IsSound}
 use Rattle.tb_builder.specs.Pageable.{IsSizedOnPage}
 use Rattle.tb_builder.specs.LegalPlaces.{NoActs}
-use Rattle.tb_sheet.specs.Sheet.{PlainSent}
 use Rattle.tb_column.specs.Notes.{AreDistinct}
 use Rattle.tb_builder.specs.BuilderLists.{builder_lists}
 use Rattle.tb_sheet.specs.ApartLists.{AreNoneOf}
 use Rattle.tb_items.specs.declared.happenings.Happening.{Happening}
-use Rattle.tb_items.specs.RunEvents.{sent}
-use Rattle.tb_items.specs.Happenings.{events_of, happened_lists, ArePages}
+use Rattle.tb_items.specs.RunEvents.{RunEvent, offered, sent}
+use Rattle.tb_items.specs.Happenings.{events_of, noted, happened_lists, ArePages}
 use Rattle.tb_plain.specs.Firing.{holds_any}
-use Rattle.tb_plain.specs.Run.{MakeupState, MakeupRun, MakeupEnd, done, page_limit, node_limit, builder_holds, makeup_ask, makeup_from, steps_left, act_count, run_after, ejecting_nodes, waiting_after}
+use Rattle.tb_plain.specs.Run.{MakeupEvent, offers, sends, sent_among, MakeupState, MakeupRun, MakeupEnd, done, page_limit, node_limit, builder_holds, makeup_ask, makeup_from, steps_left, act_count, run_after, ejecting_nodes, waiting_after}
 use Rattle.tb_plain.specs.MakeupCalls.{AreMakeupParams, IsPlain}
 use Rattle.tb_makeup.specs.declared.makeup.Makeup.{Makeup}
 use Rattle.tb_makeup.specs.declared.makeup.NodeBound.{NodeBound}
@@ -107,15 +106,26 @@ abbrev pub turns_left : Params → MakeupState → ℕ
 turns_left p s = 2 * (nat_abs p.maxpages - pred s.number) + (if holds_any s.page then 0 else 1)
 
 -- the run goes on from the state that the makeup shows, with fewer turns left, or it has ended after these events
-abbrev pub GoesTo : Makeup → Option MakeupEnding → Params → List PlainSent → MakeupState → Type 0
+abbrev pub GoesTo : Makeup → Option MakeupEnding → Params → List MakeupEvent → MakeupState → Type 0
 GoesTo q None p es s = (run_at p s ≡ run_after es (run_at p (state_of q))) × (turns_left p (state_of q) < turns_left p s)
-GoesTo q (Some e) p es s = run_at p s ≡ record { sent = es; end = end_of e }
+GoesTo q (Some e) p es s = run_at p s ≡ record { events = es; end = end_of e }
 
--- from the first to the second, with these happenings and this ending
-pub record IsTurned (r : Makeup) (hs : List Happening) (o : Option MakeupEnding) (q : Makeup) : Type 0 where
-  pub es : List PlainSent
-  pub events : events_of q.store hs ≡ map (λ e. sent e) es
+-- an event of a makeup's run, as one of a run
+abbrev pub run_event : MakeupEvent → RunEvent
+run_event (offers t) = offered t
+run_event (sends e) = sent e
+
+-- events of a makeup's run, as those of a run
+abbrev pub run_events : List MakeupEvent → List RunEvent
+run_events es = map run_event es
+
+-- from the first to the second, with these happenings and this ending: what happened is what is noted of the events, the tries if the caller asks for
+-- them, and at most one page is sent
+pub record IsTurned (wanted : Bool) (r : Makeup) (hs : List Happening) (o : Option MakeupEnding) (q : Makeup) : Type 0 where
+  pub es : List MakeupEvent
+  pub events : events_of q.store hs ≡ noted wanted (run_events es)
   pub goes : GoesTo q o r.plain.params es (state_of r)
+  pub few : length (sent_among es) ≤ 1
 
 -- the lists of what was sent: those of pages, no two of them the same, and none the builder's
 pub record AreHappened (r : Makeup) (hs : List Happening) : Type 0 where

@@ -7,6 +7,7 @@ ghost use Rattle.tb_pool.specs.Lists.{IsLive, list_at};
 ghost use Rattle.tb_node.specs.PlainNodes.{plain_list};
 ghost use Rattle.tb_builder.specs.Contents.{node_count, box_count};
 ghost use Rattle.tb_builder.specs.Courses.{IsSound};
+ghost use Rattle.tb_builder.specs.PageEvents.{NextFits};
 ghost use Rattle.tb_builder.specs.Ownership.{Lacks, ids_of, inner_ids, inner_of, owned};
 ghost use Rattle.tb_builder.specs.Contributions.{ListJoins, MayWait, NoPage, with_void};
 ghost use Rattle.tb_items.specs.WaitingNodes.{lone, AreItems};
@@ -15,14 +16,14 @@ ghost use Rattle.tb_plain.specs.GalleyNodes.{made_up};
 ghost use Rattle.tb_plain.specs.MakeupCalls.{IsPlain, CanFire, fired_with};
 ghost use Rattle.tb_plain.specs.Run.{makeup_ask, makeup_classes, first_makeup, waiting_after};
 ghost use Rattle.tb_makeup.specs.Makeup.{held_in, state_of, over_limit, node_total, AreRunParams, AreRunNodes, IsBounded, IsReady, IsTurned, AreHappened};
-ghost use Rattle.tb_makeup.specs.MakeupPages.{Fills, IsBoundedPage, Ships, Contributes, Ejects, Finishes};
+ghost use Rattle.tb_makeup.specs.MakeupPages.{HasComeTo, Fills, AreTries, IsBoundedPage, Ships, Contributes, Ejects, Finishes};
 
 use crate::galley_nodes::{act_count, expand};
 use std::alloc::{AllocError, Global};
 use tb_builder::{Ask, Builder, Event, Page, new_builder};
 use tb_galley::Galley;
 use tb_insert::Class;
-use tb_items::{Happening, close_happened, note_sent};
+use tb_items::{Happening, close_happened, note_sent, note_try};
 use tb_node::{FOOTNOTES, Kind, Node, What};
 use tb_param::{Params, exceeds};
 use tb_plain::{Plain, PlainFault, PlainPage, TOP_FLOATS, clearing_glue, new_plain};
@@ -152,15 +153,17 @@ impl Makeup {
     /// Makes the next page of what waits, and ships it; or, if nothing waits any more, ends the last page or the run.
     /// Returns how the run ends with it, if it does.
     ///
-    /// `happened` holds the page that shipped, if one did; its list is the caller's until [`Self::done_with`]. What
-    /// `happened` held before is gone. If memory runs out, the run cannot go on.
+    /// `happened` holds the places that were tried, if `wanted` is set, and then the page that shipped, if one did; its list
+    /// is the caller's until [`Self::done_with`]. What `happened` held before is gone. If memory runs out, the run cannot go
+    /// on.
     pub fn turn(
         &mut self,
+        wanted: bool,
         happened: &mut Vec<Happening>,
     ) -> Result<Option<MakeupEnding>, AllocError>
         requires { IsReady self.old }
 
-        ensures turned { IfOk result (λ o. IsTurned self.old happened.new.items o self.new) }
+        ensures turned { IfOk result (λ o. IsTurned wanted self.old happened.new.items o self.new) }
         ensures ready { IfOk result (λ o. IfNone o (IsReady self.new)) }
         ensures params { OnOk result (self.new.plain.params ≡ self.old.plain.params) }
         ensures live { OnOk result (IsLive self.new.store self.new.builder.page) }
@@ -168,7 +171,7 @@ impl Makeup {
         ensures lists { IfOk result (λ o. IfNone o (AreHappened self.new happened.new.items)) }
     {
         happened.clear();
-        match self.fill()? {
+        match self.fill(wanted, happened)? {
             Some(page) => self.ship(page, happened),
             None => self.finish(),
         }
@@ -188,18 +191,36 @@ impl Makeup {
     }
 
     // Fills the next page of what waits, up to its firing or the end of what waits. The floats that are reached are taken.
-    fn fill(&mut self) -> Result<Option<Page>, AllocError>
+    fn fill(
+        &mut self,
+        wanted: bool,
+        happened: &mut Vec<Happening>,
+    ) -> Result<Option<Page>, AllocError>
         requires ready { IsReady self.old }
-        ensures { IfOk result (λ o. Fills self.old o self.new) }
+        requires empty { happened.old.items ≡ [] }
+        ensures { IfOk result (λ o. Fills wanted self.old o self.new happened.new.items) }
     {
         'next: loop {
-            match self.builder.next_without_tries(&mut self.store, &self.ask)? {
-                Event::Try(_) => unreachable!(),
+            match self.next_event(wanted)? {
+                Event::Try(tried) => note_try(happened, wanted, tried)?,
                 Event::Act(act) => self.plain.act(&mut self.store, &mut self.builder, act)?,
                 Event::Fired(page) => return Ok(Some(page)),
                 Event::Empty => return Ok(None),
             }
         }
+    }
+
+    // The next event of the builder. Places that were tried are passed over unless `wanted` is set.
+    fn next_event(&mut self, wanted: bool) -> Result<Event, AllocError>
+        requires sound { IsSound self.old.builder self.old.store }
+        requires fits { NextFits (held_in self.old) self.old.ask }
+        requires none_held { (held_in self.old).held ≡ [] }
+        ensures { IfOk result (λ e. HasComeTo wanted e self.old self.new) }
+    {
+        if wanted {
+            return self.builder.next(&mut self.store, &self.ask);
+        }
+        self.builder.next_without_tries(&mut self.store, &self.ask)
     }
 
     // A page that fired ships, and what is put back waits.
@@ -214,8 +235,8 @@ impl Makeup {
         requires void { box_count (with_void 254 (with_void 253 (held_in self.old).boxes)) ≡ 0 }
         requires bounded { IsBoundedPage page self.old }
         requires limit { self.old.limit ≤ℤ pos 4194304 }
-        requires empty { happened.old.items ≡ [] }
-        ensures { IfOk result (λ o. Ships page self.old o self.new happened.new.items) }
+        requires tries { AreTries happened.old.items }
+        ensures { IfOk result (λ o. Ships page self.old o self.new happened.old.items happened.new.items) }
     {
         match self.plain.fire(&mut self.store, &mut self.builder, page) {
             Ok(made) => {

@@ -12,7 +12,7 @@ use Rattle.tb_galley.specs.declared.Galley.{Galley}
 use Rattle.tb_builder.specs.Contents.{node_count}
 use Rattle.tb_plain.specs.GalleyNodes.{clearing_kinds, makeup_kinds, makeup_nodes, made_up}
 use Rattle.tb_plain.specs.Suitability.{is_suited, unsuited_among, IsSuited}
-use Rattle.tb_plain.specs.Run.{done, node_limit, MakeupRun, steps_left, first_makeup, makeup_from, makeup_of}
+use Rattle.tb_plain.specs.Run.{done, node_limit, MakeupRun, steps_left, first_makeup, makeup_from, makeup_of, sent_of}
 use Rattle.tb_builder.proofs.FiredPages.PageWeights.{IsOnce}
 use Rattle.tb_builder.proofs.Cutting.CutLemmas.{class-both}
 use Rattle.tb_plain.proofs.OurLemmas.{ours, AllOurs}
@@ -60,8 +60,8 @@ made-ours g h = class-both ours (makeup_nodes g.params g.items) (on_line g.end_l
 -- if the run of a suited galley is done, it ships what its nodes weigh, and the lines of the text's boxes and rules are in
 -- their order among those shipped
 pub record ShipsAll (g : Galley) (r : MakeupRun) : Type 0 where
-  pub weighs : r.end ≡ done → (v : Weight) → NoMargin v → sent_weight v r.sent ≡ nodes_weight v (made_up g)
-  pub ordered : r.end ≡ done → Within (prints (made_up g)) (sent_prints r.sent)
+  pub weighs : r.end ≡ done → (v : Weight) → NoMargin v → sent_weight v (sent_of r) ≡ nodes_weight v (made_up g)
+  pub ordered : r.end ≡ done → Within (prints (made_up g)) (sent_prints (sent_of r))
 
 pub ships-all : (g : Galley) → IsSuited g → ShipsAll g (makeup_of g)
 unfolding makeup_of
@@ -73,9 +73,9 @@ ships-all g suited = by_nodes (int_lt g.params.maxnodes (pos (node_count (made_u
     zero-first : (n m : ℕ) → n ≡ 0 + m → n ≡ m
     zero-first n m e = omega arith
 
-    by_nodes : (t : Bool) → ShipsAll g (if t then record { sent = []; end = node_limit (node_count (made_up g)) } else r)
+    by_nodes : (t : Bool) → ShipsAll g (if t then record { events = []; end = node_limit (node_count (made_up g)) } else r)
     by_nodes true = record { weighs = λ e. cc; ordered = λ e. cc }
     by_nodes false = record {
-      weighs = λ e v none. zero-first (sent_weight v r.sent) (nodes_weight v (made_up g)) (run-keeps v g.params (suc (steps_left g.params (first_makeup (made_up g)))) (first_makeup (made_up g)) none (tt, made-ours g suited) e);
+      weighs = λ e v none. zero-first (sent_weight v (sent_of r)) (nodes_weight v (made_up g)) (run-keeps v g.params (suc (steps_left g.params (first_makeup (made_up g)))) (first_makeup (made_up g)) none (tt, made-ours g suited) e);
       ordered = λ e. run-shows g.params (suc (steps_left g.params (first_makeup (made_up g)))) (first_makeup (made_up g)) e;
     }

@@ -1,4 +1,5 @@
 pub mod ReachLemmas
+pub mod SentLemmas
 pub mod StepLemmas
 pub mod ReasonLemmas
 pub mod OurLemmas

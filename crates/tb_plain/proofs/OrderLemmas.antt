@@ -17,10 +17,11 @@ use Rattle.tb_column.specs.Column.{is_ragged}
 use Rattle.tb_plain.specs.GalleyNodes.{clearing_penalty}
 use Rattle.tb_plain.specs.TakenFloats.{top_insertion, top_leaves, page_leaves, here_nodes, with_float, taken_nodes, act_nodes}
 use Rattle.tb_plain.specs.Firing.{feet_below, holds_any, ragged_end, makeup_column_nodes, page_for_held, put_back_after}
-use Rattle.tb_plain.specs.Run.{MakeupState, done, MakeupRun, MakeupStep, ends, goes_on, makeup_ask, makeup_classes, void_boxes, builder_holds, makeup_reach, AtAct, no_act, at_act, after_node, first_act_by, first_act, act_step, waiting_after, firing_step, last_step, makeup_step, run_by, makeup_from}
+use Rattle.tb_plain.specs.Run.{MakeupState, done, MakeupRun, MakeupStep, ends, goes_on, makeup_ask, makeup_classes, void_boxes, builder_holds, makeup_reach, AtAct, no_act, at_act, after_node, first_act_by, first_act, act_step, waiting_after, firing_step, last_step, makeup_step, step_tries, sent_of, makeup_from}
 use Rattle.tb_column.proofs.PrintedLines.{printed, prints, prints-append, prints-acts, prints-insertions}
 use Rattle.tb_sheet.proofs.PrintedSheets.{sent_prints, sent-append}
 use Rattle.tb_column.proofs.Within.{Within, within-same, both-within, before-within, within-front, within-within}
+use Rattle.tb_plain.proofs.SentLemmas.{StepBy, run-sends}
 use Rattle.tb_plain.proofs.ReachLemmas.{fired_here, makeup-cut, firing-cases, step-cases}
 
 -- ---- what nodes show
@@ -189,12 +190,13 @@ step-shows p s =
 
 -- ---- the run
 
-by-shows : (s : MakeupState) (later : MakeupState → MakeupRun) → ((t : MakeupState) → (later t).end ≡ done → Within (state_prints t) (sent_prints (later t).sent)) → (x : MakeupStep) → StepShows s x → (run_by later x).end ≡ done → Within (state_prints s) (sent_prints (run_by later x).sent)
-by-shows s later h (ends es e) k d = k d
-by-shows s later h (goes_on es t) k d = subst (Within (state_prints s)) (sym (sent-append es (later t).sent)) (k (sent_prints (later t).sent) (h t d))
+by-shows : (s : MakeupState) (later : MakeupState → MakeupRun) → ((t : MakeupState) → (later t).end ≡ done → Within (state_prints t) (sent_prints (sent_of (later t)))) → (x : MakeupStep) → StepShows s x → StepBy (λ es e. e ≡ done → Within (state_prints s) (sent_prints es)) later x
+by-shows s later h (ends es e) k = k
+by-shows s later h (goes_on es t) k = λ d. subst (Within (state_prints s)) (sym (sent-append es (sent_of (later t)))) (k (sent_prints (sent_of (later t))) (h t d))
 
 -- a run that is done ships the boxes and rules of the text in their order
-pub run-shows : (p : Params) (fuel : ℕ) (s : MakeupState) → (makeup_from p fuel s).end ≡ done → Within (state_prints s) (sent_prints (makeup_from p fuel s).sent)
+pub run-shows : (p : Params) (fuel : ℕ) (s : MakeupState) → (makeup_from p fuel s).end ≡ done → Within (state_prints s) (sent_prints (sent_of (makeup_from p fuel s)))
 unfolding makeup_from
 run-shows p zero s e = cc
-run-shows p (suc fuel) s e = by-shows s (λ t. makeup_from p fuel t) (λ t d. run-shows p fuel t d) (makeup_step p s) (step-shows p s) e
+run-shows p (suc fuel) s e =
+    run-sends (λ es f. f ≡ done → Within (state_prints s) (sent_prints es)) (λ t. makeup_from p fuel t) (step_tries p s) (makeup_step p s) (by-shows s (λ t. makeup_from p fuel t) (λ t d. run-shows p fuel t d) (makeup_step p s) (step-shows p s)) e

@@ -15,7 +15,8 @@ use Rattle.tb_column.proofs.PrintedLines.{AllPlain, body-plain, plain-both, leav
 use Rattle.tb_sheet.proofs.PrintedSheets.{SentPlain, sent-plain}
 use Rattle.tb_plain.specs.GalleyNodes.{made_up}
 use Rattle.tb_plain.specs.Firing.{feet_below, ragged_end, makeup_column_nodes, makeup_column}
-use Rattle.tb_plain.specs.Run.{MakeupState, MakeupRun, MakeupStep, ends, goes_on, page_limit, node_limit, makeup_reach, AtAct, no_act, at_act, first_act, meets_act, act_step, waiting_after, firing_step, last_step, makeup_step, run_by, makeup_from, steps_left, first_makeup, makeup_of}
+use Rattle.tb_plain.specs.Run.{MakeupState, MakeupRun, MakeupStep, ends, goes_on, page_limit, node_limit, makeup_reach, AtAct, no_act, at_act, first_act, meets_act, act_step, waiting_after, firing_step, last_step, makeup_step, step_tries, sent_of, makeup_from, steps_left, first_makeup, makeup_of}
+use Rattle.tb_plain.proofs.SentLemmas.{StepBy, run-sends}
 use Rattle.tb_plain.proofs.ReachLemmas.{fired_here, makeup-cut}
 
 -- ---- the column
@@ -94,23 +95,24 @@ step-plain p s = by_step (meets_act w.reached) w.fires
 
 -- ---- the run
 
-by-plain : (later : MakeupState → MakeupRun) → ((t : MakeupState) → SentPlain (later t).sent) → (x : MakeupStep) → StepPlain x → SentPlain (run_by later x).sent
+by-plain : (later : MakeupState → MakeupRun) → ((t : MakeupState) → SentPlain (sent_of (later t))) → (x : MakeupStep) → StepPlain x → StepBy (λ es e. SentPlain es) later x
 by-plain later h (ends es e) k = k
-by-plain later h (goes_on es t) k = sent-plain es (later t).sent k (h t)
+by-plain later h (goes_on es t) k = sent-plain es (sent_of (later t)) k (h t)
 
-run-plain : (p : Params) (fuel : ℕ) (s : MakeupState) → SentPlain (makeup_from p fuel s).sent
+run-plain : (p : Params) (fuel : ℕ) (s : MakeupState) → SentPlain (sent_of (makeup_from p fuel s))
 unfolding makeup_from
 run-plain p zero s = tt
-run-plain p (suc fuel) s = by-plain (λ t. makeup_from p fuel t) (λ t. run-plain p fuel t) (makeup_step p s) (step-plain p s)
+run-plain p (suc fuel) s =
+    run-sends (λ es e. SentPlain es) (λ t. makeup_from p fuel t) (step_tries p s) (makeup_step p s) (by-plain (λ t. makeup_from p fuel t) (λ t. run-plain p fuel t) (makeup_step p s) (step-plain p s))
 
 -- what a galley's run ships
-pub makeup-plain : (g : Galley) → SentPlain (makeup_of g).sent
+pub makeup-plain : (g : Galley) → SentPlain (sent_of (makeup_of g))
 unfolding makeup_of
 makeup-plain g = by_nodes (int_lt g.params.maxnodes (pos (node_count (made_up g))))
   where
     r : MakeupRun
     r = makeup_from g.params (suc (steps_left g.params (first_makeup (made_up g)))) (first_makeup (made_up g))
 
-    by_nodes : (t : Bool) → SentPlain (if t then record { sent = []; end = node_limit (node_count (made_up g)) } else r).sent
+    by_nodes : (t : Bool) → SentPlain (sent_of (if t then record { events = []; end = node_limit (node_count (made_up g)) } else r))
     by_nodes true = tt
     by_nodes false = run-plain g.params (suc (steps_left g.params (first_makeup (made_up g)))) (first_makeup (made_up g))

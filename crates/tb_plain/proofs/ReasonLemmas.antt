@@ -13,9 +13,10 @@ use Rattle.tb_builder.specs.FiredPages.{Fired, frozen_for}
 use Rattle.tb_builder.specs.Contents.{node_count}
 use Rattle.tb_sheet.specs.Sheet.{PlainSent}
 use Rattle.tb_plain.specs.GalleyNodes.{made_up}
-use Rattle.tb_plain.specs.Run.{MakeupState, MakeupEnd, done, page_limit, node_limit, MakeupRun, MakeupStep, ends, goes_on, makeup_ask, makeup_classes, void_boxes, makeup_reach, AtAct, no_act, at_act, after_node, first_act_by, first_act, meets_act, act_step, waiting_after, firing_step, last_step, makeup_step, run_by, makeup_from, one_act, act_count, steps_left, first_makeup, makeup_of}
+use Rattle.tb_plain.specs.Run.{MakeupState, MakeupEnd, done, page_limit, node_limit, MakeupRun, MakeupStep, ends, goes_on, makeup_ask, makeup_classes, void_boxes, makeup_reach, AtAct, no_act, at_act, after_node, first_act_by, first_act, meets_act, act_step, waiting_after, firing_step, last_step, makeup_step, step_tries, sent_of, makeup_from, one_act, act_count, steps_left, first_makeup, makeup_of}
 use Rattle.tb_plain.specs.RunSteps.{HasReason, EndsHaveReasons}
 use Rattle.tb_plain.proofs.StepLemmas.{acts-laid, Enough, Falls, step-falls, not-enough}
+use Rattle.tb_plain.proofs.SentLemmas.{StepBy, run-sends}
 use Rattle.tb_plain.proofs.ReachLemmas.{fired_here, makeup-cut, firing-cases, step-cases}
 
 -- ---- an act that is reached waits
@@ -130,15 +131,16 @@ with-more p s t es fs (page_limit n) h r =
     (omega (arith, a, b, h), r.1)
 with-more p s t es fs (node_limit n) h r = r
 
-by-reason : (p : Params) (s : MakeupState) (k : ℕ) → ((t : MakeupState) → 1 ≤ t.number → act_count t.page ≡ 0 → Enough p t k → RunReason p t (makeup_from p k t).sent (makeup_from p k t).end) → Enough p s (suc k) → (x : MakeupStep) → Falls p s x → StepReason p s x
-    → RunReason p s (run_by (λ t. makeup_from p k t) x).sent (run_by (λ t. makeup_from p k t) x).end
+by-reason : (p : Params) (s : MakeupState) (k : ℕ) → ((t : MakeupState) → 1 ≤ t.number → act_count t.page ≡ 0 → Enough p t k → RunReason p t (sent_of (makeup_from p k t)) (makeup_from p k t).end) → Enough p s (suc k) → (x : MakeupStep) → Falls p s x → StepReason p s x
+    → StepBy (RunReason p s) (λ t. makeup_from p k t) x
 by-reason p s k h enough (ends es e) falls r = r
-by-reason p s k h enough (goes_on es t) falls r = with-more p s t es (makeup_from p k t).sent (makeup_from p k t).end r.0 (h t falls.0 r.1 (falls.1 k enough))
+by-reason p s k h enough (goes_on es t) falls r = with-more p s t es (sent_of (makeup_from p k t)) (makeup_from p k t).end r.0 (h t falls.0 r.1 (falls.1 k enough))
 
-run-reason : (p : Params) (k : ℕ) (s : MakeupState) → 1 ≤ s.number → act_count s.page ≡ 0 → Enough p s k → RunReason p s (makeup_from p k s).sent (makeup_from p k s).end
+run-reason : (p : Params) (k : ℕ) (s : MakeupState) → 1 ≤ s.number → act_count s.page ≡ 0 → Enough p s k → RunReason p s (sent_of (makeup_from p k s)) (makeup_from p k s).end
 unfolding makeup_from
 run-reason p zero s n none enough = absurd (not-enough p s enough)
-run-reason p (suc k) s n none enough = by-reason p s k (λ t i j x. run-reason p k t i j x) enough (makeup_step p s) (step-falls p s n) (step-reason p s n none)
+run-reason p (suc k) s n none enough =
+    run-sends (RunReason p s) (λ t. makeup_from p k t) (step_tries p s) (makeup_step p s) (by-reason p s k (λ t i j x. run-reason p k t i j x) enough (makeup_step p s) (step-falls p s n) (step-reason p s n none))
 
 from-first : (p : Params) (ns : List PlainNode) (es : List PlainSent) (e : MakeupEnd) → RunReason p (first_makeup ns) es e → HasReason p es e
 from-first p ns es done r = tt
@@ -155,6 +157,6 @@ ends_have_reasons g = by_nodes (int_lt g.params.maxnodes (pos (node_count (made_
     r : MakeupRun
     r = makeup_from g.params (suc (steps_left g.params first)) first
 
-    by_nodes : (t : Bool) → int_lt g.params.maxnodes (pos (node_count (made_up g))) ≡ t → HasReason g.params (if t then record { sent = []; end = node_limit (node_count (made_up g)) } else r).sent (if t then record { sent = []; end = node_limit (node_count (made_up g)) } else r).end
+    by_nodes : (t : Bool) → int_lt g.params.maxnodes (pos (node_count (made_up g))) ≡ t → HasReason g.params (sent_of (if t then record { events = []; end = node_limit (node_count (made_up g)) } else r)) (if t then record { events = []; end = node_limit (node_count (made_up g)) } else r).end
     by_nodes true e = above g.params.maxnodes (node_count (made_up g)) e
-    by_nodes false e = from-first g.params (made_up g) r.sent r.end (run-reason g.params (suc (steps_left g.params first)) first (omega arith) refl (inl (omega arith)))
+    by_nodes false e = from-first g.params (made_up g) (sent_of r) r.end (run-reason g.params (suc (steps_left g.params first)) first (omega arith) refl (inl (omega arith)))

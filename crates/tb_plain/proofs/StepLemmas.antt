@@ -14,6 +14,7 @@ use Rattle.tb_break.specs.PageTop.{pruned_nodes}
 use Rattle.tb_insert.specs.Terms.{Terms}
 use Rattle.tb_insert.specs.Account.{Labelled, Label, whole, split, late, labelled, terms_after}
 use Rattle.tb_builder.specs.declared.PageSums.{PageSums}
+use Rattle.tb_builder.specs.declared.Try.{Try}
 use Rattle.tb_builder.specs.Reach.{tried, Reach, also_reached, holds_box, laid_out, page_place, stopped_at, reach_at_place, reach_at, reach_node, reach_from}
 use Rattle.tb_builder.specs.FiredPages.{Fired, page_break, spent_kind, with_spent_break, held_of, unless_empty, held_insertions, frozen_for, reach_of}
 use Rattle.tb_builder.specs.PageSums.{page_sums_of}
@@ -22,7 +23,7 @@ use Rattle.tb_sheet.specs.Sheet.{PlainSent, shipped, one}
 use Rattle.tb_plain.specs.GalleyNodes.{clearing_glue}
 use Rattle.tb_plain.specs.TakenFloats.{top_insertion, top_leaves, page_leaves, here_nodes, with_float, taken_nodes, act_nodes}
 use Rattle.tb_plain.specs.Firing.{holds_any, makeup_column, page_for_held, put_back_after}
-use Rattle.tb_plain.specs.Run.{MakeupState, MakeupStep, ends, goes_on, makeup_ask, makeup_classes, void_boxes, builder_holds, makeup_reach, AtAct, no_act, at_act, after_node, first_act_by, first_act, meets_act, act_step, waiting_after, shipping_step, firing_step, ejecting_nodes, last_step, makeup_step, run_after, run_by, makeup_from, one_act, act_count, node_limit, page_limit, done}
+use Rattle.tb_plain.specs.Run.{MakeupState, MakeupStep, ends, goes_on, makeup_ask, makeup_classes, void_boxes, builder_holds, makeup_reach, AtAct, no_act, at_act, after_node, first_act_by, first_act, meets_act, act_step, waiting_after, shipping_step, firing_step, ejecting_nodes, last_step, makeup_step, step_tries, step_events, run_after, run_by, makeup_from, one_act, act_count, node_limit, page_limit, done}
 use Rattle.tb_plain.specs.RunSteps.{StepsAgree}
 use Rattle.tb_plain.proofs.ReachLemmas.{fired_here}
 
@@ -313,10 +314,10 @@ step-falls p s n = by_act (meets_act w.reached)
 
 -- ---- the fuel
 
-by-same : (p : Params) (s : MakeupState) (k m : ℕ) → ((t : MakeupState) → 1 ≤ t.number → Enough p t k → Enough p t m → makeup_from p k t ≡ makeup_from p m t) → Enough p s (suc k) → Enough p s (suc m) → (t : MakeupStep) → Falls p s t
-    → run_by (λ u. makeup_from p k u) t ≡ run_by (λ u. makeup_from p m u) t
-by-same p s k m h a b (ends es e) f = refl
-by-same p s k m h a b (goes_on es t) f = ap (run_after es) (h t f.0 (f.1 k a) (f.1 m b))
+by-same : (p : Params) (s : MakeupState) (k m : ℕ) → ((t : MakeupState) → 1 ≤ t.number → Enough p t k → Enough p t m → makeup_from p k t ≡ makeup_from p m t) → Enough p s (suc k) → Enough p s (suc m) → (ts : List Try) (t : MakeupStep) → Falls p s t
+    → run_by (λ u. makeup_from p k u) ts t ≡ run_by (λ u. makeup_from p m u) ts t
+by-same p s k m h a b ts (ends es e) f = refl
+by-same p s k m h a b ts (goes_on es t) f = ap (run_after (step_events ts es)) (h t f.0 (f.1 k a) (f.1 m b))
 
 pub not-enough : (p : Params) (s : MakeupState) → Enough p s 0 → ⊥
 not-enough p s (inl less) = omega arith
@@ -326,7 +327,7 @@ pub same-run : (p : Params) (k m : ℕ) (s : MakeupState) → 1 ≤ s.number →
 unfolding makeup_from
 same-run p zero m s n a b = absurd (not-enough p s a)
 same-run p (suc k) zero s n a b = absurd (not-enough p s b)
-same-run p (suc k) (suc m) s n a b = by-same p s k m (λ t i x y. same-run p k m t i x y) a b (makeup_step p s) (step-falls p s n)
+same-run p (suc k) (suc m) s n a b = by-same p s k m (λ t i x y. same-run p k m t i x y) a b (step_tries p s) (makeup_step p s) (step-falls p s n)
 
 pub steps_agree : StepsAgree
 steps_agree p k m s n a b = same-run p k m s n (inl (omega arith)) (inl (omega arith))

@@ -20,8 +20,9 @@ use Rattle.tb_sheet.proofs.PrintedSheets.{sent_weight, sent_weight-append}
 use Rattle.tb_plain.specs.GalleyNodes.{clearing_penalty}
 use Rattle.tb_plain.specs.TakenFloats.{top_insertion, top_leaves, page_leaves, here_nodes, with_float, taken_nodes, act_nodes}
 use Rattle.tb_plain.specs.Firing.{feet_below, holds_any, ragged_end, makeup_column_nodes, page_for_held, put_back_after}
-use Rattle.tb_plain.specs.Run.{MakeupState, done, MakeupRun, MakeupStep, ends, goes_on, makeup_ask, makeup_classes, void_boxes, builder_holds, makeup_reach, AtAct, no_act, at_act, after_node, first_act_by, first_act, meets_act, act_step, waiting_after, firing_step, last_step, makeup_step, run_by, makeup_from}
+use Rattle.tb_plain.specs.Run.{MakeupState, done, MakeupRun, MakeupStep, ends, goes_on, makeup_ask, makeup_classes, void_boxes, builder_holds, makeup_reach, AtAct, no_act, at_act, after_node, first_act_by, first_act, meets_act, act_step, waiting_after, firing_step, last_step, makeup_step, step_tries, sent_of, makeup_from}
 use Rattle.tb_plain.proofs.OurLemmas.{ours, AllOurs, ours-laid, held-ours}
+use Rattle.tb_plain.proofs.SentLemmas.{StepBy, run-sends}
 use Rattle.tb_plain.proofs.ReachLemmas.{fired_here, makeup-cut, firing-cases, step-cases}
 
 -- ---- the boxes
@@ -213,16 +214,17 @@ step-keeps v p s none all =
 
 -- ---- the run
 
-by-keeps : (v : Weight) (s : MakeupState) (later : MakeupState → MakeupRun) → ((t : MakeupState) → StateOurs t → (later t).end ≡ done → sent_weight v (later t).sent ≡ state_weight v t) → (x : MakeupStep) → StepKeeps v s x → (run_by later x).end ≡ done → sent_weight v (run_by later x).sent ≡ state_weight v s
-by-keeps v s later h (ends es e) k d = k d
-by-keeps v s later h (goes_on es t) k d =
-    let a : sent_weight v (es ++ (later t).sent) ≡ sent_weight v es + sent_weight v (later t).sent = sent_weight-append v es (later t).sent in
-    let b : sent_weight v (later t).sent ≡ state_weight v t = h t k.1 d in
+by-keeps : (v : Weight) (s : MakeupState) (later : MakeupState → MakeupRun) → ((t : MakeupState) → StateOurs t → (later t).end ≡ done → sent_weight v (sent_of (later t)) ≡ state_weight v t) → (x : MakeupStep) → StepKeeps v s x → StepBy (λ es e. e ≡ done → sent_weight v es ≡ state_weight v s) later x
+by-keeps v s later h (ends es e) k = k
+by-keeps v s later h (goes_on es t) k = λ d.
+    let a : sent_weight v (es ++ (sent_of (later t))) ≡ sent_weight v es + sent_weight v (sent_of (later t)) = sent_weight-append v es (sent_of (later t)) in
+    let b : sent_weight v (sent_of (later t)) ≡ state_weight v t = h t k.1 d in
     let c = k.0 in
     omega arith
 
 -- a run that is done shipped all that was on the page and waited
-pub run-keeps : (v : Weight) (p : Params) (fuel : ℕ) (s : MakeupState) → NoMargin v → StateOurs s → (makeup_from p fuel s).end ≡ done → sent_weight v (makeup_from p fuel s).sent ≡ state_weight v s
+pub run-keeps : (v : Weight) (p : Params) (fuel : ℕ) (s : MakeupState) → NoMargin v → StateOurs s → (makeup_from p fuel s).end ≡ done → sent_weight v (sent_of (makeup_from p fuel s)) ≡ state_weight v s
 unfolding makeup_from
 run-keeps v p zero s none all e = cc
-run-keeps v p (suc fuel) s none all e = by-keeps v s (λ t. makeup_from p fuel t) (λ t o d. run-keeps v p fuel t none o d) (makeup_step p s) (step-keeps v p s none all) e
+run-keeps v p (suc fuel) s none all e =
+    run-sends (λ es f. f ≡ done → sent_weight v es ≡ state_weight v s) (λ t. makeup_from p fuel t) (step_tries p s) (makeup_step p s) (by-keeps v s (λ t. makeup_from p fuel t) (λ t o d. run-keeps v p fuel t none o d) (makeup_step p s) (step-keeps v p s none all)) e

@@ -4,7 +4,7 @@ use Rattle.tb_report.specs.declared.Totals.{Totals}
 use Rattle.tb_report.specs.RunTotals.{no_totals, with_sent}
 use Rattle.tb_report.specs.Lines.{sent_lines, end_lines}
 use Rattle.tb_sheet.specs.Sheet.{PlainSent}
-use Rattle.tb_plain.specs.Run.{MakeupRun, MakeupEnd, done}
+use Rattle.tb_plain.specs.Run.{MakeupRun, MakeupEnd, done, sent_of}
 
 -- the totals of what a run shipped
 abbrev pub sent_totals : List PlainSent → Totals
@@ -21,9 +21,9 @@ abbrev pub closing_lines : MakeupEnd → List PlainSent → List ℕ
 closing_lines done es = end_lines [] (sent_totals es)
 closing_lines _ es = []
 
--- the report of a run
+-- the report of a run, which shows no places
 unfoldable pub makeup_report : MakeupRun → List ℕ
-makeup_report r = codes "report 1\n" ++ all_lines r.sent ++ closing_lines r.end r.sent
+makeup_report r = codes "report 1\n" ++ all_lines (sent_of r) ++ closing_lines r.end (sent_of r)
 
 -- the line of an item that is not served
 abbrev pub unsuited_text : ℕ → List ℕ

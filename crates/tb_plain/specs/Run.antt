@@ -1,14 +1,17 @@
 -- Whole runs of plain TeX's page makeup.
-use Rattle.std.specs.Prelude.{ℕ, zero, suc, pred, pos, negsuc, nat_abs, ◌+◌, ◌*◌, ◌-◌, Bool, true, false, List, [], ◌∷◌, ◌++◌, Some, None, int_lt, if◌then◌else◌}
+use Rattle.std.specs.Prelude.{ℕ, zero, suc, pred, pos, negsuc, nat_abs, ◌+◌, ◌*◌, ◌-◌, Bool, true, false, ℤ, List, [], ◌∷◌, ◌++◌, map, Some, None, int_lt, if◌then◌else◌}
+use Rattle.tb_scaled.specs.Scaled.{min_ℤ}
 use Rattle.tb_node.specs.declared.Act.{Act}
 use Rattle.tb_node.specs.PlainNodes.{skip, pen, PlainKind, plain, ins, act, PlainNode, made, blank_box}
 use Rattle.tb_param.specs.declared.Params.{Params}
 use Rattle.tb_galley.specs.declared.Galley.{Galley}
+use Rattle.tb_break.specs.Best.{least_cost}
 use Rattle.tb_insert.specs.declared.Class.{Class}
 use Rattle.tb_builder.specs.declared.Ask.{Ask}
-use Rattle.tb_builder.specs.Reach.{Reached, acted, tried, Reach, laid_out}
+use Rattle.tb_builder.specs.declared.Try.{Try}
+use Rattle.tb_builder.specs.Reach.{Reached, acted, tried, Reach, laid_out, try_of}
 use Rattle.tb_builder.specs.FiredPages.{Boxed, Fired, reach_of, fired_of}
-use Rattle.tb_builder.specs.Contents.{Contents, node_count}
+use Rattle.tb_builder.specs.Contents.{Contents, places_of, reach_ahead, node_count}
 use Rattle.tb_builder.specs.Courses.{freezes}
 use Rattle.tb_builder.specs.PageSums.{page_sums_of}
 use Rattle.tb_sheet.specs.Sheet.{PlainSent, shipped, one}
@@ -22,10 +25,25 @@ pub data MakeupEnd : Type 0 where
   page_limit : ℕ → MakeupEnd
   node_limit : ℕ → MakeupEnd
 
--- what a run shipped, and how it ended
+-- a place that is tried, or a page that is sent
+pub data MakeupEvent : Type 0 where
+  offers : Try → MakeupEvent
+  sends : PlainSent → MakeupEvent
+
+-- what a run shows, and how it ended
 pub record MakeupRun : Type 0 where
-  pub sent : List PlainSent
+  pub events : List MakeupEvent
   pub end : MakeupEnd
+
+-- what is sent among events
+abbrev pub sent_among : List MakeupEvent → List PlainSent
+sent_among [] = []
+sent_among (offers t ∷ es) = sent_among es
+sent_among (sends e ∷ es) = e ∷ sent_among es
+
+-- what a run sent
+abbrev pub sent_of : MakeupRun → List PlainSent
+sent_of r = sent_among r.events
 
 -- the page so far, the nodes that wait, and the number of the next page; the class boxes are void until a page fires
 pub record MakeupState : Type 0 where
@@ -145,21 +163,43 @@ step_of p s w =
 unfoldable pub makeup_step : Params → MakeupState → MakeupStep
 makeup_step p s = step_of p s (makeup_reach p s)
 
+-- ---- the places that a step tries
+
+-- the places before the first act, each a champion if its cost is at most the least so far
+abbrev pub tries_first : ℤ → List Reached → List Try
+tries_first least [] = []
+tries_first least (acted a ∷ rs) = []
+tries_first least (tried line b ∷ rs) = try_of line b least ∷ tries_first (min_ℤ least b.cost) rs
+
+-- the places that a step tries: those past the page so far, whose own places were tried before
+unfoldable pub step_tries : Params → MakeupState → List Try
+step_tries p s =
+    let c = builder_holds p s in
+    tries_first (least_cost (places_of c (makeup_ask p))) (reach_ahead c (makeup_ask p)).reached
+
 -- ---- the run
 
--- a run after these pages
-abbrev pub run_after : List PlainSent → MakeupRun → MakeupRun
-run_after es r = record r { sent = es ++ r.sent }
+-- places that are tried, as events
+abbrev pub try_events : List Try → List MakeupEvent
+try_events ts = map (λ t. offers t) ts
 
--- a run by its first step
-abbrev pub run_by : (MakeupState → MakeupRun) → MakeupStep → MakeupRun
-run_by later (ends es e) = record { sent = es; end = e }
-run_by later (goes_on es s) = run_after es (later s)
+-- the events of a step: the places that it tries, and then what it ships
+abbrev pub step_events : List Try → List PlainSent → List MakeupEvent
+step_events ts es = try_events ts ++ map (λ e. sends e) es
+
+-- a run after these events
+abbrev pub run_after : List MakeupEvent → MakeupRun → MakeupRun
+run_after es r = record r { events = es ++ r.events }
+
+-- a run by its first step and the places that this tries
+abbrev pub run_by : (MakeupState → MakeupRun) → List Try → MakeupStep → MakeupRun
+run_by later ts (ends es e) = record { events = step_events ts es; end = e }
+run_by later ts (goes_on es s) = run_after (step_events ts es) (later s)
 
 -- the run from a state; each step lowers the fuel, and a run that has enough never uses it up
 unfoldable pub makeup_from : Params → ℕ → MakeupState → MakeupRun
-makeup_from p zero s = record { sent = []; end = page_limit (pred s.number) }
-makeup_from p (suc fuel) s = run_by (λ s'. makeup_from p fuel s') (makeup_step p s)
+makeup_from p zero s = record { events = []; end = page_limit (pred s.number) }
+makeup_from p (suc fuel) s = run_by (λ s'. makeup_from p fuel s') (step_tries p s) (makeup_step p s)
 
 -- how many acts a node is
 abbrev pub one_act : PlainKind → ℕ
@@ -180,7 +220,7 @@ steps_left p s = act_count s.page + act_count s.waiting + 2 * (nat_abs p.maxpage
 abbrev pub makeup_of_state : Params → MakeupState → MakeupRun
 makeup_of_state p s =
     let run = makeup_from p (suc (steps_left p s)) s in
-    if int_lt p.maxnodes (pos (node_count s.waiting)) then record { sent = []; end = node_limit (node_count s.waiting) } else run
+    if int_lt p.maxnodes (pos (node_count s.waiting)) then record { events = []; end = node_limit (node_count s.waiting) } else run
 
 -- the state in which these nodes wait for the first page
 abbrev pub first_makeup : List PlainNode → MakeupState

@@ -3,7 +3,7 @@ use Rattle.std.specs.Prelude.{◌≡◌, ◌<◌, ◌≤◌, ◌<ℤ◌, ◌≤�
 use Rattle.tb_param.specs.declared.Params.{Params}
 use Rattle.tb_galley.specs.declared.Galley.{Galley}
 use Rattle.tb_sheet.specs.Sheet.{PlainSent}
-use Rattle.tb_plain.specs.Run.{MakeupState, MakeupEnd, done, page_limit, node_limit, makeup_from, steps_left, makeup_of}
+use Rattle.tb_plain.specs.Run.{MakeupState, MakeupEnd, done, page_limit, node_limit, makeup_from, steps_left, makeup_of, sent_of}
 
 -- with more steps than can follow, any two bounds give the same run
 abbrev pub StepsAgree : Type 0
@@ -17,4 +17,4 @@ HasReason p es (node_limit n) = p.maxnodes <ℤ pos n
 
 -- the run of each galley ends for a reason, and so was not cut off
 abbrev pub EndsHaveReasons : Type 0
-EndsHaveReasons = (g : Galley) → HasReason g.params (makeup_of g).sent (makeup_of g).end
+EndsHaveReasons = (g : Galley) → HasReason g.params (sent_of (makeup_of g)) (makeup_of g).end

@@ -11,11 +11,13 @@ pub mod ColumnRows
 pub mod VersionRows
 pub mod LinesRows
 pub mod MakeupRows
+pub mod MakeupTraceRows
 pub mod Views
 pub mod PagesWritten
 pub mod DviRefusal
 pub mod DviFiles
 pub mod DviWritten
 pub mod MakeupLaws
+pub mod MakeupTrace
 pub mod MakeupPages
 pub mod MakeupWritten

@@ -26,14 +26,15 @@ pub use rows::check_rows;
 pub use status::Status;
 pub use tb_generator::generate;
 pub use tb_laws::{
-    classes_keep_their_order, dead_cycles_are_few, dvi_files_list_their_pages, each_ships_once,
-    floats_keep_the_limits, lists_are_emptied, runs_are_defined,
+    areas_keep_their_numbers, classes_keep_their_order, dead_cycles_are_few,
+    dvi_files_list_their_pages, each_ships_once, floats_keep_the_limits, lists_are_emptied,
+    runs_are_defined,
 };
 pub use tb_makeup::first_unsuited;
 pub use tb_report::Totals;
 pub use top::run;
 
-/// What `paginate` writes of a run: its report, with the places that were tried or without, or nothing.
+/// What `paginate` and `paginate_plain` write of a run: its report, with the places that were tried or without, or nothing.
 #[derive(Clone, Copy, Debug, PartialEq, Eq)]
 pub enum View {
     /// The report: the header, the warnings and the pages, and what is left at the end.

@@ -13,7 +13,7 @@ ghost use Rattle.tb_top.specs.MakeupPages.{MakesPages, RefusesPages};
 ghost use Rattle.tb_top.specs.MakeupWritten.{write_fault, run_on, EndsWell, StopsWith};
 
 use crate::View;
-use crate::views::{send, show};
+use crate::views::{is_traced, send, show};
 use std::alloc::{AllocError, Global};
 use tb_galley::Galley;
 use tb_io::{Sink, SinkFault};
@@ -55,7 +55,7 @@ impl From<SinkFault> for PlainRunFault {
 }
 
 /// Makes the pages of a galley by plain TeX's page makeup and writes what a view shows of the run, page by page: the
-/// report, or nothing. No places that were tried are shown. Returns what was shipped.
+/// report, with the places that were tried or without, or nothing. Returns what was shipped.
 ///
 /// The run ends well if nothing waits any more and the page is empty, or is refused: too many pages would be shipped
 /// (`PageLimit`), or too many nodes wait at the start or after a firing (`NodeLimit`). Its text up to there is written then.
@@ -108,7 +108,7 @@ fn run_on<K: Sink>(
         return finish(alloc, view, &totals, ending, out);
     }
     'page: loop {
-        let ending = makeup.turn(&mut happened)?;
+        let ending = makeup.turn(is_traced(view), &mut happened)?;
         send(&makeup.store, &happened, view, &mut totals, &mut text, out)?;
         if let Some(ending) = ending {
             return finish(alloc, view, &totals, ending, out);

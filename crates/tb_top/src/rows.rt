@@ -5,9 +5,11 @@ ghost use Rattle.tb_top.specs.ColumnRows.{ColumnRows};
 ghost use Rattle.tb_top.specs.VersionRows.{VersionRows};
 ghost use Rattle.tb_top.specs.LinesRows.{LinesRows};
 ghost use Rattle.tb_top.specs.MakeupRows.{MakeupRows};
+ghost use Rattle.tb_top.specs.MakeupTraceRows.{MakeupTraceRows};
 
 /// The definitions against which [`run`](crate::run) is proved give the worked rows: from the bytes
-/// of each galley the status, the report and the line on `err`.
+/// of each galley the status, the report and the line on `err`, and of one the trace of its run under plain TeX's page
+/// makeup.
 pub fn check_rows()
     ensures text { WorkedRows }
     ensures floats { FloatRows }
@@ -15,4 +17,5 @@ pub fn check_rows()
     ensures versions { VersionRows }
     ensures lines { LinesRows }
     ensures makeup { MakeupRows }
+    ensures makeup_trace { MakeupTraceRows }
 {}

@@ -1,6 +1,6 @@
 -- A firing's columns and pages, put out one after another, keep the order of a class.
-use Rattle.std.proofs.Common.{◌≡◌, refl, sym, ◌∙◌, ap, subst, ℕ, zero, suc, pos, ◌+◌, Bool, true, false, List, [], ◌∷◌, ◌++◌, length, Option, Some, None, append_assoc, append-nil}
-use Rattle.std.specs.Prelude.{int_lt, not, if◌then◌else◌}
+use Rattle.std.proofs.Common.{◌≡◌, refl, sym, ◌∙◌, ap, subst, ℕ, zero, suc, ◌+◌, Bool, true, false, List, [], ◌∷◌, ◌++◌, length, Option, Some, None, append_assoc, append-nil}
+use Rattle.std.specs.Prelude.{not, if◌then◌else◌}
 use Rattle.std.specs.List.{AllByRecursion}
 use Rattle.std.proofs.lemmas.Bool.{both_ways}
 use Rattle.tb_break.proofs.EachLemmas.{all-front}
@@ -12,17 +12,19 @@ use Rattle.tb_float.specs.Rooms.{column_height_of}
 use Rattle.tb_area.specs.Deferred.{doubled}
 use Rattle.tb_fpage.specs.declared.Wanted.{Wanted}
 use Rattle.tb_fpage.specs.Company.{Choice, company, chosen_floats, left_floats}
+use Rattle.tb_fpage.proofs.FirstLemmas.{company-all}
 use Rattle.tb_column.specs.Column.{PlainColumn, wide_floats_column, single_floats_column}
 use Rattle.tb_sheet.specs.Sheet.{PlainSheet, PlainSent, shipped, one, wide, pair_sheet}
 use Rattle.tb_output.specs.State.{State, Work, Recorded, output, records_also, sends, with_floats}
 use Rattle.tb_output.specs.Pages
 use Rattle.tb_output.specs.Columns
+use Rattle.tb_output.proofs.StepLaws.RefusedSteps.{by-ship}
 use Rattle.tb_output.proofs.StepLaws.ColumnSteps.{no_law, put_out-step, put_out_by-step, wide_pages-step, place_double-step, float_columns-step}
 use Rattle.tb_output.proofs.StepLaws.WorkSteps.{column-unrefused}
 use Rattle.tb_output.proofs.ColumnPages.FillLemmas.{HasLists, fill_double-lists}
 use Rattle.tb_laws.proofs.ClassesRise.RisingLists.{IsMissing}
 use Rattle.tb_laws.proofs.ClassesRise.ClassLines.{FloatKind, IsReleased, wide-from, class_lines, float_lines, left_lines, sheet_lines, sent_lines, sent-append, floats_above-lines, floats_column-lines}
-use Rattle.tb_laws.proofs.StepLaws.QuietLemmas.{AddsQuiet, double-added, company-all}
+use Rattle.tb_laws.proofs.StepLaws.QuietLemmas.{AddsQuiet, double-added}
 use Rattle.tb_laws.proofs.Closed.SparedLists.{waiting-double}
 use Rattle.tb_laws.proofs.ClassesRise.SpreadLemmas.{IsBehind, Spread, no-left, left-lines, behind-missing}
 use Rattle.tb_laws.proofs.ClassesRise.SpreadSteps.{recorded, shipped_alone, kept_left, shipped_pair, chosen, chosen_wide, filled_double}
@@ -36,18 +38,9 @@ pub sends-now : (e : PlainSent) (w : Work) → w.refused ≡ false → sends e w
 sends-now e w h = ap (λ t. if t then w else record w { sent = w.sent ++ e ∷ [] }) h
 
 pub ship-is : (p : Params) (sheet : PlainSheet) (w : Work) → (Pages.ship p sheet w).refused ≡ false → Pages.ship p sheet w ≡ record w { state = record w.state { page = w.state.page + 1; dead_cycles = 0 }; sent = w.sent ++ shipped w.state.page sheet ∷ [] }
-ship-is p sheet w ok = by_refused w.refused refl ok
-  where
-    turned : Work
-    turned = record w { state = record w.state { page = w.state.page + 1; dead_cycles = 0 } }
-
-    by_limit : w.refused ≡ false → (u : Bool) → (if u then record w { refused = true } else Pages.ship_now sheet w).refused ≡ false → (if u then record w { refused = true } else Pages.ship_now sheet w) ≡ record turned { sent = w.sent ++ shipped w.state.page sheet ∷ [] }
-    by_limit r true e = cc
-    by_limit r false e = sends-now (shipped w.state.page sheet) turned r
-
-    by_refused : (t : Bool) → w.refused ≡ t → (if t then w else (if int_lt p.maxpages (pos w.state.page) then record w { refused = true } else Pages.ship_now sheet w)).refused ≡ false → (if t then w else (if int_lt p.maxpages (pos w.state.page) then record w { refused = true } else Pages.ship_now sheet w)) ≡ record turned { sent = w.sent ++ shipped w.state.page sheet ∷ [] }
-    by_refused true r e = absurd (both_ways w.refused e r)
-    by_refused false r e = by_limit r (int_lt p.maxpages (pos w.state.page)) e
+ship-is p sheet w ok =
+    by-ship (λ v. v.refused ≡ false → v ≡ record w { state = record w.state { page = w.state.page + 1; dead_cycles = 0 }; sent = w.sent ++ shipped w.state.page sheet ∷ [] }) p sheet w
+    (λ r k. absurd (both_ways w.refused k r)) (λ r k. cc) (λ r e k. refl) ok
 
 -- ---- a firing at work
 

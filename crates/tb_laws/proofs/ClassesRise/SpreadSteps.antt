@@ -12,13 +12,14 @@ use Rattle.tb_area.specs.Deferred.{doubled}
 use Rattle.tb_float.specs.declared.Suppress.{Suppress}
 use Rattle.tb_fpage.specs.declared.Wanted.{Wanted}
 use Rattle.tb_fpage.specs.Company.{Choice, company, chosen_floats, left_floats}
+use Rattle.tb_fpage.proofs.FirstLemmas.{company-all}
 use Rattle.tb_column.specs.Column.{PlainColumn}
 use Rattle.tb_output.specs.State.{Recorded, output}
 use Rattle.tb_laws.proofs.NothingLost.StateWeights.{ColumnsFit}
 use Rattle.tb_laws.proofs.ClassesRise.RisingLists.{IsMissing, IsAbove, Rises, rises-front, rises-back, rises-across, rises-known, rises-more, across-back, across-unexcused}
 use Rattle.tb_laws.proofs.ClassesRise.ClassLines.{FloatKind, Side, alike, narrow, wider, waits, PartedBy, Parted, WideFrom, class_lines, float_lines, left_lines, floats-append, doubled-lines, company-lines}
 use Rattle.tb_laws.proofs.ClassesRise.RecordLines.{record_lines, records-more, IsCarried, carried-more}
-use Rattle.tb_laws.proofs.StepLaws.QuietLemmas.{SameAreas, AreQuiet, quiet-lines, double-all, double-same, double-second, double-deferred, company-all}
+use Rattle.tb_laws.proofs.StepLaws.QuietLemmas.{SameAreas, AreQuiet, quiet-lines, double-all, double-same, double-second, double-deferred}
 use Rattle.tb_laws.proofs.ClassesRise.PageLines.{append-none, none-front}
 use Rattle.tb_laws.proofs.ClassesRise.SpreadLemmas.{later_lines, IsBehind, IsUnseen, spread_lines, Spread, alone, kept, paired, no-first, unseen-unexcused, lefts, unseen-column, lefts-quiet, unseen-quiet, deferred-none, pair-parted, chosen-parted, second-parted, second-waits, deferred-doubled, second-doubled}
 

@@ -1,55 +1,36 @@
 -- What putting out a column leads to: a page, or the first of two columns that is kept.
-use Rattle.std.proofs.Common.{◌≡◌, refl, sym, ◌∙◌, ap, subst, ℕ, zero, suc, pos, ◌+◌, ◌≤◌, inl, inr, ◌⊎◌, Bool, true, false, List, [], ◌∷◌, ◌++◌, length, Option, Some, None, arith}
-use Rattle.std.specs.Prelude.{int_lt, not, if◌then◌else◌}
+use Rattle.std.proofs.Common.{◌≡◌, refl, sym, ◌∙◌, ap, subst, ℕ, zero, suc, ◌+◌, ◌≤◌, inl, inr, ◌⊎◌, Bool, true, false, List, [], ◌∷◌, ◌++◌, length, Option, Some, None, arith}
+use Rattle.std.specs.Prelude.{not, if◌then◌else◌}
 use Rattle.tb_node.specs.declared.Float.{Float}
 use Rattle.tb_node.specs.declared.Where.{Where}
 use Rattle.tb_node.specs.declared.Where.TheVariants as places
 use Rattle.tb_node.specs.PlainNodes.{PlainNode}
 use Rattle.tb_param.specs.declared.Params.{Params}
 use Rattle.tb_float.specs.declared.Part.{Part}
-use Rattle.tb_float.specs.declared.Part.TheVariants as parts
 use Rattle.tb_float.specs.Lists.{FloatLists, with_floats_of, wide_part, wide_waiting, with_wide_waiting}
 use Rattle.tb_float.specs.Rooms.{column_height_of}
-use Rattle.tb_float.proofs.WaitingLemmas.{wide-waits}
 use Rattle.tb_fpage.specs.declared.Wanted.{Wanted}
 use Rattle.tb_fpage.specs.Company.{Choice, company, chosen_floats, left_floats}
 use Rattle.tb_area.specs.Area
 use Rattle.tb_column.specs.Column.{PlainColumn, text_column, single_floats_column}
-use Rattle.tb_sheet.specs.Sheet.{PlainSheet, shipped, one, pair_sheet}
+use Rattle.tb_sheet.specs.Sheet.{PlainSheet, one, pair_sheet}
 use Rattle.tb_output.specs.State.{State, Work, Recorded, placed, output, records_also, with_floats, footnotes}
 use Rattle.tb_output.specs.FloatMoves
 use Rattle.tb_output.specs.Pages
 use Rattle.tb_output.specs.Columns
-use Rattle.tb_output.proofs.StepLaws.FollowLemmas.{waiting_floats, AllWait, Follows, follows-then, follows-undoubled, follows-wide_pages, follows-double, follows-next, follows-put_out, follows-company, follows-float_columns, follows-pair_rest}
+use Rattle.tb_output.proofs.StepLaws.RefusedSteps.{by-records, by-any-ship, by-ship}
+use Rattle.tb_output.proofs.StepLaws.FollowLemmas.{waiting_floats, AllWait, Follows, follows-then, follows-undoubled, follows-next, follows-put_out, follows-company, follows-float_columns, follows-pair_rest}
+use Rattle.tb_output.proofs.StepLaws.Moves.{Hand, FillMove, places_next, goes-on}
+use Rattle.tb_output.proofs.StepLaws.FiringTree.{fill_column-moves}
 
 -- ---- a page that is shipped
 
 pub ship-cycles : (p : Params) (sheet : PlainSheet) (w : Work) → (Pages.ship p sheet w).refused ≡ false → (Pages.ship p sheet w).state.dead_cycles ≡ 0
-ship-cycles p sheet w = by_refused w.refused (int_lt p.maxpages (pos w.state.page)) refl
-  where
-    turned : Work
-    turned = record w { state = record w.state { page = w.state.page + 1; dead_cycles = 0 } }
-
-    by_sent : (x : Bool) → (if x then turned else record turned { sent = w.sent ++ shipped w.state.page sheet ∷ [] }).state.dead_cycles ≡ 0
-    by_sent true = refl
-    by_sent false = refl
-
-    by_refused : (t u : Bool) → w.refused ≡ t → (if t then w else (if u then record w { refused = true } else Pages.ship_now sheet w)).refused ≡ false → (if t then w else (if u then record w { refused = true } else Pages.ship_now sheet w)).state.dead_cycles ≡ 0
-    by_refused true u r h = let no : ⊥ = grind (arith, r, h) in absurd no
-    by_refused false true r h = let no : ⊥ = grind (arith, h) in absurd no
-    by_refused false false r h = by_sent w.refused
+ship-cycles p sheet w =
+    by-ship (λ v. v.refused ≡ false → v.state.dead_cycles ≡ 0) p sheet w (λ r h. let no : ⊥ = grind (arith, r, h) in absurd no) (λ r h. let no : ⊥ = grind (arith, h) in absurd no) (λ r e h. refl)
 
 pub ship-lists : (p : Params) (sheet : PlainSheet) (w : Work) → ((Pages.ship p sheet w).state.floats ≡ w.state.floats) × ((Pages.ship p sheet w).state.first_column ≡ w.state.first_column)
-ship-lists p sheet w = by_refused w.refused (int_lt p.maxpages (pos w.state.page)) w.refused
-  where
-    turned : Work
-    turned = record w { state = record w.state { page = w.state.page + 1; dead_cycles = 0 } }
-
-    by_refused : (t u x : Bool) → ((if t then w else (if u then record w { refused = true } else (if x then turned else record turned { sent = w.sent ++ shipped w.state.page sheet ∷ [] }))).state.floats ≡ w.state.floats) × ((if t then w else (if u then record w { refused = true } else (if x then turned else record turned { sent = w.sent ++ shipped w.state.page sheet ∷ [] }))).state.first_column ≡ w.state.first_column)
-    by_refused true u x = (refl, refl)
-    by_refused false true x = (refl, refl)
-    by_refused false false true = (refl, refl)
-    by_refused false false false = (refl, refl)
+ship-lists p sheet w = by-any-ship (λ v. (v.state.floats ≡ w.state.floats) × (v.state.first_column ≡ w.state.first_column)) p sheet w (refl, refl) (refl, refl) (refl, refl)
 
 pub stays-zero : (a b : ℕ) → a ≡ 0 → (b ≡ a) ⊎ (b ≡ 0) → b ≡ 0
 stays-zero a b h (inl e) = e ∙ h
@@ -61,11 +42,7 @@ abbrev pub SameColumn : Work → Work → Type 0
 SameColumn a b = b.state.first_column ≡ a.state.first_column
 
 records-column : (r : Recorded) (w : Work) → ((records_also r w).state ≡ w.state) × ((records_also r w).refused ≡ w.refused)
-records-column r w = by_refused w.refused
-  where
-    by_refused : (t : Bool) → ((if t then w else record w { records = w.records ++ r ∷ [] }).state ≡ w.state) × ((if t then w else record w { records = w.records ++ r ∷ [] }).refused ≡ w.refused)
-    by_refused true = (refl, refl)
-    by_refused false = (refl, refl)
+records-column r w = by-records (λ v. (v.state ≡ w.state) × (v.refused ≡ w.refused)) r w (refl, refl) (refl, refl)
 
 placed-column : (p : Params) (place : Where) (f : Float) (left : FloatLists) (w : Work) → SameColumn w (FloatMoves.place_float p place f left w)
 placed-column p place f left w = by_record (FloatMoves.is_placed place)
@@ -90,13 +67,6 @@ double-column from p before (f ∷ rest) w =
     let place = Area.double_place p w.state.floats w.state.suppress before f in
     let w' = FloatMoves.place_waiting from p place f before rest w in
     double-column from p (FloatMoves.still_deferred place f before) rest w' ∙ waiting-column from p place f before rest w
-
-pub next-column : (p : Params) (before fs : List Float) (w : Work) → SameColumn w (FloatMoves.place_next p before fs w)
-next-column p before [] w = refl
-next-column p before (f ∷ rest) w =
-    let place = Area.next_place p w.state.floats w.state.suppress before f in
-    let w' = FloatMoves.place_waiting parts.Deferred p place f before rest w in
-    next-column p (FloatMoves.still_deferred place f before) rest w' ∙ waiting-column parts.Deferred p place f before rest w
 
 wide_by-column : (p : Params) (again : Work → Work) → ((w : Work) → SameColumn w (again w)) → (w : Work) (o : Option (List Choice)) → SameColumn w (Pages.wide_pages_by again p w o)
 wide_by-column p again h w None = refl
@@ -125,48 +95,28 @@ pub joined-single : (place : Where) (f : Float) (l : FloatLists) → NotDouble p
 joined-single places.Double f l h = absurd h
 joined-single place f l h = refl
 
-deferred-single : (p : Params) (place : Where) (f : Float) (before rest : List Float) (w : Work) → NotDouble place → (FloatMoves.place_waiting parts.Deferred p place f before rest w).state.floats.double ≡ w.state.floats.double
-deferred-single p place f before rest w h = by_place (FloatMoves.is_placed place)
-  where
-    l : FloatLists
-    l = record w.state.floats { deferred = before ++ rest }
+-- ---- what filling a column leaves as it is
 
-    by_place : (t : Bool) → (if t then FloatMoves.place_float p place f l w else w).state.floats.double ≡ w.state.floats.double
-    by_place true = joined-single place f l h
-    by_place false = refl
+record FillKeeps (a b : Work) : Type 0 where
+  column : SameColumn a b
+  double : b.state.floats.double ≡ a.state.floats.double
+  cycles : b.state.dead_cycles ≡ a.state.dead_cycles
 
-pub next-single : (p : Params) (before fs : List Float) (w : Work) → (FloatMoves.place_next p before fs w).state.floats.double ≡ w.state.floats.double
-next-single p before [] w = refl
-next-single p before (f ∷ rest) w =
-    let place = Area.next_place p w.state.floats w.state.suppress before f in
-    let w' = FloatMoves.place_waiting parts.Deferred p place f before rest w in
-    next-single p (FloatMoves.still_deferred place f before) rest w' ∙ deferred-single p place f before rest w (area-single (Area.next_area_place p w.state.floats w.state.suppress before f))
-
--- ---- placing floats is no firing
-
-placed-cycles : (p : Params) (place : Where) (f : Float) (before rest : List Float) (w : Work) → (FloatMoves.place_waiting parts.Deferred p place f before rest w).state.dead_cycles ≡ w.state.dead_cycles
-placed-cycles p place f before rest w = by_place (FloatMoves.is_placed place)
+fill-keeps : {p : Params} {h : Hand} {a : Work} {i : Hand} {b : Work} → FillMove p h a i b → FillKeeps a b
+fill-keeps {p} (places_next a f before rest w c e i) = by_record (FloatMoves.is_placed (Area.where_of a))
   where
     l : FloatLists
     l = record w.state.floats { deferred = before ++ rest }
 
     r : Recorded
-    r = placed f place w.state.floats (column_height_of p w.state.floats)
+    r = placed f (Area.where_of a) w.state.floats (column_height_of p w.state.floats)
 
-    by_record : (t : Bool) → (with_floats (FloatMoves.joined_to place f l) (if t then records_also r w else w)).state.dead_cycles ≡ w.state.dead_cycles
-    by_record true = ap (λ s. s.dead_cycles) (records-column r w).0
-    by_record false = refl
+    by_record : (t : Bool) → FillKeeps w (with_floats (FloatMoves.joined_to (Area.where_of a) f l) (if t then records_also r w else w))
+    by_record true = let k = (records-column r w).0 in record { column = ap (λ s. s.first_column) k; double = joined-single (Area.where_of a) f l (area-single a); cycles = ap (λ s. s.dead_cycles) k }
+    by_record false = record { column = refl; double = joined-single (Area.where_of a) f l (area-single a); cycles = refl }
 
-    by_place : (t : Bool) → (if t then FloatMoves.place_float p place f l w else w).state.dead_cycles ≡ w.state.dead_cycles
-    by_place true = by_record (FloatMoves.is_placed place)
-    by_place false = refl
-
-next-cycles : (p : Params) (before fs : List Float) (w : Work) → (FloatMoves.place_next p before fs w).state.dead_cycles ≡ w.state.dead_cycles
-next-cycles p before [] w = refl
-next-cycles p before (f ∷ rest) w =
-    let place = Area.next_place p w.state.floats w.state.suppress before f in
-    let w' = FloatMoves.place_waiting parts.Deferred p place f before rest w in
-    next-cycles p (FloatMoves.still_deferred place f before) rest w' ∙ placed-cycles p place f before rest w
+filled-keeps : (p : Params) (w : Work) → FillKeeps w (Columns.fill_column p w)
+filled-keeps p w = goes-on (λ h a i b. FillKeeps a b) (λ h w. record { column = refl; double = refl; cycles = refl }) (λ h i j a b c x y. record { column = y.column ∙ x.column; double = y.double ∙ x.double; cycles = y.cycles ∙ x.cycles }) (λ h i a b m. fill-keeps m) (fill_column-moves p w)
 
 -- ---- a column is put out
 
@@ -175,19 +125,19 @@ abbrev pub IsLast : State → Type 0
 IsLast s = (s.two_columns ≡ false) ⊎ (s.first_column ≡ false)
 
 module _ (P : Float → Type 0) (p : Params) where
-  pair-cycles : (c : PlainColumn) (w : Work) → (Pages.ship_pair p c w).refused ≡ false → (Pages.ship_pair p c w).state.dead_cycles ≡ 0
-  pair-cycles c w h =
+  pair-cycles : (c : PlainColumn) (w : Work) → w.state.two_columns ≡ true → (Pages.ship_pair p c w).refused ≡ false → (Pages.ship_pair p c w).state.dead_cycles ≡ 0
+  pair-cycles c w t h =
       let a = Pages.ship p (pair_sheet p w.state.floats (Pages.left_or c w.state.left_column) c) w in
-      let x : Follows P (Pages.ship p (pair_sheet p w.state.floats (Pages.left_or c w.state.left_column) c) w) (Pages.ship_pair p c w) = follows-pair_rest P p c w in
+      let x : Follows P (Pages.without_double (Pages.ship p (pair_sheet p w.state.floats (Pages.left_or c w.state.left_column) c) w)) (Pages.ship_pair p c w) = follows-pair_rest P p c w t in
       stays-zero a.state.dead_cycles (Pages.ship_pair p c w).state.dead_cycles (ship-cycles p _ w (x.goes h)) (x.cycles h)
 
   -- the double floats leave with the pair, and a first column begins
-  pair-first : (c : PlainColumn) (w : Work) → ((Pages.ship_pair p c w).state.first_column ≡ true) × (waiting_floats (Pages.ship_pair p c w).state.floats + length w.state.floats.double ≤ waiting_floats w.state.floats)
-  pair-first c w =
+  pair-first : (c : PlainColumn) (w : Work) → w.state.two_columns ≡ true → ((Pages.ship_pair p c w).state.first_column ≡ true) × (waiting_floats (Pages.ship_pair p c w).state.floats + length w.state.floats.double ≤ waiting_floats w.state.floats)
+  pair-first c w t =
       let a = Pages.ship p (pair_sheet p w.state.floats (Pages.left_or c w.state.left_column) c) w in
       let b = Pages.without_double a in
       let d = Pages.all_wide_pages p false b in
-      let x : Follows P (Pages.without_double (Pages.ship p (pair_sheet p w.state.floats (Pages.left_or c w.state.left_column) c) w)) (Pages.ship_pair p c w) = follows-then P b d (Pages.ship_pair p c w) (follows-wide_pages P p false (length (wide_waiting p b.state.floats)) b) (follows-double P (wide_part p) (wide-waits p) p [] (wide_waiting p d.state.floats) d refl) in
+      let x : Follows P (Pages.without_double (Pages.ship p (pair_sheet p w.state.floats (Pages.left_or c w.state.left_column) c) w)) (Pages.ship_pair p c w) = follows-pair_rest P p c w t in
       let u : waiting_floats (Pages.without_double (Pages.ship p (pair_sheet p w.state.floats (Pages.left_or c w.state.left_column) c) w)).state.floats + length (Pages.ship p (pair_sheet p w.state.floats (Pages.left_or c w.state.left_column) c) w).state.floats.double ≤ waiting_floats (Pages.ship p (pair_sheet p w.state.floats (Pages.left_or c w.state.left_column) c) w).state.floats = (follows-undoubled P a).1 in
       let l = (ship-lists p (pair_sheet p w.state.floats (Pages.left_or c w.state.left_column) c) w).0 in (
         double-column (wide_part p) p [] (wide_waiting p d.state.floats) d ∙ wide-column p false (length (wide_waiting p b.state.floats)) b,
@@ -198,13 +148,13 @@ module _ (P : Float → Type 0) (p : Params) where
       sums w a b r d e h i j k = omega arith
 
   by-cycles : (c : PlainColumn) (a : Work) → IsLast a.state → (Pages.put_out_by p c a).refused ≡ false → (Pages.put_out_by p c a).state.dead_cycles ≡ 0
-  by-cycles c a l = by_columns a.state.two_columns a.state.first_column l
+  by-cycles c a l = by_columns a.state.two_columns a.state.first_column refl l
     where
-      by_columns : (t f : Bool) → (t ≡ false) ⊎ (f ≡ false) → (if not t then Pages.ship p (one c) a else (if f then Pages.keep_left c a else Pages.ship_pair p c a)).refused ≡ false → (if not t then Pages.ship p (one c) a else (if f then Pages.keep_left c a else Pages.ship_pair p c a)).state.dead_cycles ≡ 0
-      by_columns false f l h = ship-cycles p (one c) a h
-      by_columns true false l h = pair-cycles c a h
-      by_columns true true (inl e) h = let no : ⊥ = grind (arith, e) in absurd no
-      by_columns true true (inr e) h = let no : ⊥ = grind (arith, e) in absurd no
+      by_columns : (t f : Bool) → a.state.two_columns ≡ t → (t ≡ false) ⊎ (f ≡ false) → (if not t then Pages.ship p (one c) a else (if f then Pages.keep_left c a else Pages.ship_pair p c a)).refused ≡ false → (if not t then Pages.ship p (one c) a else (if f then Pages.keep_left c a else Pages.ship_pair p c a)).state.dead_cycles ≡ 0
+      by_columns false f t l h = ship-cycles p (one c) a h
+      by_columns true false t l h = pair-cycles c a t h
+      by_columns true true t (inl e) h = let no : ⊥ = grind (arith, e) in absurd no
+      by_columns true true t (inr e) h = let no : ⊥ = grind (arith, e) in absurd no
 
   pub last-ships : (c : PlainColumn) (w : Work) → IsLast w.state → (Pages.put_out p c w).refused ≡ false → (Pages.put_out p c w).state.dead_cycles ≡ 0
   last-ships c w l h = by-cycles c (records_also (output c) w) (subst IsLast (sym (records-column (output c) w).0) l) h
@@ -240,7 +190,7 @@ module _ (P : Float → Type 0) (p : Params) where
       by_columns : (x y : Bool) → x ≡ true → y ≡ false → IsPaired a (if not x then Pages.ship p (one c) a else (if y then Pages.keep_left c a else Pages.ship_pair p c a))
       by_columns false y h k = let no : ⊥ = grind (arith, h) in absurd no
       by_columns true true h k = let no : ⊥ = grind (arith, k) in absurd no
-      by_columns true false h k = record { first = (pair-first c a).0; floats = (pair-first c a).1 }
+      by_columns true false h k = record { first = (pair-first c a t).0; floats = (pair-first c a t).1 }
 
   pub second-pairs : (c : PlainColumn) (w : Work) → w.state.two_columns ≡ true → w.state.first_column ≡ false → IsPaired w (Pages.put_out p c w)
   second-pairs c w t f =
@@ -397,7 +347,7 @@ module _ (P : Float → Type 0) (p : Params) where
 
     -- without such a column the next one is that after the text
     same-column : columns_out ≡ out → fired.state.first_column ≡ out.state.first_column
-    same-column h = next-column p [] columns_out.state.floats.deferred columns_out ∙ ap (λ (z : Work). z.state.first_column) h
+    same-column h = (filled-keeps p columns_out).column ∙ ap (λ (z : Work). z.state.first_column) h
 
     pub last-out : IsLast w.state → LastOut w fired
     last-out l =
@@ -435,8 +385,8 @@ module _ (P : Float → Type 0) (p : Params) where
         by_columns : fired.refused ≡ false → Columned false out columns_out → ((fired.state.dead_cycles ≡ 0) × (waiting_floats fired.state.floats + 1 ≤ waiting_floats w.state.floats)) ⊎ ((fired.state.first_column ≡ false) × (fired.state.floats.double ≡ w.state.floats.double) × (waiting_floats fired.state.floats + areas ≤ waiting_floats w.state.floats) × (fired.state.dead_cycles ≡ w.state.dead_cycles))
         by_columns r (inl h) = inr (
           same-column h ∙ k.first,
-          next-single p [] columns_out.state.floats.deferred columns_out ∙ ap (λ (z : Work). z.state.floats.double) h ∙ ap (λ (l : FloatLists). l.double) k.floats,
+          (filled-keeps p columns_out).double ∙ ap (λ (z : Work). z.state.floats.double) h ∙ ap (λ (l : FloatLists). l.double) k.floats,
           areas-go,
-          next-cycles p [] columns_out.state.floats.deferred columns_out ∙ ap (λ (z : Work). z.state.dead_cycles) h ∙ k.cycles,
+          (filled-keeps p columns_out).cycles ∙ ap (λ (z : Work). z.state.dead_cycles) h ∙ k.cycles,
         )
         by_columns r (inr h) = inl (ships h.0 h.2 r, one-goes h.0 h.1 h.2)

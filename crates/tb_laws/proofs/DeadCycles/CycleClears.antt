@@ -96,7 +96,7 @@ module _ (p : Params) (m : ℕ) (s : State) (total a : ℕ) (kind : Kind) (phase
   pub n-fits : (head : Notes) (notes : List Notes) → FloatsFit p n.state
   n-fits head notes =
       let x : KeepsDouble w0 n = clear_by-double p f.body w0 (head ∷ notes) in
-      text-fits p m s total a kind phase f calm holds at floats weight bound well q q-out (text-out Single p (f.body ++ made (skip filling_glue) ∷ []) w0 q (follows-same Single q)) (record { by = x.by; columns = x.columns }) (text_out-sides p (f.body ++ made (skip filling_glue) ∷ []) w0 floats.sides)
+      text-fits p m s total a kind phase f calm holds at floats weight bound well q q-out (text-out Single p (f.body ++ made (skip filling_glue) ∷ []) w0 q (follows-same Single q)) (record { by = x.by; columns = x.columns }) (text_out-sides p (f.body ++ made (skip filling_glue) ∷ []) w0 (record { wide = floats.double.wide; none = floats.double.none }) floats.sides)
 
   abbrev n-done : State
   n-done = after p m f well.held n

@@ -141,7 +141,7 @@ module _ (p : Params) (m : ℕ) (s : State) (total a : ℕ) (kind : Kind) (phase
   out-fit = ordinary-out (Fits p) p f.body w0
 
   pub o-fits : FloatsFit p o.state
-  o-fits = text-fits o out-fit (ordinary-out Single p f.body w0) (ordinary-double p f.body w0) (ordinary-sides p f.body w0 floats.sides)
+  o-fits = text-fits o out-fit (ordinary-out Single p f.body w0) (ordinary-double p f.body w0) (ordinary-sides p f.body w0 (record { wide = floats.double.wide; none = floats.double.none }) floats.sides)
 
   -- what is put back is nothing, so the clears that are to come are in the rest
   pub o-region : Again a (sorts f.rest) → (bs : List PlainNode) → AllByRecursion Idle (sorts bs) → Again a (sorts o.put_back ++ (sorts bs ++ sorts f.rest))

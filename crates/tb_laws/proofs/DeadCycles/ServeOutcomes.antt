@@ -1,5 +1,5 @@
 -- What a firing at a float or note does to the lists of floats: the float goes to one of them, and what is put back brings no firing.
-use Rattle.std.proofs.Common.{◌≡◌, refl, sym, ◌∙◌, ap, subst, ℕ, ℤ, ◌+◌, ◌≤◌, Bool, true, false, List, [], ◌∷◌, ◌++◌, Option, Some, None, map, arith}
+use Rattle.std.proofs.Common.{◌≡◌, refl, sym, ◌∙◌, ap, subst, ℕ, ℤ, ◌+◌, ◌≤◌, Bool, true, false, List, [], ◌∷◌, ◌++◌, drop, Option, Some, None, map, arith}
 use Rattle.std.specs.Prelude.{int_le, if◌then◌else◌}
 use Rattle.tb_scaled.specs.Scaled.{eject_penalty}
 use Rattle.tb_scaled.specs.declared.Glue.{Glue}
@@ -14,21 +14,20 @@ use Rattle.tb_break.specs.Places.{last_or}
 use Rattle.tb_param.specs.declared.Params.{Params}
 use Rattle.tb_float.specs.declared.Entry.{Entry}
 use Rattle.tb_float.specs.declared.Entry.TheVariants as entries
-use Rattle.tb_float.specs.declared.Suppress.{Suppress}
 use Rattle.tb_float.specs.Lists.{FloatLists}
 use Rattle.tb_float.specs.Rooms.{column_height_of}
-use Rattle.tb_area.specs.Area
 use Rattle.tb_margin.specs.declared.Placed.{Placed}
 use Rattle.tb_column.specs.Column.{Notes}
 use Rattle.tb_sheet.specs.Sheet.{warned, PlainSent}
-use Rattle.tb_sheet.specs.declared.Warn.TheVariants as warnings
 use Rattle.tb_output.specs.State.{Work, Recorded, placed, puts, sends, records_also, with_floats, footnotes}
 use Rattle.tb_output.specs.FloatMoves
 use Rattle.tb_output.specs.Columns
 use Rattle.tb_output.specs.Text
 use Rattle.tb_output.proofs.StepLaws.FollowLemmas.{waiting_floats, AllWait, joined-count, joined-all, joined-current}
-use Rattle.tb_laws.proofs.DeadCycles.ColumnOutcomes.{NotDouble, area-single, joined-single}
+use Rattle.tb_laws.proofs.DeadCycles.ColumnOutcomes.{NotDouble, joined-single}
 use Rattle.tb_laws.proofs.DeadCycles.WaitCosts.{wait_cost, cost-append}
+use Rattle.tb_output.proofs.StepLaws.Moves.{Hand, nothing, of_text, of_column, of_float, of_note, IsInColumn, deferred_float, TextMove, goes_back, places_current, defers_current, takes_float, stands_here, takes_note, stands_beside, puts_penalty, warns, goes-on}
+use Rattle.tb_output.proofs.StepLaws.FiringTree.{first-moves}
 
 -- the floats among the entries of the current list, and what holds of them
 abbrev pub current_floats : List Entry → ℕ
@@ -189,58 +188,19 @@ module _ (P : Float → Type 0) (topped : (f : Float) → P f → P (Text.with_t
     goes-to : (place : Where) → NotDouble place → Served P w (FloatMoves.place_float p place f left w)
     goes-to place d = served-placed place f left w d refl refl fewer parts narrow-parts
 
-    served-defer : Served P w (Text.defer p f left w)
-    served-defer =
-        let a = FloatMoves.place_float p places.Deferred (Text.with_top f) left w in
-        served_if w (Text.only_here f) (sends (warned (warnings.Ht f.name)) a) (FloatMoves.place_float p places.Deferred f left w)
-        (served-then w a (sends (warned (warnings.Ht f.name)) a) (served-placed places.Deferred (Text.with_top f) left w tt refl refl fewer (λ x y. let z = parts x y in (topped f z.0, z.1, z.2)) (λ x y. let z = narrow-parts x y in (topped f z.0, z.1, z.2))) (served-sends (warned (warnings.Ht f.name)) a))
-        (goes-to places.Deferred tt)
+    deferred-to : (t : Bool) → Served P w (FloatMoves.place_float p places.Deferred (deferred_float t f) left w)
+    deferred-to true = served-placed places.Deferred (Text.with_top f) left w tt refl refl fewer (λ x y. let z = parts x y in (topped f z.0, z.1, z.2)) (λ x y. let z = narrow-parts x y in (topped f z.0, z.1, z.2))
+    deferred-to false = goes-to places.Deferred tt
 
-    here-free : (vert : Bool) → wait_cost (Text.here_nodes p vert f) ≡ 0
-    here-free true = rw calm refl
-    here-free false = rw calm refl
+  here-free : (vert : Bool) (f : Float) → wait_cost (Text.here_nodes p vert f) ≡ 0
+  here-free true f = rw calm refl
+  here-free false f = rw calm refl
 
-    served-goes : (vert : Bool) (place : Where) → NotDouble place → Served P w (Text.float_goes p vert f left w place)
-    served-goes vert places.Here d =
-        let a = FloatMoves.place_float p places.Here f left w in
-        let b = Text.puts_interline p a in
-        served-then w a (puts (Text.here_nodes p vert f) b) (goes-to places.Here d) (served-then a b (puts (Text.here_nodes p vert f) b) (served-interline a) (served-puts (Text.here_nodes p vert f) b (here-free vert)))
-    served-goes vert places.Top d = served-then w (FloatMoves.place_float p places.Top f left w) (Text.float_goes p vert f left w places.Top) (goes-to places.Top d) (served-interline (FloatMoves.place_float p places.Top f left w))
-    served-goes vert places.Bottom d = served-then w (FloatMoves.place_float p places.Bottom f left w) (Text.float_goes p vert f left w places.Bottom) (goes-to places.Bottom d) (served-interline (FloatMoves.place_float p places.Bottom f left w))
-    served-goes vert places.Page d = served-then w (Text.defer p f left w) (Text.float_goes p vert f left w places.Page) served-defer (served-interline (Text.defer p f left w))
-    served-goes vert places.Double d = absurd d
-    served-goes vert places.Deferred d = served-then w (Text.defer p f left w) (Text.float_goes p vert f left w places.Deferred) served-defer (served-interline (Text.defer p f left w))
-
-  -- a float of the text does not go to the double list
-  record IsSingle (place : Where) : Type 0 where
-    by : NotDouble place
-
-  if_single : (t : Bool) (x y : Where) → IsSingle x → IsSingle y → IsSingle (if t then x else y)
-  if_single true x y a b = a
-  if_single false x y a b = b
-
-  area-is : (a : Area.AreaPlace) → IsSingle (Area.where_of a)
-  area-is a = record { by = area-single a }
-
-  text-single : (l : FloatLists) (s : Suppress) (required : ℤ) (f : Float) → IsSingle (Area.here_or_area p l s required f)
-  text-single l s required f = if_single f.places.h _ _ (if_single _ places.Here _ (record { by = tt }) (area-is _)) (area-is _)
-
-  class-single : (l : FloatLists) (s : Suppress) (required : ℤ) (f : Float) → IsSingle (Area.by_class p l s required f)
-  class-single l s required f = if_single _ _ (Area.here_or_area p l s required f) (area-is _) (text-single l s required f)
-
-  current-single : (l : FloatLists) (s : Suppress) (height : ℤ) (f : Float) → IsSingle (Area.current_place p l s height f)
-  current-single l s height f = if_single _ _ places.Deferred (class-single l s _ f) (record { by = tt })
+  in-column : (place : Where) → IsInColumn place → NotDouble place
+  in-column places.Double c = absurd c
+  in-column place c = tt
 
   -- ---- a note
-
-  served-note : (depth : ℤ) (m : Margin) (es : List Entry) (w : Work) (at : Placed) → current_floats es ≤ current_floats w.state.floats.current → (AllCurrent P w.state.floats.current → AllCurrent P es) → Served P w (Text.note_goes p depth m (record w.state.floats { current = es }) w at)
-  served-note depth m es w at h k =
-      let a = Text.with_note_bottom at.bottom (with_floats (record w.state.floats { current = es }) w) in
-      let b = Text.moved_warning m at a in
-      let c = puts (Text.note_nodes depth m at) b in
-      served-then w a (Text.puts_interline p c) (record { goes = refl; columns = refl; first = refl; cycles = refl; boxes = refl; double = refl; second = refl; narrow = λ x y. (record { top = x.top; bottom = x.bottom; deferred = x.deferred }, k y); floats = omega arith; all = λ x y. (record { top = x.top; bottom = x.bottom; deferred = x.deferred; double = x.double; second = x.second }, k y); cost = refl })
-      (served-then a b (Text.puts_interline p c) (served_if a at.moved (sends (warned (warnings.Moved m.name at.shift)) a) a (served-sends (warned (warnings.Moved m.name at.shift)) a) (same a))
-      (served-then b c (Text.puts_interline p c) (served-puts (Text.note_nodes depth m at) b refl) (served-interline c)))
 
   rest-count : (e : Entry) (es : List Entry) → current_floats es ≤ current_floats (e ∷ es)
   rest-count (entries.Float f) es = omega arith
@@ -251,12 +211,36 @@ module _ (P : Float → Type 0) (topped : (f : Float) → P f → P (Text.with_t
   rest-all (entries.Left m) es h = h
   rest-all (entries.Right m) es h = h
 
+  note-taken : (m : Margin) (es : List Entry) (at : Placed) (w : Work) → current_floats (drop 1 es) ≤ current_floats w.state.floats.current → (AllCurrent P w.state.floats.current → AllCurrent P (drop 1 es)) → Served P w (Text.with_note_bottom at.bottom (with_floats (record w.state.floats { current = drop 1 es }) w))
+  note-taken m es at w h k = record { goes = refl; columns = refl; first = refl; cycles = refl; boxes = refl; double = refl; second = refl; narrow = λ x y. (record { top = x.top; bottom = x.bottom; deferred = x.deferred }, k y); floats = omega arith; all = λ x y. (record { top = x.top; bottom = x.bottom; deferred = x.deferred; double = x.double; second = x.second }, k y); cost = refl }
+
+  served-note : (m : Margin) (es : List Entry) (at : Placed) (w : Work) → w.state.floats.current ≡ entries.Left m ∷ es → Served P w (Text.with_note_bottom at.bottom (with_floats (record w.state.floats { current = drop 1 es }) w))
+  served-note m [] at w e = note-taken m [] at w (omega arith) (λ h. tt)
+  served-note m (x ∷ es) at w e = note-taken m (x ∷ es) at w (subst (λ (z : List Entry). current_floats es ≤ current_floats z) (sym e) (rest-count x es)) (λ h. rest-all x es (subst (AllCurrent P) e h))
+
+  -- ---- each move once the page's list went back
+
+  abbrev NoText : Hand → Type 0
+  NoText nothing = Unit {0}
+  NoText (of_text body) = ⊥
+  NoText (of_column c) = Unit {0}
+  NoText (of_float f) = Unit {0}
+  NoText (of_note m at) = Unit {0}
+
+  served-text : {h : Hand} {a : Work} {i : Hand} {b : Work} → TextMove p h a i b → NoText h → NoText i × Served P a b
+  served-text (goes_back body w) n = absurd n
+  served-text (places_current place f es height w c e i) n = (tt, goes-to f es w e place (in-column place c))
+  served-text (defers_current t f es w e i) n = (tt, deferred-to f es w e t)
+  served-text (takes_float f es w e) n = (tt, goes-to f es w e places.Here tt)
+  served-text (stands_here vert f w) n = (tt, served-puts (Text.here_nodes p vert f) w (here-free vert f))
+  served-text (takes_note height m es at w e i) n = (tt, served-note m es at w e)
+  served-text (stands_beside depth m at w) n = (tt, served-puts (Text.note_nodes depth m at) w refl)
+  served-text (puts_penalty h w) n = (n, served-interline w)
+  served-text (warns h e w) n = (n, served-sends (warned e) w)
+
   served-first : (vert : Bool) (height depth page_height : ℤ) (es : List Entry) (w : Work) → w.state.floats.current ≡ es → Served P w (Text.first_goes p vert height depth page_height es w)
-  served-first vert height depth page_height (entries.Float f ∷ es) w e = served-goes f es w e vert (Area.current_place p w.state.floats w.state.suppress page_height f) (current-single w.state.floats w.state.suppress page_height f).by
-  served-first vert height depth page_height (entries.Left m ∷ []) w e = served-note depth m [] w _ (omega arith) (λ h. tt)
-  served-first vert height depth page_height (entries.Left m ∷ x ∷ es) w e = served-note depth m es w _ (subst (λ (z : List Entry). current_floats es ≤ current_floats z) (sym e) (rest-count x es)) (λ h. rest-all x es (subst (AllCurrent P) e h))
-  served-first vert height depth page_height (entries.Right m ∷ es) w e = served-interline w
-  served-first vert height depth page_height [] w e = served-interline w
+  served-first vert height depth page_height es w e =
+      (goes-on (λ h a i b. NoText h → NoText i × Served P a b) (λ h w n. (n, same w)) (λ h i j a b c x y n. let k = x n in let l = y k.0 in (l.0, served-then a b c k.1 l.1)) (λ h i a b m. served-text m) (first-moves p vert height depth page_height es w e) tt).1
 
   -- the list so far and the footnotes go back, and then the float or note goes to its place
   pub served : (vert : Bool) (body : List PlainNode) (w : Work) → wait_cost (w.state.held_page ++ Text.without_firing_box body) ≡ 0 → Served P (record w { state = record w.state { held_page = []; boxes = Columns.emptied_boxes w.state.boxes } }) (Text.float_or_note p vert body w)

@@ -1,34 +1,33 @@
 -- A firing shows the boxes and rules of its page's list in their order, in what it sends and in the column that is kept.
-use Rattle.std.proofs.Common.{◌≡◌, refl, sym, ◌∙◌, ap, subst, ℕ, zero, suc, pos, ◌+◌, ℤ, Bool, true, false, List, [], ◌∷◌, ◌++◌, length, Option, Some, None, append-nil, append_assoc}
-use Rattle.std.specs.Prelude.{int_lt, not, if◌then◌else◌}
+use Rattle.std.proofs.Common.{◌≡◌, refl, sym, ◌∙◌, ap, subst, ℕ, ℤ, Bool, true, false, List, [], ◌∷◌, ◌++◌, Option, Some, None, append-nil, append_assoc}
+use Rattle.std.specs.Prelude.{if◌then◌else◌}
 use Rattle.tb_node.specs.declared.Float.{Float}
-use Rattle.tb_node.specs.declared.Margin.{Margin}
 use Rattle.tb_node.specs.declared.Where.{Where}
 use Rattle.tb_node.specs.declared.Where.TheVariants as places
-use Rattle.tb_node.specs.PlainNodes.{PlainNode}
+use Rattle.tb_scaled.specs.Glue.{filling_glue}
+use Rattle.tb_node.specs.PlainNodes.{PlainNode, made, skip}
 use Rattle.tb_param.specs.declared.Params.{Params}
-use Rattle.tb_float.specs.declared.Entry.{Entry}
-use Rattle.tb_float.specs.declared.Entry.TheVariants as entries
-use Rattle.tb_float.specs.declared.Part.{Part}
-use Rattle.tb_float.specs.declared.Part.TheVariants as parts
-use Rattle.tb_float.specs.Lists.{FloatLists, with_floats_of, wide_part, wide_waiting, with_wide_waiting}
+use Rattle.tb_float.specs.Lists.{FloatLists, with_wide_waiting}
 use Rattle.tb_float.specs.Rooms.{column_height_of}
-use Rattle.tb_fpage.specs.Company.{Choice, company, chosen_floats, left_floats}
-use Rattle.tb_area.specs.Area.{next_place, double_place, current_place}
-use Rattle.tb_margin.specs.declared.Placed.{Placed}
-use Rattle.tb_column.specs.Column.{PlainColumn, text_column, single_floats_column, wide_floats_column, floats_above}
+use Rattle.tb_fpage.specs.Company.{chosen_floats, left_floats}
+use Rattle.tb_column.specs.Column.{Notes, PlainColumn, text_column, single_floats_column, wide_floats_column, floats_above}
 use Rattle.tb_sheet.specs.Sheet.{PlainSheet, one, wide, PlainSent, warned, shipped, pair_sheet}
 use Rattle.tb_sheet.specs.declared.Warn.{Warn}
-use Rattle.tb_sheet.specs.declared.Warn.TheVariants as warnings
+use Rattle.tb_area.specs.Area.{where_of}
 use Rattle.tb_output.specs.State.{Work, Recorded, placed, output, sends, records_also, with_floats, footnotes}
 use Rattle.tb_output.specs.FloatMoves
 use Rattle.tb_output.specs.Pages
 use Rattle.tb_output.specs.Columns
 use Rattle.tb_output.specs.Text
+use Rattle.tb_output.specs.Output
+use Rattle.tb_output.specs.Clear
+use Rattle.tb_output.proofs.StepLaws.RefusedSteps.{by-sends, by-ship}
+use Rattle.tb_output.proofs.StepLaws.Moves.{Hand, nothing, of_text, of_column, of_float, of_note, ColumnMove, takes_company, records_column, ships_column, keeps_left, ships_pair, ends_column, ships_wide, places_double, places_next, PageMove, by_column, by_fill, takes_text, fills_text, TextMove, places_current, defers_current, takes_float, puts_penalty, warns, Move, by_page, by_text, Moves, goes-on, widen}
+use Rattle.tb_output.proofs.StepLaws.FiringTree.{ordinary-columns, clear_by-moves, float_or_note-moves, goal-moves}
 use Rattle.tb_laws.proofs.NothingLost.StateWeights.{ColumnsFit, first-left, one-left}
 use Rattle.tb_laws.proofs.Closed.Closings.{never}
 use Rattle.tb_column.proofs.Within.{Within, itself, within-same, within-within, both-within, within-front, within-end}
-use Rattle.tb_column.proofs.PrintedLines.{prints, left_prints, AllPlain, LeftPlain, above-plain, text-plain, text-prints, floats-plain}
+use Rattle.tb_column.proofs.PrintedLines.{prints, left_prints, AllPlain, LeftPlain, above-plain, text-plain, text-prints, floats-plain, plain-both}
 use Rattle.tb_sheet.proofs.PrintedSheets.{sheet_prints, sent_prints, sent-append, SheetPlain, SentPlain, sent-plain}
 
 -- what is sent and the column that is kept
@@ -50,64 +49,81 @@ pub record Prints (t : List ℕ) (a c : Work) : Type 0 where
   pub shows : c.refused ≡ false → Fits a → Within (shown a ++ t) (shown c)
   pub plain : WorkPlain a → WorkPlain c
 
-pub kept_then : (t : List ℕ) (a b c : Work) → Prints [] a b → Prints t b c → Prints t a c
-kept_then t a b c x y = record {
-  goes = λ r. x.goes (y.goes r);
-  fit = λ h. y.fit (x.fit h);
-  shows = λ r h. within-within (shown a ++ t) (shown b ++ t) (shown c) (both-within (shown a) (shown b) t t (subst (λ l. Within l (shown b)) (append-nil (shown a)) (x.shows (y.goes r) h)) (itself t)) (y.shows r (x.fit h));
-  plain = λ h. y.plain (x.plain h);
-}
-
-pub then_kept : (t : List ℕ) (a b c : Work) → Prints t a b → Prints [] b c → Prints t a c
-then_kept t a b c x y = record {
-  goes = λ r. x.goes (y.goes r);
-  fit = λ h. y.fit (x.fit h);
-  shows = λ r h. within-within (shown a ++ t) (shown b) (shown c) (x.shows (y.goes r) h) (subst (λ l. Within l (shown c)) (append-nil (shown b)) (y.shows r (x.fit h)));
-  plain = λ h. y.plain (x.plain h);
-}
-
 -- fewer lines
 pub fewer : (t u : List ℕ) (a c : Work) → Within t u → Prints u a c → Prints t a c
 fewer t u a c w x = record { goes = x.goes; fit = x.fit; shows = λ r h. within-within (shown a ++ t) (shown a ++ u) (shown c) (both-within (shown a) (shown a) t u (itself (shown a)) w) (x.shows r h); plain = x.plain }
 
-pub prints_if : (t : List ℕ) (a : Work) (u : Bool) (c d : Work) → Prints t a c → Prints t a d → Prints t a (if u then c else d)
-prints_if t a true c d x y = x
-prints_if t a false c d x y = y
+-- ---- with a column in hand
 
--- the same is sent, kept and refused
-pub same : (a c : Work) → c.refused ≡ a.refused → c.sent ≡ a.sent → c.state.left_column ≡ a.state.left_column → (Fits a → Fits c) → Prints [] a c
-same a c r e l f = record {
-  goes = λ h. sym r ∙ h;
-  fit = f;
-  shows = λ h k. within-same (shown a ++ []) (shown c) (append-nil (shown a) ∙ sym (λ i. sent_prints (e i) ++ left_prints (l i)));
-  plain = λ h. (subst SentPlain (sym e) h.0, subst LeftPlain (sym l) h.1);
+-- what is shown, and then the column in hand
+abbrev beside : Hand → List ℕ → List ℕ
+beside nothing l = l
+beside (of_text body) l = l
+beside (of_column c) l = l ++ prints c.nodes
+beside (of_float f) l = l
+beside (of_note m at) l = l
+
+abbrev HandPlain : Hand → Type 0
+HandPlain nothing = Unit {0}
+HandPlain (of_text body) = AllPlain body
+HandPlain (of_column c) = AllPlain c.nodes
+HandPlain (of_float f) = Unit {0}
+HandPlain (of_note m at) = Unit {0}
+
+-- the same between two moves
+record Shows (h : Hand) (a : Work) (i : Hand) (c : Work) : Type 0 where
+  goes : c.refused ≡ false → a.refused ≡ false
+  fit : Fits a → Fits c
+  hand : HandPlain h → HandPlain i
+  shows : c.refused ≡ false → Fits a → Within (beside h (shown a)) (beside i (shown c))
+  plain : HandPlain h → WorkPlain a → WorkPlain c
+
+then_shows : (h i j : Hand) (a b c : Work) → Shows h a i b → Shows i b j c → Shows h a j c
+then_shows h i j a b c x y = record {
+  goes = λ r. x.goes (y.goes r);
+  fit = λ k. y.fit (x.fit k);
+  hand = λ k. y.hand (x.hand k);
+  shows = λ r k. within-within (beside h (shown a)) (beside i (shown b)) (beside j (shown c)) (x.shows (y.goes r) k) (y.shows r (x.fit k));
+  plain = λ k w. y.plain (x.hand k) (x.plain k w);
 }
 
-pub unchanged : (a : Work) → Prints [] a a
-unchanged a = same a a refl refl refl (λ h. h)
+-- the same is sent, kept and refused
+alike : (h i : Hand) (a c : Work) → c.refused ≡ a.refused → c.sent ≡ a.sent → c.state.left_column ≡ a.state.left_column → (Fits a → Fits c) → (HandPlain h → HandPlain i) → Within (beside h (shown a)) (beside i (shown a)) → Shows h a i c
+alike h i a c r e l f k w = record {
+  goes = λ g. sym r ∙ g;
+  fit = f;
+  hand = k;
+  shows = λ g j. subst (λ m. Within (beside h (shown a)) (beside i m)) (sym (λ n. sent_prints (e n) ++ left_prints (l n))) w;
+  plain = λ g j. (subst SentPlain (sym e) j.0, subst LeftPlain (sym l) j.1);
+}
 
-records-prints : (r : Recorded) (w : Work) → Prints [] w (records_also r w)
-records-prints r w = by_refused w.refused refl
+rests-shows : (h : Hand) (w : Work) → Shows h w h w
+rests-shows h w = alike h h w w refl refl refl (λ k. k) (λ k. k) (itself (beside h (shown w)))
+
+-- what is recorded is not shown
+records-shows : (h i : Hand) (r : Recorded) (w c : Work) → c.refused ≡ (records_also r w).refused → c.sent ≡ (records_also r w).sent → c.state.left_column ≡ (records_also r w).state.left_column → (Fits (records_also r w) → Fits c) → (HandPlain h → HandPlain i) → Within (beside h (shown w)) (beside i (shown w)) → Shows h w i c
+records-shows h i r w c d e l f k b = by_refused w.refused d e l f
   where
-    by_refused : (t : Bool) → w.refused ≡ t → Prints [] w (if t then w else record w { records = w.records ++ r ∷ [] })
-    by_refused true e = unchanged w
-    by_refused false e = same w (record w { records = w.records ++ r ∷ [] }) refl refl refl (λ h. h)
+    by_refused : (t : Bool) → c.refused ≡ (if t then w else record w { records = w.records ++ r ∷ [] }).refused → c.sent ≡ (if t then w else record w { records = w.records ++ r ∷ [] }).sent → c.state.left_column ≡ (if t then w else record w { records = w.records ++ r ∷ [] }).state.left_column → (Fits (if t then w else record w { records = w.records ++ r ∷ [] }) → Fits c) → Shows h w i c
+    by_refused true d e l f = alike h i w c d e l f k b
+    by_refused false d e l f = alike h i w c d e l f k b
 
--- a warning
-pub warns-prints : (e : Warn) (w : Work) → Prints [] w (sends (warned e) w)
-warns-prints e w = by_refused w.refused
+-- a float goes to a place
+placed-shows : (p : Params) (i : Hand) (place : Where) (f : Float) (left : FloatLists) (w : Work) → (Unit {0} → HandPlain i) → Within (shown w) (beside i (shown w)) → Shows nothing w i (FloatMoves.place_float p place f left w)
+placed-shows p i place f left w k b = by_record (FloatMoves.is_placed place)
   where
-    now : Prints [] w (record w { sent = w.sent ++ warned e ∷ [] })
-    now = record {
-      goes = λ h. h;
-      fit = λ h. h;
-      shows = λ r h. within-same (shown w ++ []) (sent_prints (w.sent ++ warned e ∷ []) ++ left_prints w.state.left_column) (append-nil (shown w) ∙ sym (ap (λ l. l ++ left_prints w.state.left_column) (sent-append w.sent (warned e ∷ []) ∙ append-nil (sent_prints w.sent))));
-      plain = λ h. (sent-plain w.sent (warned e ∷ []) h.0 tt, h.1);
-    }
+    by_record : (t : Bool) → Shows nothing w i (with_floats (FloatMoves.joined_to place f left) (if t then records_also (placed f place w.state.floats (column_height_of p w.state.floats)) w else w))
+    by_record true = records-shows nothing i (placed f place w.state.floats (column_height_of p w.state.floats)) w _ refl refl refl (λ k. k) k b
+    by_record false = alike nothing i w _ refl refl refl (λ k. k) k b
 
-    by_refused : (t : Bool) → Prints [] w (if t then w else record w { sent = w.sent ++ warned e ∷ [] })
-    by_refused true = unchanged w
-    by_refused false = now
+-- a warning, whatever is in hand
+warns-shows : (h : Hand) (e : Warn) (w : Work) → Shows h w h (sends (warned e) w)
+warns-shows h e w =
+    by-sends (Shows h w h) (warned e) w (rests-shows h w)
+    (record { goes = λ g. g; fit = λ g. g; hand = λ g. g; shows = λ g j. subst (λ m. Within (beside h (shown w)) (beside h m)) (sym told) (itself (beside h (shown w))); plain = λ g j. (sent-plain w.sent (warned e ∷ []) j.0 tt, j.1) })
+  where
+    told : shown (record w { sent = w.sent ++ warned e ∷ [] }) ≡ shown w
+    told = ap (λ l. l ++ left_prints w.state.left_column) (sent-append w.sent (warned e ∷ []) ∙ append-nil (sent_prints w.sent))
 
 -- ---- a page
 
@@ -120,85 +136,36 @@ record Shipped (sheet : PlainSheet) (a c : Work) : Type 0 where
   fit : Fits a → Fits c
 
 ship-shipped : (p : Params) (sheet : PlainSheet) (w : Work) → Shipped sheet w (Pages.ship p sheet w)
-ship-shipped p sheet w = by_refused w.refused (int_lt p.maxpages (pos w.state.page)) refl
-  where
-    turned : Work → Work
-    turned w = record w { state = record w.state { page = w.state.page + 1; dead_cycles = 0 } }
-
-    by_refused : (t u : Bool) → w.refused ≡ t → Shipped sheet w (if t then w else (if u then record w { refused = true } else (if t then record w { state = record w.state { page = w.state.page + 1; dead_cycles = 0 } } else record w { state = record w.state { page = w.state.page + 1; dead_cycles = 0 }; sent = w.sent ++ shipped w.state.page sheet ∷ [] })))
-    by_refused true u e = record { goes = λ h. h; sends_it = λ h. never (sym h ∙ e); plain = λ s h. h; left = refl; fit = λ h. h }
-    by_refused false true e = record { goes = λ h. never (sym h); sends_it = λ h. never (sym h); plain = λ s h. h; left = refl; fit = λ h. h }
-    by_refused false false e = record { goes = λ h. h; sends_it = λ h. (w.state.page, refl); plain = λ s h. sent-plain w.sent (shipped w.state.page sheet ∷ []) h (s, tt); left = refl; fit = λ h. h }
+ship-shipped p sheet w =
+    by-ship (Shipped sheet w) p sheet w (λ e. record { goes = λ h. h; sends_it = λ h. never (sym h ∙ e); plain = λ s h. h; left = refl; fit = λ h. h })
+    (λ e. record { goes = λ h. never (sym h); sends_it = λ h. never (sym h); plain = λ s h. h; left = refl; fit = λ h. h })
+    (λ e i. record { goes = λ h. h; sends_it = λ h. (w.state.page, refl); plain = λ s h. sent-plain w.sent (shipped w.state.page sheet ∷ []) h (s, tt); left = refl; fit = λ h. h })
 
 -- what was sent with one page more
 page-more : (es fs : List PlainSent) (n : ℕ) (sheet : PlainSheet) → fs ≡ es ++ shipped n sheet ∷ [] → sent_prints fs ≡ sent_prints es ++ sheet_prints sheet
 page-more es fs n sheet e = ap sent_prints e ∙ sent-append es (shipped n sheet ∷ []) ∙ ap (λ l. sent_prints es ++ l) (append-nil (sheet_prints sheet))
 
 -- a page of floats
-page-prints : (sheet : PlainSheet) (a c : Work) → SheetPlain sheet → Shipped sheet a c → Prints [] a c
-page-prints sheet a c s x = record {
+page-shows : (sheet : PlainSheet) (a c : Work) → SheetPlain sheet → Shipped sheet a c → Shows nothing a nothing c
+page-shows sheet a c s x = record {
   goes = x.goes;
   fit = x.fit;
-  shows = λ r h. subst (Within (shown a ++ [])) (sym (λ i. page-more a.sent c.sent (x.sends_it r).0 sheet (x.sends_it r).1 i ++ left_prints (x.left i)))
-      (subst (λ l. Within l ((sent_prints a.sent ++ sheet_prints sheet) ++ left_prints a.state.left_column)) (sym (append-nil (shown a)))
-      (both-within (sent_prints a.sent) (sent_prints a.sent ++ sheet_prints sheet) (left_prints a.state.left_column) (left_prints a.state.left_column) (within-front (sent_prints a.sent) (sheet_prints sheet)) (itself (left_prints a.state.left_column))));
-  plain = λ h. (x.plain s h.0, subst LeftPlain (sym x.left) h.1);
+  hand = λ k. k;
+  shows = λ r h. subst (Within (shown a)) (sym (λ i. page-more a.sent c.sent (x.sends_it r).0 sheet (x.sends_it r).1 i ++ left_prints (x.left i)))
+      (both-within (sent_prints a.sent) (sent_prints a.sent ++ sheet_prints sheet) (left_prints a.state.left_column) (left_prints a.state.left_column) (within-front (sent_prints a.sent) (sheet_prints sheet)) (itself (left_prints a.state.left_column)));
+  plain = λ k h. (x.plain s h.0, subst LeftPlain (sym x.left) h.1);
 }
-
-with_deferred-prints : (fs : List Float) (w : Work) → Prints [] w (Pages.with_deferred fs w)
-with_deferred-prints fs w = same w (Pages.with_deferred fs w) refl refl refl (λ h. h)
-
-wide_by-prints : (p : Params) (again : Work → Work) → ((w : Work) → Prints [] w (again w)) → (w : Work) (o : Option (List Choice)) → Prints [] w (Pages.wide_pages_by again p w o)
-wide_by-prints p again h w None = unchanged w
-wide_by-prints p again h w (Some cs) =
-    let sheet = wide (wide_floats_column p p.textheight (chosen_floats cs)) in
-    let a = with_floats (with_wide_waiting p (left_floats cs) w.state.floats) w in
-    let b = Pages.ship_wide p cs w in
-    then_kept [] w b (again b) (then_kept [] w a b (same w a refl refl refl (λ h. h)) (page-prints sheet a b (floats-plain p.textheight p.dblfptop p.dblfpsep p.dblfpbot (chosen_floats cs)) (ship-shipped p sheet a))) (h b)
-
-wide_pages-prints : (p : Params) (clearing : Bool) (n : ℕ) (w : Work) → Prints [] w (Pages.wide_pages p clearing n w)
-wide_pages-prints p clearing zero w = unchanged w
-wide_pages-prints p clearing (suc n) w = wide_by-prints p (λ w'. Pages.wide_pages p clearing n w') (λ w'. wide_pages-prints p clearing n w') w (company (Pages.wide_wanted p clearing) (wide_waiting p w.state.floats))
-
-pub all_wide-prints : (p : Params) (clearing : Bool) (w : Work) → Prints [] w (Pages.all_wide_pages p clearing w)
-all_wide-prints p clearing w = wide_pages-prints p clearing (length (wide_waiting p w.state.floats)) w
-
--- ---- floats that move
-
-pub placed-prints : (p : Params) (place : Where) (f : Float) (left : FloatLists) (w : Work) → Prints [] w (FloatMoves.place_float p place f left w)
-placed-prints p place f left w =
-    let r = placed f place w.state.floats (column_height_of p w.state.floats) in
-    let a = if FloatMoves.is_placed place then records_also r w else w in
-    then_kept [] w a (FloatMoves.place_float p place f left w) (prints_if [] w (FloatMoves.is_placed place) (records_also r w) w (records-prints r w) (unchanged w)) (same a (FloatMoves.place_float p place f left w) refl refl refl (λ h. h))
-
-waiting-prints : (from : Part) (p : Params) (place : Where) (f : Float) (before rest : List Float) (w : Work) → Prints [] w (FloatMoves.place_waiting from p place f before rest w)
-waiting-prints from p place f before rest w =
-    let l : FloatLists = with_floats_of from (before ++ rest) w.state.floats in
-    prints_if [] w (FloatMoves.is_placed place) (FloatMoves.place_float p place f l w) w (placed-prints p place f l w) (unchanged w)
-
-next-prints : (p : Params) (before fs : List Float) (w : Work) → Prints [] w (FloatMoves.place_next p before fs w)
-next-prints p before [] w = unchanged w
-next-prints p before (f ∷ rest) w =
-    let place = next_place p w.state.floats w.state.suppress before f in
-    let w' = FloatMoves.place_waiting parts.Deferred p place f before rest w in
-    then_kept [] w w' (FloatMoves.place_next p (FloatMoves.still_deferred place f before) rest w') (waiting-prints parts.Deferred p place f before rest w) (next-prints p (FloatMoves.still_deferred place f before) rest w')
-
-double-prints : (from : Part) (p : Params) (before fs : List Float) (w : Work) → Prints [] w (FloatMoves.place_double from p before fs w)
-double-prints from p before [] w = unchanged w
-double-prints from p before (f ∷ rest) w =
-    let place = double_place p w.state.floats w.state.suppress before f in
-    let w' = FloatMoves.place_waiting from p place f before rest w in
-    then_kept [] w w' (FloatMoves.place_double from p (FloatMoves.still_deferred place f before) rest w') (waiting-prints from p place f before rest w) (double-prints from p (FloatMoves.still_deferred place f before) rest w')
 
 -- ---- a column
 
 -- a column that is a page
-one-prints : (c : PlainColumn) (w d : Work) → AllPlain c.nodes → w.state.two_columns ≡ false → Shipped (one c) w d → Prints (prints c.nodes) w d
-one-prints c w d s t x = record {
+one-shows : (c : PlainColumn) (w d : Work) → w.state.two_columns ≡ false → Shipped (one c) w d → Shows (of_column c) w nothing d
+one-shows c w d t x = record {
   goes = x.goes;
   fit = x.fit;
+  hand = λ s. tt;
   shows = λ r h. within-same (shown w ++ prints c.nodes) (shown d) (all r (no-left h));
-  plain = λ h. (x.plain s h.0, subst LeftPlain (sym x.left) h.1);
+  plain = λ s h. (x.plain s h.0, subst LeftPlain (sym x.left) h.1);
 }
   where
     no-left : Fits w → w.state.left_column ≡ None
@@ -209,36 +176,38 @@ one-prints c w d s t x = record {
         ∙ sym (page-more w.sent d.sent (x.sends_it r).0 (one c) (x.sends_it r).1) ∙ sym (append-nil (sent_prints d.sent)) ∙ ap (λ o. sent_prints d.sent ++ left_prints o) (sym (x.left ∙ e))
 
 -- a first column that is kept
-keep-prints : (c : PlainColumn) (w : Work) → AllPlain c.nodes → w.state.two_columns ≡ true → w.state.first_column ≡ true → Prints (prints c.nodes) w (Pages.keep_left c w)
-keep-prints c w s t f = record {
+keep-shows : (c : PlainColumn) (w : Work) → w.state.two_columns ≡ true → w.state.first_column ≡ true → Shows (of_column c) w nothing (Pages.keep_left c w)
+keep-shows c w t f = record {
   goes = λ h. h;
   fit = λ h. subst (λ x. ColumnsFit x false (Some c)) (sym t) tt;
+  hand = λ s. tt;
   shows = λ r h. within-same (shown w ++ prints c.nodes) (sent_prints w.sent ++ prints c.nodes) (ap (λ o. (sent_prints w.sent ++ left_prints o) ++ prints c.nodes) (no-left h) ∙ ap (λ l. l ++ prints c.nodes) (append-nil (sent_prints w.sent)));
-  plain = λ h. (h.0, s);
+  plain = λ s h. (h.0, s);
 }
   where
     no-left : Fits w → w.state.left_column ≡ None
     no-left h = first-left w.state.two_columns w.state.left_column (subst (λ z. ColumnsFit w.state.two_columns z w.state.left_column) f h)
 
 -- a pair of columns
-pair-prints : (p : Params) (c : PlainColumn) (w d : Work) → AllPlain c.nodes → w.state.two_columns ≡ true → w.state.first_column ≡ false → Fits w → Shipped (pair_sheet p w.state.floats (Pages.left_or c w.state.left_column) c) w d → Prints (prints c.nodes) w (Pages.without_double d)
-pair-prints p c w d s t f fit x = record {
+pair-shows : (p : Params) (c : PlainColumn) (w d : Work) → w.state.two_columns ≡ true → w.state.first_column ≡ false → Shipped (pair_sheet p w.state.floats (Pages.left_or c w.state.left_column) c) w d → Shows (of_column c) w nothing (Pages.without_double d)
+pair-shows p c w d t f x = record {
   goes = x.goes;
   fit = λ h. tt;
-  shows = λ r h. subst (Within (shown w ++ prints c.nodes)) (all r) (inside (prints (floats_above places.Double p.dblfloatsep p.dbltextfloatsep w.state.floats.double)) (has-left w.state.left_column fits));
-  plain = λ h. (x.plain (above-plain places.Double p.dblfloatsep p.dbltextfloatsep w.state.floats.double, left-plain w.state.left_column h.1, s) h.0, tt);
+  hand = λ s. tt;
+  shows = λ r h. subst (Within (shown w ++ prints c.nodes)) (all r) (inside (prints (floats_above places.Double p.dblfloatsep p.dbltextfloatsep w.state.floats.double)) (has-left w.state.left_column (fits h)));
+  plain = λ s h. (x.plain (above-plain places.Double p.dblfloatsep p.dbltextfloatsep w.state.floats.double, left-plain s w.state.left_column h.1, s) h.0, tt);
 }
   where
-    fits : ColumnsFit true false w.state.left_column
-    fits = subst (λ z. ColumnsFit z false w.state.left_column) t (subst (λ z. ColumnsFit w.state.two_columns z w.state.left_column) f fit)
+    fits : Fits w → ColumnsFit true false w.state.left_column
+    fits fit = subst (λ z. ColumnsFit z false w.state.left_column) t (subst (λ z. ColumnsFit w.state.two_columns z w.state.left_column) f fit)
 
     has-left : (o : Option PlainColumn) → ColumnsFit true false o → left_prints o ≡ prints (Pages.left_or c o).nodes
     has-left None h = absurd h
     has-left (Some l) h = refl
 
-    left-plain : (o : Option PlainColumn) → LeftPlain o → AllPlain (Pages.left_or c o).nodes
-    left-plain None h = s
-    left-plain (Some l) h = h
+    left-plain : AllPlain c.nodes → (o : Option PlainColumn) → LeftPlain o → AllPlain (Pages.left_or c o).nodes
+    left-plain s None h = s
+    left-plain s (Some l) h = h
 
     inside : (tops : List ℕ) → left_prints w.state.left_column ≡ prints (Pages.left_or c w.state.left_column).nodes → Within (shown w ++ prints c.nodes) ((sent_prints w.sent ++ (tops ++ prints (Pages.left_or c w.state.left_column).nodes ++ prints c.nodes)) ++ [])
     inside tops e =
@@ -253,99 +222,71 @@ pair-prints p c w d s t f fit x = record {
     all : d.refused ≡ false → (sent_prints w.sent ++ (prints (floats_above places.Double p.dblfloatsep p.dbltextfloatsep w.state.floats.double) ++ prints (Pages.left_or c w.state.left_column).nodes ++ prints c.nodes)) ++ [] ≡ shown (Pages.without_double d)
     all r = sym (ap (λ l. l ++ []) (page-more w.sent d.sent (x.sends_it r).0 (pair_sheet p w.state.floats (Pages.left_or c w.state.left_column) c) (x.sends_it r).1))
 
-ship_pair-prints : (p : Params) (c : PlainColumn) (w : Work) → AllPlain c.nodes → w.state.two_columns ≡ true → w.state.first_column ≡ false → Fits w → Prints (prints c.nodes) w (Pages.ship_pair p c w)
-ship_pair-prints p c w s t f fit =
-    let sheet = pair_sheet p w.state.floats (Pages.left_or c w.state.left_column) c in
-    let a = Pages.ship p sheet w in
-    let b = Pages.without_double a in
-    let d = Pages.all_wide_pages p false b in
-    then_kept (prints c.nodes) w b (Pages.ship_pair p c w) (pair-prints p c w a s t f fit (ship-shipped p sheet w))
-    (then_kept [] b d (Pages.ship_pair p c w) (all_wide-prints p false b) (double-prints (wide_part p) p [] (wide_waiting p d.state.floats) d))
+-- ---- each move
 
-put_out_by-prints : (p : Params) (c : PlainColumn) (w : Work) → AllPlain c.nodes → Fits w → Prints (prints c.nodes) w (Pages.put_out_by p c w)
-put_out_by-prints p c w s fit = by_columns w.state.two_columns w.state.first_column refl refl
-  where
-    by_columns : (t f : Bool) → w.state.two_columns ≡ t → w.state.first_column ≡ f → Prints (prints c.nodes) w (if not t then Pages.ship p (one c) w else (if f then Pages.keep_left c w else Pages.ship_pair p c w))
-    by_columns false f a b = one-prints c w (Pages.ship p (one c) w) s a (ship-shipped p (one c) w)
-    by_columns true true a b = keep-prints c w s a b
-    by_columns true false a b = ship_pair-prints p c w s a b fit
+module _ (p : Params) where
+  column-shows : {h : Hand} {a : Work} {i : Hand} {b : Work} → ColumnMove p h a i b → Shows h a i b
+  column-shows (takes_company clearing cs w e) =
+      let height = column_height_of p w.state.floats in
+      let c = single_floats_column p height (chosen_floats cs) in
+      alike nothing (of_column c) w _ refl refl refl (λ k. k) (λ k. floats-plain height p.fptop p.fpsep p.fpbot (chosen_floats cs)) (within-front (shown w) (prints c.nodes))
+  column-shows (records_column c w) = records-shows (of_column c) (of_column c) (output c) w _ refl refl refl (λ k. k) (λ k. k) (itself (shown w ++ prints c.nodes))
+  column-shows (ships_column c w t) = one-shows c w _ t (ship-shipped p (one c) w)
+  column-shows (keeps_left c w t f) = keep-shows c w t f
+  column-shows (ships_pair c w t f) = pair-shows p c w _ t f (ship-shipped p _ w)
+  column-shows (ends_column w) = alike nothing nothing w _ refl refl refl (λ k. k) (λ k. k) (itself (shown w))
+  column-shows (ships_wide clearing cs w e) =
+      let x = ship-shipped p (wide (wide_floats_column p p.textheight (chosen_floats cs))) (with_floats (with_wide_waiting p (left_floats cs) w.state.floats) w) in
+      page-shows (wide (wide_floats_column p p.textheight (chosen_floats cs))) w _ (floats-plain p.textheight p.dblfptop p.dblfpsep p.dblfpbot (chosen_floats cs)) (record { goes = x.goes; sends_it = x.sends_it; plain = x.plain; left = x.left; fit = x.fit })
+  column-shows (places_double f before rest w two e i) = placed-shows p nothing places.Double f _ w (λ k. k) (itself (shown w))
 
-put_out-prints : (p : Params) (c : PlainColumn) (w : Work) → AllPlain c.nodes → Fits w → Prints (prints c.nodes) w (Pages.put_out p c w)
-put_out-prints p c w s fit =
-    let a = records_also (output c) w in
-    let b = Pages.put_out_by p c a in
-    let x : Prints [] w a = records-prints (output c) w in
-    kept_then (prints c.nodes) w a (Pages.put_out p c w) x
-    (then_kept (prints c.nodes) a b (Pages.put_out p c w) (put_out_by-prints p c a s (x.fit fit)) (same b (Pages.put_out p c w) refl refl refl (λ h. h)))
+  page-shown : {h : Hand} {a : Work} {i : Hand} {b : Work} → PageMove p h a i b → Shows h a i b
+  page-shown (by_column m) = column-shows m
+  page-shown (by_fill (places_next a f before rest w c e i)) = placed-shows p nothing (where_of a) f _ w (λ k. k) (itself (shown w))
+  page-shown (takes_text body w) =
+      let c = text_column p w.state.floats body (footnotes w.state) in
+      alike (of_text body) (of_column c) w _ refl refl refl (λ k. k) (λ s. text-plain p w.state.floats body (footnotes w.state) s) (within-front (shown w) (prints c.nodes))
+  page-shown (fills_text body w) = alike (of_text body) (of_text _) w w refl refl refl (λ k. k) (λ s. plain-both body (made (skip filling_glue) ∷ []) s (tt, tt)) (itself (shown w))
+  page-shown {h = h} {a = a} {i = i} {b = b} m = alike h i a b refl refl refl (λ k. k) (λ k. tt) (itself (shown a))
 
--- ---- the steps of a firing
+  text-shows : {h : Hand} {a : Work} {i : Hand} {b : Work} → TextMove p h a i b → Shows h a i b
+  text-shows (places_current place f es height w c e i) = placed-shows p nothing place f _ w (λ k. k) (itself (shown w))
+  text-shows (defers_current t f es w e i) = placed-shows p nothing places.Deferred _ _ w (λ k. k) (itself (shown w))
+  text-shows (takes_float f es w e) = placed-shows p (of_float f) places.Here f _ w (λ k. k) (itself (shown w))
+  text-shows (puts_penalty h w) = alike h h w _ refl refl refl (λ k. k) (λ k. k) (itself (beside h (shown w)))
+  text-shows (warns h e w) = warns-shows h e w
+  text-shows {h = h} {a = a} {i = i} {b = b} m = alike h i a b refl refl refl (λ k. k) (λ k. tt) (itself (shown a))
 
-pub put_out_text-prints : (p : Params) (body : List PlainNode) (w : Work) → AllPlain body → Fits w → Prints (prints body) w (Columns.put_out_text p body w)
-put_out_text-prints p body w s fit =
-    let c = text_column p w.state.floats body (footnotes w.state) in
-    let a = Columns.without_column_floats w in
-    kept_then (prints body) w a (Columns.put_out_text p body w) (same w a refl refl refl (λ h. h))
-    (fewer (prints body) (prints c.nodes) a (Columns.put_out_text p body w) (text-prints p w.state.floats body (footnotes w.state)) (put_out-prints p c a (text-plain p w.state.floats body (footnotes w.state) s) fit))
+  firing-shows : {h : Hand} {a : Work} {i : Hand} {b : Work} → Move p h a i b → Shows h a i b
+  firing-shows (by_page m) = page-shown m
+  firing-shows (by_text m) = text-shows m
+  firing-shows {h = h} {a = a} {i = i} {b = b} m = alike h i a b refl refl refl (λ k. k) (λ k. tt) (itself (shown a))
 
-columns_by-prints : (p : Params) (again : Work → Work) → ((w : Work) → Fits w → Prints [] w (again w)) → (w : Work) (o : Option (List Choice)) → Fits w → Prints [] w (Columns.float_columns_by again p w o)
-columns_by-prints p again h w None fit = unchanged w
-columns_by-prints p again h w (Some cs) fit =
-    let height = column_height_of p w.state.floats in
-    let c = single_floats_column p height (chosen_floats cs) in
-    let a = Pages.with_deferred (left_floats cs) w in
-    let b = Columns.put_out_company p cs w in
-    let x : Prints [] a b = fewer [] (prints c.nodes) a b tt (put_out-prints p c a (floats-plain height p.fptop p.fpsep p.fpbot (chosen_floats cs)) fit) in
-    let y : Prints [] w b = then_kept [] w a b (with_deferred-prints (left_floats cs) w) x in
-    then_kept [] w b (again b) y (h b (y.fit fit))
+  -- ---- what the parts of a firing show
 
-pub float_columns-prints : (p : Params) (clearing : Bool) (n : ℕ) (w : Work) → Fits w → Prints [] w (Columns.float_columns p clearing n w)
-float_columns-prints p clearing zero w fit = unchanged w
-float_columns-prints p clearing (suc n) w fit = columns_by-prints p (λ w'. Columns.float_columns p clearing n w') (λ w' f. float_columns-prints p clearing n w' f) w (company (Columns.single_wanted p w.state.floats clearing) w.state.floats.deferred) fit
+  -- with a column in hand
+  columns-print : {c : PlainColumn} {a b : Work} → Moves (PageMove p) (of_column c) a nothing b → AllPlain c.nodes → Prints (prints c.nodes) a b
+  columns-print {c} {a} {b} x s =
+      let y : Shows (of_column c) a nothing b = goes-on Shows rests-shows then_shows (λ h i a b m. page-shown m) x in
+      record { goes = y.goes; fit = y.fit; shows = y.shows; plain = λ k. y.plain s k }
 
-pub ordinary-prints : (p : Params) (body : List PlainNode) (w : Work) → AllPlain body → Fits w → Prints (prints body) w (Columns.ordinary p body w)
-ordinary-prints p body w s fit =
-    let a = Columns.put_out_text p body w in
-    let b = Columns.all_float_columns p false a in
-    let x : Prints (prints body) w a = put_out_text-prints p body w s fit in
-    then_kept (prints body) w a (Columns.ordinary p body w) x
-    (then_kept [] a b (Columns.ordinary p body w) (float_columns-prints p false (length a.state.floats.deferred) a (x.fit fit)) (next-prints p [] b.state.floats.deferred b))
+  -- with no column in hand
+  moves-print : {h : Hand} {a b : Work} → Moves (Move p) h a nothing b → ((l : List ℕ) → beside h l ≡ l) → HandPlain h → Prints [] a b
+  moves-print {h} {a} {b} x e s =
+      let y : Shows h a nothing b = goes-on Shows rests-shows then_shows (λ h i a b m. firing-shows m) x in
+      record { goes = y.goes; fit = y.fit; shows = λ r k. subst (λ l. Within l (shown b)) (e (shown a) ∙ sym (append-nil (shown a))) (y.shows r k); plain = λ k. y.plain s k }
 
--- ---- floats and notes in the text
+  pub ordinary-prints : (body : List PlainNode) (w : Work) → AllPlain body → Prints (prints body) w (Columns.ordinary p body w)
+  ordinary-prints body w s =
+      let c = text_column p w.state.floats body (footnotes w.state) in
+      let x = columns-print (ordinary-columns p body w) (text-plain p w.state.floats body (footnotes w.state) s) in
+      fewer (prints body) (prints c.nodes) w (Columns.ordinary p body w) (text-prints p w.state.floats body (footnotes w.state)) (record { goes = x.goes; fit = x.fit; shows = x.shows; plain = x.plain })
 
-interline-prints : (p : Params) (a w : Work) → Prints [] a w → Prints [] a (Text.puts_interline p w)
-interline-prints p a w x = then_kept [] a w (Text.puts_interline p w) x (same w (Text.puts_interline p w) refl refl refl (λ h. h))
+  pub clear_by-prints : (body : List PlainNode) (w : Work) (o : List Notes) → AllPlain body → Prints [] w (Clear.clear_by p body w o)
+  clear_by-prints body w o s = moves-print (widen (λ h i a b m. by_page m) (clear_by-moves p body w o)) (λ l. refl) s
 
-defer-prints : (p : Params) (f : Float) (left : FloatLists) (w : Work) → Prints [] w (Text.defer p f left w)
-defer-prints p f left w =
-    let a = FloatMoves.place_float p places.Deferred (Text.with_top f) left w in
-    prints_if [] w (Text.only_here f) (sends (warned (warnings.Ht f.name)) a) (FloatMoves.place_float p places.Deferred f left w)
-    (then_kept [] w a (sends (warned (warnings.Ht f.name)) a) (placed-prints p places.Deferred (Text.with_top f) left w) (warns-prints (warnings.Ht f.name) a))
-    (placed-prints p places.Deferred f left w)
+  pub float_or_note-prints : (vert : Bool) (body : List PlainNode) (w : Work) → AllPlain body → Prints [] w (Text.float_or_note p vert body w)
+  float_or_note-prints vert body w s = moves-print (widen (λ h i a b m. by_text m) (float_or_note-moves p vert body w)) (λ l. refl) s
 
-goes-prints : (p : Params) (vert : Bool) (f : Float) (left : FloatLists) (w : Work) (place : Where) → Prints [] w (Text.float_goes p vert f left w place)
-goes-prints p vert f left w places.Here =
-    let a = FloatMoves.place_float p places.Here f left w in
-    let b = Text.puts_interline p a in
-    then_kept [] w b (Text.float_goes p vert f left w places.Here) (interline-prints p w a (placed-prints p places.Here f left w)) (same b (Text.float_goes p vert f left w places.Here) refl refl refl (λ h. h))
-goes-prints p vert f left w places.Top = interline-prints p w _ (placed-prints p places.Top f left w)
-goes-prints p vert f left w places.Bottom = interline-prints p w _ (placed-prints p places.Bottom f left w)
-goes-prints p vert f left w place = interline-prints p w _ (defer-prints p f left w)
-
-note-prints : (p : Params) (depth : ℤ) (m : Margin) (left : FloatLists) (w : Work) (at : Placed) → Prints [] w (Text.note_goes p depth m left w at)
-note-prints p depth m left w at =
-    let a = Text.with_note_bottom at.bottom (with_floats left w) in
-    let b = Text.moved_warning m at a in
-    then_kept [] w a (Text.note_goes p depth m left w at) (same w a refl refl refl (λ h. h))
-    (then_kept [] a b (Text.note_goes p depth m left w at) (prints_if [] a at.moved (sends (warned (warnings.Moved m.name at.shift)) a) a (warns-prints (warnings.Moved m.name at.shift) a) (unchanged a)) (same b (Text.note_goes p depth m left w at) refl refl refl (λ h. h)))
-
-first-prints : (p : Params) (vert : Bool) (height depth page_height : ℤ) (es : List Entry) (w : Work) → Prints [] w (Text.first_goes p vert height depth page_height es w)
-first-prints p vert height depth page_height (entries.Float f ∷ es) w = goes-prints p vert f _ w (current_place p w.state.floats w.state.suppress page_height f)
-first-prints p vert height depth page_height (entries.Left m ∷ []) w = note-prints p depth m _ w _
-first-prints p vert height depth page_height (entries.Left m ∷ e ∷ es) w = note-prints p depth m _ w _
-first-prints p vert height depth page_height (entries.Right m ∷ es) w = same w _ refl refl refl (λ h. h)
-first-prints p vert height depth page_height [] w = same w _ refl refl refl (λ h. h)
-
-pub float_or_note-prints : (p : Params) (vert : Bool) (body : List PlainNode) (w : Work) → Prints [] w (Text.float_or_note p vert body w)
-float_or_note-prints p vert body w =
-    let a = Text.list_back p (w.state.held_page ++ Text.without_firing_box body) w in
-    then_kept [] w a (Text.float_or_note p vert body w) (same w a refl refl refl (λ h. h)) (first-prints p vert _ _ _ w.state.floats.current a)
+  pub goal-prints : (n : ℤ) (w : Work) → Prints [] w (Output.next_goal p n w)
+  goal-prints n w = moves-print (goal-moves p n w) (λ l. refl) tt

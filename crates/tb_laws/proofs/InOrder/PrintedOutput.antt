@@ -1,26 +1,23 @@
 -- After a firing the boxes and rules of the galley are in their order in what was sent, what is kept, and what waits.
-use Rattle.std.proofs.Common.{◌≡◌, refl, sym, ◌∙◌, ap, subst, ℕ, ℤ, Bool, true, false, List, [], ◌∷◌, ◌++◌, length, append-nil, append_assoc}
+use Rattle.std.proofs.Common.{◌≡◌, refl, sym, ◌∙◌, ap, subst, ℕ, ℤ, Bool, true, false, List, [], ◌∷◌, ◌++◌, append-nil, append_assoc}
 use Rattle.std.specs.Prelude.{int_le, ◌||◌, ◌&&◌, not, if◌then◌else◌}
 use Rattle.std.specs.List.{AllByRecursion}
 use Rattle.tb_scaled.specs.Scaled.{eject_penalty, max_dimen}
-use Rattle.tb_scaled.specs.Glue.{filling_glue}
 use Rattle.tb_node.specs.declared.What.TheVariants as what
-use Rattle.tb_node.specs.PlainNodes.{hbox, rule, skip, PlainKind, plain, PlainNode, made, blank_box, without_insertions}
+use Rattle.tb_node.specs.PlainNodes.{hbox, rule, PlainKind, plain, PlainNode, without_insertions}
 use Rattle.tb_param.specs.declared.Params.{Params}
 use Rattle.tb_break.specs.PageTop.{pruned_nodes}
 use Rattle.tb_builder.specs.FiredPages.{Fired, spent_kind, with_spent_break}
 use Rattle.tb_builder.proofs.Cutting.CutLemmas.{AllCalm, AllFree, ActFree}
 use Rattle.tb_float.specs.Rooms.{column_room_of}
-use Rattle.tb_column.specs.Column.{Notes}
 use Rattle.tb_sheet.specs.Sheet.{warned}
 use Rattle.tb_sheet.specs.declared.Warn.TheVariants as warnings
-use Rattle.tb_output.specs.State.{State, Work, begun, puts, sends, with_floats, footnotes, has_floats}
-use Rattle.tb_output.specs.Pages
+use Rattle.tb_output.specs.State.{State, Work, begun, footnotes}
 use Rattle.tb_output.specs.Columns
 use Rattle.tb_output.specs.Text
 use Rattle.tb_output.specs.Clear
-use Rattle.tb_output.specs.Output
 use Rattle.tb_sheet.specs.Asked
+use Rattle.tb_output.specs.Output
 use Rattle.tb_laws.proofs.NothingLost.StateWeights.{Paired}
 use Rattle.tb_laws.proofs.Closed.Sorts.{sorts-calm, seen_all}
 use Rattle.tb_laws.proofs.Closed.SortLemmas.{none, one, BreakStands, pen_sort, sorts}
@@ -30,9 +27,9 @@ use Rattle.tb_laws.proofs.DeadCycles.BoxesFirst.{HasReal, one-unreal, unreal-qui
 use Rattle.tb_laws.proofs.Closed.SparedLists.{ordinary-takes}
 use Rattle.tb_laws.proofs.Closed.ServedLists.{float_or_note-serves}
 use Rattle.tb_column.proofs.Within.{Within, itself, within-same, within-within, both-within, within-front, before-within}
-use Rattle.tb_column.proofs.PrintedLines.{printed, prints, left_prints, prints-append, AllPlain, body-plain, plain-both}
+use Rattle.tb_column.proofs.PrintedLines.{printed, prints, left_prints, prints-append, AllPlain, body-plain}
 use Rattle.tb_sheet.proofs.PrintedSheets.{sent_prints}
-use Rattle.tb_laws.proofs.InOrder.PrintedFirings.{shown, Fits, WorkPlain, Prints, then_kept, fewer, prints_if, same, unchanged, warns-prints, all_wide-prints, put_out_text-prints, float_columns-prints, ordinary-prints, float_or_note-prints}
+use Rattle.tb_laws.proofs.InOrder.PrintedFirings.{shown, Fits, WorkPlain, Prints, fewer, ordinary-prints, clear_by-prints, float_or_note-prints, goal-prints}
 
 -- ---- what the steps of a page show
 
@@ -63,34 +60,6 @@ spent-kind l k = refl
 pub spent-prints : (ns : List PlainNode) → prints (with_spent_break ns) ≡ prints ns
 spent-prints [] = refl
 spent-prints (n ∷ ns) = ap (λ z. z ++ prints ns) (spent-kind n.line n.kind)
-
--- ---- a clear
-
-puts-prints : (ns : List PlainNode) (w : Work) → Prints [] w (puts ns w)
-puts-prints ns w = same w (puts ns w) refl refl refl (λ h. h)
-
-clear_wide-prints : (p : Params) (w : Work) → Prints [] w (Clear.clear_wide p w)
-clear_wide-prints p w = by_columns w.state.two_columns
-  where
-    by_columns : (t : Bool) → Prints [] w (if not t then w else (if w.state.first_column then Pages.all_wide_pages p true (with_floats (Clear.double_again p w.state.floats) w) else puts (made blank_box ∷ Clear.clear_again) w))
-    by_columns false = unchanged w
-    by_columns true =
-        let a = with_floats (Clear.double_again p w.state.floats) w in
-        prints_if [] w w.state.first_column (Pages.all_wide_pages p true a) (puts (made blank_box ∷ Clear.clear_again) w) (then_kept [] w a (Pages.all_wide_pages p true a) (same w a refl refl refl (λ h. h)) (all_wide-prints p true a)) (puts-prints (made blank_box ∷ Clear.clear_again) w)
-
-clear_by-prints : (p : Params) (body : List PlainNode) (w : Work) (o : List Notes) → AllPlain body → Fits w → Prints [] w (Clear.clear_by p body w o)
-clear_by-prints p body w [] s fit =
-    let z = puts (Clear.cleared_front p body) w in
-    let a = with_floats (Clear.deferred_again w.state.floats) z in
-    let b = Columns.all_float_columns p true a in
-    let c = Clear.clear_wide p b in
-    then_kept [] w a (Clear.clear_rest c) (same w a refl refl refl (λ h. h))
-    (then_kept [] a b (Clear.clear_rest c) (float_columns-prints p true (length a.state.floats.deferred) a fit)
-    (then_kept [] b c (Clear.clear_rest c) (clear_wide-prints p b) (prints_if [] c (has_floats c.state.floats.deferred || has_floats c.state.floats.second) (puts Clear.clear_again c) c (puts-prints Clear.clear_again c) (unchanged c))))
-clear_by-prints p body w (n ∷ notes) s fit =
-    let ns = body ++ made (skip filling_glue) ∷ [] in
-    let a = Columns.put_out_text p ns w in
-    then_kept [] w a (puts Clear.clear_again a) (fewer [] (prints ns) w a tt (put_out_text-prints p ns w (plain-both body (made (skip filling_glue) ∷ []) s (tt, tt)) fit)) (puts-prints Clear.clear_again a)
 
 -- ---- a firing
 
@@ -148,8 +117,8 @@ module _ (p : Params) (calm : int_le p.interlinepenalty eject_penalty ≡ false)
       c = Columns.ordinary p f.body w
 
       by_held : (t : Bool) → b ≡ t → Reads f w (Columns.ordinary p f.body w)
-      by_held true e = shows-none (Columns.ordinary p f.body w) (fewer [] (prints f.body) w (Columns.ordinary p f.body w) tt (ordinary-prints p f.body w plain_body fits)) (no-body (unreal e)) (subst (λ l. Within (prints w.state.held_page) (prints l ++ prints (Columns.ordinary p f.body w).put_back)) (sym (ordinary-takes p f.body w).page) (within-front (prints w.state.held_page) (prints (Columns.ordinary p f.body w).put_back)))
-      by_held false e = shows-all (prints f.body) (Columns.ordinary p f.body w) (ordinary-prints p f.body w plain_body fits) (within-same ((shown w ++ prints w.state.held_page) ++ prints f.body) (shown w ++ prints f.body) (ap (λ l. (shown w ++ l) ++ prints f.body) (no-page e) ∙ ap (λ l. l ++ prints f.body) (append-nil (shown w))))
+      by_held true e = shows-none (Columns.ordinary p f.body w) (fewer [] (prints f.body) w (Columns.ordinary p f.body w) tt (ordinary-prints p f.body w plain_body)) (no-body (unreal e)) (subst (λ l. Within (prints w.state.held_page) (prints l ++ prints (Columns.ordinary p f.body w).put_back)) (sym (ordinary-takes p f.body w).page) (within-front (prints w.state.held_page) (prints (Columns.ordinary p f.body w).put_back)))
+      by_held false e = shows-all (prints f.body) (Columns.ordinary p f.body w) (ordinary-prints p f.body w plain_body) (within-same ((shown w ++ prints w.state.held_page) ++ prints f.body) (shown w ++ prints f.body) (ap (λ l. (shown w ++ l) ++ prints f.body) (no-page e) ∙ ap (λ l. l ++ prints f.body) (append-nil (shown w))))
 
   hold-reads : int_le eject_penalty f.penalty ≡ false → Output.is_int f.penalty Asked.clear_penalty ≡ false → (Output.is_int f.penalty Asked.par_penalty || Output.is_int f.penalty Asked.vert_penalty) ≡ false → Reads f w (Output.hold f.body w)
   hold-reads h k l = at-hold (Reads f w (Output.hold f.body w)) (BreakStands b (seen_all none (sorts before)) f.rest) f.penalty h k l (λ x. held x.0) (λ x. absurd x) stands
@@ -172,13 +141,13 @@ module _ (p : Params) (calm : int_le p.interlinepenalty eject_penalty ≡ false)
       served e =
           let c = Text.float_or_note p vert f.body w in
           let y = float_or_note-serves p calm vert f.body w paired in
-          shows-none c (float_or_note-prints p vert f.body w) (one-body e) (back c (Text.without_firing_box f.body) y.ns (y.back ∙ ap (λ l. l ++ ((w.state.held_page ++ Text.without_firing_box f.body) ++ y.ns)) begun))
+          shows-none c (float_or_note-prints p vert f.body w plain_body) (one-body e) (back c (Text.without_firing_box f.body) y.ns (y.back ∙ ap (λ l. l ++ ((w.state.held_page ++ Text.without_firing_box f.body) ++ y.ns)) begun))
 
   clear-reads : int_le eject_penalty f.penalty ≡ false → Output.is_int f.penalty Asked.clear_penalty ≡ true → Reads f w (Clear.clear p f.body w)
   clear-reads h k = at-clear (Reads f w (Clear.clear p f.body w)) (BreakStands b (seen_all none (sorts before)) f.rest) f.penalty h k (λ x. cleared x.0 x.1) stands
     where
       cleared : seen_all none (sorts before) ≡ one → b ≡ false → Reads f w (Clear.clear p f.body w)
-      cleared e g = shows-none (Clear.clear p f.body w) (clear_by-prints p f.body w (footnotes w.state) plain_body fits) (one-body e) (subst (λ l. Within l (prints (Clear.clear p f.body w).state.held_page ++ prints (Clear.clear p f.body w).put_back)) (sym (no-page g)) tt)
+      cleared e g = shows-none (Clear.clear p f.body w) (clear_by-prints p f.body w (footnotes w.state) plain_body) (one-body e) (subst (λ l. Within l (prints (Clear.clear p f.body w).state.held_page ++ prints (Clear.clear p f.body w).put_back)) (sym (no-page g)) tt)
 
   pub output-reads : Reads f w (Output.output_by p f w)
   output-reads = by_penalty (int_le eject_penalty f.penalty) (Output.is_int f.penalty Asked.clear_penalty) (Output.is_int f.penalty Asked.par_penalty) (Output.is_int f.penalty Asked.vert_penalty) ordinary-reads clear-reads (serve-reads false) (serve-reads true) hold-reads
@@ -194,7 +163,6 @@ module _ (p : Params) (calm : int_le p.interlinepenalty eject_penalty ≡ false)
 
 -- the held page is kept, and what is put back stays in front
 record Tells (w c : Work) : Type 0 where
-  prints_on : Prints [] w c
   page : c.state.held_page ≡ w.state.held_page
   more : List PlainNode
   back : c.put_back ≡ w.put_back ++ more
@@ -204,7 +172,7 @@ tells_if a true c d x y = x
 tells_if a false c d x y = y
 
 with_goal-tells : (g : ℤ) (w : Work) → Tells w (Output.with_goal g w)
-with_goal-tells g w = record { prints_on = same w (Output.with_goal g w) refl refl refl (λ h. h); page = refl; more = []; back = sym (append-nil w.put_back) }
+with_goal-tells g w = record { page = refl; more = []; back = sym (append-nil w.put_back) }
 
 goal-tells : (p : Params) (n : ℤ) (w : Work) → Tells w (Output.next_goal p n w)
 goal-tells p n w =
@@ -220,9 +188,8 @@ goal-tells p n w =
 
     crowded : Tells w (Output.leave_column w)
     crowded =
-        let told = sends (warned (warnings.Floats w.state.page)) w in
         let ns = if w.state.two_columns && not w.state.first_column then Output.blank_column ++ Output.blank_column else Output.blank_column in
-        record { prints_on = then_kept [] w told (Output.leave_column w) (warns-prints (warnings.Floats w.state.page) w) (puts-prints ns told); page = ap (λ s. s.held_page) (kept w.refused).0; more = ns; back = ap (λ l. l ++ ns) (kept w.refused).1 }
+        record { page = ap (λ s. s.held_page) (kept w.refused).0; more = ns; back = ap (λ l. l ++ ns) (kept w.refused).1 }
 
 -- the boxes and rules that are kept and that wait, in the order in which they will ship
 abbrev pub state_prints : State → List ℕ
@@ -246,16 +213,16 @@ parts-within L H B R S C G P W h k =
 pub out-reads : (p : Params) → int_le p.interlinepenalty eject_penalty ≡ false → (st : State) (f : Fired) (before : List PlainNode) → f.body ≡ without_insertions before → AllCalm before → AllFree before → (b : Bool) → BreakStands b (seen_all none (sorts before)) f.rest (pen_sort f.penalty) → (b ≡ true → HasReal (sorts before) → ⊥) → (b ≡ false → st.held_page ≡ []) → Paired st.floats.current → Fits (begun st) → WorkPlain (begun st) → OutReads f st (Output.out p st f)
 unfolding Output.out
 out-reads p calm st f before is_body calm_before free_before b stands unreal free paired fits kept_plain =
-    all (Output.output_by p f w) (output-reads p calm f before is_body calm_before free_before b stands unreal w refl free paired fits) (Output.next_goal p f.penalty (Output.output_by p f w)) (goal-tells p f.penalty (Output.output_by p f w))
+    all (Output.output_by p f w) (output-reads p calm f before is_body calm_before free_before b stands unreal w refl free paired fits) (Output.next_goal p f.penalty (Output.output_by p f w)) (goal-prints p f.penalty (Output.output_by p f w)) (goal-tells p f.penalty (Output.output_by p f w))
   where
     w : Work
     w = begun (Output.after_page st f)
 
-    all : (c : Work) → Reads f (begun (Output.after_page st f)) c → (e : Work) → Tells c e → OutReads f st (Output.waiting_again f e)
-    all c x e y = record {
-      fit = y.prints_on.fit (x.fit fits);
-      lines = λ r. parts-within (left_prints st.left_column) (prints st.held_page) (prints f.body) (prints f.rest) (sent_prints e.sent) (left_prints e.state.left_column) (prints e.state.held_page) (prints e.put_back) (prints (f.held ++ e.put_back ++ f.rest)) (told (x.lines (y.prints_on.goes r) fits) r) waits;
-      plain = y.prints_on.plain (x.plain kept_plain);
+    all : (c : Work) → Reads f (begun (Output.after_page st f)) c → (e : Work) → Prints [] c e → Tells c e → OutReads f st (Output.waiting_again f e)
+    all c x e z y = record {
+      fit = z.fit (x.fit fits);
+      lines = λ r. parts-within (left_prints st.left_column) (prints st.held_page) (prints f.body) (prints f.rest) (sent_prints e.sent) (left_prints e.state.left_column) (prints e.state.held_page) (prints e.put_back) (prints (f.held ++ e.put_back ++ f.rest)) (told (x.lines (z.goes r) fits) r) waits;
+      plain = z.plain (x.plain kept_plain);
     }
       where
         waits : Within (prints e.put_back ++ prints f.rest) (prints (f.held ++ e.put_back ++ f.rest))
@@ -264,6 +231,6 @@ out-reads p calm st f before is_body calm_before free_before b stands unreal fre
         told : Within ((left_prints st.left_column ++ prints st.held_page) ++ prints f.body) ((shown c ++ prints c.state.held_page) ++ prints c.put_back) → e.refused ≡ false → Within ((left_prints st.left_column ++ prints st.held_page) ++ prints f.body) ((shown e ++ prints e.state.held_page) ++ prints e.put_back)
         told h r = within-within ((left_prints st.left_column ++ prints st.held_page) ++ prints f.body) ((shown c ++ prints c.state.held_page) ++ prints c.put_back) ((shown e ++ prints e.state.held_page) ++ prints e.put_back) h
             (three (shown c) (prints c.state.held_page) (prints c.put_back) (shown e) (prints e.state.held_page) (prints e.put_back)
-            (subst (λ l. Within l (shown e)) (append-nil (shown c)) (y.prints_on.shows r (x.fit fits)))
+            (subst (λ l. Within l (shown e)) (append-nil (shown c)) (z.shows r (x.fit fits)))
             (within-same (prints c.state.held_page) (prints e.state.held_page) (ap prints (sym y.page)))
             (subst (Within (prints c.put_back)) (sym (ap prints y.back ∙ prints-append c.put_back y.more)) (within-front (prints c.put_back) (prints y.more))))

@@ -1,17 +1,17 @@
 -- Each float that a firing places keeps the limits of its list.
-use Rattle.std.proofs.Common.{◌≡◌, refl, sym, ap, subst, ℕ, pos, ◌+◌, Bool, true, false, List, [], ◌∷◌, ◌++◌}
-use Rattle.std.specs.Prelude.{int_lt, if◌then◌else◌}
+use Rattle.std.proofs.Common.{◌≡◌, refl, sym, ap, subst, ℕ, false, List, ◌++◌}
 use Rattle.std.specs.List.{AllByRecursion}
 use Rattle.tb_break.proofs.EachLemmas.{all-join, all-push}
 use Rattle.tb_param.specs.declared.Params.{Params}
 use Rattle.tb_builder.specs.FiredPages.{Fired}
 use Rattle.tb_float.specs.Rooms.{column_height_of}
 use Rattle.tb_area.specs.Laws.{KeepsLimits}
-use Rattle.tb_sheet.specs.Sheet.{PlainSheet, PlainSent, warned, shipped}
+use Rattle.tb_sheet.specs.Sheet.{PlainSheet, PlainSent, warned}
 use Rattle.tb_output.specs.State.{State, Work, Recorded, placed, output, emptied, sends, records_also}
 use Rattle.tb_output.specs.Pages
 use Rattle.tb_output.specs.Output
 use Rattle.tb_output.specs.Firing.{page_work}
+use Rattle.tb_output.proofs.StepLaws.RefusedSteps.{by-sends, by-records, by-any-ship}
 use Rattle.tb_output.proofs.StepLaws.ColumnSteps.{RecordLaw, ColumnStep, still, in_turn, records_one, ships_one}
 use Rattle.tb_output.proofs.StepLaws.FiringSteps.{FiringStep, by_columns, warns_one, changes, fewer, afterwards, page_work-step}
 
@@ -30,19 +30,10 @@ limited-append p rs qs a b = all-join (IsLimited p) rs qs a b
 -- ---- what a firing records
 
 sends-records : (e : PlainSent) (w : Work) → (sends e w).records ≡ w.records
-sends-records e w = by_refused w.refused
-  where
-    by_refused : (t : Bool) → (if t then w else record w { sent = w.sent ++ e ∷ [] }).records ≡ w.records
-    by_refused true = refl
-    by_refused false = refl
+sends-records e w = by-sends (λ v. v.records ≡ w.records) e w refl refl
 
 ship-records : (p : Params) (sheet : PlainSheet) (w : Work) → (Pages.ship p sheet w).records ≡ w.records
-ship-records p sheet w = by_refused w.refused (int_lt p.maxpages (pos w.state.page))
-  where
-    by_refused : (t u : Bool) → (if t then w else (if u then record w { refused = true } else Pages.ship_now sheet w)).records ≡ w.records
-    by_refused true u = refl
-    by_refused false true = refl
-    by_refused false false = sends-records (shipped w.state.page sheet) (record w { state = record w.state { page = w.state.page + 1; dead_cycles = 0 } })
+ship-records p sheet w = by-any-ship (λ v. v.records ≡ w.records) p sheet w refl refl refl
 
 module _ (p : Params) (law : RecordLaw p) where
   abbrev AllLawful : List Recorded → Type 0
@@ -52,11 +43,7 @@ module _ (p : Params) (law : RecordLaw p) where
   same rs qs e h = subst AllLawful (sym e) h
 
   also-lawful : (r : Recorded) (w : Work) → law.holds r → AllLawful w.records → AllLawful (records_also r w).records
-  also-lawful r w k h = by_refused w.refused
-    where
-      by_refused : (t : Bool) → AllLawful (if t then w else record w { records = w.records ++ r ∷ [] }).records
-      by_refused true = h
-      by_refused false = all-push law.holds w.records r h k
+  also-lawful r w k h = by-records (λ v. AllLawful v.records) r w h (all-push law.holds w.records r h k)
 
   -- if all that the first records is lawful, all that the second records is
   column-lawful : {a b : Work} → ColumnStep p law a b → AllLawful a.records → AllLawful b.records

@@ -7,16 +7,16 @@ use Rattle.tb_node.specs.declared.Where.TheVariants as places
 use Rattle.tb_node.proofs.Weights.{Weight, nodes_weight}
 use Rattle.tb_param.specs.declared.Params.{Params}
 use Rattle.tb_builder.proofs.FiredPages.PageWeights.{boxes_weight}
-use Rattle.tb_float.specs.declared.Suppress.{Suppress}
 use Rattle.tb_float.specs.declared.Part.{Part}
 use Rattle.tb_float.specs.declared.Part.TheVariants as parts
-use Rattle.tb_float.specs.Lists.{FloatLists, floats_of, with_floats_of, IsWaiting}
+use Rattle.tb_float.specs.Lists.{FloatLists, floats_of, with_floats_of, IsWaiting, wide_part}
+use Rattle.tb_float.proofs.WaitingLemmas.{wide-waits}
 use Rattle.tb_float.specs.Rooms.{column_height_of}
-use Rattle.tb_area.specs.Area
+use Rattle.tb_area.specs.Area.{AreaPlace, at_top, at_bottom, deferred, where_of}
 use Rattle.tb_output.specs.State.{Work, Recorded, placed, records_also, with_floats}
 use Rattle.tb_output.specs.FloatMoves
-use Rattle.tb_output.proofs.StepLaws.FollowLemmas.{records-state, joined-current, part-current, LeavesList, part-joined}
-use Rattle.tb_laws.proofs.NothingLost.StateWeights.{floats_weight, lists_weight, left_weight, sent_weight, floats-append, Paired, Adds, then_kept, unchanged, records-adds}
+use Rattle.tb_output.proofs.StepLaws.FollowLemmas.{records-state, joined-current, part-current}
+use Rattle.tb_laws.proofs.NothingLost.StateWeights.{floats_weight, lists_weight, left_weight, sent_weight, floats-append, Paired, Adds, then_kept, records-adds}
 
 -- ---- moving floats
 
@@ -66,33 +66,6 @@ placed-adds v p place f left w j h e = by_record (FloatMoves.is_placed place)
     by_record true = then_kept v 0 w (records_also r w) (with_floats l (records_also r w)) (records-adds v r w) (here (records_also r w) (records-state r w))
     by_record false = here w refl
 
-abbrev pub NotHere : Where → Type 0
-NotHere places.Here = ⊥
-NotHere places.Top = Unit {0}
-NotHere places.Bottom = Unit {0}
-NotHere places.Page = Unit {0}
-NotHere places.Double = Unit {0}
-NotHere places.Deferred = Unit {0}
-
--- a float that waited does not go into the text
-pub record StaysOrJoins (place : Where) : Type 0 where
-  pub by : NotHere place
-
-if_both : (P : Where → Type 0) (t : Bool) (x y : Where) → P x → P y → P (if t then x else y)
-if_both P true x y a b = a
-if_both P false x y a b = b
-
-area-joins : (a : Area.AreaPlace) → StaysOrJoins (Area.where_of a)
-area-joins Area.at_top = record { by = tt }
-area-joins Area.at_bottom = record { by = tt }
-area-joins Area.deferred = record { by = tt }
-
-next-joins : (p : Params) (l : FloatLists) (s : Suppress) (before : List Float) (f : Float) → StaysOrJoins (Area.next_place p l s before f)
-next-joins p l s before f = area-joins (Area.next_area_place p l s before f)
-
-double-joins : (p : Params) (l : FloatLists) (s : Suppress) (before : List Float) (f : Float) → StaysOrJoins (Area.double_place p l s before f)
-double-joins p l s before f = if_both StaysOrJoins _ places.Double places.Deferred (record { by = tt }) (record { by = tt })
-
 -- ---- the lists in which floats wait
 
 -- the two boxes of a note stay side by side when another list changes
@@ -105,61 +78,24 @@ lists-with v parts.Deferred h fs l = omega arith
 lists-with v parts.Second h fs l = omega arith
 lists-with v from h fs l = absurd h
 
--- the floats that wait in a list before and after the next one
-abbrev pub Waits : Part → Weight → List Float → List Float → Work → Type 0
-Waits from v before rest w = floats_weight v (floats_of from w.state.floats) ≡ floats_weight v before + floats_weight v rest
-
--- a float that waits goes to a list or stays
-waiting-adds : (from : Part) → IsWaiting from → (v : Weight) (p : Params) (place : Where) (f : Float) (before rest : List Float) (w : Work) → StaysOrJoins place → Waits from v before (f ∷ rest) w → Adds v 0 w (FloatMoves.place_waiting from p place f before rest w) × Waits from v (FloatMoves.still_deferred place f before) rest (FloatMoves.place_waiting from p place f before rest w)
-waiting-adds from q v p place f before rest w j h = by_place place j
+-- a float leaves the list in which it waited
+lighter : (v : Weight) (from : Part) → IsWaiting from → (f : Float) (before rest : List Float) (l : FloatLists) → floats_of from l ≡ before ++ f ∷ rest → lists_weight v l ≡ lists_weight v (with_floats_of from (before ++ rest) l) + v.float f.line
+lighter v from q f before rest l e =
+    sums (lists_weight v (with_floats_of from (before ++ rest) l)) (floats_weight v (floats_of from l)) (lists_weight v l) (floats_weight v (before ++ rest)) (floats_weight v before) (floats_weight v rest) (v.float f.line)
+    (lists-with v from q (before ++ rest) l) (ap (floats_weight v) e ∙ floats-append v before (f ∷ rest)) (floats-append v before rest)
   where
-    l : FloatLists
-    l = with_floats_of from (before ++ rest) w.state.floats
+    sums : (a b c d x y z : ℕ) → a + b ≡ c + d → b ≡ x + (z + y) → d ≡ x + y → c ≡ a + z
+    sums a b c d x y z e g i = omega arith
 
-    both : floats_weight v (before ++ rest) ≡ floats_weight v before + floats_weight v rest
-    both = floats-append v before rest
+area-joins : (a : AreaPlace) → Joins (where_of a)
+area-joins at_top = tt
+area-joins at_bottom = tt
+area-joins deferred = tt
 
-    lighter : lists_weight v w.state.floats ≡ lists_weight v l + v.float f.line
-    lighter =
-        let e : floats_weight v (before ++ rest) ≡ floats_weight v before + floats_weight v rest = both in
-        sums (lists_weight v l) (floats_weight v (floats_of from w.state.floats)) (lists_weight v w.state.floats) (floats_weight v (before ++ rest)) (floats_weight v before) (floats_weight v rest) (v.float f.line) (lists-with v from q (before ++ rest) w.state.floats) h e
-      where
-        sums : (a b c d x y z : ℕ) → a + b ≡ c + d → b ≡ x + (z + y) → d ≡ x + y → c ≡ a + z
-        sums a b c d x y z e g i = omega arith
+pub next-adds : (v : Weight) (p : Params) (a : AreaPlace) (f : Float) (before rest : List Float) (w : Work) → w.state.floats.deferred ≡ before ++ f ∷ rest → Adds v 0 w (FloatMoves.place_float p (where_of a) f (record w.state.floats { deferred = before ++ rest }) w)
+next-adds v p a f before rest w e = placed-adds v p (where_of a) f (record w.state.floats { deferred = before ++ rest }) w (area-joins a) (λ x. x) (lighter v parts.Deferred tt f before rest w.state.floats e)
 
-    stays : floats_weight v (before ++ f ∷ []) ≡ floats_weight v before + v.float f.line
-    stays = one-more v before f
-
-    paired : Paired w.state.floats.current → Paired l.current
-    paired x = paired-with from q (before ++ rest) w.state.floats x
-
-    joins : (place : Where) → Joins place → LeavesList place → Adds v 0 w (FloatMoves.place_float p place f l w) × (floats_weight v (floats_of from (FloatMoves.place_float p place f l w).state.floats) ≡ floats_weight v before + floats_weight v rest)
-    joins place k m = (placed-adds v p place f l w k paired lighter, ap (floats_weight v) (part-joined from q place f (before ++ rest) w.state.floats m) ∙ both)
-
-    waits : Adds v 0 w w × (floats_weight v (floats_of from w.state.floats) ≡ floats_weight v (before ++ f ∷ []) + floats_weight v rest)
-    waits = (unchanged v w, sums (floats_weight v (floats_of from w.state.floats)) (floats_weight v before) (floats_weight v rest) (v.float f.line) (floats_weight v (before ++ f ∷ [])) h stays)
-      where
-        sums : (b x y z d : ℕ) → b ≡ x + (z + y) → d ≡ x + z → b ≡ d + y
-        sums b x y z d e g = omega arith
-
-    by_place : (place : Where) → StaysOrJoins place → Adds v 0 w (FloatMoves.place_waiting from p place f before rest w) × Waits from v (FloatMoves.still_deferred place f before) rest (FloatMoves.place_waiting from p place f before rest w)
-    by_place places.Here j = absurd j.by
-    by_place places.Page j = waits
-    by_place places.Deferred j = waits
-    by_place place j = joins place tt tt
-
-pub next-adds : (v : Weight) (p : Params) (before fs : List Float) (w : Work) → Waits parts.Deferred v before fs w → Adds v 0 w (FloatMoves.place_next p before fs w)
-next-adds v p before [] w h = unchanged v w
-next-adds v p before (f ∷ rest) w h =
-    let place = Area.next_place p w.state.floats w.state.suppress before f in
-    let w' = FloatMoves.place_waiting parts.Deferred p place f before rest w in
-    let d : Adds v 0 w (FloatMoves.place_waiting parts.Deferred p place f before rest w) × Waits parts.Deferred v (FloatMoves.still_deferred place f before) rest (FloatMoves.place_waiting parts.Deferred p place f before rest w) = waiting-adds parts.Deferred tt v p place f before rest w (next-joins p w.state.floats w.state.suppress before f) h in
-    then_kept v 0 w w' (FloatMoves.place_next p (FloatMoves.still_deferred place f before) rest w') d.0 (next-adds v p (FloatMoves.still_deferred place f before) rest w' d.1)
-
-pub double-adds : (from : Part) → IsWaiting from → (v : Weight) (p : Params) (before fs : List Float) (w : Work) → Waits from v before fs w → Adds v 0 w (FloatMoves.place_double from p before fs w)
-double-adds from q v p before [] w h = unchanged v w
-double-adds from q v p before (f ∷ rest) w h =
-    let place = Area.double_place p w.state.floats w.state.suppress before f in
-    let w' = FloatMoves.place_waiting from p place f before rest w in
-    let d : Adds v 0 w (FloatMoves.place_waiting from p place f before rest w) × Waits from v (FloatMoves.still_deferred place f before) rest (FloatMoves.place_waiting from p place f before rest w) = waiting-adds from q v p place f before rest w (double-joins p w.state.floats w.state.suppress before f) h in
-    then_kept v 0 w w' (FloatMoves.place_double from p (FloatMoves.still_deferred place f before) rest w') d.0 (double-adds from q v p (FloatMoves.still_deferred place f before) rest w' d.1)
+pub double-adds : (v : Weight) (p : Params) (f : Float) (before rest : List Float) (w : Work) → floats_of (wide_part p) w.state.floats ≡ before ++ f ∷ rest → Adds v 0 w (FloatMoves.place_float p places.Double f (with_floats_of (wide_part p) (before ++ rest) w.state.floats) w)
+double-adds v p f before rest w e =
+    let from = wide_part p in
+    placed-adds v p places.Double f (with_floats_of from (before ++ rest) w.state.floats) w tt (λ x. paired-with from (wide-waits p) (before ++ rest) w.state.floats x) (lighter v from (wide-waits p) f before rest w.state.floats e)

@@ -1,6 +1,6 @@
 -- Putting out pages and columns loses nothing.
-use Rattle.std.proofs.Common.{◌≡◌, refl, sym, ◌∙◌, ap, subst, ℕ, zero, suc, pos, ◌+◌, Bool, true, false, List, [], ◌∷◌, ◌++◌, length, Option, Some, None, arith}
-use Rattle.std.specs.Prelude.{◌==◌, int_lt, not, if◌then◌else◌}
+use Rattle.std.proofs.Common.{add-zero, subst, ◌≡◌, refl, sym, ◌∙◌, ap, ℕ, suc, ◌+◌, Bool, true, false, List, [], ◌∷◌, Option, Some, None, arith}
+use Rattle.std.specs.Prelude.{◌==◌, if◌then◌else◌}
 use Rattle.tb_node.specs.declared.Float.{Float}
 use Rattle.tb_node.specs.declared.Where.TheVariants as places
 use Rattle.tb_node.specs.PlainNodes.{Leaf, PlainNode}
@@ -15,67 +15,50 @@ use Rattle.tb_float.specs.declared.Part.TheVariants as parts
 use Rattle.tb_float.specs.Lists.{FloatLists, floats_of, with_floats_of, IsWaiting, wide_part, wide_waiting, with_wide_waiting}
 use Rattle.tb_float.proofs.WaitingLemmas.{wide-waits}
 use Rattle.tb_float.specs.Rooms.{column_height_of}
+use Rattle.tb_fpage.specs.declared.Wanted.{Wanted}
 use Rattle.tb_fpage.specs.Company.{Choice, company, chosen_floats, left_floats}
 use Rattle.tb_column.specs.Column.{Notes, PlainColumn, floats_above, text_column, single_floats_column, wide_floats_column}
-use Rattle.tb_sheet.specs.Sheet.{PlainSheet, shipped, one, wide, pair_sheet}
-use Rattle.tb_output.specs.State.{Work, output, records_also, with_floats, with_notes, notes_in, footnotes}
+use Rattle.tb_sheet.specs.Sheet.{PlainSheet, one, wide, pair_sheet}
+use Rattle.tb_output.specs.State.{Work, output, with_floats, with_notes, notes_in, footnotes}
 use Rattle.tb_output.specs.Pages
 use Rattle.tb_output.specs.Columns
-use Rattle.tb_laws.proofs.NothingLost.StateWeights.{class_numbers, BoxesFit, floats_weight, lists_weight, left_weight, sheet_weight, sent_weight, work_weight, ColumnsFit, Sound, Adds, then_kept, kept_then, unchanged, records-adds, shipped-adds}
-use Rattle.tb_laws.proofs.NothingLost.ColumnWeights.{floats_above-weight, notes_weight, text_column-weight, floats_column-weight, choices_weight, CompanyOf, company-weight, parted-weight}
-use Rattle.tb_laws.proofs.NothingLost.FloatWeights.{paired-with, lists-with, next-adds, double-adds}
+use Rattle.tb_output.proofs.StepLaws.RefusedSteps.{by-any-ship}
+use Rattle.tb_output.proofs.StepLaws.Moves.{Hand, nothing, of_column, ColumnMove, takes_company, records_column, ships_column, keeps_left, ships_pair, ends_column, ships_wide, places_double}
+use Rattle.tb_laws.proofs.NothingLost.StateWeights.{Paired, hand_weight, Light, Weighs, gives, keeps, weighs-then, class_numbers, BoxesFit, floats_weight, lists_weight, left_weight, sheet_weight, sent_weight, work_weight, ColumnsFit, Sound, Adds, records-adds, shipped-adds}
+use Rattle.tb_laws.proofs.NothingLost.ColumnWeights.{floats_above-weight, notes_weight, text_column-weight, floats_column-weight, CompanyOf, company-weight, parted-weight}
+use Rattle.tb_laws.proofs.NothingLost.FloatWeights.{double-adds, paired-with, lists-with}
 
--- ---- pages and columns
+-- ---- companies
 
-with_waiting-adds : (from : Part) → IsWaiting from → (v : Weight) (fs : List Float) (n : ℕ) (w : Work) → n + floats_weight v fs ≡ floats_weight v (floats_of from w.state.floats) → (c : Work) → Adds v n (with_floats (with_floats_of from fs w.state.floats) w) c → Adds v 0 w c
-with_waiting-adds from q v fs n w e c x = record { waits = x.waits; classes = x.classes; goes = λ r. x.goes r; by = λ r s. all r s (x.by r (record { box = s.box; columns = s.columns; entries = paired-with from q fs w.state.floats s.entries })) }
+-- floats leave the list in which they wait
+taken-weight : (v : Weight) (from : Part) → IsWaiting from → (fs : List Float) (l : FloatLists) (n : ℕ) → n + floats_weight v fs ≡ floats_weight v (floats_of from l) → lists_weight v (with_floats_of from fs l) + n ≡ lists_weight v l
+taken-weight v from q fs l n e = sums (lists_weight v (with_floats_of from fs l)) (floats_weight v (floats_of from l)) (lists_weight v l) (floats_weight v fs) (lists-with v from q fs l) e
   where
-    l : FloatLists
-    l = with_floats_of from fs w.state.floats
+    sums : (a b c d : ℕ) → a + b ≡ c + d → n + d ≡ b → a + n ≡ c
+    sums a b c d h k = omega arith
 
-    all : c.refused ≡ false → Sound w.state → Sound c.state × (work_weight v c ≡ work_weight v (with_floats l w) + n) → Sound c.state × (work_weight v c ≡ work_weight v w + 0)
-    all r s h =
-        (h.0, sums (nodes_weight v w.state.waiting + boxes_weight v w.state.boxes + nodes_weight v w.state.held_page) (lists_weight v l) (lists_weight v w.state.floats) (left_weight v w.state.left_column) (nodes_weight v w.put_back) (sent_weight v w.sent) (floats_weight v (floats_of from w.state.floats)) (floats_weight v fs) (work_weight v c) (lists-with v from q fs w.state.floats) e h.1)
-      where
-        sums : (a d b g i j y x k : ℕ) → d + y ≡ b + x → n + x ≡ y → k ≡ a + d + g + i + j + n → k ≡ a + b + g + i + j + 0
-        sums a d b g i j y x k p q h = omega arith
+-- a company has a part of the floats, and leaves the others
+parts-weight : (v : Weight) (z : Wanted) (fs : List Float) (cs : List Choice) → company z fs ≡ Some cs → (n : ℕ) → n ≡ floats_weight v (chosen_floats cs) → n + floats_weight v (left_floats cs) ≡ floats_weight v fs
+parts-weight v z fs cs e n h = ap (λ m. m + floats_weight v (left_floats cs)) h ∙ parted-weight v cs ∙ subst (CompanyOf v (floats_weight v fs)) e (company-weight v z fs)
 
--- a company leaves the floats that wait, and its page or column takes them
-ship_wide-adds : (v : Weight) (p : Params) (cs : List Choice) (w : Work) → choices_weight v cs ≡ floats_weight v (wide_waiting p w.state.floats) → Adds v 0 w (Pages.ship_wide p cs w)
-ship_wide-adds v p cs w h =
-    let b = with_floats (with_wide_waiting p (left_floats cs) w.state.floats) w in
-    let n = nodes_weight v (wide_floats_column p p.textheight (chosen_floats cs)).nodes in
-    let c : n ≡ floats_weight v (chosen_floats cs) = floats_column-weight v p.textheight p.dblfptop p.dblfpsep p.dblfpbot (chosen_floats cs) in
-    let x : Adds v n b (Pages.ship_wide p cs w) = shipped-adds v p (wide (wide_floats_column p p.textheight (chosen_floats cs))) b in
-    with_waiting-adds (wide_part p) (wide-waits p) v (left_floats cs) n w (sums n (floats_weight v (chosen_floats cs)) (floats_weight v (left_floats cs)) (choices_weight v cs) (floats_weight v (wide_waiting p w.state.floats)) c (parted-weight v cs) h) (Pages.ship_wide p cs w) x
+-- what leaves the lists comes into the hand
+pub takes-weighs : (v : Weight) (i : Hand) (l : FloatLists) (w : Work) → Light v i → (Paired w.state.floats.current → Paired l.current) → lists_weight v l + hand_weight v i ≡ lists_weight v w.state.floats → Weighs v nothing w i (with_floats l w)
+takes-weighs v i l w light h e = record {
+  waits = refl;
+  classes = refl;
+  goes = λ r. r;
+  light = λ u. light;
+  by = λ r u s. (record { box = s.box; columns = s.columns; entries = h s.entries }, sums (nodes_weight v w.state.waiting + boxes_weight v w.state.boxes + nodes_weight v w.state.held_page) (lists_weight v w.state.floats) (lists_weight v l) (left_weight v w.state.left_column) (nodes_weight v w.put_back) (sent_weight v w.sent) (hand_weight v i) e);
+}
   where
-    sums : (n a b c d : ℕ) → n ≡ a → a + b ≡ c → c ≡ d → n + b ≡ d
-    sums n a b c d e g i = omega arith
+    sums : (a b c d x y n : ℕ) → c + n ≡ b → a + c + d + x + y + n ≡ a + b + d + x + y + 0
+    sums a b c d x y n e = omega arith
 
-wide_by-adds : (v : Weight) (p : Params) (again : Work → Work) → ((w : Work) → Adds v 0 w (again w)) → (w : Work) (o : Option (List Choice)) → CompanyOf v (floats_weight v (wide_waiting p w.state.floats)) o → Adds v 0 w (Pages.wide_pages_by again p w o)
-wide_by-adds v p again h w None c = unchanged v w
-wide_by-adds v p again h w (Some cs) c = then_kept v 0 w (Pages.ship_wide p cs w) (again (Pages.ship_wide p cs w)) (ship_wide-adds v p cs w c) (h (Pages.ship_wide p cs w))
-
-wide_pages-adds : (v : Weight) (p : Params) (clearing : Bool) (n : ℕ) (w : Work) → Adds v 0 w (Pages.wide_pages p clearing n w)
-wide_pages-adds v p clearing zero w = unchanged v w
-wide_pages-adds v p clearing (suc n) w =
-    wide_by-adds v p (λ w'. Pages.wide_pages p clearing n w') (λ w'. wide_pages-adds v p clearing n w') w (company (Pages.wide_wanted p clearing) (wide_waiting p w.state.floats)) (company-weight v (Pages.wide_wanted p clearing) (wide_waiting p w.state.floats))
-
-pub all_wide-adds : (v : Weight) (p : Params) (clearing : Bool) (w : Work) → Adds v 0 w (Pages.all_wide_pages p clearing w)
-all_wide-adds v p clearing w = wide_pages-adds v p clearing (length (wide_waiting p w.state.floats)) w
+-- ---- columns
 
 -- a page is shipped beside the lists and the left column
 pub ship-keeps : (p : Params) (sheet : PlainSheet) (w : Work) → ((Pages.ship p sheet w).state.floats ≡ w.state.floats) × ((Pages.ship p sheet w).state.left_column ≡ w.state.left_column)
-ship-keeps p sheet w = by_refused w.refused (int_lt p.maxpages (pos w.state.page)) w.refused
-  where
-    turned : Work
-    turned = record w { state = record w.state { page = w.state.page + 1; dead_cycles = 0 } }
-
-    by_refused : (t u x : Bool) → ((if t then w else (if u then record w { refused = true } else (if x then turned else record turned { sent = w.sent ++ shipped w.state.page sheet ∷ [] }))).state.floats ≡ w.state.floats) × ((if t then w else (if u then record w { refused = true } else (if x then turned else record turned { sent = w.sent ++ shipped w.state.page sheet ∷ [] }))).state.left_column ≡ w.state.left_column)
-    by_refused true u x = (refl, refl)
-    by_refused false true x = (refl, refl)
-    by_refused false false true = (refl, refl)
-    by_refused false false false = (refl, refl)
+ship-keeps p sheet w = by-any-ship (λ v. (v.state.floats ≡ w.state.floats) × (v.state.left_column ≡ w.state.left_column)) p sheet w (refl, refl) (refl, refl) (refl, refl)
 
 without-weight : (v : Weight) (a : Work) → work_weight v (Pages.without_double a) + (floats_weight v a.state.floats.double + left_weight v a.state.left_column) ≡ work_weight v a
 without-weight v a = omega arith
@@ -105,13 +88,6 @@ pair-adds v p c w f =
             sums : (W A B q q' y y' z k : ℕ) → m ≡ q → q' ≡ q → y' ≡ y → z ≡ y → A ≡ W + (m + z + k) → B + (q' + y') ≡ A → B ≡ W + k
             sums W A B q q' y y' z k d e l g h i = omega arith
 
-ship_pair-adds : (v : Weight) (p : Params) (c : PlainColumn) (w : Work) → w.state.two_columns ≡ true → w.state.first_column ≡ false → Adds v (nodes_weight v c.nodes) w (Pages.ship_pair p c w)
-ship_pair-adds v p c w t f =
-    let b = Pages.without_double (Pages.ship p (pair_sheet p w.state.floats (Pages.left_or c w.state.left_column) c) w) in
-    let d = Pages.all_wide_pages p false b in
-    then_kept v (nodes_weight v c.nodes) w b (Pages.ship_pair p c w) (pair-adds v p c w f)
-    (then_kept v 0 b d (Pages.ship_pair p c w) (all_wide-adds v p false b) (double-adds (wide_part p) (wide-waits p) v p [] (wide_waiting p d.state.floats) d (omega arith)))
-
 keep_left-adds : (v : Weight) (c : PlainColumn) (w : Work) → w.state.two_columns ≡ true → w.state.first_column ≡ true → Adds v (nodes_weight v c.nodes) w (Pages.keep_left c w)
 keep_left-adds v c w t f = record { waits = refl; classes = refl; goes = λ r. r; by = λ r s. by_left w.state.left_column s.columns s }
   where
@@ -122,20 +98,32 @@ keep_left-adds v c w t f = record { waits = refl; classes = refl; goes = λ r. r
     by_left None h s = (record { box = s.box; columns = subst (λ x. ColumnsFit x false (Some c)) (sym t) tt; entries = s.entries }, sums (nodes_weight v w.state.waiting + boxes_weight v w.state.boxes + nodes_weight v w.state.held_page + lists_weight v w.state.floats) (nodes_weight v w.put_back) (sent_weight v w.sent) (nodes_weight v c.nodes))
     by_left (Some d) h s = absurd (subst (λ x. ColumnsFit w.state.two_columns x (Some d)) f h)
 
-put_out_by-adds : (v : Weight) (p : Params) (c : PlainColumn) (w : Work) → Adds v (nodes_weight v c.nodes) w (Pages.put_out_by p c w)
-put_out_by-adds v p c w = by_columns w.state.two_columns w.state.first_column refl refl
-  where
-    by_columns : (t f : Bool) → w.state.two_columns ≡ t → w.state.first_column ≡ f → Adds v (nodes_weight v c.nodes) w (if not t then Pages.ship p (one c) w else (if f then Pages.keep_left c w else Pages.ship_pair p c w))
-    by_columns false f a b = shipped-adds v p (one c) w
-    by_columns true true a b = keep_left-adds v c w a b
-    by_columns true false a b = ship_pair-adds v p c w a b
+-- ---- each move
 
-put_out-adds : (v : Weight) (p : Params) (c : PlainColumn) (w : Work) → Adds v (nodes_weight v c.nodes) w (Pages.put_out p c w)
-put_out-adds v p c w =
-    let a = records_also (output c) w in
-    let b = Pages.put_out_by p c a in
-    kept_then v (nodes_weight v c.nodes) w a (Pages.put_out p c w) (records-adds v (output c) w)
-    (then_kept v (nodes_weight v c.nodes) a b (Pages.put_out p c w) (put_out_by-adds v p c a) (record { waits = refl; classes = refl; goes = λ r. r; by = λ r s. (record { box = s.box; columns = s.columns; entries = s.entries }, omega arith) }))
+-- a column in hand leaves it
+gone : (v : Weight) (c : PlainColumn) (a b : Work) → Adds v (nodes_weight v c.nodes) a b → Weighs v (of_column c) a nothing b
+gone v c a b x = gives v (of_column c) nothing (nodes_weight v c.nodes) a b x (λ l. (sym (add-zero (nodes_weight v c.nodes)), tt))
+
+pub column-weighs : {p : Params} {h : Hand} {a : Work} {i : Hand} {b : Work} (v : Weight) → ColumnMove p h a i b → Weighs v h a i b
+column-weighs {p} v (takes_company clearing cs w e) =
+    let height = column_height_of p w.state.floats in
+    let c = single_floats_column p height (chosen_floats cs) in
+    takes-weighs v (of_column c) (record w.state.floats { deferred = left_floats cs }) w tt (λ x. x)
+    (taken-weight v parts.Deferred tt (left_floats cs) w.state.floats (nodes_weight v c.nodes) (parts-weight v (Columns.single_wanted p w.state.floats clearing) w.state.floats.deferred cs e (nodes_weight v c.nodes) (floats_column-weight v height p.fptop p.fpsep p.fpbot (chosen_floats cs))))
+column-weighs {p} v (records_column c w) = keeps v (of_column c) w _ (records-adds v (output c) w)
+column-weighs {p} v (ships_column c w t) = gone v c w _ (shipped-adds v p (one c) w)
+column-weighs {p} v (keeps_left c w t f) = gone v c w _ (keep_left-adds v c w t f)
+column-weighs {p} v (ships_pair c w t f) = gone v c w _ (pair-adds v p c w f)
+column-weighs {p} v (ends_column w) = keeps v nothing w _ (record { waits = refl; classes = refl; goes = λ r. r; by = λ r s. (record { box = s.box; columns = s.columns; entries = s.entries }, omega arith) })
+column-weighs {p} v (ships_wide clearing cs w e) =
+    let c = wide_floats_column p p.textheight (chosen_floats cs) in
+    let l = with_wide_waiting p (left_floats cs) w.state.floats in
+    let a = with_floats l w in
+    weighs-then v nothing (of_column c) nothing w a (Pages.ship_wide p cs w)
+    (takes-weighs v (of_column c) l w tt (λ x. paired-with (wide_part p) (wide-waits p) (left_floats cs) w.state.floats x)
+    (taken-weight v (wide_part p) (wide-waits p) (left_floats cs) w.state.floats (nodes_weight v c.nodes) (parts-weight v (Pages.wide_wanted p clearing) (wide_waiting p w.state.floats) cs e (nodes_weight v c.nodes) (floats_column-weight v p.textheight p.dblfptop p.dblfpsep p.dblfpbot (chosen_floats cs)))))
+    (gone v c a _ (shipped-adds v p (wide c) a))
+column-weighs {p} v (places_double f before rest w two e i) = keeps v nothing w _ (double-adds v p f before rest w e)
 
 -- ---- the class boxes
 
@@ -175,42 +163,14 @@ emptied-box [] (b ∷ bs) h = absurd h
 emptied-box (c ∷ cs) [] h = absurd h
 emptied-box (c ∷ cs) (b ∷ bs) h = (h.0, h.1, emptied-box cs bs h.2)
 
--- a text column takes its floats and the insertions with it
-pub put_out_text-adds : (v : Weight) (p : Params) (body : List PlainNode) (w : Work) → Adds v (nodes_weight v body) w (Columns.put_out_text p body w)
-put_out_text-adds v p body w =
-    let c = text_column p w.state.floats body (footnotes w.state) in
-    gone (nodes_weight v c.nodes) (Columns.put_out_text p body w) (text_column-weight v p w.state.floats body (footnotes w.state)) (put_out-adds v p c (Columns.without_column_floats w))
+-- ---- a text column
+
+-- it takes its floats and the insertions with it
+pub text-taken : (v : Weight) (p : Params) (body : List PlainNode) (w : Work) → Sound w.state → Sound (Columns.without_column_floats w).state × (work_weight v (Columns.without_column_floats w) + nodes_weight v (text_column p w.state.floats body (footnotes w.state)).nodes ≡ work_weight v w + nodes_weight v body)
+text-taken v p body w s = (record { box = emptied-box w.state.classes w.state.boxes s.box; columns = s.columns; entries = s.entries }, weight (nodes_weight v (text_column p w.state.floats body (footnotes w.state)).nodes) (text_column-weight v p w.state.floats body (footnotes w.state)))
   where
-    gone : (n : ℕ) (a : Work) → n ≡ floats_weight v w.state.floats.top + nodes_weight v body + notes_weight v (footnotes w.state) + floats_weight v w.state.floats.bottom → Adds v n (Columns.without_column_floats w) a → Adds v (nodes_weight v body) w a
-    gone n a e x = record { waits = x.waits; classes = x.classes; goes = λ r. x.goes r; by = λ r s. all s (x.by r (record { box = emptied-box w.state.classes w.state.boxes s.box; columns = s.columns; entries = s.entries })) }
-      where
-        all : Sound w.state → Sound a.state × (work_weight v a ≡ work_weight v (Columns.without_column_floats w) + n) → Sound a.state × (work_weight v a ≡ work_weight v w + nodes_weight v body)
-        all s h =
-            let b : notes_weight v (footnotes w.state) ≡ boxes_weight v w.state.boxes = box-weight v w.state.classes w.state.boxes s.box in
-            let m : boxes_weight v (Columns.emptied_boxes w.state.boxes) ≡ 0 = emptied-weight v w.state.boxes in
-            let g : work_weight v a ≡ work_weight v (Columns.without_column_floats w) + n = h.1 in
-            (h.0, omega (arith, e))
-
-company-adds : (v : Weight) (p : Params) (cs : List Choice) (w : Work) → choices_weight v cs ≡ floats_weight v w.state.floats.deferred → Adds v 0 w (Columns.put_out_company p cs w)
-company-adds v p cs w h =
-    let height = column_height_of p w.state.floats in
-    let e : floats_weight v (chosen_floats cs) + floats_weight v (left_floats cs) ≡ choices_weight v cs = parted-weight v cs in
-    let c : nodes_weight v (single_floats_column p height (chosen_floats cs)).nodes ≡ floats_weight v (chosen_floats cs) = floats_column-weight v height p.fptop p.fpsep p.fpbot (chosen_floats cs) in
-    let x : Adds v (nodes_weight v (single_floats_column p height (chosen_floats cs)).nodes) (Pages.with_deferred (left_floats cs) w) (Columns.put_out_company p cs w) = put_out-adds v p (single_floats_column p height (chosen_floats cs)) (Pages.with_deferred (left_floats cs) w) in
-    with_waiting-adds parts.Deferred tt v (left_floats cs) (nodes_weight v (single_floats_column p height (chosen_floats cs)).nodes) w (omega arith) (Columns.put_out_company p cs w) x
-
-columns_by-adds : (v : Weight) (p : Params) (again : Work → Work) → ((w : Work) → Adds v 0 w (again w)) → (w : Work) (o : Option (List Choice)) → CompanyOf v (floats_weight v w.state.floats.deferred) o → Adds v 0 w (Columns.float_columns_by again p w o)
-columns_by-adds v p again h w None c = unchanged v w
-columns_by-adds v p again h w (Some cs) c = then_kept v 0 w (Columns.put_out_company p cs w) (again (Columns.put_out_company p cs w)) (company-adds v p cs w c) (h (Columns.put_out_company p cs w))
-
-pub float_columns-adds : (v : Weight) (p : Params) (clearing : Bool) (n : ℕ) (w : Work) → Adds v 0 w (Columns.float_columns p clearing n w)
-float_columns-adds v p clearing zero w = unchanged v w
-float_columns-adds v p clearing (suc n) w =
-    columns_by-adds v p (λ w'. Columns.float_columns p clearing n w') (λ w'. float_columns-adds v p clearing n w') w (company (Columns.single_wanted p w.state.floats clearing) w.state.floats.deferred) (company-weight v (Columns.single_wanted p w.state.floats clearing) w.state.floats.deferred)
-
-pub ordinary-adds : (v : Weight) (p : Params) (body : List PlainNode) (w : Work) → Adds v (nodes_weight v body) w (Columns.ordinary p body w)
-ordinary-adds v p body w =
-    let a = Columns.put_out_text p body w in
-    let b = Columns.all_float_columns p false a in
-    then_kept v (nodes_weight v body) w a (Columns.ordinary p body w) (put_out_text-adds v p body w)
-    (then_kept v 0 a b (Columns.ordinary p body w) (float_columns-adds v p false (length a.state.floats.deferred) a) (next-adds v p [] b.state.floats.deferred b (omega arith)))
+    weight : (n : ℕ) → n ≡ floats_weight v w.state.floats.top + nodes_weight v body + notes_weight v (footnotes w.state) + floats_weight v w.state.floats.bottom → work_weight v (Columns.without_column_floats w) + n ≡ work_weight v w + nodes_weight v body
+    weight n e =
+        let b : notes_weight v (footnotes w.state) ≡ boxes_weight v w.state.boxes = box-weight v w.state.classes w.state.boxes s.box in
+        let m : boxes_weight v (Columns.emptied_boxes w.state.boxes) ≡ 0 = emptied-weight v w.state.boxes in
+        omega (arith, e)

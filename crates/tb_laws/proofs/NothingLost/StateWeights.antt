@@ -1,6 +1,6 @@
 -- What the parts of a state weigh, and by how much a step of a firing adds to it.
-use Rattle.std.proofs.Common.{◌≡◌, refl, ◌∙◌, ℕ, pos, ◌+◌, Bool, true, false, List, [], ◌∷◌, ◌++◌, map, Option, Some, None, add-zero, zero-add, arith}
-use Rattle.std.specs.Prelude.{int_lt, if◌then◌else◌}
+use Rattle.std.proofs.Common.{◌≡◌, refl, sym, ◌∙◌, ℕ, ◌+◌, Bool, true, false, List, [], ◌∷◌, ◌++◌, map, Option, Some, None, add-zero, zero-add, arith}
+use Rattle.std.specs.Prelude.{if◌then◌else◌}
 use Rattle.tb_node.specs.declared.Float.{Float}
 use Rattle.tb_node.specs.PlainNodes.{PlainNode}
 use Rattle.tb_node.proofs.Weights.{Weight, nodes_weight, weight-append}
@@ -14,6 +14,8 @@ use Rattle.tb_float.specs.Lists.{FloatLists}
 use Rattle.tb_column.specs.Column.{PlainColumn}
 use Rattle.tb_sheet.specs.Sheet.{PlainSheet, warned, shipped}
 use Rattle.tb_sheet.specs.declared.Warn.{Warn}
+use Rattle.tb_output.proofs.StepLaws.RefusedSteps.{by-sends, by-records, by-ship}
+use Rattle.tb_output.proofs.StepLaws.Moves.{Hand, nothing, of_text, of_column, of_float, of_note}
 pub use Rattle.tb_sheet.proofs.PrintedSheets.{sheet_weight, sent_weight}
 use Rattle.tb_sheet.proofs.PrintedSheets.{sent_weight-append}
 use Rattle.tb_output.specs.State.{State, Work, Recorded, puts, sends, records_also}
@@ -114,12 +116,9 @@ added v i j a b c x y = record { waits = y.waits ∙ x.waits; classes = y.classe
         sums : (x y z : ℕ) → y ≡ x + i → z ≡ y + j → z ≡ x + (i + j)
         sums x y z d e = omega arith
 
--- the same, if one of the two adds nothing
+-- the same, if the second adds nothing
 pub then_kept : (v : Weight) (n : ℕ) (a b c : Work) → Adds v n a b → Adds v 0 b c → Adds v n a c
 then_kept v n a b c x y = let h : Adds v (n + 0) a c = added v n 0 a b c x y in rw (add-zero n) at h
-
-pub kept_then : (v : Weight) (n : ℕ) (a b c : Work) → Adds v 0 a b → Adds v n b c → Adds v n a c
-kept_then v n a b c x y = let h : Adds v (0 + n) a c = added v 0 n a b c x y in rw (zero-add n) at h
 
 pub adds_if : (v : Weight) (n : ℕ) (a : Work) (t : Bool) (b c : Work) → Adds v n a b → Adds v n a c → Adds v n a (if t then b else c)
 adds_if v n a true b c x y = x
@@ -139,35 +138,78 @@ puts-adds v ns w =
     sums x p q y n e = omega arith
 
 pub records-adds : (v : Weight) (r : Recorded) (w : Work) → Adds v 0 w (records_also r w)
-records-adds v r w = adds_if v 0 w w.refused w (record w { records = w.records ++ r ∷ [] }) (unchanged v w) (record { waits = refl; classes = refl; goes = λ k. k; by = λ k s. (s, omega arith) })
+records-adds v r w = by-records (Adds v 0 w) r w (unchanged v w) (record { waits = refl; classes = refl; goes = λ k. k; by = λ k s. (s, omega arith) })
 
 pub warns-adds : (v : Weight) (e : Warn) (w : Work) → Adds v 0 w (sends (warned e) w)
-warns-adds v e w = adds_if v 0 w w.refused w (record w { sent = w.sent ++ warned e ∷ [] }) (unchanged v w) (record { waits = refl; classes = refl; goes = λ k. k; by = λ k s. (s, sums (state_weight v w.state + nodes_weight v w.put_back) (sent_weight v w.sent) (sent_weight v (w.sent ++ warned e ∷ [])) (sent_weight-append v w.sent (warned e ∷ []))) })
+warns-adds v e w = by-sends (Adds v 0 w) (warned e) w (unchanged v w) (record { waits = refl; classes = refl; goes = λ k. k; by = λ k s. (s, sums (state_weight v w.state + nodes_weight v w.put_back) (sent_weight v w.sent) (sent_weight v (w.sent ++ warned e ∷ [])) (sent_weight-append v w.sent (warned e ∷ []))) })
   where
     sums : (x y z : ℕ) → z ≡ y + 0 → x + z ≡ x + y + 0
     sums x y z e = omega arith
 
 -- a page that is shipped
 pub shipped-adds : (v : Weight) (p : Params) (sheet : PlainSheet) (w : Work) → Adds v (sheet_weight v sheet) w (Pages.ship p sheet w)
-shipped-adds v p sheet w = by_refused w.refused refl
+shipped-adds v p sheet w =
+    by-ship (Adds v (sheet_weight v sheet) w) p sheet w (λ h. record { waits = refl; classes = refl; goes = λ k. k; by = λ k s. let no : ⊥ = grind (arith, k, h) in absurd no })
+    (λ h. record { waits = refl; classes = refl; goes = λ k. let no : ⊥ = grind (arith, k) in absurd no; by = λ k s. let no : ⊥ = grind (arith, k) in absurd no })
+    (λ h e. record { waits = refl; classes = refl; goes = λ k. k; by = λ k s. (record { box = s.box; columns = s.columns; entries = s.entries }, sums (state_weight v w.state + nodes_weight v w.put_back) (sent_weight v w.sent) (sent_weight v (w.sent ++ shipped w.state.page sheet ∷ [])) (sheet_weight v sheet) (sent_weight-append v w.sent (shipped w.state.page sheet ∷ []))) })
   where
     sums : (x y z n : ℕ) → z ≡ y + (n + 0) → x + z ≡ x + y + n
     sums x y z n e = omega arith
 
-    turned : Work
-    turned = record w { state = record w.state { page = w.state.page + 1; dead_cycles = 0 } }
+-- ---- with something in hand
 
-    sent_now : Adds v (sheet_weight v sheet) w (record turned { sent = w.sent ++ shipped w.state.page sheet ∷ [] })
-    sent_now = record { waits = refl; classes = refl; goes = λ k. k; by = λ k s. (record { box = s.box; columns = s.columns; entries = s.entries }, sums (state_weight v w.state + nodes_weight v w.put_back) (sent_weight v w.sent) (sent_weight v (w.sent ++ shipped w.state.page sheet ∷ [])) (sheet_weight v sheet) (sent_weight-append v w.sent (shipped w.state.page sheet ∷ []))) }
+abbrev pub hand_weight : Weight → Hand → ℕ
+hand_weight v nothing = 0
+hand_weight v (of_text body) = nodes_weight v body
+hand_weight v (of_column c) = nodes_weight v c.nodes
+hand_weight v (of_float f) = v.float f.line
+hand_weight v (of_note m at) = v.margin m.line
 
-    now : (t : Bool) → w.refused ≡ t → t ≡ false → Adds v (sheet_weight v sheet) w (if t then turned else record turned { sent = w.sent ++ shipped w.state.page sheet ∷ [] })
-    now true r h = let no : ⊥ = grind (arith, h) in absurd no
-    now false r h = sent_now
+-- a page's list in hand weighs nothing
+abbrev pub Light : Weight → Hand → Type 0
+Light v nothing = Unit {0}
+Light v (of_text body) = nodes_weight v body ≡ 0
+Light v (of_column c) = Unit {0}
+Light v (of_float f) = Unit {0}
+Light v (of_note m at) = Unit {0}
 
-    by_limit : w.refused ≡ false → (u : Bool) → Adds v (sheet_weight v sheet) w (if u then record w { refused = true } else Pages.ship_now sheet w)
-    by_limit r true = record { waits = refl; classes = refl; goes = λ k. let no : ⊥ = grind (arith, k) in absurd no; by = λ k s. let no : ⊥ = grind (arith, k) in absurd no }
-    by_limit r false = now w.refused refl r
+-- between two moves nothing is lost, if a page's list in hand weighs nothing
+pub record Weighs (v : Weight) (h : Hand) (a : Work) (i : Hand) (b : Work) : Type 0 where
+  pub waits : b.state.waiting ≡ a.state.waiting
+  pub classes : b.state.classes ≡ a.state.classes
+  pub goes : b.refused ≡ false → a.refused ≡ false
+  pub light : Light v h → Light v i
+  pub by : b.refused ≡ false → Light v h → Sound a.state → Sound b.state × (work_weight v b + hand_weight v i ≡ work_weight v a + hand_weight v h)
 
-    by_refused : (t : Bool) → w.refused ≡ t → Adds v (sheet_weight v sheet) w (if t then w else (if int_lt p.maxpages (pos w.state.page) then record w { refused = true } else Pages.ship_now sheet w))
-    by_refused true h = record { waits = refl; classes = refl; goes = λ k. k; by = λ k s. let no : ⊥ = grind (arith, k, h) in absurd no }
-    by_refused false h = by_limit h (int_lt p.maxpages (pos w.state.page))
+-- what is in hand is lighter by what is added
+pub gives : (v : Weight) (h i : Hand) (n : ℕ) (a b : Work) → Adds v n a b → (Light v h → (hand_weight v h ≡ n + hand_weight v i) × Light v i) → Weighs v h a i b
+gives v h i n a b x k = record {
+  waits = x.waits;
+  classes = x.classes;
+  goes = λ r. x.goes r;
+  light = λ l. (k l).1;
+  by = λ r l s. let y = x.by r s in (y.0, sums (work_weight v a) (work_weight v b) n (hand_weight v h) (hand_weight v i) y.1 (k l).0);
+}
+  where
+    sums : (x y n h i : ℕ) → y ≡ x + n → h ≡ n + i → y + i ≡ x + h
+    sums x y n h i d e = omega arith
+
+-- what is in hand stays as it is
+pub keeps : (v : Weight) (h : Hand) (a b : Work) → Adds v 0 a b → Weighs v h a h b
+keeps v h a b x = gives v h h 0 a b x (λ l. (sym (zero-add (hand_weight v h)), l))
+
+pub weighs-then : (v : Weight) (h i j : Hand) (a b c : Work) → Weighs v h a i b → Weighs v i b j c → Weighs v h a j c
+weighs-then v h i j a b c x y = record {
+  waits = y.waits ∙ x.waits;
+  classes = y.classes ∙ x.classes;
+  goes = λ r. x.goes (y.goes r);
+  light = λ l. y.light (x.light l);
+  by = λ r l s.
+      let d = x.by (y.goes r) l s in
+      let e = y.by r (x.light l) d.0 in
+      (e.0, e.1 ∙ d.1);
+}
+
+-- all moves until nothing is in hand
+pub all-added : (v : Weight) (h : Hand) (a b : Work) → Weighs v h a nothing b → Light v h → Adds v (hand_weight v h) a b
+all-added v h a b x l = record { waits = x.waits; classes = x.classes; goes = λ r. x.goes r; by = λ r s. let d = x.by r l s in (d.0, sym (add-zero (work_weight v b)) ∙ d.1) }

@@ -1,11 +1,11 @@
 -- A firing loses nothing: what is sent, put back and kept weighs as much as what was there.
-use Rattle.std.proofs.Common.{◌≡◌, refl, ◌∙◌, ap, ℕ, pos, ◌+◌, Bool, true, false, List, [], ◌∷◌, ◌++◌, map, drop, length, arith}
-use Rattle.std.specs.Prelude.{◌-◌, ℤ, int_le, not, ◌||◌, ◌&&◌, if◌then◌else◌}
+use Rattle.std.proofs.Common.{add-zero, zero-add, sym, ◌≡◌, refl, ◌∙◌, ap, ℕ, pos, ◌+◌, Bool, true, false, List, [], ◌∷◌, ◌++◌, map, arith}
+use Rattle.std.specs.Prelude.{ℤ, int_le, not, ◌||◌, ◌&&◌, if◌then◌else◌}
 use Rattle.tb_scaled.specs.Glue.{filling_glue}
 use Rattle.tb_scaled.specs.Scaled.{eject_penalty, max_dimen}
 use Rattle.tb_node.specs.PlainNodes.{PlainNode, node_shape, made, blank_box, skip}
 use Rattle.tb_break.specs.Split.{split_of}
-use Rattle.tb_node.proofs.Weights.{Weight, nodes_weight, weight-append, weight-split}
+use Rattle.tb_node.proofs.Weights.{Weight, nodes_weight, weight-append}
 use Rattle.tb_param.specs.declared.Params.{Params}
 use Rattle.tb_builder.specs.FiredPages.{Fired}
 use Rattle.tb_builder.proofs.FiredPages.PageWeights.{boxes_weight}
@@ -14,26 +14,24 @@ use Rattle.tb_float.specs.declared.Part.TheVariants as parts
 use Rattle.tb_float.specs.Lists.{FloatLists, floats_of, IsWaiting, wide_part, wide_waiting}
 use Rattle.tb_float.proofs.WaitingLemmas.{wide-waits}
 use Rattle.tb_float.specs.Rooms.{column_room_of}
-use Rattle.tb_column.specs.Column.{Notes}
+use Rattle.tb_column.specs.Column.{text_column, PlainColumn, Notes}
 use Rattle.tb_sheet.specs.Sheet.{warned}
 use Rattle.tb_sheet.specs.declared.Warn.TheVariants as warnings
-use Rattle.tb_output.specs.State.{State, Work, begun, puts, sends, with_floats, footnotes, has_floats}
-use Rattle.tb_output.specs.Pages
+use Rattle.tb_output.specs.State.{State, Work, begun, sends, with_floats, footnotes}
 use Rattle.tb_output.specs.Columns
 use Rattle.tb_output.specs.Text
 use Rattle.tb_output.specs.Clear
-use Rattle.tb_output.specs.Output
 use Rattle.tb_sheet.specs.Asked
-use Rattle.tb_laws.proofs.NothingLost.StateWeights.{floats_weight, lists_weight, left_weight, state_weight, sent_weight, work_weight, floats-append, Sound, Adds, then_kept, adds_if, unchanged, puts-adds, warns-adds}
-use Rattle.tb_laws.proofs.NothingLost.FloatWeights.{lists-adds, paired-with, lists-with}
-use Rattle.tb_laws.proofs.NothingLost.PutOutWeights.{all_wide-adds, put_out_text-adds, float_columns-adds, ordinary-adds}
-use Rattle.tb_laws.proofs.NothingLost.TextWeights.{puts-nothing, float_or_note-adds}
+use Rattle.tb_output.specs.Output
+use Rattle.tb_laws.proofs.NothingLost.StateWeights.{Weighs, gives, keeps, weighs-then, all-added, floats_weight, lists_weight, left_weight, state_weight, sent_weight, work_weight, floats-append, Sound, Adds, then_kept, adds_if, unchanged, warns-adds}
+use Rattle.tb_laws.proofs.NothingLost.FloatWeights.{next-adds, lists-adds, paired-with, lists-with}
+use Rattle.tb_output.proofs.StepLaws.Moves.{Hand, nothing, of_text, of_column, places_next, PageMove, by_column, by_fill, takes_text, fills_text, keeps_front, gathers, gathers_wide, leaves_second, clears_again, goes-on}
+use Rattle.tb_output.proofs.StepLaws.FiringTree.{ordinary-columns, clear_by-moves}
+use Rattle.tb_laws.proofs.NothingLost.PutOutWeights.{column-weighs, text-taken}
+use Rattle.tb_laws.proofs.NothingLost.TextWeights.{put-weighs, front-light, puts-nothing, float_or_note-adds}
 pub use Rattle.tb_laws.proofs.NothingLost.StateWeights.{Sound, class_numbers, BoxesFit, Paired, entries_weight, lists_weight, left_weight, state_weight, sheet_weight, sent_weight}
 
 -- ---- a clear
-
-again-adds : (v : Weight) (w : Work) → Adds v 0 w (puts Clear.clear_again w)
-again-adds v w = puts-nothing v Clear.clear_again w refl
 
 deferred_again-adds : (v : Weight) (w : Work) → Adds v 0 w (with_floats (Clear.deferred_again w.state.floats) w)
 deferred_again-adds v w =
@@ -66,49 +64,34 @@ double_again-adds v p w =
     sums : (a y b d x z c : ℕ) → a + y ≡ b + d → y ≡ z → d ≡ x + z → b + x ≡ c → a ≡ c
     sums a y b d x z c e g i j = omega arith
 
-clear_wide-adds : (v : Weight) (p : Params) (w : Work) → Adds v 0 w (Clear.clear_wide p w)
-clear_wide-adds v p w = by_columns w.state.two_columns w.state.first_column
-  where
-    a : Work
-    a = with_floats (Clear.double_again p w.state.floats) w
+page-weighs : {p : Params} {h : Hand} {a : Work} {i : Hand} {b : Work} (v : Weight) → PageMove p h a i b → Weighs v h a i b
+page-weighs {p} v (by_column m) = column-weighs v m
+page-weighs {p} v (by_fill (places_next a f before rest w c e i)) = keeps v nothing w _ (next-adds v p a f before rest w e)
+page-weighs {p} v (takes_text body w) = record { waits = refl; classes = refl; goes = λ r. r; light = λ l. tt; by = λ r l s. text-taken v p body w s }
+page-weighs {p} v (fills_text body w) =
+    let fill = made (skip filling_glue) ∷ [] in
+    let e = weight-append v body fill ∙ add-zero (nodes_weight v body) in
+    gives v (of_text body) (of_text (body ++ fill)) 0 w w (unchanged v w) (λ l. (sym (zero-add (nodes_weight v (body ++ fill)) ∙ e), e ∙ l))
+page-weighs {p} v (keeps_front body w) = put-weighs v (of_text body) (Clear.cleared_front p body) w (λ l. front-light v (split_of (pos 0) p.splitmaxdepth (map node_shape body)).index body l)
+page-weighs {p} v (gathers w) = keeps v nothing w _ (deferred_again-adds v w)
+page-weighs {p} v (gathers_wide w t f) = keeps v nothing w _ (double_again-adds v p w)
+page-weighs {p} v (leaves_second w t f) = keeps v nothing w _ (puts-nothing v (made blank_box ∷ Clear.clear_again) w refl)
+page-weighs {p} v (clears_again w) = keeps v nothing w _ (puts-nothing v Clear.clear_again w refl)
 
-    by_columns : (t f : Bool) → Adds v 0 w (if not t then w else (if f then Pages.all_wide_pages p true a else puts (made blank_box ∷ Clear.clear_again) w))
-    by_columns false f = unchanged v w
-    by_columns true true = then_kept v 0 w a (Pages.all_wide_pages p true a) (double_again-adds v p w) (all_wide-adds v p true a)
-    by_columns true false = puts-nothing v (made blank_box ∷ Clear.clear_again) w refl
-
-clear_floats-adds : (v : Weight) (p : Params) (body : List PlainNode) (w : Work) → Adds v (nodes_weight v (Clear.cleared_front p body)) w (Clear.clear_floats p body w)
-clear_floats-adds v p body w =
-    let n = nodes_weight v (Clear.cleared_front p body) in
-    let z = puts (Clear.cleared_front p body) w in
-    let a = with_floats (Clear.deferred_again w.state.floats) z in
-    let b = Columns.all_float_columns p true a in
-    let c = Clear.clear_wide p b in
-    then_kept v n w z (Clear.clear_rest c) (puts-adds v (Clear.cleared_front p body) w)
-    (then_kept v 0 z a (Clear.clear_rest c) (deferred_again-adds v z)
-    (then_kept v 0 a b (Clear.clear_rest c) (float_columns-adds v p true (length a.state.floats.deferred) a)
-    (then_kept v 0 b c (Clear.clear_rest c) (clear_wide-adds v p b) (adds_if v 0 c (has_floats c.state.floats.deferred || has_floats c.state.floats.second) (puts Clear.clear_again c) c (again-adds v c) (unchanged v c)))))
-
--- the list of the page, if it weighs nothing or there are footnotes
-clear_by-adds : (v : Weight) (p : Params) (body : List PlainNode) (w : Work) (o : List Notes) → nodes_weight v body ≡ 0 → Adds v 0 w (Clear.clear_by p body w o)
-clear_by-adds v p body w [] h =
-    let x : Adds v (nodes_weight v (Clear.cleared_front p body)) w (Clear.clear_floats p body w) = clear_floats-adds v p body w in
-    let s : nodes_weight v (Clear.cleared_front p body) + nodes_weight v (drop (split_of (pos 0) p.splitmaxdepth (map node_shape body)).index body) ≡ nodes_weight v body = weight-split v (split_of (pos 0) p.splitmaxdepth (map node_shape body)).index body in
-    rw (none (nodes_weight v (Clear.cleared_front p body)) (nodes_weight v (drop (split_of (pos 0) p.splitmaxdepth (map node_shape body)).index body)) (s ∙ h)) at x
-  where
-    none : (a b : ℕ) → a + b ≡ 0 → a ≡ 0
-    none a b e = omega arith
-clear_by-adds v p body w (n ∷ notes) h =
-    let ns = body ++ made (skip filling_glue) ∷ [] in
-    let a = Columns.put_out_text p ns w in
-    let e : nodes_weight v ns ≡ nodes_weight v body + 0 = weight-append v body (made (skip filling_glue) ∷ []) in
-    let x : Adds v (nodes_weight v ns) w a = put_out_text-adds v p ns w in
-    then_kept v 0 w a (puts Clear.clear_again a) (rw (none (nodes_weight v body) (nodes_weight v ns) e h) at x) (again-adds v a)
-  where
-    none : (a b : ℕ) → b ≡ a + 0 → a ≡ 0 → b ≡ 0
-    none a b e h = omega arith
+-- the list of the page, if it weighs nothing
+clear_by-adds : (v : Weight) (p : Params) (body : List PlainNode) (w : Work) (o : List Notes) → nodes_weight v body ≡ 0 → Adds v (nodes_weight v body) w (Clear.clear_by p body w o)
+clear_by-adds v p body w o light = all-added v (of_text body) w (Clear.clear_by p body w o) (goes-on (Weighs v) (λ h w. keeps v h w w (unchanged v w)) (weighs-then v) (λ h i a b m. page-weighs v m) (clear_by-moves p body w o)) light
 
 -- ---- a firing
+
+ordinary-adds : (v : Weight) (p : Params) (body : List PlainNode) (w : Work) → Adds v (nodes_weight v body) w (Columns.ordinary p body w)
+ordinary-adds v p body w = record { waits = x.waits; classes = x.classes; goes = λ r. x.goes r; by = λ r s. let d = text-taken v p body w s in let e = x.by r tt d.0 in (e.0, sym (add-zero (work_weight v (Columns.ordinary p body w))) ∙ e.1 ∙ d.1) }
+  where
+    c : PlainColumn
+    c = text_column p w.state.floats body (footnotes w.state)
+
+    x : Weighs v (of_column c) (Columns.without_column_floats w) nothing (Columns.ordinary p body w)
+    x = goes-on (Weighs v) (λ h w. keeps v h w w (unchanged v w)) (weighs-then v) (λ h i a b m. page-weighs v m) (ordinary-columns p body w)
 
 goal-adds : (v : Weight) (p : Params) (n : ℤ) (w : Work) → Adds v 0 w (Output.next_goal p n w)
 goal-adds v p n w = adds_if v 0 w (Output.is_int n Asked.hold_penalty) (Output.with_goal max_dimen w) (Output.goal_by p room w) (goal max_dimen) (adds_if v 0 w (Output.is_crowded p room) (Output.leave_column w) (Output.with_goal room w) crowded (goal room))
@@ -138,15 +121,6 @@ pub record Careful (v : Weight) (held : List PlainNode) (f : Fired) : Type 0 whe
   pub list : int_le eject_penalty f.penalty ≡ false → is_serving f.penalty ≡ true → nodes_weight v f.body ≡ 0
   pub page : int_le eject_penalty f.penalty ≡ false → is_serving f.penalty ≡ false → nodes_weight v held ≡ 0
 
-serve-adds : (v : Weight) (p : Params) (vert : Bool) (body : List PlainNode) (w : Work) → nodes_weight v body ≡ 0 → Adds v (nodes_weight v body) w (Text.float_or_note p vert body w)
-serve-adds v p vert body w h =
-    let s : nodes_weight v (Text.without_firing_box body) + nodes_weight v (drop (length body - 2) body) ≡ nodes_weight v body = weight-split v (length body - 2) body in
-    let x : Adds v (nodes_weight v (Text.without_firing_box body)) w (Text.float_or_note p vert body w) = float_or_note-adds v p vert body w in
-    rw (none (nodes_weight v (Text.without_firing_box body)) (nodes_weight v (drop (length body - 2) body)) (nodes_weight v body) s h) at x
-  where
-    none : (a b c : ℕ) → a + b ≡ c → c ≡ 0 → a ≡ c
-    none a b c e h = omega arith
-
 output-adds : (v : Weight) (p : Params) (f : Fired) (w : Work) → Careful v w.state.held_page f → Adds v (nodes_weight v f.body) w (Output.output_by p f w)
 output-adds v p f w h = by_penalty (int_le eject_penalty f.penalty) (Output.is_int f.penalty Asked.clear_penalty) (Output.is_int f.penalty Asked.par_penalty) (Output.is_int f.penalty Asked.vert_penalty) h.list h.page
   where
@@ -154,13 +128,13 @@ output-adds v p f w h = by_penalty (int_le eject_penalty f.penalty) (Output.is_i
     held e = record { waits = refl; classes = refl; goes = λ r. r; by = λ r s. (record { box = s.box; columns = s.columns; entries = s.entries }, omega (arith, e)) }
 
     cleared : nodes_weight v f.body ≡ 0 → Adds v (nodes_weight v f.body) w (Clear.clear p f.body w)
-    cleared e = rw e (clear_by-adds v p f.body w (footnotes w.state) e)
+    cleared e = clear_by-adds v p f.body w (footnotes w.state) e
 
     by_penalty : (t c x y : Bool) → (t ≡ false → (c || (x || y)) ≡ true → nodes_weight v f.body ≡ 0) → (t ≡ false → (c || (x || y)) ≡ false → nodes_weight v w.state.held_page ≡ 0) → Adds v (nodes_weight v f.body) w (if t then Columns.ordinary p f.body w else (if c then Clear.clear p f.body w else (if x then Text.float_or_note p false f.body w else (if y then Text.float_or_note p true f.body w else Output.hold f.body w))))
     by_penalty true c x y k l = ordinary-adds v p f.body w
     by_penalty false true x y k l = cleared (k refl refl)
-    by_penalty false false true y k l = serve-adds v p false f.body w (k refl refl)
-    by_penalty false false false true k l = serve-adds v p true f.body w (k refl refl)
+    by_penalty false false true y k l = float_or_note-adds v p false f.body w (k refl refl)
+    by_penalty false false false true k l = float_or_note-adds v p true f.body w (k refl refl)
     by_penalty false false false false k l = held (l refl refl)
 
 -- after a firing that no limit stops the state is sound, and with what is sent weighs as the state before it and the page with what is held and left

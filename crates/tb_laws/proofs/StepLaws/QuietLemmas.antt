@@ -1,5 +1,5 @@
 -- What the walks over the deferred floats record: no column, and no float in the text; and where the floats go.
-use Rattle.std.proofs.Common.{◌≡◌, refl, sym, ◌∙◌, ap, subst, ℕ, inl, inr, Bool, true, false, List, [], ◌∷◌, ◌++◌, map, Some, append_assoc, append-nil}
+use Rattle.std.proofs.Common.{◌≡◌, refl, sym, ◌∙◌, ap, subst, ℕ, inl, inr, Bool, true, false, List, [], ◌∷◌, ◌++◌, append_assoc, append-nil}
 use Rattle.std.specs.Prelude.{if◌then◌else◌}
 use Rattle.std.specs.List.{AllByRecursion}
 use Rattle.tb_area.proofs.OrderLemmas.{gone-deferred, gone_double-waiting}
@@ -15,13 +15,11 @@ use Rattle.tb_float.proofs.WaitingLemmas.{floats-with}
 use Rattle.tb_float.specs.Rooms.{column_height_of}
 use Rattle.tb_area.specs.Area.{AreaPlace, at_top, at_bottom, deferred, where_of, next_area_place, goes_double}
 use Rattle.tb_area.specs.Deferred.{gone_to, still_before, filled, gone_double, still_single, doubled}
-use Rattle.tb_fpage.specs.declared.Wanted.{Wanted}
-use Rattle.tb_fpage.specs.Company.{Choice, company, chosen_floats, left_floats}
-use Rattle.tb_fpage.proofs.LawLemmas.{company-is-lawful}
 use Rattle.tb_output.specs.State.{Work, Recorded, placed, output, emptied, records_also}
 use Rattle.tb_output.specs.FloatMoves
 use Rattle.tb_laws.proofs.ClassesRise.ClassLines.{FloatKind}
 use Rattle.tb_laws.proofs.ClassesRise.RecordLines.{column_lines, record_lines, records-append, IsPlacing, WasPlaced}
+use Rattle.tb_output.proofs.StepLaws.RefusedSteps.{by-records}
 
 -- a record of a float in an area
 abbrev pub IsQuiet : Recorded → Type 0
@@ -82,11 +80,7 @@ both-added a b c x y = record {
 }
 
 record-added : (r : Recorded) (w : Work) → IsQuiet r → AddsQuiet w (records_also r w)
-record-added r w q = by_refused w.refused
-  where
-    by_refused : (t : Bool) → AddsQuiet w (if t then w else record w { records = w.records ++ r ∷ [] })
-    by_refused true = none-added w w refl
-    by_refused false = record { more = r ∷ []; whole = refl; quiet = (q, tt) }
+record-added r w q = by-records (AddsQuiet w) r w (none-added w w refl) (record { more = r ∷ []; whole = refl; quiet = (q, tt) })
 
 gone-added : (p : Params) (a : AreaPlace) (f : Float) (before rest : List Float) (w : Work) → AddsQuiet w (FloatMoves.place_waiting parts.Deferred p (where_of a) f before rest w)
 gone-added p at_top f before rest w = let x = record-added (placed f places.Top w.state.floats (column_height_of p w.state.floats)) w tt in record { more = x.more; whole = x.whole; quiet = x.quiet }
@@ -231,20 +225,3 @@ module _ (P : Float → Type 0) where
 
   pub double-all : (from : Part) → IsWaiting from → (p : Params) (s : Suppress) (l : FloatLists) → AllByRecursion P (floats_of from l) → AllByRecursion P (floats_of from (doubled from p s [] (floats_of from l) l))
   double-all from i p s l h = doubled-all from i p s [] (floats_of from l) l refl h
-
-  -- ---- of a company, and of the floats that are left
-
-  parted-all : (cs : List Choice) → AllByRecursion (λ c. P c.float) cs → AllByRecursion P (chosen_floats cs) × AllByRecursion P (left_floats cs)
-  parted-all [] h = (tt, tt)
-  parted-all (c ∷ cs) h = by_choice c.chosen (parted-all cs h.1)
-    where
-      by_choice : (t : Bool) → AllByRecursion P (chosen_floats cs) × AllByRecursion P (left_floats cs) → AllByRecursion P (if t then c.float ∷ chosen_floats cs else chosen_floats cs) × AllByRecursion P (if t then left_floats cs else c.float ∷ left_floats cs)
-      by_choice true k = ((h.0, k.0), k.1)
-      by_choice false k = (k.0, (h.0, k.1))
-
-  choices-all : (cs : List Choice) → AllByRecursion P (map (λ c. c.float) cs) → AllByRecursion (λ c. P c.float) cs
-  choices-all [] h = tt
-  choices-all (c ∷ cs) h = (h.0, choices-all cs h.1)
-
-  pub company-all : (z : Wanted) (fs : List Float) (cs : List Choice) → company z fs ≡ Some cs → AllByRecursion P fs → AllByRecursion P (chosen_floats cs) × AllByRecursion P (left_floats cs)
-  company-all z fs cs is h = parted-all cs (choices-all cs (subst (AllByRecursion P) (sym (company-is-lawful z fs cs is).floats) h))

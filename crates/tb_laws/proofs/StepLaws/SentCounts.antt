@@ -1,6 +1,6 @@
 -- How many warnings and pages a firing sends, and how far it raises the page number.
-use Rattle.std.proofs.Common.{◌≡◌, refl, ap, ℕ, suc, pos, ◌+◌, ◌≤◌, Bool, true, false, List, [], ◌∷◌, ◌++◌, arith}
-use Rattle.std.specs.Prelude.{nat_abs, int_lt, if◌then◌else◌}
+use Rattle.std.proofs.Common.{◌≡◌, refl, ap, ℕ, suc, ◌+◌, ◌≤◌, List, [], ◌∷◌, ◌++◌, arith}
+use Rattle.std.specs.Prelude.{nat_abs}
 use Rattle.std.proofs.lemmas.Int.{ints}
 use Rattle.tb_param.specs.declared.Params.{Params}
 use Rattle.tb_builder.specs.FiredPages.{Fired}
@@ -10,6 +10,7 @@ use Rattle.tb_output.specs.State.{State, Work, Recorded, begun, sends, records_a
 use Rattle.tb_output.specs.Pages
 use Rattle.tb_output.specs.Output
 use Rattle.tb_output.specs.Firing.{page_work}
+use Rattle.tb_output.proofs.StepLaws.RefusedSteps.{by-sends, by-records, by-ship}
 use Rattle.tb_output.proofs.StepLaws.ColumnSteps as steps
 use Rattle.tb_output.proofs.StepLaws.ColumnSteps.{no_law, ColumnStep}
 use Rattle.tb_output.proofs.StepLaws.FiringSteps as firing
@@ -60,45 +61,24 @@ module _ (p : Params) where
   in_turn : {a b c : Work} → Step a b → Step b c → Step a c
   in_turn x y = afterwards x y
 
-  few_if : {k : ℕ} (a : Work) (t : Bool) (b c : Work) → SendsFew p k a b → SendsFew p k a c → SendsFew p k a (if t then b else c)
-  few_if a true b c x y = x
-  few_if a false b c x y = y
-
   fewer : {j k : ℕ} {a b : Work} → j ≤ k → SendsFew p j a b → SendsFew p k a b
   fewer h x = let w = x.warnings in record { warnings = omega (arith, w, h); pages = x.pages; limit = x.limit }
 
   warns_one : (e : Warn) (w : Work) → SendsFew p 1 w (sends (warned e) w)
-  warns_one e w = few_if w w.refused w (record w { sent = w.sent ++ warned e ∷ [] }) (fewer (omega arith) (still refl refl))
+  warns_one e w = by-sends (SendsFew p 1 w) (warned e) w (fewer (omega arith) (still refl refl))
       (record { warnings = let h = warnings-append w.sent (warned e ∷ []) in omega (arith, h); pages = let h = pages-append w.sent (warned e ∷ []) in omega (arith, h); limit = λ h. h })
 
   records_one : (r : Recorded) (w : Work) → Step w (records_also r w)
-  records_one r w = few_if w w.refused w (record w { records = w.records ++ r ∷ [] }) (still refl refl) (still refl refl)
+  records_one r w = by-records (Step w) r w (still refl refl) (still refl refl)
 
-  ship_now-few : (sheet : PlainSheet) (w : Work) → int_lt p.maxpages (pos w.state.page) ≡ false → w.refused ≡ false → Step w (Pages.ship_now sheet w)
-  ship_now-few sheet w h r =
-      let counted : Work = record w { state = record w.state { page = w.state.page + 1; dead_cycles = 0 } } in
-      let sent : Work = record counted { sent = w.sent ++ shipped w.state.page sheet ∷ [] } in
-      let done : Step w sent = record {
+  ships_one : (sheet : PlainSheet) (w : Work) → Step w (Pages.ship p sheet w)
+  ships_one sheet w =
+      by-ship (Step w) p sheet w (λ r. still refl refl) (λ r. still refl refl)
+      (λ r h. record {
         warnings = let e = warnings-append w.sent (shipped w.state.page sheet ∷ []) in omega (arith, e);
         pages = let e = pages-append w.sent (shipped w.state.page sheet ∷ []) in omega (arith, e);
         limit = λ k. grind (arith, ints, h, k);
-      } in
-      by_refused counted sent w.refused r done
-    where
-      by_refused : (counted sent : Work) (t : Bool) → t ≡ false → Step w sent → Step w (if t then counted else sent)
-      by_refused counted sent true r done = cc
-      by_refused counted sent false r done = done
-
-  ships_one : (sheet : PlainSheet) (w : Work) → Step w (Pages.ship p sheet w)
-  ships_one sheet w = by_refused w.refused refl
-    where
-      by_limit : w.refused ≡ false → (u : Bool) → int_lt p.maxpages (pos w.state.page) ≡ u → Step w (if u then record w { refused = true } else Pages.ship_now sheet w)
-      by_limit r true h = still refl refl
-      by_limit r false h = ship_now-few sheet w h r
-
-      by_refused : (t : Bool) → w.refused ≡ t → Step w (if t then w else (if int_lt p.maxpages (pos w.state.page) then record w { refused = true } else Pages.ship_now sheet w))
-      by_refused true r = still refl refl
-      by_refused false r = by_limit r (int_lt p.maxpages (pos w.state.page)) refl
+      })
 
   -- what the steps of a column send
   column-few : {a b : Work} → ColumnStep p (no_law p) a b → Step a b

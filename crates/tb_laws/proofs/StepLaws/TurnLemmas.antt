@@ -1,14 +1,15 @@
 -- A firing ships a page, or leaves the page number and the dead cycles as they were.
-use Rattle.std.proofs.Common.{◌≡◌, refl, sym, ◌∙◌, ap, ℕ, pos, ◌+◌, ◌<◌, ◌≤◌, inl, inr, ◌⊎◌, Bool, true, false, arith}
-use Rattle.std.specs.Prelude.{nat_abs, int_lt, if◌then◌else◌}
+use Rattle.std.proofs.Common.{◌≡◌, refl, sym, ◌∙◌, ap, ℕ, ◌+◌, ◌<◌, ◌≤◌, inl, inr, ◌⊎◌, false, arith}
+use Rattle.std.specs.Prelude.{nat_abs}
 use Rattle.std.proofs.lemmas.Int.{ints}
 use Rattle.tb_param.specs.declared.Params.{Params}
 use Rattle.tb_builder.specs.FiredPages.{Fired}
-use Rattle.tb_sheet.specs.Sheet.{PlainSheet, PlainSent, warned, shipped}
+use Rattle.tb_sheet.specs.Sheet.{PlainSheet, PlainSent, warned}
 use Rattle.tb_output.specs.State.{State, Work, Recorded, begun, sends, records_also}
 use Rattle.tb_output.specs.Pages
 use Rattle.tb_output.specs.Output
 use Rattle.tb_output.specs.Firing.{page_work}
+use Rattle.tb_output.proofs.StepLaws.RefusedSteps.{by-sends, by-records, by-ship}
 use Rattle.tb_output.proofs.StepLaws.ColumnSteps.{RecordLaw, no_law, course, ColumnStep, still, in_turn, records_one, ships_one}
 use Rattle.tb_output.proofs.StepLaws.FiringSteps.{FiringStep, by_columns, warns_one, changes, fewer, afterwards, page_work-step}
 
@@ -27,35 +28,19 @@ module _ {p : Params} where
   joined : {a b c : Work} → Turned p a b → Turned p b c → Turned p a c
   joined x y = record { by = λ h. grind (arith, x.by, y.by, h) }
 
-  turned_if : {a : Work} (t : Bool) {b c : Work} → Turned p a b → Turned p a c → Turned p a (if t then b else c)
-  turned_if true x y = x
-  turned_if false x y = y
-
   sends-turned : (e : PlainSent) (w : Work) → Turned p w (sends e w)
-  sends-turned e w = turned_if w.refused (same refl refl refl) (same refl refl refl)
+  sends-turned e w = by-sends (Turned p w) e w (same refl refl refl) (same refl refl refl)
 
   records-turned : (r : Recorded) (w : Work) → Turned p w (records_also r w)
-  records-turned r w = turned_if w.refused (same refl refl refl) (same refl refl refl)
+  records-turned r w = by-records (Turned p w) r w (same refl refl refl) (same refl refl refl)
 
   course-turned : {a b : Work} → course b ≡ course a → Turned p a b
   course-turned c = same (ap (λ x. x.refused) c) (ap (λ x. x.page) c) (ap (λ x. x.dead_cycles) c)
 
-ship_now-turned : (p : Params) (sheet : PlainSheet) (w : Work) → w.refused ≡ false → int_lt p.maxpages (pos w.state.page) ≡ false → Turned p w (Pages.ship_now sheet w)
-ship_now-turned p sheet w r h =
-    let counted : Work = record w { state = record w.state { page = w.state.page + 1; dead_cycles = 0 } } in
-    let once : Turned p w counted = record { by = λ k. (r, inr (omega arith, grind (arith, ints, h), refl)) } in
-    joined once (sends-turned (shipped w.state.page sheet) counted)
-
 ship-turned : (p : Params) (sheet : PlainSheet) (w : Work) → Turned p w (Pages.ship p sheet w)
-ship-turned p sheet w = by_refused w.refused refl
-  where
-    by_limit : w.refused ≡ false → (u : Bool) → int_lt p.maxpages (pos w.state.page) ≡ u → Turned p w (if u then record w { refused = true } else Pages.ship_now sheet w)
-    by_limit r true h = record { by = λ k. absurd (grind (arith, k)) }
-    by_limit r false h = ship_now-turned p sheet w r h
-
-    by_refused : (t : Bool) → w.refused ≡ t → Turned p w (if t then w else (if int_lt p.maxpages (pos w.state.page) then record w { refused = true } else Pages.ship_now sheet w))
-    by_refused true r = same refl refl refl
-    by_refused false r = by_limit r (int_lt p.maxpages (pos w.state.page)) refl
+ship-turned p sheet w =
+    by-ship (Turned p w) p sheet w (λ r. same refl refl refl) (λ r. record { by = λ k. absurd (grind (arith, k)) })
+    (λ r h. record { by = λ k. (r, inr (omega arith, grind (arith, ints, h), refl)) })
 
 column-turned : {p : Params} {law : RecordLaw p} {a b : Work} → ColumnStep p law a b → Turned p a b
 column-turned (still c f) = course-turned c

@@ -1,5 +1,5 @@
 -- A page that is filled, event by event, as steps of the run.
-use Rattle.std.proofs.Common.{◌≡◌, refl, sym, ◌∙◌, ap, subst, ℕ, true, false, List, [], ◌∷◌, ◌++◌}
+use Rattle.std.proofs.Common.{◌≡◌, refl, sym, ◌∙◌, ap, subst, ℕ, true, false, List, [], ◌∷◌, ◌++◌, append_assoc, append-nil}
 use Rattle.std.specs.Prelude.{if◌then◌else◌}
 use Rattle.std.proofs.lemmas.Bool.{true≢false}
 use Rattle.tb_pool.specs.Lists.{Lists}
@@ -7,15 +7,15 @@ use Rattle.tb_node.specs.declared.Act.{Act}
 use Rattle.tb_node.specs.declared.Node.{Node}
 use Rattle.tb_node.specs.PlainNodes.{PlainKind, plain, ins, act, PlainNode, is_act_kind}
 use Rattle.tb_param.specs.declared.Params.{Params}
-use Rattle.tb_break.specs.Best.{Breakpoint}
+use Rattle.tb_break.specs.Best.{Breakpoint, least_cost}
 use Rattle.tb_builder.specs.declared.Ask.{Ask}
 use Rattle.tb_builder.specs.declared.Builder.{Builder}
 use Rattle.tb_builder.specs.declared.Event.TheVariants as events
 use Rattle.tb_builder.specs.declared.Try.{Try}
-use Rattle.tb_builder.specs.Reach.{Reached, acted, tried, Reach, laid_out}
+use Rattle.tb_builder.specs.Reach.{Reached, acted, tried, Reach, breakpoints, laid_out}
 use Rattle.tb_builder.specs.FiredPages.{frozen_for, fired_of}
 use Rattle.tb_builder.specs.Contents.{Contents, contents_of, frozen_of, laid, reach_ahead}
-use Rattle.tb_builder.specs.PageProgress.{page_reach, page_fired, KeepsStart, StopsAt, HasCome, ComesToTry, ComesToAct, ComesToEnd}
+use Rattle.tb_builder.specs.PageProgress.{page_reach, page_fired, KeepsStart, GoesFrom, StopsAt, HasCome, ComesToTry, ComesToAct, ComesToEnd}
 use Rattle.tb_builder.specs.PassedNodes.{ComesPast, ActsPast, EventPast}
 use Rattle.tb_builder.specs.LegalPlaces.{NoActs}
 use Rattle.tb_builder.specs.Courses.{IsSound}
@@ -23,8 +23,9 @@ use Rattle.tb_builder.proofs.Turns.PastLemmas.{past-none, past-after}
 use Rattle.tb_builder.proofs.Events.SoFarLemmas.{AllTried, ComesSoFar, comes-so-far}
 use Rattle.tb_builder.specs.PageSums.{page_sums_of}
 use Rattle.tb_plain.specs.TakenFloats.{act_nodes}
-use Rattle.tb_plain.specs.Run.{MakeupState, goes_on, makeup_ask, makeup_classes, void_boxes, builder_holds, makeup_reach, at_act, after_node, first_act_by, first_act, meets_act, act_step, firing_step, last_step, step_of, makeup_step}
+use Rattle.tb_plain.specs.Run.{MakeupState, goes_on, makeup_ask, makeup_classes, void_boxes, builder_holds, makeup_reach, at_act, after_node, first_act_by, first_act, meets_act, act_step, firing_step, last_step, step_of, makeup_step, tries_first, step_tries}
 use Rattle.tb_makeup.proofs.Filled.HoldLemmas.{holds-state, state-frozen}
+use Rattle.tb_makeup.proofs.Filled.TriedLemmas.{tries-more, tries-cut, tried-both, same-rest}
 
 -- ---- the first act
 
@@ -57,51 +58,76 @@ tried-more (tried m c ∷ rs) l b h = tried-more rs l b h
 
 -- ---- so far
 
--- the builder is on the page of this state, and no act was reached since
-pub record IsComing (p : Params) (s : MakeupState) (c : Contents) : Type 0 where
-  pub rs : List Reached
-  pub come : HasCome (builder_holds p s) rs c (makeup_ask p)
-  pub tried : AllTried rs
+-- the builder is on the page of this state, and no act was reached since: the places of the page so far were reached first, and after them new ones, which were tried
+pub record IsComing (p : Params) (s : MakeupState) (ts : List Try) (c : Contents) : Type 0 where
+  pub first : List Reached
+  pub new : List Reached
+  pub begun : GoesFrom (builder_holds p s) first (builder_holds p s) (makeup_ask p)
+  pub come : HasCome (builder_holds p s) (first ++ new) c (makeup_ask p)
+  pub front : AllTried first
+  pub tried : AllTried new
+  pub are : tries_first (least_cost (breakpoints first)) new ≡ ts
   pub all : laid c (makeup_ask p) ≡ laid_out p.topskip s.page s.waiting
   pub past : c.stopped ≡ false → ComesPast c.waiting (builder_holds p s) c (makeup_ask p)
 
 -- if it holds what the state says
-pub coming-start : (p : Params) (s : MakeupState) (b : Builder) (t : Lists Node) → IsSound b t → contents_of b t ≡ builder_holds p s → IsComing p s (contents_of b t)
+pub coming-start : (p : Params) (s : MakeupState) (b : Builder) (t : Lists Node) → IsSound b t → contents_of b t ≡ builder_holds p s → IsComing p s [] (contents_of b t)
 coming-start p s b t sound e =
     let frozen : frozen_of (contents_of b t) (makeup_ask p) ≡ frozen_for (makeup_ask p) (contents_of b t).classes (contents_of b t).boxes =
     ((λ i. frozen_of (e i) (makeup_ask p)) ∙ state-frozen p s ∙ (λ i. frozen_for (makeup_ask p) (sym e i).classes (sym e i).boxes))
     in
     let so-far : ComesSoFar (contents_of b t) (makeup_ask p) = comes-so-far b t (makeup_ask p) sound (ap (λ (c : Contents). c.stopped) e) frozen in
     record {
-      rs = so-far.rs;
-      come = subst (λ c. HasCome c so-far.rs (contents_of b t) (makeup_ask p)) e so-far.come;
-      tried = so-far.tried;
+      first = so-far.rs;
+      new = [];
+      begun = subst (λ c. GoesFrom c so-far.rs c (makeup_ask p)) e (so-far.come.goes (ap (λ (c : Contents). c.stopped) e));
+      come = subst (λ rs. HasCome (builder_holds p s) rs (contents_of b t) (makeup_ask p)) (sym (append-nil so-far.rs)) (subst (λ c. HasCome c so-far.rs (contents_of b t) (makeup_ask p)) e so-far.come);
+      front = so-far.tried;
+      tried = tt;
+      are = refl;
       all = ap (λ c. laid c (makeup_ask p)) e;
       past = λ on. past-none (contents_of b t).waiting (builder_holds p s) (contents_of b t) (makeup_ask p) (ap (λ (c : Contents). c.waiting) (sym e)) (ap (λ (c : Contents). c.page) e);
     }
 
-module _ (p : Params) (s : MakeupState) (c : Contents) (h : IsComing p s c) where
+module _ (p : Params) (s : MakeupState) (ts : List Try) (c : Contents) (h : IsComing p s ts c) where
   abbrev ask : Ask
   ask = makeup_ask p
 
   abbrev pub start : Contents
   start = builder_holds p s
 
+  abbrev pub rs : List Reached
+  rs = h.first ++ h.new
+
+  all-tried : AllTried rs
+  all-tried = tried-both h.first h.new h.front h.tried
+
+  -- the places that were tried are those of the step, if no more are before an act among what is reached past the page so far
+  tries-are : (qs : List Reached) → (page_reach start ask).reached ≡ h.first ++ qs → tries_first (least_cost (breakpoints h.first)) qs ≡ tries_first (least_cost (breakpoints h.first)) h.new → step_tries p s ≡ ts
+  unfolding step_tries
+  tries-are qs e same =
+      let ahead : (reach_ahead start ask).reached ≡ qs = same-rest h.first (reach_ahead start ask).reached qs (sym (ap (λ (x : Reach). x.reached) h.begun.reach) ∙ e) in
+      (λ i. tries_first (least_cost (h.begun.places i)) (ahead i)) ∙ same ∙ h.are
+
   module _ (d : Contents) where
     -- ---- a place was tried
 
-    pub coming-tried : (x : Try) → ComesToTry x start h.rs c ask d → EventPast (events.Try x) c d ask → IsComing p s d
+    pub coming-tried : (x : Try) → ComesToTry x start rs c ask d → EventPast (events.Try x) c d ask → IsComing p s (ts ++ x ∷ []) d
     coming-tried x n q = record {
-      rs = h.rs ++ tried n.line n.place ∷ [];
-      come = n.come;
-      tried = tried-more h.rs n.line n.place h.tried;
+      first = h.first;
+      new = h.new ++ tried n.line n.place ∷ [];
+      begun = h.begun;
+      come = subst (λ qs. HasCome start qs d ask) (append_assoc h.first h.new (tried n.line n.place ∷ [])) n.come;
+      front = h.front;
+      tried = tried-more h.new n.line n.place h.tried;
+      are = tries-more h.first h.new n.line n.place h.tried ∙ (λ i. h.are i ++ sym n.made i ∷ []);
       all = n.whole ∙ h.all;
       past = λ go. past-after d.waiting start c d ask (h.past n.going) (q go).comes;
     }
 
     -- ---- an act was reached
 
-    module _ (a : Act) (n : ComesToAct a start h.rs c ask d) (q : ActsPast a c d ask) where
+    module _ (a : Act) (n : ComesToAct a start rs c ask d) (q : ActsPast a c d ask) where
       -- all nodes before it went to the page
       pub acted-past : ComesPast (record { line = q.line; kind = act a } ∷ d.waiting) start d ask
       acted-past = past-after (record { line = q.line; kind = act a } ∷ d.waiting) start c d ask (h.past n.going) q.comes
@@ -111,7 +137,13 @@ module _ (p : Params) (s : MakeupState) (c : Contents) (h : IsComing p s c) wher
       reached = record s { page = laid_out p.topskip s.page acted-past.before; waiting = d.waiting }
 
       meets : meets_act (page_reach start ask).reached ≡ true
-      meets = ap (λ (x : Reach). meets_act x.reached) (n.come.goes n.stop).reach ∙ meets-one h.rs (reach_ahead d ask).reached a
+      meets = ap (λ (x : Reach). meets_act x.reached) (n.come.goes n.stop).reach ∙ meets-one rs (reach_ahead d ask).reached a
+
+      pub acted-tries : step_tries p s ≡ ts
+      acted-tries =
+          let more = (reach_ahead d ask).reached in
+          tries-are ((h.new ++ acted a ∷ []) ++ more) (ap (λ (x : Reach). x.reached) (n.come.goes n.stop).reach ∙ ap (λ qs. qs ++ more) (append_assoc h.first h.new (acted a ∷ [])) ∙ append_assoc h.first (h.new ++ acted a ∷ []) more)
+          (tries-cut (least_cost (breakpoints h.first)) h.new a more h.tried)
 
       pub acted-step : makeup_step p s ≡ goes_on [] (record reached { waiting = act_nodes p (page_sums_of (builder_holds p reached)) a ++ d.waiting })
       unfolding makeup_step
@@ -129,10 +161,13 @@ module _ (p : Params) (s : MakeupState) (c : Contents) (h : IsComing p s c) wher
 
     -- ---- nothing waits
 
-    module _ (n : ComesToEnd start h.rs c ask d) where
+    module _ (n : ComesToEnd start rs c ask d) where
+      pub over-tries : step_tries p s ≡ ts
+      over-tries = tries-are h.new (ap (λ (x : Reach). x.reached) n.reach) refl
+
       pub over-step : makeup_step p s ≡ last_step s d.page
       unfolding makeup_step
-      over-step = ap (λ (x : Reach). step_of p s x) n.reach ∙ ap (λ x. if x then act_step p s (first_act s.waiting) else last_step s d.page) (meets-none h.rs h.tried)
+      over-step = ap (λ (x : Reach). step_of p s x) n.reach ∙ ap (λ x. if x then act_step p s (first_act s.waiting) else last_step s d.page) (meets-none rs all-tried)
 
       pub over-fires : (makeup_reach p s).fires ≡ false
       over-fires = ap (λ (x : Reach). x.fires) n.reach
@@ -142,11 +177,14 @@ module _ (p : Params) (s : MakeupState) (c : Contents) (h : IsComing p s c) wher
 
   -- ---- the page fires
 
+  pub fires-tries : c.stopped ≡ true → step_tries p s ≡ ts
+  fires-tries off = tries-are h.new (ap (λ (x : Reach). x.reached) (h.come.stops off).reach) refl
+
   pub fires-step : c.stopped ≡ true → makeup_step p s ≡ firing_step p s.number (page_fired start ask)
   unfolding makeup_step
   fires-step off =
-      let stop : StopsAt start h.rs c ask = h.come.stops off in
-      let last : Reach = record { reached = h.rs; passed = c.page; beyond = c.waiting; fires = true } in
+      let stop : StopsAt start rs c ask = h.come.stops off in
+      let last : Reach = record { reached = rs; passed = c.page; beyond = c.waiting; fires = true } in
       ap (λ (x : Reach). step_of p s x) stop.reach
-      ∙ ap (λ x. if x then act_step p s (first_act s.waiting) else firing_step p s.number (fired_of ask (makeup_classes p) void_boxes last)) (meets-none h.rs h.tried)
+      ∙ ap (λ x. if x then act_step p s (first_act s.waiting) else firing_step p s.number (fired_of ask (makeup_classes p) void_boxes last)) (meets-none rs all-tried)
       ∙ ap (λ (x : Reach). firing_step p s.number (fired_of ask (makeup_classes p) void_boxes x)) (sym stop.reach)

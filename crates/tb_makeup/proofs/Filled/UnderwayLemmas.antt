@@ -1,5 +1,5 @@
 -- The page makeup while a page is filled.
-use Rattle.std.proofs.Common.{◌≡◌, inl, inr, refl, sym, ◌∙◌, ap, subst, ℕ, ◌+◌, ◌*◌, ◌<◌, ◌≤◌, Bool, true, false, List, [], ◌∷◌, ◌++◌, length, map, arith}
+use Rattle.std.proofs.Common.{◌≡◌, inl, inr, refl, sym, ◌∙◌, ap, subst, ℕ, ◌+◌, ◌*◌, ◌<◌, ◌≤◌, Bool, true, false, List, [], ◌∷◌, ◌++◌, length, map, append_assoc, arith}
 use Rattle.std.specs.Prelude.{All, ◌⊎◌}
 use Rattle.std.proofs.lemmas.Int.{ints}
 use Rattle.std.proofs.lemmas.Bool.{true≢false}
@@ -17,7 +17,7 @@ use Rattle.tb_builder.specs.declared.Event.TheVariants as events
 use Rattle.tb_builder.specs.declared.Page.{Page}
 use Rattle.tb_builder.specs.declared.PageSums.{PageSums}
 use Rattle.tb_builder.specs.declared.Try.{Try}
-use Rattle.tb_builder.specs.Reach.{laid_out}
+use Rattle.tb_builder.specs.Reach.{Reached, laid_out}
 use Rattle.tb_builder.specs.FiredPages.{Fired}
 use Rattle.tb_builder.specs.Contents.{Contents, node_count, box_count}
 use Rattle.tb_builder.specs.SizedContents.{fired_count}
@@ -35,29 +35,35 @@ use Rattle.tb_builder.proofs.Ownership.StoreSized.{list-back, list-length}
 use Rattle.tb_builder.proofs.Events.PagingLemmas.{calls_left}
 use Rattle.tb_builder.proofs.Events.WholeLemmas.{IsMatterKind, AreMatter}
 use Rattle.tb_column.specs.Page.{is_leaf_kind, AreLeaves}
+use Rattle.tb_items.specs.declared.happenings.Happening.{Happening}
+use Rattle.tb_items.specs.Happenings.{noted_try}
 use Rattle.tb_plain.specs.declared.Plain.{Plain}
 use Rattle.tb_plain.specs.TakenFloats.{act_nodes}
-use Rattle.tb_plain.specs.Run.{MakeupState, firing_step, builder_holds, makeup_ask, makeup_classes, act_count, ejecting_nodes, waiting_after}
+use Rattle.tb_plain.specs.Run.{MakeupState, try_events, step_tries, step_events, run_after, firing_step, builder_holds, makeup_ask, makeup_classes, act_count, ejecting_nodes, waiting_after}
 use Rattle.tb_plain.specs.MakeupCalls.{IsTake, CanAct, HasActed, fired_with}
 use Rattle.tb_plain.proofs.StepLemmas.{acts-append, put-acts, ejected-fires}
 use Rattle.tb_makeup.specs.declared.makeup.Makeup.{Makeup}
 use Rattle.tb_makeup.specs.LedActs.{ActsAreLed}
-use Rattle.tb_makeup.specs.Makeup.{held_in, state_of, node_total, Phase, begins, ejects, AreRunNodes, AreAfter, IsReady}
-use Rattle.tb_makeup.specs.MakeupPages.{Continues, Takes, HasGrown, IsFiring, IsOver}
-use Rattle.tb_makeup.proofs.Filled.RunLemmas.{run-goes}
+use Rattle.tb_makeup.specs.Makeup.{held_in, state_of, node_total, Phase, begins, ejects, AreRunNodes, AreAfter, IsReady, run_at}
+use Rattle.tb_makeup.specs.MakeupPages.{Continues, noted_tries, Takes, HasGrown, IsFiring, IsOver}
+use Rattle.tb_makeup.proofs.Filled.RunLemmas.{run-goes, run-append}
+use Rattle.tb_makeup.proofs.Filled.TriedLemmas.{none-tried, tries-noted, turn-parts}
 use Rattle.tb_makeup.proofs.Filled.LedLemmas.{led-ends, led-no-kern}
 use Rattle.tb_makeup.proofs.Filled.HoldLemmas.{holds-state}
-use Rattle.tb_makeup.proofs.Filled.ComingLemmas.{IsComing, coming-start, coming-tried, acted-past, acted-step, acted-state, over-step, over-fires, over-past, fires-step}
+use Rattle.tb_makeup.proofs.Filled.ComingLemmas.{IsComing, coming-start, coming-tried, acted-past, acted-tries, acted-step, acted-state, over-tries, over-step, over-fires, over-past, fires-tries, fires-step}
 use Rattle.tb_makeup.proofs.Filled.FillLemmas.{zero-extent, zero-dimension, run-fits, laid-sized, laid-count, none-laid, acted-nodes, acted-total, acted-acts, acted-takes, put-few}
 use Rattle.tb_makeup.proofs.Shipping.FiredLemmas.{labels, void-after, fired, fired-sized, fired-few, fired-text, fired-after, Grows, fired-grows}
 
 -- ---- so far
 
--- floats were taken up to a state, and the builder is on its page
-pub record IsUnderway (r q : Makeup) : Type 0 where
+-- floats were taken up to a state, while places were tried, and the builder is on its page; the places are noted
+pub record IsUnderway (wanted : Bool) (r q : Makeup) (hs : List Happening) : Type 0 where
   pub s : MakeupState
-  pub takes : Takes r s
-  pub coming : IsComing r.plain.params s (held_in q)
+  pub ts : List Try
+  pub us : List Try
+  pub takes : Takes r ts s
+  pub coming : IsComing r.plain.params s us (held_in q)
+  pub noted : hs ≡ noted_tries wanted (ts ++ us)
   pub sound : IsSound q.builder q.store
   pub same : Continues r q
 
@@ -69,11 +75,14 @@ start-phase : (s : MakeupState) → Phase s → (s.page ≡ []) ⊎ (s.waiting �
 start-phase s (begins e few) = inl e
 start-phase s (ejects e) = inr e
 
-pub underway-start : (r : Makeup) → IsReady r → IsUnderway r r
-underway-start r h = record {
+pub underway-start : (wanted : Bool) (r : Makeup) (hs : List Happening) → IsReady r → hs ≡ [] → IsUnderway wanted r r hs
+underway-start wanted r hs h none = record {
   s = state_of r;
+  ts = [];
+  us = [];
   takes = record { run = refl; nodes = h.nodes; total = omega arith; acts = omega arith; number = refl; phase = start-phase (state_of r) h.phase };
   coming = coming-start r.plain.params (state_of r) r.builder r.store h.sound h.holds;
+  noted = none ∙ none-tried wanted;
   sound = h.sound;
   same = record { plain = refl; ask = refl; limit = refl; bound = refl };
 }
@@ -100,7 +109,7 @@ ejecting-sized = All-from_recursion IsSizedOnPage ejecting_nodes (
 
 -- ---- the next event
 
-module _ (r q d : Makeup) (ready : IsReady r) (h : IsUnderway r q) where
+module _ (wanted : Bool) (r q d : Makeup) (hs : List Happening) (ready : IsReady r) (h : IsUnderway wanted r q hs) where
   abbrev p : Params
   p = r.plain.params
 
@@ -114,9 +123,12 @@ module _ (r q d : Makeup) (ready : IsReady r) (h : IsUnderway r q) where
   pub underway-none : (held_in q).held ≡ []
   underway-none = h.coming.come.stays.held
 
+  abbrev seen : List Reached
+  seen = h.coming.first ++ h.coming.new
+
   module _ (e : Event) (of_page : IsNextOfPage e (held_in q) q.ask (held_in d) d.store) (past : q.builder.stopped ≡ false → EventPast e (held_in q) (held_in d) q.ask) (sound : IsSound d.builder d.store) (same : Continues q d) where
-    next-is : (f : Event) → e ≡ f → ComesTo f (builder_holds p h.s) h.coming.rs (held_in q) (makeup_ask p) (held_in d) d.store
-    next-is f is = subst (λ x. IsNextOfPage f (held_in q) x (held_in d) d.store) asked (subst (λ x. IsNextOfPage x (held_in q) q.ask (held_in d) d.store) is of_page) (builder_holds p h.s) h.coming.rs h.coming.come
+    next-is : (f : Event) → e ≡ f → ComesTo f (builder_holds p h.s) seen (held_in q) (makeup_ask p) (held_in d) d.store
+    next-is f is = subst (λ x. IsNextOfPage f (held_in q) x (held_in d) d.store) asked (subst (λ x. IsNextOfPage x (held_in q) q.ask (held_in d) d.store) is of_page) (builder_holds p h.s) seen h.coming.come
 
     past-is : (f : Event) → e ≡ f → q.builder.stopped ≡ false → EventPast f (held_in q) (held_in d) (makeup_ask p)
     past-is f is on = subst (λ x. EventPast f (held_in q) (held_in d) x) asked (subst (λ x. EventPast x (held_in q) (held_in d) q.ask) is (past on))
@@ -127,17 +139,24 @@ module _ (r q d : Makeup) (ready : IsReady r) (h : IsUnderway r q) where
     -- ---- a place was tried
 
     module _ (x : Try) (is : e ≡ events.Try x) where
-      tries : ComesToTry x (builder_holds p h.s) h.coming.rs (held_in q) (makeup_ask p) (held_in d)
+      tries : ComesToTry x (builder_holds p h.s) seen (held_in q) (makeup_ask p) (held_in d)
       tries = next-is (events.Try x) is
 
       on : q.builder.stopped ≡ false
       on = tries.going
 
-      pub underway-tried : IsUnderway r d
-      underway-tried = record {
+      pub underway-tried : (new : List Happening) → new ≡ hs ++ noted_try wanted x → IsUnderway wanted r d new
+      underway-tried new same_new = record {
         s = h.s;
+        ts = h.ts;
+        us = h.us ++ x ∷ [];
         takes = h.takes;
-        coming = coming-tried p h.s (held_in q) h.coming (held_in d) x tries (past-is (events.Try x) is on);
+        coming = coming-tried p h.s h.us (held_in q) h.coming (held_in d) x tries (past-is (events.Try x) is on);
+        noted =
+            same_new
+            ∙ ap (λ ks. ks ++ noted_try wanted x) h.noted
+            ∙ tries-noted wanted (h.ts ++ h.us) x
+            ∙ ap (noted_tries wanted) (append_assoc h.ts h.us (x ∷ []));
         sound = sound;
         same = continues;
       }
@@ -156,7 +175,7 @@ module _ (r q d : Makeup) (ready : IsReady r) (h : IsUnderway r q) where
     -- ---- an act was reached
 
     module _ (a : Act) (is : e ≡ events.Act a) where
-      acts : ComesToAct a (builder_holds p h.s) h.coming.rs (held_in q) (makeup_ask p) (held_in d)
+      acts : ComesToAct a (builder_holds p h.s) seen (held_in q) (makeup_ask p) (held_in d)
       acts = next-is (events.Act a) is
 
       on-act : q.builder.stopped ≡ false
@@ -166,10 +185,10 @@ module _ (r q d : Makeup) (ready : IsReady r) (h : IsUnderway r q) where
       line = (past-is (events.Act a) is on-act).line
 
       abbrev came : ComesPast (record { line = line; kind = act a } ∷ (held_in d).waiting) (builder_holds p h.s) (held_in d) (makeup_ask p)
-      came = acted-past p h.s (held_in q) h.coming (held_in d) a acts (past-is (events.Act a) is on-act)
+      came = acted-past p h.s h.us (held_in q) h.coming (held_in d) a acts (past-is (events.Act a) is on-act)
 
       holding : held_in d ≡ builder_holds p (record h.s { page = laid_out p.topskip h.s.page came.before; waiting = (held_in d).waiting })
-      holding = acted-state p h.s (held_in q) h.coming (held_in d) a acts (past-is (events.Act a) is on-act) d.builder d.store refl sound
+      holding = acted-state p h.s h.us (held_in q) h.coming (held_in d) a acts (past-is (events.Act a) is on-act) d.builder d.store refl sound
 
       abbrev sums : PageSums
       sums = page_sums_of (builder_holds p (record h.s { page = laid_out p.topskip h.s.page came.before; waiting = (held_in d).waiting }))
@@ -216,11 +235,21 @@ module _ (r q d : Makeup) (ready : IsReady r) (h : IsUnderway r q) where
         holds-now : held_in f ≡ builder_holds p now
         holds-now = acted.contents ∙ (λ i. record (holding i) { waiting = put-same i ++ (held_in d).waiting })
 
-        pub underway-acted : IsUnderway r f
+        tried_so : step_tries p h.s ≡ h.us
+        tried_so = acted-tries p h.s h.us (held_in q) h.coming (held_in d) a acts (past-is (events.Act a) is on-act)
+
+        pub underway-acted : IsUnderway wanted r f hs
         underway-acted = record {
           s = now;
+          ts = h.ts ++ h.us;
+          us = [];
+          noted = h.noted ∙ ap (noted_tries wanted) (sym (append-nil (h.ts ++ h.us)));
           takes = record {
-            run = h.takes.run ∙ run-goes p h.s now [] one-number one-number (acted-step p h.s (held_in q) h.coming (held_in d) a acts (past-is (events.Act a) is on-act));
+            run =
+                h.takes.run
+                ∙ ap (run_after (try_events h.ts)) (run-goes p h.s now [] one-number one-number (acted-step p h.s h.us (held_in q) h.coming (held_in d) a acts (past-is (events.Act a) is on-act)))
+                ∙ sym (run-append (try_events h.ts) (step_events (step_tries p h.s) []) (run_at p now))
+                ∙ ap (λ es. run_after es (run_at p now)) (turn-parts h.ts (step_tries p h.s) [] ∙ append-nil (try_events (h.ts ++ step_tries p h.s)) ∙ ap (λ us. try_events (h.ts ++ us)) tried_so);
             nodes = acted-nodes p ready.params.makeup h.s h.takes.nodes came.before (held_in d).waiting line a came.is.waiting came.is.no_acts sums;
             total = (let b = acted-total p ready.params.makeup h.s h.takes.nodes came.before (held_in d).waiting line a came.is.waiting came.is.no_acts sums in let t = h.takes.total in omega (arith, b, t));
             acts = (let b = acted-acts p ready.params.makeup h.s h.takes.nodes came.before (held_in d).waiting line a came.is.waiting came.is.no_acts sums in let t = h.takes.acts in omega (arith, b, t));
@@ -248,7 +277,7 @@ module _ (r q d : Makeup) (ready : IsReady r) (h : IsUnderway r q) where
     -- ---- nothing waits any more
 
     module _ (is : e ≡ events.Empty) where
-      ends : ComesToEnd (builder_holds p h.s) h.coming.rs (held_in q) (makeup_ask p) (held_in d)
+      ends : ComesToEnd (builder_holds p h.s) seen (held_in q) (makeup_ask p) (held_in d)
       ends = next-is events.Empty is
 
       on-over : q.builder.stopped ≡ false
@@ -258,14 +287,14 @@ module _ (r q d : Makeup) (ready : IsReady r) (h : IsUnderway r q) where
       none-waits = ends.waiting
 
       abbrev over-came : ComesPast (held_in d).waiting (builder_holds p h.s) (held_in d) (makeup_ask p)
-      over-came = over-past p h.s (held_in q) h.coming (held_in d) ends (past-is events.Empty is on-over)
+      over-came = over-past p h.s h.us (held_in q) h.coming (held_in d) ends (past-is events.Empty is on-over)
 
       all-came : h.s.waiting ≡ over-came.before
       all-came = over-came.is.waiting ∙ ap (λ ns. over-came.before ++ ns) none-waits ∙ append-nil over-came.before
 
       over-begun : ((state_of r).page ≡ []) ⊎ (h.s.waiting ≡ ejecting_nodes) → (state_of r).page ≡ []
       over-begun (inl x) = x
-      over-begun (inr x) = absurd (true≢false (sym (ejected-fires p h.s x) ∙ over-fires p h.s (held_in q) h.coming (held_in d) ends))
+      over-begun (inr x) = absurd (true≢false (sym (ejected-fires p h.s x) ∙ over-fires p h.s h.us (held_in q) h.coming (held_in d) ends))
 
       page-is : (held_in d).page ≡ laid_out p.topskip h.s.page over-came.before
       page-is = over-came.is.page
@@ -299,16 +328,18 @@ module _ (r q d : Makeup) (ready : IsReady r) (h : IsUnderway r q) where
       begun-room (begins e few) x = few
       begun-room (ejects e) x = let c = ap node_count e in let g = ap act_count e in let k = ap node_count x in omega (arith, c, g, k)
 
-      pub filled-over : IsOver r d
+      pub filled-over : IsOver wanted r d hs
       filled-over =
           let begun = over-begun h.takes.phase in
           let room = begun-room ready.phase begun in
           let t = h.takes.total in
           record {
             s = h.s;
+            ts = h.ts;
             takes = h.takes;
+            noted = h.noted ∙ ap (λ us. noted_tries wanted (h.ts ++ us)) (sym (over-tries p h.s h.us (held_in q) h.coming (held_in d) ends));
             begun = begun;
-            step = over-step p h.s (held_in q) h.coming (held_in d) ends;
+            step = over-step p h.s h.us (held_in q) h.coming (held_in d) ends;
             holds =
                 holds-state p h.s d.builder d.store h.s.number sound ends.stop ends.stays
                 ∙ ap (λ ns. builder_holds p (record { page = (held_in d).page; waiting = ns; number = h.s.number })) none-waits;
@@ -366,11 +397,13 @@ module _ (r q d : Makeup) (ready : IsReady r) (h : IsUnderway r q) where
           let u = h.takes.acts in
           record { total = omega (arith, a, t); acts = omega (arith, b, u) }
 
-      pub filled-fires : IsFiring r page d
+      pub filled-fires : IsFiring wanted r page d hs
       filled-fires = record {
         s = h.s;
+        ts = h.ts;
         takes = h.takes;
-        step = fires-step p h.s (held_in q) h.coming fires.stopped ∙ ap (firing_step p h.s.number) (sym with-is);
+        noted = h.noted ∙ ap (λ us. noted_tries wanted (h.ts ++ us)) (sym (fires-tries p h.s h.us (held_in q) h.coming fires.stopped));
+        step = fires-step p h.s h.us (held_in q) h.coming fires.stopped ∙ ap (firing_step p h.s.number) (sym with-is);
         can = record {
           sound = sound;
           awaits = record { page = ap (λ (c : Contents). c.page) after; frozen = ap (λ (c : Contents). c.frozen) after };

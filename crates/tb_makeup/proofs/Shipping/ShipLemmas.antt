@@ -3,6 +3,7 @@ use Rattle.std.proofs.Common.{◌≡◌, ◌≢◌, refl, sym, subst, ◌∙◌,
 use Rattle.std.specs.Prelude.{min, int_lt, IfNone, ◌≤ℤ◌, if◌then◌else◌}
 use Rattle.std.specs.FinMap.{get}
 use Rattle.std.proofs.lemmas.Int.{ints}
+use Rattle.tb_break.proofs.EachLemmas.{all-join}
 use Rattle.tb_builder.proofs.Events.NextLemmas.{fresh_apart}
 use Rattle.tb_pool.specs.Lists.{Lists, list_at}
 use Rattle.tb_node.specs.declared.Node.{Node}
@@ -27,7 +28,8 @@ use Rattle.tb_sheet.proofs.StandLemmas.{column-stands, column-shows}
 use Rattle.tb_items.specs.declared.happenings.Happening.{Happening}
 use Rattle.tb_items.specs.declared.happenings.Happening.TheVariants as happenings
 use Rattle.tb_items.specs.RunEvents.{sent}
-use Rattle.tb_items.specs.Happenings.{events_of, happened_lists, ArePages}
+use Rattle.tb_items.specs.Happenings.{events_of, happened_lists, IsPage, ArePages}
+use Rattle.tb_items.proofs.HappenedLemmas.{lists-append, events-append}
 use Rattle.tb_plain.specs.declared.Plain.{Plain}
 use Rattle.tb_plain.specs.declared.PlainPage.{PlainPage}
 use Rattle.tb_plain.specs.MakeupCalls.{CanFire, HasFired, fired_with}
@@ -36,7 +38,8 @@ use Rattle.tb_makeup.specs.declared.makeup.Makeup.{Makeup}
 use Rattle.tb_makeup.specs.declared.makeup.MakeupEnding.{MakeupEnding}
 use Rattle.tb_makeup.specs.declared.makeup.MakeupEnding.TheVariants as endings
 use Rattle.tb_makeup.specs.Makeup.{held_in, state_of, over_limit, IsBounded}
-use Rattle.tb_makeup.specs.MakeupPages.{IsBoundedPage, HasShipped, Ships}
+use Rattle.tb_makeup.specs.MakeupPages.{AreTries, IsBoundedPage, HasShipped, Ships}
+use Rattle.tb_makeup.proofs.Filled.TriedLemmas.{tries-lists, tries-pages}
 use Rattle.tb_makeup.proofs.Shipping.BackLemmas.{back-inner}
 
 -- ---- the nodes that wait, against the limit on them
@@ -115,31 +118,37 @@ module _ (r : Makeup) (page : Page) (made : PlainPage) (now : Plain) (d : Builde
     column-same : get q.store.lists made.column.list ≡ get t.lists made.column.list
     column-same = others made.column.list column-apart fired.free
 
-    module _ (hs : List Happening) (noted : hs ≡ happenings.Sent (sents.Ship made.page (sheets.One made.column)) ∷ []) where
-      has-shipped : HasShipped page r q hs
+    module _ (before hs : List Happening) (tries : AreTries before) (noted : hs ≡ before ++ happenings.Sent (sents.Ship made.page (sheets.One made.column)) ∷ []) where
+      abbrev now_sent : List Happening
+      now_sent = happenings.Sent (sents.Ship made.page (sheets.One made.column)) ∷ []
+
+      one-list : happened_lists hs ≡ made.column.list ∷ []
+      one-list = ap happened_lists noted ∙ lists-append before now_sent ∙ ap (λ ls. ls ++ made.column.list ∷ []) (tries-lists before tries)
+
+      has-shipped : HasShipped page r q before hs
       has-shipped = record {
         within = fired.within;
         number = plain ∙ fired.next;
         sound = sound;
         contents = contents-now;
-        events = ap (events_of q.store) noted ∙ (λ i. sent (shipped (fired.number i) (one ((column-shows t q.store made.column column-same fired.sized ∙ fired.column) i))) ∷ []);
+        events = ap (events_of q.store) noted ∙ events-append q.store before now_sent ∙ (λ i. events_of q.store before ++ sent (shipped (fired.number i) (one ((column-shows t q.store made.column column-same fired.sized ∙ fired.column) i))) ∷ []);
         happened = record {
-          pages = subst (ArePages q.store) (sym noted) (column-stands t q.store made.column column-same fired.sized, tt);
-          distinct = subst (λ xs. AreDistinct (happened_lists xs)) (sym noted) (tt, tt);
-          builder = subst (λ xs. AreNoneOf (happened_lists xs) (builder_lists q.builder q.store)) (sym noted) (lacks-none made.column.list (builder_lists q.builder q.store) (keeps made.column.list column-free), tt);
+          pages = subst (ArePages q.store) (sym noted) (all-join (IsPage q.store) before now_sent (tries-pages q.store before tries) (column-stands t q.store made.column column-same fired.sized, tt));
+          distinct = subst AreDistinct (sym one-list) (tt, tt);
+          builder = subst (λ ls. AreNoneOf ls (builder_lists q.builder q.store)) (sym one-list) (lacks-none made.column.list (builder_lists q.builder q.store) (keeps made.column.list column-free), tt);
         };
         ask = ask;
         limit = limit;
       }
 
-      ships-by : (o : Option MakeupEnding) → IfNone o (IsBounded 0 (state_of q) q.bound) → o ≡ over_limit r.limit (node_count (waiting_after r.plain.params f)) → Ships page r o q hs
+      ships-by : (o : Option MakeupEnding) → IfNone o (IsBounded 0 (state_of q) q.bound) → o ≡ over_limit r.limit (node_count (waiting_after r.plain.params f)) → Ships page r o q before hs
       ships-by None b e = (has-shipped, sym e, b)
       ships-by (Some endings.Done) b e = absurd (not-done (node_count (waiting_after r.plain.params f)) (int_lt r.limit (pos (node_count (waiting_after r.plain.params f)))) e)
       ships-by (Some (endings.PageLimit k)) b e = absurd (not-pages k (node_count (waiting_after r.plain.params f)) (int_lt r.limit (pos (node_count (waiting_after r.plain.params f)))) e)
       ships-by (Some (endings.NodeLimit k)) b e = (has-shipped, sym e)
 
       -- what the page comes to, by the nodes that wait now
-      pub ships : (o : Option MakeupEnding) → IfNone o (IsBounded 0 (state_of q) q.bound) → o ≡ over_limit q.limit (node_count (held_in q).waiting) → Ships page r o q hs
+      pub ships : (o : Option MakeupEnding) → IfNone o (IsBounded 0 (state_of q) q.bound) → o ≡ over_limit q.limit (node_count (held_in q).waiting) → Ships page r o q before hs
       ships o b e = ships-by o b (e ∙ (λ i. over_limit (limit i) (node_count (waiting-now i))))
 
 -- ---- no page ships

@@ -1,28 +1,32 @@
 -- What a turn of the page makeup comes to.
-use Rattle.std.proofs.Common.{◌≡◌, sym, subst, ◌∙◌, ap, ◌+◌, ◌≤◌, pos, Bool, true, false, List, [], ◌∷◌, map, Option, Some, None, arith}
+use Rattle.std.proofs.Common.{◌≡◌, sym, subst, ◌∙◌, ap, ◌+◌, ◌≤◌, pos, Bool, true, false, List, [], ◌∷◌, ◌++◌, length, map, Option, Some, None, append-nil, arith}
 use Rattle.std.specs.Prelude.{IfNone, ◌≤ℤ◌, if◌then◌else◌}
 use Rattle.tb_pool.specs.Lists.{IsLive}
 use Rattle.tb_builder.specs.declared.Page.{Page}
 use Rattle.tb_builder.specs.Contents.{Contents, node_count, box_count}
 use Rattle.tb_builder.specs.Contributions.{with_void}
 use Rattle.tb_sheet.specs.Sheet.{PlainSent, shipped, one}
+use Rattle.tb_column.specs.Notes.{AreDistinct}
+use Rattle.tb_builder.specs.BuilderLists.{builder_lists}
+use Rattle.tb_sheet.specs.ApartLists.{AreNoneOf}
 use Rattle.tb_items.specs.declared.happenings.Happening.{Happening}
 use Rattle.tb_items.specs.RunEvents.{sent}
-use Rattle.tb_items.specs.Happenings.{events_of, ArePages}
+use Rattle.tb_items.specs.Happenings.{events_of, noted, happened_lists, ArePages}
 use Rattle.tb_plain.specs.declared.Plain.{Plain}
 use Rattle.tb_plain.specs.Firing.{holds_any, makeup_column}
-use Rattle.tb_plain.specs.Run.{MakeupState, waiting_after}
+use Rattle.tb_plain.specs.Run.{MakeupEvent, sent_among, MakeupState, step_tries, waiting_after}
 use Rattle.tb_plain.specs.MakeupCalls.{IsPlain, fired_with}
 use Rattle.tb_makeup.specs.declared.makeup.Makeup.{Makeup}
 use Rattle.tb_makeup.specs.declared.makeup.MakeupEnding.{MakeupEnding}
 use Rattle.tb_makeup.specs.declared.makeup.MakeupEnding.TheVariants as endings
-use Rattle.tb_makeup.specs.Makeup.{held_in, state_of, IsBounded, unsaid_nodes, IsReady, IsTurned, AreHappened}
-use Rattle.tb_makeup.specs.MakeupPages.{IsFiring, IsOver, IsBoundedPage, HasShipped, Ships, Finishes}
+use Rattle.tb_makeup.specs.Makeup.{held_in, state_of, IsBounded, unsaid_nodes, run_events, IsReady, IsTurned, AreHappened}
+use Rattle.tb_makeup.specs.MakeupPages.{noted_tries, AreTries, IsFiring, IsOver, IsBoundedPage, HasShipped, Ships, Finishes}
+use Rattle.tb_makeup.proofs.Filled.TriedLemmas.{are-tries, tries-lists, tries-pages, turn_events, turn-noted, turn-sent}
 use Rattle.tb_makeup.proofs.Turns.TurnedLemmas.{sent-same, shipped-goes, shipped-ready, shipped-limit, shipped-pages, over-done, over-goes, over-ready}
 
 -- what a turn shows, and what the makeup is after it
-pub record TurnsTo (r : Makeup) (hs : List Happening) (o : Option MakeupEnding) (q : Makeup) : Type 0 where
-  pub turned : IsTurned r hs o q
+pub record TurnsTo (wanted : Bool) (r : Makeup) (hs : List Happening) (o : Option MakeupEnding) (q : Makeup) : Type 0 where
+  pub turned : IsTurned wanted r hs o q
   pub ready : IfNone o (IsReady q)
   pub params : q.plain.params ≡ r.plain.params
   pub live : IsLive q.store q.builder.page
@@ -38,7 +42,11 @@ unsaid-few s = by_test (holds_any s.page)
     by_test true = omega arith
     by_test false = omega arith
 
-module _ (r d : Makeup) (page : Page) (ready : IsReady r) (h : IsFiring r page d) where
+module _ (wanted : Bool) (r d : Makeup) (page : Page) (before : List Happening) (ready : IsReady r) (h : IsFiring wanted r page d before) where
+  -- only places were noted
+  pub fired-tries : AreTries before
+  fired-tries = subst AreTries (sym h.noted) (are-tries wanted (h.ts ++ step_tries r.plain.params h.s))
+
   pub fired-plain : IsPlain d.plain
   fired-plain = subst IsPlain (sym h.same.plain) ready.plain
 
@@ -62,20 +70,30 @@ module _ (r d : Makeup) (page : Page) (ready : IsReady r) (h : IsFiring r page d
   pub fired-limit : d.limit ≤ℤ pos 4194304
   fired-limit = subst (λ x. x ≤ℤ pos 4194304) (sym (h.same.limit ∙ ready.limit)) ready.params.maxnodes
 
-module _ (r d q : Makeup) (page : Page) (hs : List Happening) (ready : IsReady r) (h : IsFiring r page d) where
+module _ (wanted : Bool) (r d q : Makeup) (page : Page) (before hs : List Happening) (ready : IsReady r) (h : IsFiring wanted r page d before) where
   abbrev es : List PlainSent
   es = shipped h.s.number (one (makeup_column r.plain.params (fired_with d.builder d.store page))) ∷ []
 
-  shipped-events : HasShipped page d q hs → events_of q.store hs ≡ map (λ e. sent e) es
-  shipped-events s = s.events ∙ ap (λ e. sent e ∷ []) (sent-same r d q page ready h)
+  -- the events of the turn, if it sends these
+  abbrev turned_with : List PlainSent → List MakeupEvent
+  turned_with xs = turn_events h.ts (step_tries r.plain.params h.s) xs
 
-  shipped-params : HasShipped page d q hs → q.plain.params ≡ r.plain.params
+  noted-with : (xs : List PlainSent) → events_of q.store before ++ map (λ e. sent e) xs ≡ noted wanted (run_events (turned_with xs))
+  noted-with xs = ap (λ ks. events_of q.store ks ++ map (λ e. sent e) xs) h.noted ∙ sym (turn-noted wanted q.store h.ts (step_tries r.plain.params h.s) xs)
+
+  sends-few : (xs : List PlainSent) → length xs ≤ 1 → length (sent_among (turned_with xs)) ≤ 1
+  sends-few xs few = subst (λ ys. length ys ≤ 1) (sym (turn-sent h.ts (step_tries r.plain.params h.s) xs)) few
+
+  shipped-events : HasShipped page d q before hs → events_of q.store hs ≡ noted wanted (run_events (turned_with es))
+  shipped-events s = s.events ∙ ap (λ e. events_of q.store before ++ sent e ∷ []) (sent-same wanted r d q page before ready h) ∙ noted-with es
+
+  shipped-params : HasShipped page d q before hs → q.plain.params ≡ r.plain.params
   shipped-params s = ap (λ (x : Plain). x.params) s.number ∙ ap (λ (x : Plain). x.params) h.same.plain
 
-  pub fired-turns : (o : Option MakeupEnding) → Ships page d o q hs → TurnsTo r hs o q
+  pub fired-turns : (o : Option MakeupEnding) → Ships page d o q before hs → TurnsTo wanted r hs o q
   fired-turns None s = record {
-    turned = record { es = es; events = shipped-events s.0; goes = shipped-goes r d q page ready h s.0.within s.0.number s.0.contents s.1 };
-    ready = shipped-ready r d q page ready h s.0.within s.0.number s.0.contents s.1 s.0.sound s.0.ask s.0.limit s.2;
+    turned = record { es = turned_with es; events = shipped-events s.0; few = sends-few es (omega arith); goes = shipped-goes wanted r d q page before ready h s.0.within s.0.number s.0.contents s.1 };
+    ready = shipped-ready wanted r d q page before ready h s.0.within s.0.number s.0.contents s.1 s.0.sound s.0.ask s.0.limit s.2;
     params = shipped-params s.0;
     live = s.0.sound.own.live.0;
     pages = s.0.happened.pages;
@@ -83,15 +101,20 @@ module _ (r d q : Makeup) (page : Page) (hs : List Happening) (ready : IsReady r
   }
   fired-turns (Some endings.Done) s = absurd s
   fired-turns (Some (endings.PageLimit n)) s = record {
-    turned = record { es = []; events = ap (events_of q.store) s.none; goes = shipped-pages r d q page ready h n s.over s.pages };
+    turned = record {
+      es = turned_with [];
+      events = ap (events_of q.store) s.none ∙ sym (append-nil (events_of q.store before)) ∙ noted-with [];
+      few = sends-few [] (omega arith);
+      goes = shipped-pages wanted r d q page before ready h n s.over s.pages;
+    };
     ready = tt;
     params = ap (λ (x : Plain). x.params) s.plain ∙ ap (λ (x : Plain). x.params) h.same.plain;
     live = s.sound.own.live.0;
-    pages = subst (ArePages q.store) (sym s.none) tt;
+    pages = subst (ArePages q.store) (sym s.none) (tries-pages q.store before (fired-tries wanted r d page before ready h));
     lists = tt;
   }
   fired-turns (Some (endings.NodeLimit n)) s = record {
-    turned = record { es = es; events = shipped-events s.0; goes = shipped-limit r d q page ready h s.0.within s.0.number s.0.contents n s.1 };
+    turned = record { es = turned_with es; events = shipped-events s.0; few = sends-few es (omega arith); goes = shipped-limit wanted r d q page before ready h s.0.within s.0.number s.0.contents n s.1 };
     ready = tt;
     params = shipped-params s.0;
     live = s.0.sound.own.live.0;
@@ -101,25 +124,46 @@ module _ (r d q : Makeup) (page : Page) (hs : List Happening) (ready : IsReady r
 
 -- ---- nothing waits
 
-pub over-waiting : (r d : Makeup) → IsOver r d → (held_in d).waiting ≡ []
-over-waiting r d h = ap (λ (c : Contents). c.waiting) h.holds
+pub over-waiting : (wanted : Bool) (r d : Makeup) (hs : List Happening) → IsOver wanted r d hs → (held_in d).waiting ≡ []
+over-waiting wanted r d hs h = ap (λ (c : Contents). c.waiting) h.holds
 
-module _ (r d q : Makeup) (hs : List Happening) (ready : IsReady r) (h : IsOver r d) (none : hs ≡ []) where
-  pub over-turns : (o : Option MakeupEnding) → Finishes d o q → TurnsTo r hs o q
+module _ (wanted : Bool) (r d q : Makeup) (hs : List Happening) (ready : IsReady r) (h : IsOver wanted r d hs) where
+  -- the events of the turn
+  abbrev over_events : List MakeupEvent
+  over_events = turn_events h.ts (step_tries r.plain.params h.s) []
+
+  over-tries : AreTries hs
+  over-tries = subst AreTries (sym h.noted) (are-tries wanted (h.ts ++ step_tries r.plain.params h.s))
+
+  over-noted : events_of q.store hs ≡ noted wanted (run_events over_events)
+  over-noted = ap (events_of q.store) h.noted ∙ sym (append-nil (events_of q.store (noted_tries wanted (h.ts ++ step_tries r.plain.params h.s)))) ∙ sym (turn-noted wanted q.store h.ts (step_tries r.plain.params h.s) [])
+
+  over-few : length (sent_among over_events) ≤ 1
+  over-few = subst (λ (ys : List PlainSent). length ys ≤ 1) (sym (turn-sent h.ts (step_tries r.plain.params h.s) [])) (omega arith)
+
+  -- they have no lists
+  over-lists : AreHappened q hs
+  over-lists = record {
+    pages = tries-pages q.store hs over-tries;
+    distinct = subst AreDistinct (sym (tries-lists hs over-tries)) tt;
+    builder = subst (λ ls. AreNoneOf ls (builder_lists q.builder q.store)) (sym (tries-lists hs over-tries)) tt;
+  }
+
+  pub over-turns : (o : Option MakeupEnding) → Finishes d o q → TurnsTo wanted r hs o q
   over-turns None s = record {
-    turned = record { es = []; events = ap (events_of q.store) none; goes = over-goes r d q ready h s.0 s.1 };
-    ready = over-ready r d q ready h s.0 s.1;
+    turned = record { es = over_events; events = over-noted; few = over-few; goes = over-goes wanted r d q hs ready h s.0 s.1 };
+    ready = over-ready wanted r d q hs ready h s.0 s.1;
     params = ap (λ (x : Plain). x.params) (s.1.same.plain ∙ h.same.plain);
     live = s.1.sound.own.live.0;
-    pages = subst (ArePages q.store) (sym none) tt;
-    lists = subst (AreHappened q) (sym none) (record { pages = tt; distinct = tt; builder = tt });
+    pages = over-lists.pages;
+    lists = over-lists;
   }
   over-turns (Some endings.Done) s = record {
-    turned = record { es = []; events = ap (events_of q.store) none; goes = over-done r d q ready h s.0 };
+    turned = record { es = over_events; events = over-noted; few = over-few; goes = over-done wanted r d q hs ready h s.0 };
     ready = tt;
     params = ap (λ (x : Makeup). x.plain.params) s.1 ∙ ap (λ (x : Plain). x.params) h.same.plain;
     live = subst (λ (x : Makeup). IsLive x.store x.builder.page) (sym s.1) h.sound.own.live.0;
-    pages = subst (ArePages q.store) (sym none) tt;
+    pages = over-lists.pages;
     lists = tt;
   }
   over-turns (Some (endings.PageLimit n)) s = absurd s

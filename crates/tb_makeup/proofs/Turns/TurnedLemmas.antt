@@ -7,6 +7,7 @@ use Rattle.tb_items.proofs.PageNumbers.{pred-is}
 use Rattle.tb_node.specs.PlainNodes.{PlainNode}
 use Rattle.tb_param.specs.declared.Params.{Params}
 use Rattle.tb_builder.specs.declared.Page.{Page}
+use Rattle.tb_builder.specs.declared.Try.{Try}
 use Rattle.tb_insert.specs.declared.Class.{Class}
 use Rattle.tb_builder.specs.FiredPages.{Fired, Boxed}
 use Rattle.tb_builder.specs.Contents.{Contents, node_count}
@@ -15,15 +16,17 @@ use Rattle.tb_builder.specs.Pageable.{IsSizedOnPage}
 use Rattle.tb_builder.specs.Courses.{IsSound, freezes}
 use Rattle.tb_sheet.specs.Sheet.{PlainSent, shipped, one}
 use Rattle.tb_plain.specs.Firing.{holds_any, makeup_column}
-use Rattle.tb_plain.specs.Run.{MakeupState, ends, goes_on, done, page_limit, node_limit, shipping_step, firing_step, builder_holds, makeup_ask, makeup_classes, void_boxes, run_after, ejecting_nodes, waiting_after}
+use Rattle.tb_plain.specs.Run.{MakeupRun, MakeupEnd, MakeupState, try_events, step_tries, step_events, ends, goes_on, done, page_limit, node_limit, shipping_step, firing_step, builder_holds, makeup_ask, makeup_classes, void_boxes, run_after, ejecting_nodes, waiting_after}
 use Rattle.tb_plain.specs.MakeupCalls.{AreMakeupParams, IsPlain, fired_with}
+use Rattle.tb_items.specs.declared.happenings.Happening.{Happening}
 use Rattle.tb_plain.specs.declared.Plain.{Plain}
 use Rattle.tb_plain.proofs.StepLemmas.{page-less}
 use Rattle.tb_makeup.specs.declared.makeup.Makeup.{Makeup}
 use Rattle.tb_makeup.specs.declared.makeup.MakeupEnding.TheVariants as endings
 use Rattle.tb_makeup.specs.Makeup.{held_in, state_of, over_limit, run_at, node_total, IsBounded, unsaid_nodes, begins, ejects, AreRunParams, AreRunNodes, IsReady, GoesTo, turns_left}
-use Rattle.tb_makeup.specs.MakeupPages.{IsFiring, IsOver, Ejects}
-use Rattle.tb_makeup.proofs.Filled.RunLemmas.{run-ends, run-goes}
+use Rattle.tb_makeup.specs.MakeupPages.{Takes, IsFiring, IsOver, Ejects}
+use Rattle.tb_makeup.proofs.Filled.RunLemmas.{run-ends, run-goes, run-append}
+use Rattle.tb_makeup.proofs.Filled.TriedLemmas.{turn_events}
 
 -- ---- what a firing comes to
 
@@ -65,6 +68,15 @@ module _ (p : Params) (n : ℕ) (f : Fired) where
   fire-pages : (k : ℕ) → p.maxpages <ℤ pos n → k + 1 ≡ n → firing_step p n f ≡ ends [] (page_limit k)
   fire-pages k h e = ap (λ t. if t then ends [] (page_limit (pred n)) else shipping_step p n f) (past-limit p.maxpages n h) ∙ ap (λ m. ends [] (page_limit m)) (pred-is k n e)
 
+-- ---- the run of a turn: after the tries of its acts, that of its last step
+
+module _ (r : Makeup) (ts : List Try) (s : MakeupState) (es : List PlainSent) (t : Takes r ts s) where
+  turn-goes : (x : MakeupRun) → run_at r.plain.params s ≡ run_after (step_events (step_tries r.plain.params s) es) x → run_at r.plain.params (state_of r) ≡ run_after (turn_events ts (step_tries r.plain.params s) es) x
+  turn-goes x e = t.run ∙ ap (run_after (try_events ts)) e ∙ sym (run-append (try_events ts) (step_events (step_tries r.plain.params s) es) x)
+
+  turn-ends : (f : MakeupEnd) → run_at r.plain.params s ≡ record { events = step_events (step_tries r.plain.params s) es; end = f } → run_at r.plain.params (state_of r) ≡ record { events = turn_events ts (step_tries r.plain.params s) es; end = f }
+  turn-ends f e = t.run ∙ ap (run_after (try_events ts)) e
+
 -- ---- turns that are left
 
 turn-less : (m : ℤ) (n a : ℕ) → 1 ≤ n → pos n ≤ℤ m → 2 * (nat_abs m - pred (n + 1)) + 1 < 2 * (nat_abs m - pred n) + a
@@ -78,7 +90,7 @@ few-within n m h e = grind (arith, ints, h, e)
 
 -- ---- the page shipped
 
-module _ (r d q : Makeup) (page : Page) (ready : IsReady r) (h : IsFiring r page d) where
+module _ (wanted : Bool) (r d q : Makeup) (page : Page) (before : List Happening) (ready : IsReady r) (h : IsFiring wanted r page d before) where
   abbrev p : Params
   p = r.plain.params
 
@@ -121,9 +133,10 @@ module _ (r d q : Makeup) (page : Page) (ready : IsReady r) (h : IsFiring r page
       over-now : over_limit p.maxnodes (count p h.s.number f) ≡ None
       over-now = (λ i. over_limit (sym same-limit i) (node_count (waiting_after (sym same-params i) f))) ∙ over
 
-      pub shipped-goes : GoesTo q None p (es p h.s.number f) (state_of r)
+      pub shipped-goes : GoesTo q None p (turn_events h.ts (step_tries p h.s) (es p h.s.number f)) (state_of r)
       shipped-goes = (
-        h.takes.run ∙ run-goes p h.s (next p h.s.number f) (es p h.s.number f) one-number (omega arith) (h.step ∙ fire-goes p h.s.number f within-now over-now) ∙ ap (λ x. run_after (es p h.s.number f) (run_at p x)) (sym state-now),
+        turn-goes r h.ts h.s (es p h.s.number f) h.takes (run_at p (state_of q))
+            (run-goes p h.s (next p h.s.number f) (es p h.s.number f) one-number (omega arith) (h.step ∙ fire-goes p h.s.number f within-now over-now) ∙ ap (λ x. run_after (step_events (step_tries p h.s) (es p h.s.number f)) (run_at p x)) (sym state-now)),
         subst (λ x. turns_left p x < turns_left p (state_of r)) (sym state-now)
             (subst (λ n. 2 * (nat_abs p.maxpages - pred (h.s.number + 1)) + 1 < 2 * (nat_abs p.maxpages - pred n) + (if holds_any (state_of r).page then 0 else 1)) h.takes.number (turn-less p.maxpages h.s.number (if holds_any (state_of r).page then 0 else 1) one-number within-now)),
       )
@@ -160,20 +173,20 @@ module _ (r d q : Makeup) (page : Page) (ready : IsReady r) (h : IsFiring r page
               ∙ (λ i. holding (makeup_classes p) void_boxes (sym page-now i) (sym (ap (λ (c : Contents). c.waiting) contents) i) (ap (λ ns. if freezes ns then Some (p.textheight, p.maxdepth) else None) (sym page-now) i) false)
               ∙ ap (λ x. builder_holds x (state_of q)) (sym plain-now)
 
-    pub shipped-limit : (k : ℕ) → over_limit d.limit (node_count (waiting_after d.plain.params f)) ≡ Some (endings.NodeLimit k) → GoesTo q (Some (endings.NodeLimit k)) p (es p h.s.number f) (state_of r)
+    pub shipped-limit : (k : ℕ) → over_limit d.limit (node_count (waiting_after d.plain.params f)) ≡ Some (endings.NodeLimit k) → GoesTo q (Some (endings.NodeLimit k)) p (turn_events h.ts (step_tries p h.s) (es p h.s.number f)) (state_of r)
     shipped-limit k over =
-        h.takes.run
-        ∙ run-ends p h.s (es p h.s.number f) (node_limit k) (h.step ∙ fire-limit p h.s.number f k within-now ((λ i. over_limit (sym same-limit i) (node_count (waiting_after (sym same-params i) f))) ∙ over))
+        turn-ends r h.ts h.s (es p h.s.number f) h.takes (node_limit k)
+        (run-ends p h.s (es p h.s.number f) (node_limit k) (h.step ∙ fire-limit p h.s.number f k within-now ((λ i. over_limit (sym same-limit i) (node_count (waiting_after (sym same-params i) f))) ∙ over)))
 
   -- as many pages as may be were shipped
-  pub shipped-pages : (k : ℕ) → d.plain.params.maxpages <ℤ pos d.plain.page → k + 1 ≡ d.plain.page → GoesTo q (Some (endings.PageLimit k)) p [] (state_of r)
+  pub shipped-pages : (k : ℕ) → d.plain.params.maxpages <ℤ pos d.plain.page → k + 1 ≡ d.plain.page → GoesTo q (Some (endings.PageLimit k)) p (turn_events h.ts (step_tries p h.s) []) (state_of r)
   shipped-pages k over pages =
-      h.takes.run
-      ∙ run-ends p h.s [] (page_limit k) (h.step ∙ fire-pages p h.s.number f k (subst (λ n. p.maxpages <ℤ pos n) same-page (subst (λ (x : Params). x.maxpages <ℤ pos d.plain.page) same-params over)) (pages ∙ same-page))
+      turn-ends r h.ts h.s [] h.takes (page_limit k)
+      (run-ends p h.s [] (page_limit k) (h.step ∙ fire-pages p h.s.number f k (subst (λ n. p.maxpages <ℤ pos n) same-page (subst (λ (x : Params). x.maxpages <ℤ pos d.plain.page) same-params over)) (pages ∙ same-page)))
 
 -- ---- nothing waits
 
-module _ (r d q : Makeup) (ready : IsReady r) (h : IsOver r d) where
+module _ (wanted : Bool) (r d q : Makeup) (before : List Happening) (ready : IsReady r) (h : IsOver wanted r d before) where
   abbrev params : Params
   params = r.plain.params
 
@@ -181,8 +194,8 @@ module _ (r d q : Makeup) (ready : IsReady r) (h : IsOver r d) where
   first-number = let a = ready.plain.first in let b = h.takes.number in omega (arith, a, b)
 
   -- nothing is on the page either
-  pub over-done : holds_any (held_in d).page ≡ false → GoesTo q (Some endings.Done) params [] (state_of r)
-  over-done none = h.takes.run ∙ run-ends params h.s [] done (h.step ∙ ap (λ t. if t then goes_on [] (record h.s { page = (held_in d).page; waiting = ejecting_nodes }) else ends [] done) none)
+  pub over-done : holds_any (held_in d).page ≡ false → GoesTo q (Some endings.Done) params (turn_events h.ts (step_tries params h.s) []) (state_of r)
+  over-done none = turn-ends r h.ts h.s [] h.takes done (run-ends params h.s [] done (h.step ∙ ap (λ t. if t then goes_on [] (record h.s { page = (held_in d).page; waiting = ejecting_nodes }) else ends [] done) none))
 
   module _ (some : holds_any (held_in d).page ≡ true) (e : Ejects d q) where
     abbrev now : MakeupState
@@ -204,9 +217,10 @@ module _ (r d q : Makeup) (ready : IsReady r) (h : IsOver r d) where
         (subst (λ ns. 2 * (nat_abs params.maxpages - pred h.s.number) + 0 < 2 * (nat_abs params.maxpages - pred r.plain.page) + (if holds_any ns then 0 else 1)) (sym h.begun)
         (subst (λ n. 2 * (nat_abs params.maxpages - pred h.s.number) + 0 < 2 * (nat_abs params.maxpages - pred n) + 1) h.takes.number (omega arith)))
 
-    pub over-goes : GoesTo q None params [] (state_of r)
+    pub over-goes : GoesTo q None params (turn_events h.ts (step_tries params h.s) []) (state_of r)
     over-goes = (
-      h.takes.run ∙ run-goes params h.s now [] first-number first-number (h.step ∙ ap (λ t. if t then goes_on [] now else ends [] done) some) ∙ ap (λ x. run_after [] (run_at params x)) (sym state-is),
+      turn-goes r h.ts h.s [] h.takes (run_at params (state_of q))
+          (run-goes params h.s now [] first-number first-number (h.step ∙ ap (λ t. if t then goes_on [] now else ends [] done) some) ∙ ap (λ x. run_after (step_events (step_tries params h.s) []) (run_at params x)) (sym state-is)),
       subst (λ x. turns_left params x < turns_left params (state_of r)) (sym state-is) turns-less,
     )
 

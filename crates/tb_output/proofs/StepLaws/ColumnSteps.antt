@@ -1,7 +1,7 @@
 -- What putting out pages and columns and filling the next ones is made of: records, shipped pages, and changes of the float lists,
 -- the first of two columns, the suppress flags and how far marginal notes reach.
-use Rattle.std.proofs.Common.{◌≡◌, refl, ◌∙◌, ap, ℕ, zero, suc, pos, ◌+◌, Bool, true, false, List, [], ◌∷◌, ◌++◌, length, Option, Some, None}
-use Rattle.std.specs.Prelude.{int_lt, not, if◌then◌else◌}
+use Rattle.std.proofs.Common.{◌≡◌, refl, ◌∙◌, ap, ℕ, zero, suc, Bool, true, false, List, [], ◌∷◌, ◌++◌, length, Option, Some, None}
+use Rattle.std.specs.Prelude.{not, if◌then◌else◌}
 use Rattle.tb_node.specs.declared.Float.{Float}
 use Rattle.tb_node.specs.declared.Where.{Where}
 use Rattle.tb_node.specs.PlainNodes.{PlainNode}
@@ -17,11 +17,12 @@ use Rattle.tb_area.specs.Area.{next_place, double_place}
 use Rattle.tb_area.specs.Laws.{KeepsLimits}
 use Rattle.tb_area.proofs.LawLemmas.{next-laws, double-laws}
 use Rattle.tb_column.specs.Column.{PlainColumn}
-use Rattle.tb_sheet.specs.Sheet.{PlainSheet, PlainSent, shipped, one, pair_sheet}
+use Rattle.tb_sheet.specs.Sheet.{PlainSheet, PlainSent, one, pair_sheet}
 use Rattle.tb_output.specs.State.{Work, Recorded, placed, output, sends, records_also, with_floats}
 use Rattle.tb_output.specs.FloatMoves
 use Rattle.tb_output.specs.Pages
 use Rattle.tb_output.specs.Columns
+use Rattle.tb_output.proofs.StepLaws.RefusedSteps.{by-sends, by-records, by-any-ship}
 
 -- ---- what a step is made of
 
@@ -68,26 +69,13 @@ pub data ColumnStep (p : Params) (law : RecordLaw p) : Work → Work → Type 0 
 -- ---- what a step leaves as it is
 
 pub sends-frame : (e : PlainSent) (w : Work) → frame (sends e w) ≡ frame w
-sends-frame e w = by_refused w.refused
-  where
-    by_refused : (t : Bool) → frame (if t then w else record w { sent = w.sent ++ e ∷ [] }) ≡ frame w
-    by_refused true = refl
-    by_refused false = refl
+sends-frame e w = by-sends (λ v. frame v ≡ frame w) e w refl refl
 
 records-frame : (r : Recorded) (w : Work) → frame (records_also r w) ≡ frame w
-records-frame r w = by_refused w.refused
-  where
-    by_refused : (t : Bool) → frame (if t then w else record w { records = w.records ++ r ∷ [] }) ≡ frame w
-    by_refused true = refl
-    by_refused false = refl
+records-frame r w = by-records (λ v. frame v ≡ frame w) r w refl refl
 
 ship-frame : (p : Params) (sheet : PlainSheet) (w : Work) → frame (Pages.ship p sheet w) ≡ frame w
-ship-frame p sheet w = by_refused w.refused (int_lt p.maxpages (pos w.state.page))
-  where
-    by_refused : (t u : Bool) → frame (if t then w else (if u then record w { refused = true } else Pages.ship_now sheet w)) ≡ frame w
-    by_refused true u = refl
-    by_refused false true = refl
-    by_refused false false = sends-frame (shipped w.state.page sheet) (record w { state = record w.state { page = w.state.page + 1; dead_cycles = 0 } })
+ship-frame p sheet w = by-any-ship (λ v. frame v ≡ frame w) p sheet w refl refl refl
 
 column-frame : {p : Params} {law : RecordLaw p} {a b : Work} → ColumnStep p law a b → frame b ≡ frame a
 column-frame (still c f) = f

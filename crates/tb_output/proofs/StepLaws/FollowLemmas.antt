@@ -1,6 +1,6 @@
 -- What the steps of a column do to the lists of floats, the columns and the dead cycles.
-use Rattle.std.proofs.Common.{◌≡◌, refl, sym, ◌∙◌, ap, subst, ℕ, zero, suc, pos, ◌+◌, ◌≤◌, inl, inr, ◌⊎◌, Bool, true, false, List, [], ◌∷◌, ◌++◌, length, Option, Some, None, length-append, arith}
-use Rattle.std.specs.Prelude.{int_lt, not, if◌then◌else◌}
+use Rattle.std.proofs.Common.{◌≡◌, refl, sym, ◌∙◌, ap, subst, ℕ, suc, ◌+◌, ◌≤◌, inl, inr, ◌⊎◌, Bool, true, false, List, [], ◌∷◌, ◌++◌, length, Some, length-append, arith}
+use Rattle.std.specs.Prelude.{if◌then◌else◌}
 use Rattle.std.specs.List.{AllByRecursion}
 use Rattle.tb_break.proofs.EachLemmas.{all-front, all-back, all-join, all-push}
 use Rattle.tb_node.specs.declared.Float.{Float}
@@ -15,13 +15,16 @@ use Rattle.tb_float.proofs.WaitingLemmas.{wide-waits}
 use Rattle.tb_fpage.specs.declared.Wanted.{Wanted}
 use Rattle.tb_fpage.specs.Company.{Choice, company, chosen_floats, left_floats}
 use Rattle.tb_fpage.proofs.FirstLemmas.{company-takes, company-leaves}
-use Rattle.tb_area.specs.Area.{next_place, double_place}
 use Rattle.tb_column.specs.Column.{PlainColumn, wide_floats_column, single_floats_column}
-use Rattle.tb_sheet.specs.Sheet.{PlainSheet, PlainSent, shipped, one, wide, pair_sheet}
-use Rattle.tb_output.specs.State.{State, Work, Recorded, placed, output, sends, records_also, with_floats}
+use Rattle.tb_sheet.specs.Sheet.{PlainSheet, one, wide, pair_sheet}
+use Rattle.tb_output.specs.State.{State, Work, Recorded, placed, output, records_also, with_floats}
 use Rattle.tb_output.specs.FloatMoves
 use Rattle.tb_output.specs.Pages
 use Rattle.tb_output.specs.Columns
+use Rattle.tb_area.specs.Area.{where_of}
+use Rattle.tb_output.proofs.StepLaws.RefusedSteps.{by-records, by-any-ship}
+use Rattle.tb_output.proofs.StepLaws.Moves.{Hand, ColumnMove, takes_company, records_column, ships_column, ships_pair, ships_wide, places_double, FillMove, places_next, Moves, goes-on}
+use Rattle.tb_output.proofs.StepLaws.FiringTree.{next-moves, wide-moves, pair_rest-moves, put_out-moves, float_columns-moves}
 
 -- the floats that wait for a place or a column; those in the text are there as boxes
 abbrev pub waiting_floats : FloatLists → ℕ
@@ -47,29 +50,9 @@ pub record Follows (P : Float → Type 0) (a b : Work) : Type 0 where
   pub all : AllWait P a.state.floats → AllWait P b.state.floats
   pub cycles : b.refused ≡ false → (b.state.dead_cycles ≡ a.state.dead_cycles) ⊎ (b.state.dead_cycles ≡ 0)
 
--- a float that goes to a place of its own leaves the others of its list
-abbrev pub LeavesList : Where → Type 0
-LeavesList places.Here = Unit {0}
-LeavesList places.Top = Unit {0}
-LeavesList places.Bottom = Unit {0}
-LeavesList places.Page = Unit {0}
-LeavesList places.Double = Unit {0}
-LeavesList places.Deferred = ⊥
-
-pub part-joined : (from : Part) → IsWaiting from → (place : Where) (f : Float) (gs : List Float) (l : FloatLists) → LeavesList place → floats_of from (FloatMoves.joined_to place f (with_floats_of from gs l)) ≡ gs
-part-joined parts.Deferred q places.Deferred f gs l v = absurd v
-part-joined parts.Deferred q place f gs l v = refl
-part-joined parts.Second q places.Deferred f gs l v = absurd v
-part-joined parts.Second q place f gs l v = refl
-part-joined from q place f gs l v = absurd q
-
 -- what is recorded leaves the state as it is
 pub records-state : (r : Recorded) (w : Work) → (records_also r w).state ≡ w.state
-records-state r w = by_refused w.refused
-  where
-    by_refused : (t : Bool) → (if t then w else record w { records = w.records ++ r ∷ [] }).state ≡ w.state
-    by_refused true = refl
-    by_refused false = refl
+records-state r w = by-records (λ v. v.state ≡ w.state) r w refl refl
 
 -- the current list stays when a float joins a list
 pub joined-current : (place : Where) (f : Float) (l : FloatLists) → (FloatMoves.joined_to place f l).current ≡ l.current
@@ -107,25 +90,14 @@ module _ (P : Float → Type 0) where
     cycles = λ h. later-cycles a.state.dead_cycles b.state.dead_cycles c.state.dead_cycles (x.cycles (y.goes h)) (y.cycles h);
   }
 
-  follows_if : (a : Work) (t : Bool) (b c : Work) → Follows P a b → Follows P a c → Follows P a (if t then b else c)
-  follows_if a true b c x y = x
-  follows_if a false b c x y = y
-
   follows-records : (r : Recorded) (w : Work) → Follows P w (records_also r w)
-  follows-records r w = follows_if w w.refused w (record w { records = w.records ++ r ∷ [] }) (follows-same w) (record { goes = λ h. h; columns = refl; boxes = refl; back = refl; page = refl; current = refl; floats = omega arith; all = λ h. h; cycles = λ h. inl refl })
+  follows-records r w = by-records (Follows P w) r w (follows-same w) (record { goes = λ h. h; columns = refl; boxes = refl; back = refl; page = refl; current = refl; floats = omega arith; all = λ h. h; cycles = λ h. inl refl })
 
-  pub follows-sends : (e : PlainSent) (w : Work) → Follows P w (sends e w)
-  follows-sends e w = follows_if w w.refused w (record w { sent = w.sent ++ e ∷ [] }) (follows-same w) (record { goes = λ h. h; columns = refl; boxes = refl; back = refl; page = refl; current = refl; floats = omega arith; all = λ h. h; cycles = λ h. inl refl })
-
-  -- ---- shipping
-
-  pub follows-ship : (p : Params) (sheet : PlainSheet) (w : Work) → Follows P w (Pages.ship p sheet w)
+  follows-ship : (p : Params) (sheet : PlainSheet) (w : Work) → Follows P w (Pages.ship p sheet w)
   follows-ship p sheet w =
-      let a : Work = record w { state = record w.state { page = w.state.page + 1; dead_cycles = 0 } } in
-      follows_if w w.refused w (if int_lt p.maxpages (pos w.state.page) then record w { refused = true } else Pages.ship_now sheet w) (follows-same w)
-      (follows_if w (int_lt p.maxpages (pos w.state.page)) (record w { refused = true }) (Pages.ship_now sheet w)
+      by-any-ship (Follows P w) p sheet w (follows-same w)
       (record { goes = λ h. let no : ⊥ = grind (arith, h) in absurd no; columns = refl; boxes = refl; back = refl; page = refl; current = refl; floats = omega arith; all = λ h. h; cycles = λ h. inl refl })
-      (follows-then w a (Pages.ship_now sheet w) (record { goes = λ h. h; columns = refl; boxes = refl; back = refl; page = refl; current = refl; floats = omega arith; all = λ h. h; cycles = λ h. inr refl }) (follows-sends (shipped w.state.page sheet) a)))
+      (record { goes = λ h. h; columns = refl; boxes = refl; back = refl; page = refl; current = refl; floats = omega arith; all = λ h. h; cycles = λ h. inr refl })
 
   -- ---- floats
 
@@ -190,14 +162,11 @@ module _ (P : Float → Type 0) where
   all-part parts.Second q gs l h k = record { top = h.top; bottom = h.bottom; deferred = h.deferred; double = h.double; second = k }
   all-part from q gs l h k = absurd q
 
-  -- a float of it goes to its place, or stays
-  pub waiting-step : (from : Part) → IsWaiting from → (p : Params) (place : Where) (f : Float) (before rest : List Float) (w : Work) → floats_of from w.state.floats ≡ before ++ f ∷ rest → Follows P w (FloatMoves.place_waiting from p place f before rest w) × (floats_of from (FloatMoves.place_waiting from p place f before rest w).state.floats ≡ FloatMoves.still_deferred place f before ++ rest)
-  waiting-step from q p place f before rest w e = by_place place
+  -- a float of it goes to its place
+  follows-leaving : (from : Part) → IsWaiting from → (p : Params) (place : Where) (f : Float) (before rest : List Float) (w : Work) → floats_of from w.state.floats ≡ before ++ f ∷ rest → Follows P w (FloatMoves.place_float p place f (with_floats_of from (before ++ rest) w.state.floats) w)
+  follows-leaving from q p place f before rest w e = follows-placed p place f (with_floats_of from (before ++ rest) w.state.floats) w (part-current from q (before ++ rest) w.state.floats) fewer parts-of
     where
-      l : FloatLists
-      l = with_floats_of from (before ++ rest) w.state.floats
-
-      fewer : waiting_floats l + 1 ≤ waiting_floats w.state.floats
+      fewer : waiting_floats (with_floats_of from (before ++ rest) w.state.floats) + 1 ≤ waiting_floats w.state.floats
       fewer =
           let c : waiting_floats (with_floats_of from (before ++ rest) w.state.floats) + length (floats_of from w.state.floats) ≡ waiting_floats w.state.floats + length (before ++ rest) = part-count from q (before ++ rest) w.state.floats in
           sums (waiting_floats (with_floats_of from (before ++ rest) w.state.floats)) (waiting_floats w.state.floats) (length (floats_of from w.state.floats)) (length (before ++ rest)) (length (before ++ f ∷ rest)) (length before) (length rest) (length (f ∷ rest)) c (ap length e) (length-append before rest) (length-append before (f ∷ rest)) refl
@@ -205,44 +174,16 @@ module _ (P : Float → Type 0) where
           sums : (x y a b c i j d : ℕ) → x + a ≡ y + b → a ≡ c → b ≡ i + j → c ≡ i + d → d ≡ suc j → x + 1 ≤ y
           sums x y a b c i j d h k m n o = omega arith
 
-      parts-of : AllWait P w.state.floats → P f × AllWait P l
+      parts-of : AllWait P w.state.floats → P f × AllWait P (with_floats_of from (before ++ rest) w.state.floats)
       parts-of h =
           let d : AllByRecursion P (before ++ f ∷ rest) = subst (AllByRecursion P) e (part-all from q w.state.floats h) in
           ((all-back P before (f ∷ rest) d).0, all-part from q (before ++ rest) w.state.floats h (all-join P before rest (all-front P before (f ∷ rest) d) (all-back P before (f ∷ rest) d).1))
 
-      assoc : (xs : List Float) → xs ++ f ∷ rest ≡ (xs ++ f ∷ []) ++ rest
-      assoc [] = refl
-      assoc (x ∷ xs) = ap (λ ys. x ∷ ys) (assoc xs)
-
-      goes : (place : Where) → LeavesList place → Follows P w (FloatMoves.place_float p place f l w) × (floats_of from (FloatMoves.place_float p place f l w).state.floats ≡ before ++ rest)
-      goes place v = (follows-placed p place f l w (part-current from q (before ++ rest) w.state.floats) fewer parts-of, recorded (FloatMoves.is_placed place))
-        where
-          r : Recorded
-          r = placed f place w.state.floats (column_height_of p w.state.floats)
-
-          recorded : (t : Bool) → floats_of from (with_floats (FloatMoves.joined_to place f l) (if t then records_also r w else w)).state.floats ≡ before ++ rest
-          recorded t = part-joined from q place f (before ++ rest) w.state.floats v
-
-      by_place : (place : Where) → Follows P w (FloatMoves.place_waiting from p place f before rest w) × (floats_of from (FloatMoves.place_waiting from p place f before rest w).state.floats ≡ FloatMoves.still_deferred place f before ++ rest)
-      by_place places.Page = (follows-same w, e ∙ assoc before)
-      by_place places.Deferred = (follows-same w, e ∙ assoc before)
-      by_place place = goes place tt
+  follows-fill : {p : Params} {h : Hand} {a : Work} {i : Hand} {b : Work} → FillMove p h a i b → Follows P a b
+  follows-fill {p} (places_next a f before rest w c e i) = follows-leaving parts.Deferred tt p (where_of a) f before rest w e
 
   pub follows-next : (p : Params) (before fs : List Float) (w : Work) → w.state.floats.deferred ≡ before ++ fs → Follows P w (FloatMoves.place_next p before fs w)
-  follows-next p before [] w e = follows-same w
-  follows-next p before (f ∷ rest) w e =
-      let place = next_place p w.state.floats w.state.suppress before f in
-      let w' = FloatMoves.place_waiting parts.Deferred p place f before rest w in
-      let d : Follows P w (FloatMoves.place_waiting parts.Deferred p place f before rest w) × ((FloatMoves.place_waiting parts.Deferred p place f before rest w).state.floats.deferred ≡ FloatMoves.still_deferred place f before ++ rest) = waiting-step parts.Deferred tt p place f before rest w e in
-      follows-then w w' (FloatMoves.place_next p (FloatMoves.still_deferred place f before) rest w') d.0 (follows-next p (FloatMoves.still_deferred place f before) rest w' d.1)
-
-  pub follows-double : (from : Part) → IsWaiting from → (p : Params) (before fs : List Float) (w : Work) → floats_of from w.state.floats ≡ before ++ fs → Follows P w (FloatMoves.place_double from p before fs w)
-  follows-double from q p before [] w e = follows-same w
-  follows-double from q p before (f ∷ rest) w e =
-      let place = double_place p w.state.floats w.state.suppress before f in
-      let w' = FloatMoves.place_waiting from p place f before rest w in
-      let d : Follows P w (FloatMoves.place_waiting from p place f before rest w) × (floats_of from (FloatMoves.place_waiting from p place f before rest w).state.floats ≡ FloatMoves.still_deferred place f before ++ rest) = waiting-step from q p place f before rest w e in
-      follows-then w w' (FloatMoves.place_double from p (FloatMoves.still_deferred place f before) rest w') d.0 (follows-double from q p (FloatMoves.still_deferred place f before) rest w' d.1)
+  follows-next p before fs w e = goes-on (λ h a i b. Follows P a b) (λ h w. follows-same w) (λ h i j a b c x y. follows-then a b c x y) (λ h i a b m. follows-fill m) (next-moves p before fs w e)
 
   -- ---- companies
 
@@ -276,58 +217,40 @@ module _ (P : Float → Type 0) where
       one-fewer : (x y z : ℕ) → y + 1 ≤ x → z ≤ y → z + 1 ≤ x
       one-fewer x y z h k = omega arith
 
-  follows-wide_by : (p : Params) (clearing : Bool) (again : Work → Work) → ((w : Work) → Follows P w (again w)) → (w : Work) (o : Option (List Choice)) → company (Pages.wide_wanted p clearing) (wide_waiting p w.state.floats) ≡ o → Follows P w (Pages.wide_pages_by again p w o)
-  follows-wide_by p clearing again h w None e = follows-same w
-  follows-wide_by p clearing again h w (Some cs) e = follows-then w (Pages.ship_wide p cs w) (again (Pages.ship_wide p cs w)) (follows-wide p clearing w cs e).0 (h (Pages.ship_wide p cs w))
-
-  pub follows-wide_pages : (p : Params) (clearing : Bool) (n : ℕ) (w : Work) → Follows P w (Pages.wide_pages p clearing n w)
-  follows-wide_pages p clearing zero w = follows-same w
-  follows-wide_pages p clearing (suc n) w = follows-wide_by p clearing (λ w'. Pages.wide_pages p clearing n w') (λ w'. follows-wide_pages p clearing n w') w (company (Pages.wide_wanted p clearing) (wide_waiting p w.state.floats)) refl
-
   -- ---- columns
 
-  nothing : AllByRecursion P []
-  nothing = tt
+  none-left : AllByRecursion P []
+  none-left = tt
 
   -- the double floats are gone
   pub follows-undoubled : (w : Work) → Follows P w (Pages.without_double w) × (waiting_floats (Pages.without_double w).state.floats + length w.state.floats.double ≤ waiting_floats w.state.floats)
-  follows-undoubled w = (record { goes = λ r. r; columns = refl; boxes = refl; back = refl; page = refl; current = refl; floats = omega arith; all = λ x. record { top = x.top; bottom = x.bottom; deferred = x.deferred; double = nothing; second = x.second }; cycles = λ r. inl refl }, omega arith)
+  follows-undoubled w = (record { goes = λ r. r; columns = refl; boxes = refl; back = refl; page = refl; current = refl; floats = omega arith; all = λ x. record { top = x.top; bottom = x.bottom; deferred = x.deferred; double = none-left; second = x.second }; cycles = λ r. inl refl }, omega arith)
 
-  follows-filled : (p : Params) (w : Work) → Follows P w (Pages.fill_double p w)
-  follows-filled p w = follows-double (wide_part p) (wide-waits p) p [] (wide_waiting p w.state.floats) w refl
+  -- ---- each move
 
-  -- what follows the pair's page
-  pub follows-pair_rest : (p : Params) (c : PlainColumn) (w : Work) → Follows P (Pages.ship p (pair_sheet p w.state.floats (Pages.left_or c w.state.left_column) c) w) (Pages.ship_pair p c w)
-  follows-pair_rest p c w =
-      let a = Pages.ship p (pair_sheet p w.state.floats (Pages.left_or c w.state.left_column) c) w in
-      let b = Pages.without_double a in
-      let d = Pages.all_wide_pages p false b in
-      follows-then a b (Pages.ship_pair p c w) (follows-undoubled a).0
-      (follows-then b d (Pages.ship_pair p c w) (follows-wide_pages p false (length (wide_waiting p b.state.floats)) b) (follows-filled p d))
+  follows-move : {p : Params} {h : Hand} {a : Work} {i : Hand} {b : Work} → ColumnMove p h a i b → Follows P a b
+  follows-move {p} (takes_company clearing cs w e) = (company-left (Columns.single_wanted p w.state.floats clearing) w cs e).0
+  follows-move {p} (records_column c w) = follows-records (output c) w
+  follows-move {p} (ships_column c w t) = follows-ship p (one c) w
+  follows-move {p} (ships_pair c w t f) = let sheet = pair_sheet p w.state.floats (Pages.left_or c w.state.left_column) c in follows-then w (Pages.ship p sheet w) _ (follows-ship p sheet w) (follows-undoubled (Pages.ship p sheet w)).0
+  follows-move {p} (ships_wide clearing cs w e) = (follows-wide p clearing w cs e).0
+  follows-move {p} (places_double f before rest w t e i) = follows-leaving (wide_part p) (wide-waits p) p places.Double f before rest w e
+  follows-move m = record { goes = λ r. r; columns = refl; boxes = refl; back = refl; page = refl; current = refl; floats = omega arith; all = λ h. h; cycles = λ r. inl refl }
 
-  follows-pair : (p : Params) (c : PlainColumn) (w : Work) → Follows P w (Pages.ship_pair p c w)
-  follows-pair p c w =
-      let a = Pages.ship p (pair_sheet p w.state.floats (Pages.left_or c w.state.left_column) c) w in
-      follows-then w a (Pages.ship_pair p c w) (follows-ship p _ w) (follows-pair_rest p c w)
+  follows-moves : {p : Params} {h i : Hand} {a b : Work} → Moves (ColumnMove p) h a i b → Follows P a b
+  follows-moves x = goes-on (λ h a i b. Follows P a b) (λ h w. follows-same w) (λ h i j a b c x y. follows-then a b c x y) (λ h i a b m. follows-move m) x
 
-  follows-kept : (c : PlainColumn) (w : Work) → Follows P w (Pages.keep_left c w)
-  follows-kept c w = record { goes = λ r. r; columns = refl; boxes = refl; back = refl; page = refl; current = refl; floats = omega arith; all = λ h. h; cycles = λ r. inl refl }
+  -- ---- the parts of a page
 
-  follows-put_by : (p : Params) (c : PlainColumn) (w : Work) → Follows P w (Pages.put_out_by p c w)
-  follows-put_by p c w = by_columns w.state.two_columns
-    where
-      by_columns : (t : Bool) → Follows P w (if not t then Pages.ship p (one c) w else (if w.state.first_column then Pages.keep_left c w else Pages.ship_pair p c w))
-      by_columns false = follows-ship p (one c) w
-      by_columns true = follows_if w w.state.first_column (Pages.keep_left c w) (Pages.ship_pair p c w) (follows-kept c w) (follows-pair p c w)
+  pub follows-wide_pages : (p : Params) (clearing : Bool) (n : ℕ) (w : Work) → Follows P w (Pages.wide_pages p clearing n w)
+  follows-wide_pages p clearing n w = follows-moves (wide-moves p clearing n w)
 
-  follows-after : (w : Work) → Follows P w (Pages.after_column w)
-  follows-after w = record { goes = λ r. r; columns = refl; boxes = refl; back = refl; page = refl; current = refl; floats = omega arith; all = λ h. h; cycles = λ r. inl refl }
+  -- what follows the page of two columns
+  pub follows-pair_rest : (p : Params) (c : PlainColumn) (w : Work) → w.state.two_columns ≡ true → Follows P (Pages.without_double (Pages.ship p (pair_sheet p w.state.floats (Pages.left_or c w.state.left_column) c) w)) (Pages.ship_pair p c w)
+  follows-pair_rest p c w t = follows-moves (pair_rest-moves p c w t)
 
   pub follows-put_out : (p : Params) (c : PlainColumn) (w : Work) → Follows P w (Pages.put_out p c w)
-  follows-put_out p c w =
-      let a = records_also (output c) w in
-      let b = Pages.put_out_by p c a in
-      follows-then w a (Pages.put_out p c w) (follows-records (output c) w) (follows-then a b (Pages.put_out p c w) (follows-put_by p c a) (follows-after b))
+  follows-put_out p c w = follows-moves (put_out-moves p c w)
 
   pub follows-company : (p : Params) (clearing : Bool) (w : Work) (cs : List Choice) → company (Columns.single_wanted p w.state.floats clearing) w.state.floats.deferred ≡ Some cs → Follows P w (Columns.put_out_company p cs w) × (waiting_floats (Columns.put_out_company p cs w).state.floats + 1 ≤ waiting_floats w.state.floats)
   follows-company p clearing w cs e =
@@ -339,10 +262,5 @@ module _ (P : Float → Type 0) where
       one-fewer : (x y z : ℕ) → y + 1 ≤ x → z ≤ y → z + 1 ≤ x
       one-fewer x y z h k = omega arith
 
-  follows-columns_by : (p : Params) (clearing : Bool) (again : Work → Work) → ((w : Work) → Follows P w (again w)) → (w : Work) (o : Option (List Choice)) → company (Columns.single_wanted p w.state.floats clearing) w.state.floats.deferred ≡ o → Follows P w (Columns.float_columns_by again p w o)
-  follows-columns_by p clearing again h w None e = follows-same w
-  follows-columns_by p clearing again h w (Some cs) e = follows-then w (Columns.put_out_company p cs w) (again (Columns.put_out_company p cs w)) (follows-company p clearing w cs e).0 (h (Columns.put_out_company p cs w))
-
   pub follows-float_columns : (p : Params) (clearing : Bool) (n : ℕ) (w : Work) → Follows P w (Columns.float_columns p clearing n w)
-  follows-float_columns p clearing zero w = follows-same w
-  follows-float_columns p clearing (suc n) w = follows-columns_by p clearing (λ w'. Columns.float_columns p clearing n w') (λ w'. follows-float_columns p clearing n w') w (company (Columns.single_wanted p w.state.floats clearing) w.state.floats.deferred) refl
+  follows-float_columns p clearing n w = follows-moves (float_columns-moves p clearing n w)

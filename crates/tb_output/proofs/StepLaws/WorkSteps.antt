@@ -1,6 +1,6 @@
 -- Each step of a firing continues the work before it.
-use Rattle.std.proofs.Common.{◌≡◌, refl, sym, ◌∙◌, ap, pos, ◌+◌, Bool, true, false, List, [], ◌∷◌, ◌++◌, append_assoc, append-nil, length, arith}
-use Rattle.std.specs.Prelude.{ℕ, ℤ, ◌&&◌, int_lt, not, ◌||◌, if◌then◌else◌}
+use Rattle.std.proofs.Common.{◌≡◌, refl, sym, ◌∙◌, ap, Bool, true, false, List, [], ◌∷◌, ◌++◌, append_assoc, append-nil, length, arith}
+use Rattle.std.specs.Prelude.{ℕ, ℤ, ◌&&◌, not, ◌||◌, if◌then◌else◌}
 use Rattle.tb_node.specs.declared.Float.{Float}
 use Rattle.tb_node.specs.declared.Margin.{Margin}
 use Rattle.tb_node.specs.declared.Where.{Where}
@@ -22,6 +22,7 @@ use Rattle.tb_output.specs.Text
 use Rattle.tb_output.specs.Clear
 use Rattle.tb_output.specs.Output
 use Rattle.tb_output.specs.FiringWork.{Continues}
+use Rattle.tb_output.proofs.StepLaws.RefusedSteps.{unless-stopped, by-records, by-ship}
 use Rattle.tb_output.proofs.StepLaws.ColumnSteps.{RecordLaw, no_law, course, ColumnStep, still, in_turn, records_one, ships_one, place_next-step, place_double-step, ship_wide-step, wide_pages-step, all_wide_pages-step, ship_pair-step, put_out_company-step, float_columns-step}
 use Rattle.tb_output.proofs.StepLaws.FiringSteps.{FiringStep, by_columns, warns_one, changes, fewer, afterwards, put_out_text-step, defer-step, float_goes-step, note_goes-step, first_goes-step, clear_wide-step, output_by-step, next_goal-step}
 
@@ -49,35 +50,20 @@ continues_if w false b c x y = y
 unrefused : {X : Type 0} {t : Bool} → t ≡ false → t ≡ true → X
 unrefused r h = absurd (grind (arith, r, h))
 
--- a step that the page limit stops
-continues-unless : (w next : Work) → (w.refused ≡ false → Continues w next) → Continues w (if w.refused then w else next)
-continues-unless w next h = by_refused w.refused refl
-  where
-    by_refused : (t : Bool) → w.refused ≡ t → Continues w (if t then w else next)
-    by_refused true r = continues-same refl refl refl refl refl
-    by_refused false r = h r
-
 pub continues-puts : (ns : List PlainNode) (w : Work) → Continues w (puts ns w)
 continues-puts ns w = continues-same refl refl refl refl refl
 
 pub continues-sends : (e : PlainSent) (w : Work) → Continues w (sends e w)
-continues-sends e w = continues-unless w (record w { sent = w.sent ++ e ∷ [] }) (λ r. record { more = e ∷ []; sent = refl; refused = λ h. unrefused r h; classes = refl; waiting = refl })
+continues-sends e w = unless-stopped (Continues w) w (record w { sent = w.sent ++ e ∷ [] }) (λ r. continues-same refl refl refl refl refl) (λ r. record { more = e ∷ []; sent = refl; refused = λ h. unrefused r h; classes = refl; waiting = refl })
 
 pub continues-records : (r : Recorded) (w : Work) → Continues w (records_also r w)
-continues-records r w = continues-unless w (record w { records = w.records ++ r ∷ [] }) (λ h. continues-same refl refl refl refl refl)
+continues-records r w = by-records (Continues w) r w (continues-same refl refl refl refl refl) (continues-same refl refl refl refl refl)
 
 pub continues-ship : (p : Params) (sheet : PlainSheet) (w : Work) → Continues w (Pages.ship p sheet w)
-continues-ship p sheet w = continues-unless w (if int_lt p.maxpages (pos w.state.page) then record w { refused = true } else Pages.ship_now sheet w) (λ r. continues_if w (int_lt p.maxpages (pos w.state.page)) (record w { refused = true }) (Pages.ship_now sheet w) (limited r) (now r w.refused r))
-  where
-    limited : w.refused ≡ false → Continues w (record w { refused = true })
-    limited r = record { more = []; sent = sym (append-nil w.sent); refused = λ h. unrefused r h; classes = refl; waiting = refl }
-
-    counted : Work
-    counted = record w { state = record w.state { page = w.state.page + 1; dead_cycles = 0 } }
-
-    now : w.refused ≡ false → (t : Bool) → t ≡ false → Continues w (if t then counted else record counted { sent = counted.sent ++ shipped w.state.page sheet ∷ [] })
-    now r true h = unrefused h refl
-    now r false h = record { more = shipped w.state.page sheet ∷ []; sent = refl; refused = λ k. unrefused r k; classes = refl; waiting = refl }
+continues-ship p sheet w =
+    by-ship (Continues w) p sheet w (λ r. continues-same refl refl refl refl refl)
+    (λ r. record { more = []; sent = sym (append-nil w.sent); refused = λ h. unrefused r h; classes = refl; waiting = refl })
+    (λ r e. record { more = shipped w.state.page sheet ∷ []; sent = refl; refused = λ k. unrefused r k; classes = refl; waiting = refl })
 
 continues-course : {w next : Work} → course next ≡ course w → Continues w next
 continues-course c = continues-same (ap (λ x. x.sent) c) (ap (λ x. x.refused) c) (ap (λ x. x.page) c) (ap (λ x. x.classes) c) (ap (λ x. x.waiting) c)

@@ -3,7 +3,7 @@ use super::{INPUT, REPORT};
 use std::test::Fail;
 use tb_galley::parse;
 use tb_io::SureSink;
-use tb_top::{View, paginate};
+use tb_top::{View, paginate, paginate_plain};
 
 #[test]
 fn each_view_returns_the_totals(rt: HostRuntime) -> Result<(), Fail> {
@@ -20,6 +20,41 @@ fn each_view_returns_the_totals(rt: HostRuntime) -> Result<(), Fail> {
         assert_eq!(rt; totals.pages, 2);
         assert_eq!(rt; totals.boxes, 3);
         assert_eq!(rt; totals.floats, 0);
+        assert_eq!(rt; totals.warnings, 0);
+    }
+    Ok(())
+}
+
+// A float that is taken into the text of a page, after places that were tried.
+const FLOAT_IN_THE_TEXT: &[u8] =
+    b"galley 1\nset textheight 100\nset topskip 10\nset maxdepth 0\nset baselineskip 0\nset bottom flush\nset skipfootins 0\nset footsplittop 10\nset intextsep 0\nset textfloatsep 0\nset floatsep 0\nset fptop 0\nset fpsep 0\nset fpbot 0\nset dbltextfloatsep 0\nbox a 20 0\nglue 0 plus 80\nbox c 0 0\npenalty -50\nfloat F 1 single h 80 par\nbox b 10 0\nend\n";
+
+const ITS_REPORT: &[u8] =
+    b"report 1\npage 1 one\ncolumn 1 text height 100 natural 100 set none\nbox a 0 20 0\nbox c 20 0 0\nfloat F 1 here 20 80\npage 2 one\ncolumn 1 text height 100 natural 10 set stretch fill 90/65536\nbox b 0 10 0\nend pages 2 boxes 3 floats 1 warnings 0\n";
+
+const ITS_TRACE: &[u8] =
+    b"report 1\ntry 17 t 20 s 0 0 0 0 z 0 g 100 b 10000 p 0 c 100000 #\ntry 19 t 20 s 80 0 0 0 z 0 g 100 b 100 p -50 c 50 #\ntry 0 t 20 s 80 0 0 0 z 0 g 100 b 100 p 0 c 100\ntry 0 t 100 s 80 0 0 0 z 0 g 100 b 0 p -200 c -200 #\ntry 22 t 110 s 80 0 0 0 z 0 g 100 b * p 0 c *\npage 1 one\ncolumn 1 text height 100 natural 100 set none\nbox a 0 20 0\nbox c 20 0 0\nfloat F 1 here 20 80\ntry 22 t 10 s 0 0 0 0 z 0 g 100 b 10000 p 0 c 100000 #\ntry 22 t 10 s 0 0 65536 0 z 0 g 100 b 0 p -20000 c -20000 #\npage 2 one\ncolumn 1 text height 100 natural 10 set stretch fill 90/65536\nbox b 0 10 0\nend pages 2 boxes 3 floats 1 warnings 0\n";
+
+#[test]
+fn each_view_of_a_page_makeup(rt: HostRuntime) -> Result<(), Fail> {
+    let alloc = rt.alloc();
+    let Ok(galley) = parse(alloc, FLOAT_IN_THE_TEXT) else {
+        panic!(rt; "the galley is not read");
+    };
+    let views = [
+        (View::Silent, b"".as_slice()),
+        (View::Report, ITS_REPORT),
+        (View::Trace, ITS_TRACE),
+    ];
+    for (view, text) in views {
+        let mut out = SureSink::new(alloc);
+        let Ok(totals) = paginate_plain(alloc, &galley, view, &mut out) else {
+            panic!(rt; "the run is refused");
+        };
+        assert_eq!(rt; out.held(), text);
+        assert_eq!(rt; totals.pages, 2);
+        assert_eq!(rt; totals.boxes, 3);
+        assert_eq!(rt; totals.floats, 1);
         assert_eq!(rt; totals.warnings, 0);
     }
     Ok(())

@@ -1,21 +1,23 @@
 -- The steps of a column leave the classes and how far down notes reach, or no note is in the next column.
-use Rattle.std.proofs.Common.{◌≡◌, refl, ◌∙◌, ℕ, zero, suc, ◌+◌, ℤ, pos, inl, inr, ◌⊎◌, Bool, true, false, List, [], ◌∷◌, ◌++◌, length, Option, Some, None}
-use Rattle.std.specs.Prelude.{int_lt, not, if◌then◌else◌}
+use Rattle.std.proofs.Common.{◌≡◌, refl, ◌∙◌, ℤ, pos, inl, inr, ◌⊎◌, Bool, true, false, [], ◌∷◌, ◌++◌}
+use Rattle.std.specs.Prelude.{if◌then◌else◌}
 use Rattle.tb_node.specs.declared.Float.{Float}
 use Rattle.tb_node.specs.declared.Where.{Where}
+use Rattle.tb_node.specs.declared.Where.TheVariants as places
 use Rattle.tb_param.specs.declared.Params.{Params}
-use Rattle.tb_float.specs.declared.Part.{Part}
-use Rattle.tb_float.specs.declared.Part.TheVariants as parts
-use Rattle.tb_float.specs.Lists.{FloatLists, with_floats_of, wide_part, wide_waiting, with_wide_waiting}
+use Rattle.tb_float.specs.Lists.{FloatLists, with_floats_of, wide_part, with_wide_waiting}
 use Rattle.tb_float.specs.Rooms.{column_height_of}
-use Rattle.tb_fpage.specs.Company.{Choice, company, chosen_floats, left_floats}
-use Rattle.tb_area.specs.Area.{next_place, double_place}
-use Rattle.tb_column.specs.Column.{PlainColumn, single_floats_column}
-use Rattle.tb_sheet.specs.Sheet.{PlainSheet, PlainSent, shipped, one, pair_sheet}
+use Rattle.tb_fpage.specs.Company.{left_floats}
+use Rattle.tb_column.specs.Column.{PlainColumn}
+use Rattle.tb_sheet.specs.Sheet.{PlainSheet, PlainSent, one, pair_sheet}
 use Rattle.tb_output.specs.State.{Work, Recorded, placed, output, sends, records_also, with_floats}
 use Rattle.tb_output.specs.FloatMoves
 use Rattle.tb_output.specs.Pages
 use Rattle.tb_output.specs.Columns
+use Rattle.tb_area.specs.Area.{where_of}
+use Rattle.tb_output.proofs.StepLaws.RefusedSteps.{by-records, by-any-ship}
+use Rattle.tb_output.proofs.StepLaws.Moves.{Hand, ColumnMove, records_column, ships_column, ships_pair, ends_column, ships_wide, places_double, FillMove, places_next, Moves, goes-on}
+use Rattle.tb_output.proofs.StepLaws.FiringTree.{all_wide-moves, put_out-moves, all_columns-moves, fill_column-moves}
 
 pub record Eases (a c : Work) : Type 0 where
   pub classes : c.state.classes ≡ a.state.classes
@@ -37,7 +39,7 @@ pub eases-same : (a : Work) → Eases a a
 eases-same a = record { classes = refl; bottom = inl refl }
 
 records-eases : (r : Recorded) (w : Work) → Eases w (records_also r w)
-records-eases r w = eases-if w w.refused w (record w { records = w.records ++ r ∷ [] }) (eases-same w) (record { classes = refl; bottom = inl refl })
+records-eases r w = by-records (Eases w) r w (eases-same w) (record { classes = refl; bottom = inl refl })
 
 pub sends-eases : (e : PlainSent) (w : Work) → Eases w (sends e w)
 sends-eases e w = eases-if w w.refused w (record w { sent = w.sent ++ e ∷ [] }) (eases-same w) (record { classes = refl; bottom = inl refl })
@@ -46,11 +48,7 @@ pub floats-eases : (l : FloatLists) (w : Work) → Eases w (with_floats l w)
 floats-eases l w = record { classes = refl; bottom = inl refl }
 
 ship-eases : (p : Params) (sheet : PlainSheet) (w : Work) → Eases w (Pages.ship p sheet w)
-ship-eases p sheet w =
-    let a : Work = record w { state = record w.state { page = w.state.page + 1; dead_cycles = 0 } } in
-    eases-if w w.refused w _ (eases-same w)
-    (eases-if w (int_lt p.maxpages (pos w.state.page)) (record w { refused = true }) (Pages.ship_now sheet w) (record { classes = refl; bottom = inl refl })
-    (eases-then w a (Pages.ship_now sheet w) (record { classes = refl; bottom = inl refl }) (sends-eases (shipped w.state.page sheet) a)))
+ship-eases p sheet w = by-any-ship (Eases w) p sheet w (eases-same w) (record { classes = refl; bottom = inl refl }) (record { classes = refl; bottom = inl refl })
 
 -- ---- floats move
 
@@ -60,69 +58,31 @@ placed-eases p place f left w =
     let c : Work = if FloatMoves.is_placed place then r else w in
     eases-then w c (FloatMoves.place_float p place f left w) (eases-if w (FloatMoves.is_placed place) r w (records-eases _ w) (eases-same w)) (floats-eases (FloatMoves.joined_to place f left) c)
 
-waiting-eases : (from : Part) (p : Params) (place : Where) (f : Float) (before rest : List Float) (w : Work) → Eases w (FloatMoves.place_waiting from p place f before rest w)
-waiting-eases from p place f before rest w =
-    eases-if w (FloatMoves.is_placed place) (FloatMoves.place_float p place f (with_floats_of from (before ++ rest) w.state.floats) w) w (placed-eases p place f (with_floats_of from (before ++ rest) w.state.floats) w) (eases-same w)
+-- ---- each move
 
-pub next-eases : (p : Params) (before fs : List Float) (w : Work) → Eases w (FloatMoves.place_next p before fs w)
-next-eases p before [] w = eases-same w
-next-eases p before (f ∷ rest) w =
-    let place = next_place p w.state.floats w.state.suppress before f in
-    let c = FloatMoves.place_waiting parts.Deferred p place f before rest w in
-    eases-then w c (FloatMoves.place_next p before (f ∷ rest) w) (waiting-eases parts.Deferred p place f before rest w) (next-eases p (FloatMoves.still_deferred place f before) rest c)
+column-eases : {p : Params} {h : Hand} {a : Work} {i : Hand} {b : Work} → ColumnMove p h a i b → Eases a b
+column-eases {p} (records_column c w) = records-eases (output c) w
+column-eases {p} (ships_column c w t) = ship-eases p (one c) w
+column-eases {p} (ships_pair c w t f) = eases-then w (Pages.ship p (pair_sheet p w.state.floats (Pages.left_or c w.state.left_column) c) w) _ (ship-eases p _ w) (record { classes = refl; bottom = inl refl })
+column-eases {p} (ends_column w) = record { classes = refl; bottom = inr refl }
+column-eases {p} (ships_wide clearing cs w e) = let a = with_floats (with_wide_waiting p (left_floats cs) w.state.floats) w in eases-then w a (Pages.ship_wide p cs w) (floats-eases _ w) (ship-eases p _ a)
+column-eases {p} (places_double f before rest w t e i) = placed-eases p places.Double f (with_floats_of (wide_part p) (before ++ rest) w.state.floats) w
+column-eases m = record { classes = refl; bottom = inl refl }
 
-double-eases : (from : Part) (p : Params) (before fs : List Float) (w : Work) → Eases w (FloatMoves.place_double from p before fs w)
-double-eases from p before [] w = eases-same w
-double-eases from p before (f ∷ rest) w =
-    let place = double_place p w.state.floats w.state.suppress before f in
-    let c = FloatMoves.place_waiting from p place f before rest w in
-    eases-then w c (FloatMoves.place_double from p before (f ∷ rest) w) (waiting-eases from p place f before rest w) (double-eases from p (FloatMoves.still_deferred place f before) rest c)
-
--- ---- wide pages
-
-wide_by-eases : (p : Params) (again : Work → Work) → ((w : Work) → Eases w (again w)) → (w : Work) (o : Option (List Choice)) → Eases w (Pages.wide_pages_by again p w o)
-wide_by-eases p again h w None = eases-same w
-wide_by-eases p again h w (Some cs) =
-    let a = with_floats (with_wide_waiting p (left_floats cs) w.state.floats) w in
-    eases-then w (Pages.ship_wide p cs w) (again (Pages.ship_wide p cs w)) (eases-then w a (Pages.ship_wide p cs w) (floats-eases _ w) (ship-eases p _ a)) (h (Pages.ship_wide p cs w))
-
-wide_pages-eases : (p : Params) (clearing : Bool) (n : ℕ) (w : Work) → Eases w (Pages.wide_pages p clearing n w)
-wide_pages-eases p clearing zero w = eases-same w
-wide_pages-eases p clearing (suc n) w = wide_by-eases p (λ w'. Pages.wide_pages p clearing n w') (λ w'. wide_pages-eases p clearing n w') w (company (Pages.wide_wanted p clearing) (wide_waiting p w.state.floats))
+columns-ease : {p : Params} {h i : Hand} {a b : Work} → Moves (ColumnMove p) h a i b → Eases a b
+columns-ease x = goes-on (λ h a i b. Eases a b) (λ h w. eases-same w) (λ h i j a b c x y. eases-then a b c x y) (λ h i a b m. column-eases m) x
 
 pub all_wide-eases : (p : Params) (clearing : Bool) (w : Work) → Eases w (Pages.all_wide_pages p clearing w)
-all_wide-eases p clearing w = wide_pages-eases p clearing (length (wide_waiting p w.state.floats)) w
-
--- ---- columns
-
-pair-eases : (p : Params) (c : PlainColumn) (w : Work) → Eases w (Pages.ship_pair p c w)
-pair-eases p c w =
-    let a = Pages.ship p (pair_sheet p w.state.floats (Pages.left_or c w.state.left_column) c) w in
-    let b = Pages.without_double a in
-    let d = Pages.all_wide_pages p false b in
-    eases-then w a (Pages.ship_pair p c w) (ship-eases p _ w)
-    (eases-then a b (Pages.ship_pair p c w) (record { classes = refl; bottom = inl refl })
-    (eases-then b d (Pages.ship_pair p c w) (all_wide-eases p false b) (double-eases (wide_part p) p [] (wide_waiting p d.state.floats) d)))
+all_wide-eases p clearing w = columns-ease (all_wide-moves p clearing w)
 
 pub put_out-eases : (p : Params) (c : PlainColumn) (w : Work) → Eases w (Pages.put_out p c w)
-put_out-eases p c w =
-    let a = records_also (output c) w in
-    let b = Pages.put_out_by p c a in
-    eases-then w a (Pages.put_out p c w) (records-eases (output c) w)
-    (eases-then a b (Pages.put_out p c w)
-    (eases-if a (not a.state.two_columns) (Pages.ship p (one c) a) _ (ship-eases p (one c) a) (eases-if a a.state.first_column (Pages.keep_left c a) (Pages.ship_pair p c a) (record { classes = refl; bottom = inl refl }) (pair-eases p c a)))
-    (record { classes = refl; bottom = inr refl }))
-
-columns_by-eases : (again : Work → Work) → ((w : Work) → Eases w (again w)) → (p : Params) (w : Work) (o : Option (List Choice)) → Eases w (Columns.float_columns_by again p w o)
-columns_by-eases again h p w None = eases-same w
-columns_by-eases again h p w (Some cs) =
-    let a = Pages.with_deferred (left_floats cs) w in
-    let b = Columns.put_out_company p cs w in
-    eases-then w b (again b) (eases-then w a b (floats-eases _ w) (put_out-eases p (single_floats_column p (column_height_of p w.state.floats) (chosen_floats cs)) a)) (h b)
-
-float_columns-eases : (p : Params) (clearing : Bool) (n : ℕ) (w : Work) → Eases w (Columns.float_columns p clearing n w)
-float_columns-eases p clearing zero w = eases-same w
-float_columns-eases p clearing (suc n) w = columns_by-eases (λ w'. Columns.float_columns p clearing n w') (λ w'. float_columns-eases p clearing n w') p w (company (Columns.single_wanted p w.state.floats clearing) w.state.floats.deferred)
+put_out-eases p c w = columns-ease (put_out-moves p c w)
 
 pub all_columns-eases : (p : Params) (clearing : Bool) (w : Work) → Eases w (Columns.all_float_columns p clearing w)
-all_columns-eases p clearing w = float_columns-eases p clearing (length w.state.floats.deferred) w
+all_columns-eases p clearing w = columns-ease (all_columns-moves p clearing w)
+
+fill-eases : {p : Params} {h : Hand} {a : Work} {i : Hand} {b : Work} → FillMove p h a i b → Eases a b
+fill-eases {p} (places_next a f before rest w c e i) = placed-eases p (where_of a) f (record w.state.floats { deferred = before ++ rest }) w
+
+pub fill_column-eases : (p : Params) (w : Work) → Eases w (Columns.fill_column p w)
+fill_column-eases p w = goes-on (λ h a i b. Eases a b) (λ h w. eases-same w) (λ h i j a b c x y. eases-then a b c x y) (λ h i a b m. fill-eases m) (fill_column-moves p w)

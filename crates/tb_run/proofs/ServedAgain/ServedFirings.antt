@@ -30,7 +30,7 @@ use Rattle.tb_sheet.specs.Asked
 use Rattle.tb_output.proofs.StepLaws.FollowLemmas.{Follows, part-current, follows-put_out, follows-float_columns, follows-next, follows-wide_pages}
 use Rattle.tb_run.specs.ServedStates.{notes_taken}
 use Rattle.tb_run.proofs.ServedAgain.BackNodes.{AreBack, AreText, back-append, text-back, clear-back, blank-back, count-take, emptied-sized, emptied-count}
-use Rattle.tb_run.proofs.ServedAgain.EasedWorks.{Eases, all_columns-eases, put_out-eases, next-eases, all_wide-eases}
+use Rattle.tb_run.proofs.ServedAgain.EasedWorks.{Eases, all_columns-eases, put_out-eases, fill_column-eases, all_wide-eases}
 
 -- how far notes may reach if this many of them have no place yet
 abbrev pub reach_where : ℕ → ℕ
@@ -147,7 +147,7 @@ module _ (cs : List Class) (left : ℕ) where
   kept-ordinary n p body w k =
       let a = Columns.put_out_text p body w in
       let b = Columns.all_float_columns p false a in
-      kept-follows n b (Columns.fill_column p b) (kept-columns n p false a (kept-text n p body w k)) (follows-next AnyFloat p [] b.state.floats.deferred b refl) (next-eases p [] b.state.floats.deferred b)
+      kept-follows n b (Columns.fill_column p b) (kept-columns n p false a (kept-text n p body w k)) (follows-next AnyFloat p [] b.state.floats.deferred b refl) (fill_column-eases p b)
 
   -- ---- a clear
 

@@ -9,8 +9,8 @@ use Rattle.std.proofs.KnownBytes.{Appends-trans}
 use Rattle.tb_io.proofs.Appended.{prefix_on}
 use Rattle.tb_report.specs.declared.Totals.{Totals}
 use Rattle.tb_report.specs.Lines.{end_lines}
-use Rattle.tb_plain.specs.Run.{MakeupRun, MakeupEnd, done, page_limit, node_limit}
-use Rattle.tb_plain.specs.Report.{all_lines as page_lines, closing_lines, sent_totals}
+use Rattle.tb_plain.specs.Run.{MakeupRun, MakeupEnd, sent_among, sent_of, done, page_limit, node_limit}
+use Rattle.tb_plain.specs.Report.{closing_lines, sent_totals}
 use Rattle.tb_makeup.specs.declared.makeup.MakeupEnding.{MakeupEnding}
 use Rattle.tb_makeup.specs.declared.makeup.MakeupEnding.TheVariants as endings
 use Rattle.tb_makeup.specs.Makeup.{end_of}
@@ -22,7 +22,7 @@ use Rattle.tb_top.specs.MakeupPages.{makeup_text, makeup_fault, MakesPages, Stop
 use Rattle.tb_top.specs.MakeupWritten.{write_fault, IsRefusalOf, StopsWith, EndsWell}
 use Rattle.tb_top.specs.Views.{viewed}
 use Rattle.tb_top.proofs.Written.GoingLemmas.{header, viewed-append, silent-shown}
-use Rattle.tb_top.proofs.Plain.MakeupGoing.{Closing, view-text}
+use Rattle.tb_top.proofs.Plain.MakeupGoing.{shown_lines, Closing, view-text}
 use Rattle.tb_top.proofs.Plain.MakeupTotals.{all-totals}
 
 -- a run that ended well is done
@@ -43,31 +43,31 @@ failed-write outputs.Memory is = cc
 
 module _ (v : View) (t : Totals) (whole : MakeupRun) (old mid new : Option (List ℕ)) where
   -- the text of a run that is done, with its last line
-  done-text : (c : Closing v done old mid t whole) → makeup_text v whole ≡ viewed v (header ++ page_lines c.shipped) ++ viewed v (end_lines [] t)
+  done-text : (c : Closing v done old mid t whole) → makeup_text v whole ≡ viewed v (header ++ shown_lines v c.events) ++ viewed v (end_lines [] t)
   done-text c =
-      let first = header ++ page_lines c.shipped in
-      ap (makeup_text v) c.run ∙ view-text v (record { sent = c.shipped; end = done }) ∙ viewed-append v first (end_lines [] (sent_totals c.shipped)) ∙ ap (λ (u : Totals). viewed v first ++ viewed v (end_lines [] u)) (sym (c.totals ∙ all-totals c.shipped))
+      let first = header ++ shown_lines v c.events in
+      ap (makeup_text v) c.run ∙ view-text v (record { events = c.events; end = done }) ∙ viewed-append v first (end_lines [] (sent_totals (sent_among c.events))) ∙ ap (λ (u : Totals). viewed v first ++ viewed v (end_lines [] u)) (sym (c.totals ∙ all-totals (sent_among c.events)))
 
   -- that of a run that is refused, which has none
-  stopped-text : (e : MakeupEnd) → (c : Closing v e old mid t whole) → closing_lines e c.shipped ≡ [] → makeup_text v whole ≡ viewed v (header ++ page_lines c.shipped)
+  stopped-text : (e : MakeupEnd) → (c : Closing v e old mid t whole) → closing_lines e (sent_among c.events) ≡ [] → makeup_text v whole ≡ viewed v (header ++ shown_lines v c.events)
   stopped-text e c none =
-      let first = header ++ page_lines c.shipped in
-      ap (makeup_text v) c.run ∙ view-text v (record { sent = c.shipped; end = e }) ∙ ap (λ ls. viewed v (first ++ ls)) none ∙ ap (viewed v) (append-nil first)
+      let first = header ++ shown_lines v c.events in
+      ap (makeup_text v) c.run ∙ view-text v (record { events = c.events; end = e }) ∙ ap (λ ls. viewed v (first ++ ls)) none ∙ ap (viewed v) (append-nil first)
 
   done-well : (u : Totals) → Closing v done old mid t whole → u ≡ t → Appends mid new (viewed v (end_lines [] t)) → MakesPages v whole old new u
   done-well u c is b = record {
     ended = ap (λ (r : MakeupRun). makeup_fault r.end) c.run;
-    totals = is ∙ c.totals ∙ all-totals c.shipped ∙ sym (ap (λ (r : MakeupRun). sent_totals r.sent) c.run);
-    written = subst (Appends old new) (sym (done-text c)) (Appends-trans old mid new (viewed v (header ++ page_lines c.shipped)) (viewed v (end_lines [] t)) c.appended b);
+    totals = is ∙ c.totals ∙ all-totals (sent_among c.events) ∙ sym (ap (λ (r : MakeupRun). sent_totals (sent_of r)) c.run);
+    written = subst (Appends old new) (sym (done-text c)) (Appends-trans old mid new (viewed v (header ++ shown_lines v c.events)) (viewed v (end_lines [] t)) c.appended b);
   }
 
   done-cut : Closing v done old mid t whole → AppendsPrefix mid new (viewed v (end_lines [] t)) → AppendsPrefix old new (makeup_text v whole)
   done-cut c b =
-      let first = viewed v (header ++ page_lines c.shipped) in
+      let first = viewed v (header ++ shown_lines v c.events) in
       let last = viewed v (end_lines [] t) in
       prefix_on old mid new (makeup_text v whole) first last [] c.appended b (done-text c ∙ ap (λ ls. first ++ ls) (sym (append-nil last)))
 
-  stops-run : (e : MakeupEnd) (f : PlainRunFault) → (c : Closing v e old mid t whole) → makeup_fault e ≡ Some f → closing_lines e c.shipped ≡ [] → new ≡ mid → StopsRun v whole old new f
+  stops-run : (e : MakeupEnd) (f : PlainRunFault) → (c : Closing v e old mid t whole) → makeup_fault e ≡ Some f → closing_lines e (sent_among c.events) ≡ [] → new ≡ mid → StopsRun v whole old new f
   stops-run e f c fault none same = record {
     ended = ap (λ (r : MakeupRun). makeup_fault r.end) c.run ∙ fault;
     written = subst (λ x. Appends old x (makeup_text v whole)) (sym same) (subst (Appends old mid) (sym (stopped-text e c none)) c.appended);

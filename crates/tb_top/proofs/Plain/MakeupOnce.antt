@@ -15,7 +15,7 @@ use Rattle.tb_sheet.proofs.PrintedSheets.{sent_prints, sheet_weight, sent_weight
 use Rattle.tb_report.specs.RunTotals.{is_item_box, is_float_box, count_kinds, sheet_nodes}
 use Rattle.tb_plain.specs.GalleyNodes.{clearing_kinds, makeup_kinds, makeup_nodes, made_up}
 use Rattle.tb_plain.specs.Suitability.{IsSuited}
-use Rattle.tb_plain.specs.Run.{done, makeup_of}
+use Rattle.tb_plain.specs.Run.{done, makeup_of, sent_of}
 use Rattle.tb_plain.specs.Report.{sent_totals}
 use Rattle.tb_plain.proofs.WeightLemmas.{NoMargin}
 use Rattle.tb_plain.proofs.GalleyLemmas.{ships-all}
@@ -109,13 +109,13 @@ total-floats (shipped page sheet ∷ es) =
 
 module _ (g : Galley) (valid : IsValid g) (suited : IsSuited g) (ended : (makeup_of g).end ≡ done) where
   abbrev nodes : List PlainNode
-  nodes = sent_nodes (makeup_of g).sent
+  nodes = sent_nodes (sent_of (makeup_of g))
 
   plain_nodes : AllPlain nodes
-  plain_nodes = sent-all (makeup_of g).sent (makeup-plain g)
+  plain_nodes = sent-all (sent_of (makeup_of g)) (makeup-plain g)
 
   shipped-weighs : (v : Weight) → NoMargin v → nodes_weight v nodes ≡ items_weight v g.items
-  shipped-weighs v none = sym (sent-weighs v (makeup_of g).sent) ∙ (ships-all g suited).weighs ended v none ∙ made-weighs v g
+  shipped-weighs v none = sym (sent-weighs v (sent_of (makeup_of g))) ∙ (ships-all g suited).weighs ended v none ∙ made-weighs v g
 
   -- what is shipped measures as the galley
   boxes-shipped : (m : Measure) → m.of (node_lines box_lines_of nodes) ≡ m.of (lines_by text_line g.items) + m.of (lines_by foot_line g.items)
@@ -128,7 +128,7 @@ module _ (g : Galley) (valid : IsValid g) (suited : IsSuited g) (ended : (makeup
   text_outside = text-out 0 g.items (g.end_line ∷ []) valid.lines
 
   text_within : Within (lines_by text_line g.items) (node_lines box_lines_of nodes)
-  text_within = subst (λ l. Within l (node_lines box_lines_of nodes)) (made-shows g) (subst (Within (prints (made_up g))) (sent-shows (makeup_of g).sent ∙ box-lines nodes) ((ships-all g suited).ordered ended))
+  text_within = subst (λ l. Within l (node_lines box_lines_of nodes)) (made-shows g) (subst (Within (prints (made_up g))) (sent-shows (sent_of (makeup_of g)) ∙ box-lines nodes) ((ships-all g suited).ordered ended))
 
   pub makes-up-once : MakesUpOnce g (makeup_of g)
   makes-up-once = record {
@@ -136,7 +136,7 @@ module _ (g : Galley) (valid : IsValid g) (suited : IsSuited g) (ended : (makeup
     feet = feet-once (lines_by foot_line g.items) (lines_by text_line g.items) (node_lines box_lines_of nodes) text_outside boxes-shipped text_within;
     floats = permutation-from-counts (node_lines float_lines_of nodes) (float_lines (galley_floats g.items)) (λ n. floats-shipped (counted n));
     totals = record {
-      boxes = total-boxes (makeup_of g).sent ∙ boxes-shipped how_many;
-      floats = total-floats (makeup_of g).sent ∙ floats-shipped how_many ∙ float-lines (galley_floats g.items);
+      boxes = total-boxes (sent_of (makeup_of g)) ∙ boxes-shipped how_many;
+      floats = total-floats (sent_of (makeup_of g)) ∙ floats-shipped how_many ∙ float-lines (galley_floats g.items);
     };
   }

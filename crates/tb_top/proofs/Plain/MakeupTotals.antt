@@ -14,14 +14,15 @@ use Rattle.tb_sheet.specs.Sheet.{PlainSent, warned, shipped, one}
 use Rattle.tb_report.specs.declared.Totals.{Totals}
 use Rattle.tb_report.specs.RunTotals.{is_item_box, is_float_box, count_kinds, sheet_nodes, no_totals, with_sent, AreCounts}
 use Rattle.tb_items.specs.declared.happenings.Happening.{Happening}
-use Rattle.tb_items.specs.RunEvents.{RunEvent, sent}
 use Rattle.tb_items.specs.Happenings.{events_of, noted, ArePages}
 use Rattle.tb_plain.specs.Firing.{holds_any, makeup_column}
 use Rattle.tb_plain.specs.Report.{sent_totals}
-use Rattle.tb_plain.specs.Run.{MakeupState, MakeupRun, MakeupStep, ends, goes_on, page_limit, node_limit, AtAct, no_act, at_act, first_act, meets_act, makeup_ask, makeup_classes, void_boxes, makeup_reach, act_step, waiting_after, shipping_step, firing_step, last_step, makeup_step, run_by, makeup_from, makeup_of_state, steps_left, done, ejecting_nodes}
+use Rattle.tb_plain.specs.Run.{MakeupEvent, offers, sends, sent_among, sent_of, MakeupState, MakeupRun, MakeupStep, ends, goes_on, page_limit, node_limit, AtAct, no_act, at_act, first_act, meets_act, makeup_ask, makeup_classes, void_boxes, makeup_reach, act_step, waiting_after, shipping_step, firing_step, last_step, makeup_step, step_tries, makeup_from, makeup_of_state, steps_left, done, ejecting_nodes}
+use Rattle.tb_plain.proofs.SentLemmas.{StepBy, run-sends}
 use Rattle.tb_plain.proofs.StepLemmas.{page-less, within}
+use Rattle.tb_makeup.specs.Makeup.{run_events}
+use Rattle.tb_laws.specs.DviPages.{sent_among as sent_in}
 use Rattle.tb_top.specs.Views.{with_events}
-use Rattle.tb_top.proofs.Written.EventCounts.{among-sent}
 use Rattle.tb_top.proofs.Written.TallyLemmas.{AreFewNodes, step-few}
 
 -- ---- totals
@@ -31,9 +32,10 @@ abbrev pub with_all : List PlainSent → Totals → Totals
 with_all [] t = t
 with_all (e ∷ es) t = with_all es (with_sent e t)
 
-pub with-events : (es : List PlainSent) (t : Totals) → with_events (map (λ e. sent e) es) t ≡ with_all es t
+pub with-events : (es : List MakeupEvent) (t : Totals) → with_events (run_events es) t ≡ with_all (sent_among es) t
 with-events [] t = refl
-with-events (e ∷ es) t = with-events es (with_sent e t)
+with-events (offers a ∷ es) t = with-events es t
+with-events (sends e ∷ es) t = with-events es (with_sent e t)
 
 pub all-append : (es rest : List PlainSent) (t : Totals) → with_all (es ++ rest) t ≡ with_all rest (with_all es t)
 all-append [] rest t = refl
@@ -65,13 +67,14 @@ pub few-append : (es rest : List PlainSent) → AreFewNodes es → AreFewNodes r
 few-append [] rest a b = b
 few-append (e ∷ es) rest a b = (a.0, few-append es rest a.1 b)
 
-noted-sent : (es : List PlainSent) → map (λ e. sent e) es ≡ noted false (map (λ e. sent e) es)
-noted-sent [] = refl
-noted-sent (e ∷ es) = ap (λ (xs : List RunEvent). sent e ∷ xs) (noted-sent es)
+among-run : (es : List MakeupEvent) → sent_in (run_events es) ≡ sent_among es
+among-run [] = refl
+among-run (offers t ∷ es) = among-run es
+among-run (sends e ∷ es) = ap (λ xs. e ∷ xs) (among-run es)
 
 -- what a turn sends has not too many nodes
-pub few-sent : (store : Lists Node) (hs : List Happening) (es : List PlainSent) → ArePages store hs → events_of store hs ≡ map (λ e. sent e) es → AreFewNodes es
-few-sent store hs es pages is = subst AreFewNodes (among-sent es) (step-few store hs false (map (λ e. sent e) es) pages (is ∙ noted-sent es))
+pub few-sent : (store : Lists Node) (hs : List Happening) (wanted : Bool) (es : List MakeupEvent) → ArePages store hs → events_of store hs ≡ noted wanted (run_events es) → AreFewNodes (sent_among es)
+few-sent store hs wanted es pages is = subst AreFewNodes (among-run es) (step-few store hs wanted (run_events es) pages is)
 
 record HasAdded (n : ℕ) (t u : Totals) : Type 0 where
   pages : u.pages ≤ t.pages + n
@@ -156,27 +159,28 @@ ships-few p s n = by_act (meets_act w.reached)
     by_act true = act-few p s (first_act s.waiting) n
     by_act false = by_fires w.fires
 
-run-by-few : (p : Params) (fuel : ℕ) (s : MakeupState) → ((u : MakeupState) → 1 ≤ u.number → length (makeup_from p fuel u).sent ≤ nat_abs p.maxpages - pred u.number) → (t : MakeupStep) → ShipsFew p s t
-    → length (run_by (λ u. makeup_from p fuel u) t).sent ≤ nat_abs p.maxpages - pred s.number
+run-by-few : (p : Params) (fuel : ℕ) (s : MakeupState) → ((u : MakeupState) → 1 ≤ u.number → length (sent_of (makeup_from p fuel u)) ≤ nat_abs p.maxpages - pred u.number) → (t : MakeupStep) → ShipsFew p s t
+    → StepBy (λ es e. length es ≤ nat_abs p.maxpages - pred s.number) (λ u. makeup_from p fuel u) t
 run-by-few p fuel s later (ends es e) h = h
 run-by-few p fuel s later (goes_on es u) h =
-    let a = length-append es (makeup_from p fuel u).sent in
+    let a = length-append es (sent_of (makeup_from p fuel u)) in
     let b = later u h.0 in
     let c = h.1 in
     omega (arith, a, b, c)
 
-run-few : (p : Params) (fuel : ℕ) (s : MakeupState) → 1 ≤ s.number → length (makeup_from p fuel s).sent ≤ nat_abs p.maxpages - pred s.number
+run-few : (p : Params) (fuel : ℕ) (s : MakeupState) → 1 ≤ s.number → length (sent_of (makeup_from p fuel s)) ≤ nat_abs p.maxpages - pred s.number
 unfolding makeup_from
 run-few p zero s n = omega arith
-run-few p (suc fuel) s n = run-by-few p fuel s (λ u k. run-few p fuel u k) (makeup_step p s) (ships-few p s n)
+run-few p (suc fuel) s n =
+    run-sends (λ es e. length es ≤ nat_abs p.maxpages - pred s.number) (λ u. makeup_from p fuel u) (step_tries p s) (makeup_step p s) (run-by-few p fuel s (λ u k. run-few p fuel u k) (makeup_step p s) (ships-few p s n))
 
 -- a run ships no more pages than may be
-pub makeup-few : (p : Params) (s : MakeupState) → s.number ≡ 1 → length (makeup_of_state p s).sent ≤ nat_abs p.maxpages
+pub makeup-few : (p : Params) (s : MakeupState) → s.number ≡ 1 → length (sent_of (makeup_of_state p s)) ≤ nat_abs p.maxpages
 makeup-few p s first = by_nodes (int_lt p.maxnodes (pos (node_count s.waiting)))
   where
-    by_nodes : (t : Bool) → length (if t then (let r : MakeupRun = record { sent = []; end = node_limit (node_count s.waiting) } in r) else makeup_from p (suc (steps_left p s)) s).sent ≤ nat_abs p.maxpages
+    by_nodes : (t : Bool) → length (sent_of (if t then (let r : MakeupRun = record { events = []; end = node_limit (node_count s.waiting) } in r) else makeup_from p (suc (steps_left p s)) s)) ≤ nat_abs p.maxpages
     by_nodes true = omega arith
     by_nodes false =
         let least : 1 ≤ s.number = omega (arith, first) in
-        let a : length (makeup_from p (suc (steps_left p s)) s).sent ≤ nat_abs p.maxpages - pred s.number = run-few p (suc (steps_left p s)) s least in
+        let a : length (sent_of (makeup_from p (suc (steps_left p s)) s)) ≤ nat_abs p.maxpages - pred s.number = run-few p (suc (steps_left p s)) s least in
         omega (arith, a)

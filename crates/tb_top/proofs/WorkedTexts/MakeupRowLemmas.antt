@@ -8,12 +8,14 @@ use Rattle.tb_galley.specs.Words.{word_of}
 use Rattle.tb_galley.specs.Grammar.{grammar}
 use Rattle.tb_break.specs.Cost.{page_badness, cost_of_badness}
 use Rattle.tb_plain.specs.GalleyNodes.{made_up}
-use Rattle.tb_plain.specs.Run.{makeup_of, makeup_from, makeup_step}
+use Rattle.tb_plain.specs.Run.{makeup_of, makeup_from, makeup_step, step_tries}
 use Rattle.tb_plain.specs.Report.{makeup_report}
+use Rattle.tb_top.specs.MakeupTrace.{makeup_trace}
 use Rattle.tb_top.specs.MakeupRows.{MakeupRows}
+use Rattle.tb_top.specs.MakeupTraceRows.{MakeupTraceRows}
 
 pub makeup_rows : MakeupRows
-unfolding grammar row_of word_of makeup_report makeup_of makeup_from makeup_step made_up default_params digits page_badness cost_of_badness badness_of
+unfolding grammar row_of word_of makeup_report makeup_of makeup_from makeup_step step_tries made_up default_params digits page_badness cost_of_badness badness_of
 makeup_rows = record {
   empty_galley = record { answered = refl; written = refl; told = refl };
   page_of_text = record { answered = refl; written = refl; told = refl };
@@ -28,3 +30,7 @@ makeup_rows = record {
   two_columns = record { answered = refl; written = refl; told = refl };
   foot_of_another_class = record { answered = refl; written = refl; told = refl };
 }
+
+pub makeup_trace_rows : MakeupTraceRows
+unfolding grammar row_of word_of makeup_trace makeup_of makeup_from makeup_step step_tries made_up default_params digits page_badness cost_of_badness badness_of
+makeup_trace_rows = record { float_in_the_text = refl }

@@ -65,7 +65,7 @@ event_text views.Report e = event_lines e
 event_text views.Trace e = traced_lines e
 event_text views.Silent e = event_lines e
 
-lines-append : (v : View) (es rest : List RunEvent) → all_lines (event_text v) (es ++ rest) ≡ all_lines (event_text v) es ++ all_lines (event_text v) rest
+pub lines-append : (v : View) (es rest : List RunEvent) → all_lines (event_text v) (es ++ rest) ≡ all_lines (event_text v) es ++ all_lines (event_text v) rest
 lines-append v [] rest = refl
 lines-append v (e ∷ es) rest = ap (λ ls. event_text v e ++ ls) (lines-append v es rest) ∙ sym (append_assoc (event_text v e) (all_lines (event_text v) es) (all_lines (event_text v) rest))
 

@@ -6,13 +6,13 @@ use Rattle.tb_io.specs.Sink.{AppendsPrefix}
 use Rattle.tb_param.specs.declared.Params.{Params}
 use Rattle.tb_report.specs.RunTotals.{AreCounts}
 use Rattle.tb_builder.specs.Contents.{Contents, box_count}
-use Rattle.tb_items.specs.Happenings.{events_of, ArePages}
+use Rattle.tb_items.specs.Happenings.{events_of, noted, ArePages}
 use Rattle.tb_plain.specs.declared.Plain.{Plain}
 use Rattle.tb_makeup.specs.declared.makeup.MakeupEnding.{MakeupEnding}
-use Rattle.tb_makeup.specs.Makeup.{state_of, end_of, turns_left, GoesTo, AreHappened}
+use Rattle.tb_makeup.specs.Makeup.{state_of, end_of, turns_left, GoesTo, AreHappened, run_events}
 use Rattle.tb_top.specs.MakeupWritten.{run_on}
 use Rattle.tb_top.specs.Report.{all_lines, traced_lines}
-use Rattle.tb_top.specs.Views.{viewed, with_events}
+use Rattle.tb_top.specs.Views.{is_traced, viewed, with_events}
 use Rattle.tb_top.proofs.Plain.MakeupClosing.{refuses-cut, ends-well, stops-with, stops-cause, stops-shown}
 use Rattle.tb_top.proofs.Plain.MakeupGoing.{Closing, prefix-now, prefix-first, start-closing, start-going, turn-cut, turn-closing, turn-fewer, turn-counts, turn-going}
 use Rattle.tb_top.proofs.Plain.MakeupTotals.{makeup-few}
@@ -79,12 +79,16 @@ send-requires-clause-pages g c = subst (λ hs. ArePages c.turn.new.self.store hs
 goes : (g : Over) (c : In_ok-ending g) → GoesTo c.turn.new.self c.in_ok-ending.ending c.args.makeup.now.plain.params c.in_ok-ending.ensures.turned.es (state_of c.page.makeup)
 goes g c = subst (λ (p : Params). GoesTo c.turn.new.self c.in_ok-ending.ending p c.in_ok-ending.ensures.turned.es (state_of c.page.makeup)) c.page.invariant.params c.in_ok-ending.ensures.turned.goes
 
+-- what happened is what the view shows of it
+notes : (g : Over) (c : In_ok-ending g) → events_of c.turn.new.self.store c.turn.new.happened.items ≡ noted (is_traced c.args.view) (run_events c.in_ok-ending.ensures.turned.es)
+notes g c = subst (λ b. events_of c.turn.new.self.store c.turn.new.happened.items ≡ noted b (run_events c.in_ok-ending.ensures.turned.es)) c.is_traced.ensures c.in_ok-ending.ensures.turned.events
+
 pub send-requires-clause-room : goal.send-requires-clause-room
 send-requires-clause-room g c =
     let turned = c.in_ok-ending.ensures.turned in
     let p = c.args.makeup.now.plain.params in
     subst (λ hs. AreCounts (with_events (events_of c.turn.new.self.store hs) c.page.totals)) (sym c.deref.ensures.value)
-    (turn-counts p c.args.view (state_of c.page.makeup) _ _ c.page.totals (run_on c.args.makeup.now) c.page.invariant.going c.turn.new.self c.turn.new.happened.items c.in_ok-ending.ending turned.es turned.events (goes g (goal.at.send-requires-clause-room g c).In_ok-ending) c.in_ok-ending.ensures.pages
+    (turn-counts p c.args.view (state_of c.page.makeup) _ _ c.page.totals (run_on c.args.makeup.now) c.page.invariant.going c.turn.new.self c.turn.new.happened.items c.in_ok-ending.ending turned.es (notes g (goal.at.send-requires-clause-room g c).In_ok-ending) (goes g (goal.at.send-requires-clause-room g c).In_ok-ending) c.in_ok-ending.ensures.pages
     (few-firings p c.requires.params).pages (makeup-few c.args.makeup.now.plain.params (state_of c.args.makeup.now) c.requires.page))
 
 pub returns-in_err-send-clause-refused : goal.returns-in_err-send-clause-refused
@@ -94,7 +98,7 @@ returns-in_err-send-clause-refused g c =
     let part = subst (λ hs. AppendsPrefix (g.K.Sink.held c.page.out) (g.K.Sink.held c.send.new.out) (viewed c.args.view (all_lines traced_lines (events_of c.turn.new.self.store hs)))) c.deref.ensures.value c.in_err-send.ensures.shown.part in
     rw (p.1, p.2)
     (refuses-cut c.args.view (run_on c.args.makeup.now) _ _ c.in_err-send.field-0.0
-    (turn-cut c.args.makeup.now.plain.params c.args.view (state_of c.page.makeup) _ _ c.page.totals (run_on c.args.makeup.now) c.page.invariant.going c.turn.new.self c.turn.new.happened.items c.in_ok-ending.ending turned.es turned.events (goes g (goal.at.returns-in_err-send-clause-refused g c).In_ok-ending) _ part))
+    (turn-cut c.args.makeup.now.plain.params c.args.view (state_of c.page.makeup) _ _ c.page.totals (run_on c.args.makeup.now) c.page.invariant.going c.turn.new.self c.turn.new.happened.items c.in_ok-ending.ending turned.es (notes g (goal.at.returns-in_err-send-clause-refused g c).In_ok-ending) (goes g (goal.at.returns-in_err-send-clause-refused g c).In_ok-ending) _ part))
 
 -- what a turn sent is shown, and counted
 shown : (g : Over) (c : In_ok-send g) → Appends (g.K.Sink.held c.page.out) (g.K.Sink.held c.send.new.out) (viewed c.args.view (all_lines traced_lines (events_of c.turn.new.self.store c.turn.new.happened.items)))
@@ -106,22 +110,23 @@ counted g c = c.in_ok-send.ensures.counted ∙ ap (λ hs. with_events (events_of
 -- ---- the turn was the last
 
 -- nothing but the end of the run is left
-ends-here : (g : Over) (c : In_ok-send g) → GoesTo c.turn.new.self c.in_ok-ending.ending c.args.makeup.now.plain.params c.in_ok-ending.ensures.turned.es (state_of c.page.makeup) → (e : MakeupEnding) → c.in_ok-ending.ending ≡ Some e
+ends-here : (g : Over) (c : In_ok-send g) → GoesTo c.turn.new.self c.in_ok-ending.ending c.args.makeup.now.plain.params c.in_ok-ending.ensures.turned.es (state_of c.page.makeup) → events_of c.turn.new.self.store c.turn.new.happened.items ≡ noted (is_traced c.args.view) (run_events c.in_ok-ending.ensures.turned.es)
+    → (e : MakeupEnding) → c.in_ok-ending.ending ≡ Some e
     → Closing c.args.view (end_of e) (g.K.Sink.held c.args.out.now) (g.K.Sink.held c.send.new.out) c.send.new.totals (run_on c.args.makeup.now)
-ends-here g c to e some =
+ends-here g c to seen e some =
     let turned = c.in_ok-ending.ensures.turned in
-    turn-closing c.args.makeup.now.plain.params c.args.view (state_of c.page.makeup) _ _ c.page.totals (run_on c.args.makeup.now) c.page.invariant.going c.turn.new.self c.turn.new.happened.items c.in_ok-ending.ending turned.es turned.events to _ c.send.new.totals e some (shown g c) (counted g c)
+    turn-closing c.args.makeup.now.plain.params c.args.view (state_of c.page.makeup) _ _ c.page.totals (run_on c.args.makeup.now) c.page.invariant.going c.turn.new.self c.turn.new.happened.items c.in_ok-ending.ending turned.es seen to _ c.send.new.totals e some (shown g c) (counted g c)
 
 pub returns-in-Some-ending-clause-done : goal.returns-in-Some-ending-clause-done
 returns-in-Some-ending-clause-done g c =
     let w = goal.at.returns-in-Some-ending-clause-done g c in
-    let closing = ends-here g w.In_ok-send (goes g w.In_ok-ending) c.in-Some-ending.ending c.in-Some-ending.is in
+    let closing = ends-here g w.In_ok-send (goes g w.In_ok-ending) (notes g w.In_ok-ending) c.in-Some-ending.ending c.in-Some-ending.is in
     IfOk-weaker c.finish-in-Some-ending.result _ _ (λ u h. ends-well c.args.view c.send.new.totals (run_on c.args.makeup.now) _ _ _ c.in-Some-ending.ending u closing h) c.finish-in-Some-ending.ensures.done
 
 pub returns-in-Some-ending-clause-refused : goal.returns-in-Some-ending-clause-refused
 returns-in-Some-ending-clause-refused g c =
     let w = goal.at.returns-in-Some-ending-clause-refused g c in
-    let closing = ends-here g w.In_ok-send (goes g w.In_ok-ending) c.in-Some-ending.ending c.in-Some-ending.is in
+    let closing = ends-here g w.In_ok-send (goes g w.In_ok-ending) (notes g w.In_ok-ending) c.in-Some-ending.ending c.in-Some-ending.is in
     IfErr-weaker c.finish-in-Some-ending.result _ _ (λ f h. stops-with c.args.view c.send.new.totals (run_on c.args.makeup.now) _ _ _ c.in-Some-ending.ending _ _ f closing h) c.finish-in-Some-ending.ensures.refused
 
 pub returns-in-Some-ending-clause-cause : goal.returns-in-Some-ending-clause-cause
@@ -142,7 +147,7 @@ done_with-requires-clause-lists g c = subst (AreHappened c.turn.new.self) (sym c
 pub page-smaller : goal.page-smaller
 page-smaller g c =
     let turned = c.in_ok-ending.ensures.turned in
-    let fewer = turn-fewer c.args.makeup.now.plain.params c.args.view (state_of c.page.makeup) _ _ c.page.totals (run_on c.args.makeup.now) c.page.invariant.going c.turn.new.self c.turn.new.happened.items c.in_ok-ending.ending turned.es turned.events (goes g (goal.at.page-smaller g c).In_ok-ending) c.in_default-ending.is in
+    let fewer = turn-fewer c.args.makeup.now.plain.params c.args.view (state_of c.page.makeup) _ _ c.page.totals (run_on c.args.makeup.now) c.page.invariant.going c.turn.new.self c.turn.new.happened.items c.in_ok-ending.ending turned.es (notes g (goal.at.page-smaller g c).In_ok-ending) (goes g (goal.at.page-smaller g c).In_ok-ending) c.in_default-ending.is in
     subst (λ s. turns_left c.args.makeup.now.plain.params s < turns_left c.args.makeup.now.plain.params (state_of c.page.makeup)) (sym c.done_with.ensures.state) fewer
 
 pub page-preserved : goal.page-preserved
@@ -154,6 +159,6 @@ page-preserved g c =
     record {
       ready = c.done_with.ensures.ready;
       params = ap (λ (m : Plain). m.params) c.done_with.ensures.plain ∙ c.in_ok-ending.ensures.params ∙ c.page.invariant.params;
-      going = turn-going c.args.makeup.now.plain.params c.args.view (state_of c.page.makeup) _ _ c.page.totals (run_on c.args.makeup.now) c.page.invariant.going c.turn.new.self c.turn.new.happened.items c.in_ok-ending.ending turned.es turned.events (goes g w.In_ok-ending) c.in_ok-ending.ensures.pages _ c.send.new.totals (state_of c.done_with.new.self) c.done_with.ensures.state c.in_default-ending.is (shown g w.In_ok-send) (counted g w.In_ok-send);
+      going = turn-going c.args.makeup.now.plain.params c.args.view (state_of c.page.makeup) _ _ c.page.totals (run_on c.args.makeup.now) c.page.invariant.going c.turn.new.self c.turn.new.happened.items c.in_ok-ending.ending turned.es (notes g w.In_ok-ending) (goes g w.In_ok-ending) c.in_ok-ending.ensures.pages _ c.send.new.totals (state_of c.done_with.new.self) c.done_with.ensures.state c.in_default-ending.is (shown g w.In_ok-send) (counted g w.In_ok-send);
       later = omega (arith, start, later);
     }

@@ -3,7 +3,7 @@ use Rattle.tb_top.proofs.WorkedTexts.FloatRowLemmas.{float_rows}
 use Rattle.tb_top.proofs.WorkedTexts.ColumnRowLemmas.{column_rows}
 use Rattle.tb_top.proofs.WorkedTexts.VersionRowLemmas.{version_rows}
 use Rattle.tb_top.proofs.WorkedTexts.LinesRowLemmas.{lines_rows}
-use Rattle.tb_top.proofs.WorkedTexts.MakeupRowLemmas.{makeup_rows}
+use Rattle.tb_top.proofs.WorkedTexts.MakeupRowLemmas.{makeup_rows, makeup_trace_rows}
 use Rattle.tb_top.proofs.rows.check_rows.Goals as goal
 
 pub returns-clause-text : goal.returns-clause-text
@@ -23,3 +23,6 @@ returns-clause-lines c = lines_rows
 
 pub returns-clause-makeup : goal.returns-clause-makeup
 returns-clause-makeup c = makeup_rows
+
+pub returns-clause-makeup_trace : goal.returns-clause-makeup_trace
+returns-clause-makeup_trace c = makeup_trace_rows

@@ -1,4 +1,4 @@
-use Rattle.std.proofs.Common.{sym, subst, ◌∙◌, ◌++◌, ◌∷◌, []}
+use Rattle.std.proofs.Common.{refl, sym, subst, ◌∙◌, ◌++◌, ◌∷◌, []}
 use Rattle.std.specs.Prelude.{IfNone}
 use Rattle.tb_items.specs.declared.happenings.Happening.TheVariants as happenings
 use Rattle.tb_makeup.specs.declared.makeup.Makeup.{Makeup}
@@ -32,10 +32,10 @@ limit_after_page-requires-clause-bounded c =
 
 pub returns-in_ok-note_sent-in-Ok : goal.returns-in_ok-note_sent-in-Ok
 returns-in_ok-note_sent-in-Ok c =
-    subst (λ (x : Makeup). Ships c.args.page c.args.self.now c.limit_after_page.result x c.note_sent.new.happened.items) (sym c.limit_after_page.ensures.same)
+    subst (λ (x : Makeup). Ships c.args.page c.args.self.now c.limit_after_page.result x c.args.happened.now.items c.note_sent.new.happened.items) (sym c.limit_after_page.ensures.same)
     (ships c.args.self.now c.args.page c.in-Ok.made c.fire.new.self c.fire.new.b c.fire.new.store c.requires.can c.in-Ok.ensures.fires
     (record c.put_back.new.self { bound = c.limit_after_page.new.self.bound }) c.put_back.ensures.sound c.put_back.ensures.contents c.put_back.ensures.others c.put_back.ensures.keeps c.put_back.ensures.plain c.put_back.ensures.ask c.put_back.ensures.limit
-    c.note_sent.new.happened.items (c.in_ok-note_sent-in-Ok.ensures ∙ (λ i. c.requires.empty i ++ happenings.Sent (c.sent_page.ensures i) ∷ []))
+    c.args.happened.now.items c.note_sent.new.happened.items c.requires.tries (c.in_ok-note_sent-in-Ok.ensures ∙ (λ i. c.args.happened.now.items ++ happenings.Sent (c.sent_page.ensures i) ∷ []))
     c.limit_after_page.result
     (subst (λ (x : Makeup). IfNone c.limit_after_page.result (IsBounded 0 (state_of x) x.bound)) c.limit_after_page.ensures.same c.limit_after_page.ensures.bounded)
     c.limit_after_page.ensures.limit)
@@ -46,7 +46,7 @@ returns-in-Err-PageLimit c =
     record {
       over = refused.1;
       pages = refused.0;
-      none = c.requires.empty;
+      none = refl;
       sound = same-sound c.args.self.now.builder c.fire.new.b c.args.self.now.store c.fire.new.store c.requires.can.sound c.in-Err-PageLimit.ensures.err_builder c.in-Err-PageLimit.ensures.err_lists;
       plain = c.in-Err-PageLimit.ensures.err_same;
     }

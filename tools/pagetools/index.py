@@ -1,0 +1,183 @@
+"""The index of a document's pictures: a page of HTML that stands alone. All drawings are in it, so that tips and the
+browser's search work; the browser lays out those alone that are seen (CSS `content-visibility')."""
+import os
+from bisect import bisect_right
+from dataclasses import dataclass, field
+from html import escape
+
+from . import svg
+
+PT = 65536.0
+HERE = os.path.dirname(os.path.abspath(__file__))
+
+PAGE = '''<!doctype html>
+<html lang="en">
+<meta charset="utf-8">
+<meta name="viewport" content="width=device-width">
+<title>%(title)s: %(pages)s</title>
+<style>
+%(style)s
+</style>
+<svg width="0" height="0" aria-hidden="true" style="position:absolute"><defs>%(patterns)s</defs></svg>
+<header>
+<div class="bar">
+<h1>%(title)s</h1> <span>%(pages)s</span>
+<span class="steps"><button id="previous" title="left arrow">\u2039 previous</button>
+<button id="next" title="right arrow">next \u203a</button></span>
+<span class="views"><button data-view="small">small</button> <button data-view="whole">whole page</button>
+<button data-view="wide">width</button> <button data-view="spread">spread</button></span>
+</div>
+<nav aria-label="pages">%(numbers)s</nav>
+</header>
+<section>
+%(facts)s
+</section>
+<main class="whole">
+%(figures)s
+</main>
+<script>
+%(script)s
+</script>
+</html>
+'''
+
+
+# ---- What is told of the whole document
+
+@dataclass
+class Facts:
+    """What the index says besides the pages."""
+    totals: list = field(default_factory=list)       # of the comparison with LaTeX's pages and places
+    losses: list = field(default_factory=list)       # what the galley can't say
+    warnings: list = field(default_factory=list)     # the number of the page, the words of the report
+    floats: list = field(default_factory=list)       # a FloatRow for each
+
+
+def points(text):
+    return '%.2fpt' % (int(text) / PT)
+
+
+def warning_text(warning):
+    """A warning of a report in words, with its size in points."""
+    kind, name, *size = warning.split()
+    if kind == 'large':
+        return 'float %s is higher than the page by %s' % (name, points(size[0]))
+    if kind == 'ht':
+        return 'float %s may go to the top too' % name
+    if kind == 'moved':
+        return 'marginal note %s moved down by %s' % (name, points(size[0]))
+    return 'text page %s has floats alone' % name
+
+
+@dataclass
+class FloatRow:
+    """Where a float was called and where it stands."""
+    item: object         # of the report
+    page: int
+    called: int          # the page with the text before its call, 0 where that is unknown
+
+
+def text_lines(pages, entries):
+    """By galley the lines of the text's boxes, rising, each with its page."""
+    lines = {}
+    for page in pages:
+        for _, item in page.items():
+            entry = entries.get(id(item))
+            if entry and item.kind == 'box' and not entry.foot:
+                lines.setdefault(entry.part, []).append((entry.line, page.number))
+    return {part: sorted(rows) for part, rows in lines.items()}
+
+
+def float_rows(pages, entries):
+    """A row for each float, in the order of pages."""
+    lines, rows = text_lines(pages, entries), []
+    for page in pages:
+        for _, item in page.items():
+            if item.kind == 'float':
+                entry = entries.get(id(item))
+                text = lines.get(entry.part, []) if entry else []
+                called = text[max(bisect_right(text, (entry.line, 0)) - 1, 0)][1] if text else 0
+                rows.append(FloatRow(item, page.number, called))
+    return rows
+
+
+def page_link(number):
+    return '<a href="#page-%d">page %d</a>' % (number, number)
+
+
+def details(title, rows):
+    """A heading that opens its rows; '' without any."""
+    if not rows:
+        return ''
+    return '<details><summary>%s (%d)</summary><ul>%s</ul></details>' % (
+        title, len(rows), ''.join('<li>%s</li>' % row for row in rows))
+
+
+def float_table(rows):
+    if not rows:
+        return ''
+    lines = ''.join('<tr><td>%s<td>%d<td>%s<td>%s<td>%s<td>%.1fpt' % (
+        escape(row.item.name), row.item.number, page_link(row.called) if row.called else '', page_link(row.page),
+        escape(row.item.place), row.item.height / PT) for row in rows)
+    return ('<details><summary>Floats (%d)</summary><table><tr><th>Float<th>Class<th>Called on<th>Placed on<th>Area'
+            '<th>Height%s</table></details>') % (len(rows), lines)
+
+
+def facts_text(facts, figures):
+    told = ['<p>%s</p>' % escape(line) for line in facts.totals]
+    told.append(details("Pages that differ from LaTeX's",
+                        ['%s: %s' % (figure.link('page %d' % figure.number), escape(figure.difference))
+                         for figure in figures if figure.difference]))
+    told.append(details('Warnings', ['%s: %s' % (page_link(number), escape(warning_text(warning)))
+                                     for number, warning in facts.warnings]))
+    told.append(details("What the galley can't say, and what it says otherwise", [escape(line) for line in facts.losses]))
+    told.append(float_table(facts.floats))
+    return '\n'.join(line for line in told if line)
+
+
+# ---- Pages
+
+@dataclass
+class Figure:
+    """A page of the index, or two that differ."""
+    identity: str        # in the page of HTML
+    number: int
+    difference: str
+    text: str
+
+    def link(self, words):
+        kind = ' class="differs"' if self.difference else ''
+        return '<a href="#%s"%s>%s</a>' % (self.identity, kind, words)
+
+
+def figure(sheet, drawings):
+    """The figure of a sheet with its drawings, LaTeX's first."""
+    number, verdict = sheet.number(), sheet.verdict
+    difference = verdict.difference if verdict else ''
+    names = ['%s%d' % ("LaTeX's page " if k < len(drawings) - 1 else 'page ', number) for k in range(len(drawings))]
+    if not sheet.page:
+        names = ["LaTeX's page %d" % number]
+    ratio = sum(drawing.width / drawing.height for drawing in drawings)
+    kinds = ['left' if number % 2 == 0 else 'right'] + (['pair'] if len(drawings) > 1 else [])
+    link = '<a href="page%03d%s.svg">%s</a>' % (number, '' if sheet.page else '-latex', names[-1])
+    told = ' <em>%s</em>' % escape(difference) if difference else " the same as LaTeX's" if verdict else ''
+    pictures = '\n'.join(drawing.inline(name) for drawing, name in zip(drawings, names))
+    identity = 'page-%d' % number if sheet.page else 'latex-%d' % number
+    text = '<figure id="%s" class="%s" style="--ratio:%.4f">\n%s\n<figcaption>%s%s</figcaption>\n</figure>' % (
+        identity, ' '.join(kinds), ratio, pictures, link, told)
+    return Figure(identity, number, difference, text)
+
+
+def stored(name):
+    with open(os.path.join(HERE, name), encoding='utf-8') as file:
+        return file.read().rstrip()
+
+
+def write(path, title, pages, figures, facts):
+    """Writes the index of so many pages."""
+    parts = {'title': escape(title), 'pages': '%d page%s' % (pages, '' if pages == 1 else 's'),
+             'style': svg.style() + '\n' + stored('index.css'), 'patterns': svg.patterns(),
+             'numbers': ' '.join(figure.link(str(figure.number)) for figure in figures), 'facts': facts_text(facts, figures),
+             'figures': '\n'.join(figure.text for figure in figures), 'script': stored('index.js')}
+    with open(path, 'w', encoding='utf-8') as out:
+        out.write(PAGE % parts)

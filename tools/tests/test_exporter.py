@@ -1,0 +1,87 @@
+"""Tests of the exporter on small documents, where LuaLaTeX is installed; else they are left out. Run by tools/test."""
+import os
+import re
+import shutil
+import subprocess
+import unittest
+
+from support import HERE, Scratch
+
+PACKAGE = os.path.join(HERE, os.pardir, 'galleyexport')
+FLOAT = r'\begin{figure}[%s]\vbox to 3cm{}\caption{A}\end{figure} '
+PAGE = r'Words.\vspace*{10cm} Words.\marginpar{note} \newpage '
+
+
+@unittest.skipUnless(shutil.which('lualatex'), 'no lualatex')
+class Exporter(Scratch):
+    def export(self, text, name='test', options='', preamble=''):
+        """Compiles a document with the exporter. Gives LaTeX's log."""
+        with open(self.path(name + '.tex'), 'w', encoding='utf-8') as out:
+            out.write(r'\documentclass[%s]{article}\usepackage{galleyexport}\makeatletter %s\makeatother'
+                      r'\begin{document}%s\end{document}' % (options, preamble, text))
+        subprocess.run(['lualatex', '-interaction=nonstopmode', name + '.tex'], cwd=self.folder, check=False,
+                       stdin=subprocess.DEVNULL, stdout=subprocess.DEVNULL, stderr=subprocess.DEVNULL, timeout=300,
+                       env=dict(os.environ, TEXINPUTS='.:%s:' % PACKAGE, max_print_line='100000'))
+        return self.read(name + '.log')
+
+    def read(self, name):
+        with open(self.path(name), encoding='utf-8', errors='replace') as file:
+            return file.read()
+
+    def test_void_boxes_do_not_end_latex(self):
+        log = self.export(r'\twocolumn[\vbox to 50cm{A head that is too high}] Words. ' + FLOAT % 't')
+        self.assertTrue('node lib' not in log and 'Output written' in log)
+        self.assertIn('a box over both columns that is void', self.read('test.galleylog'))
+        log = self.export(r'\twocolumn[\begin{center}A [head] \end{center}] Words. ' + FLOAT % 't')
+        self.assertTrue('node lib' not in log)
+
+    def test_a_name_with_a_space_and_a_suppression_before_the_text(self):
+        self.export(r'\suppressfloats ' + FLOAT % 't' + 'Words.', name='two words')
+        lines = self.read('two words.galley').splitlines()
+        self.assertIn('suppressfloats', lines)
+        self.assertLess(lines.index('suppressfloats'), next(k for k, line in enumerate(lines) if line.startswith('float ')))
+
+    def test_the_footnote_rule_by_its_sums(self):
+        text = r'Words.\footnote{A note.}'
+        for rule, is_told in ((r'\kern-3pt\hbox{}\hrule width 2in\kern1.6pt\vskip1pt', False),
+                              (r'\kern-3pt\hrule width 2in\kern1.6pt', True),
+                              (r'\kern-3pt\vfill\hrule width 2in\kern2.6pt', True)):
+            self.export(text, preamble=r'\def\footnoterule{%s}' % rule)
+            self.assertEqual('the footnote rule' in self.read('test.galleylog'), is_told, rule)
+
+    def test_notes_of_a_class_with_sides_of_its_own(self):
+        self.export(PAGE * 2, preamble=r'\let\old\@addmarginpar\def\@addmarginpar{{\@reversemargintrue\old}}')
+        self.assertIn('by the pages: mparswitch off and reversemargin on', self.read('test.galleylog'))
+        self.assertIn('\nset reversemargin on\n', self.read('test.galley'))
+
+    def test_odd_and_even_pages_change_places(self):
+        self.export(PAGE * 2 + r'\clearpage\setcounter{page}{2}' + PAGE * 2, options='twoside')
+        self.assertNotIn('skip.even', self.read('test.galley'))
+        self.assertIn('box skip.even.1 0 0\nnewpage\nnote start.1\n', self.read('test.2.galley'))
+        self.assertNotIn('sides', self.read('test.galleylog'))
+
+    def test_a_box_over_both_columns_between_notes(self):
+        self.export(PAGE * 2 + r'\twocolumn[A head]Words. \onecolumn ' + PAGE * 2, options='twoside')
+        self.assertNotIn('skip.', self.read('test.galley'))
+        self.assertIn('\nbox skip.title.1.1 0 0\n', self.read('test.2.galley'))
+        self.assertNotIn('sides', self.read('test.galleylog'))
+
+    def test_what_the_output_routine_changes(self):
+        self.export(PAGE * 2, preamble=r'\topskip20pt \let\old\@outputpage \def\@outputpage{\old\global\topskip10pt }')
+        self.assertRegex(self.read('test.galleylog'),
+                         r"can't say: topskip, which the output routine changes from 1310720 to 655360: 1 times")
+
+    def test_areas_of_floats_with_footmisc(self):
+        if subprocess.run(['kpsewhich', 'footmisc.sty'], stdout=subprocess.DEVNULL, check=False).returncode:
+            self.skipTest('footmisc is not installed')
+        self.export(FLOAT % 't' + FLOAT % 'b' + r'Words.\footnote{A note.}', preamble=r'\usepackage[bottom]{footmisc}')
+        self.assertEqual(re.findall(r'^float figure\.\d 1 (\w+)', self.read('test.pages'), re.M), ['top', 'bottom'])
+
+    def test_which_float_waits(self):
+        log = self.export(r'Words.\vspace*{15cm} Words. ' + FLOAT % 'h' + FLOAT % 'h' + 'Words.')
+        waits, warning = log.index('galleyexport: waits figure.'), log.index('float specifier changed')
+        self.assertLess(waits, warning)
+
+
+if __name__ == '__main__':
+    unittest.main()

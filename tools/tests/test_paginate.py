@@ -1,0 +1,93 @@
+"""Tests of tools/paginate with stand-ins for lualatex and galley_pages, which give stored files. Run by tools/test."""
+import os
+import unittest
+from unittest import mock
+
+from support import STORED, Scratch, run, stored
+
+from pagetools import paginate
+
+# Stands for lualatex: the stored files of notes.tex under the name of the job, or a log with an error.
+FAKE_LATEX = '''#!/usr/bin/env python3
+import os, shutil, sys
+name = sys.argv[2].partition('=')[2]
+with open('runs', 'a') as runs: runs.write('run\\n')
+if os.environ.get('FAILS'):
+    with open(name + '.log', 'w') as log: log.write("text\\n! LaTeX Error: File `none.sty' not found.\\n! Emergency stop.\\n")
+    sys.exit(1)
+for ending in ('galley', 'galleylog', 'pages', 'log'):
+    shutil.copy(os.path.join(%r, 'notes.' + ending), name + '.' + ending)
+open(name + '.aux', 'w').close()
+'''
+
+# Stands for galley_pages: the stored report and trace of notes.tex.
+FAKE_PROGRAM = '''#!/usr/bin/env python3
+import sys
+sys.stdin.read()
+print(open(%r + sys.argv[2]).read(), end='')
+'''
+
+
+class Documents(Scratch):
+    def setUp(self):
+        super().setUp()
+        self.script('lualatex', FAKE_LATEX % STORED)
+        self.script('program', FAKE_PROGRAM % stored('notes.'))
+        settings = {'PATH': self.folder + os.pathsep + os.environ['PATH'], 'GALLEY_PAGES': self.path('program')}
+        patch = mock.patch.dict(os.environ, settings)
+        patch.start()
+        self.addCleanup(patch.stop)
+        with open(self.path('my notes.tex'), 'w', encoding='utf-8') as out:
+            out.write('text')
+
+    def script(self, name, text):
+        with open(self.path(name), 'w', encoding='utf-8') as out:
+            out.write(text)
+        os.chmod(self.path(name), 0o755)
+
+    def paginate(self, *arguments):
+        return run(paginate.main, *arguments, '--out', self.path('out of it'))
+
+    def test_a_document_with_a_space_in_its_name(self):
+        status, said = self.paginate(self.path('my notes.tex'))
+        self.assertEqual(status, 0, said)
+        self.assertIn('LaTeX, run 2 of at most 3\ngalleyexport: ', said)
+        self.assertIn('3 pages are the same in every place\nmy notes: LaTeX made 3 pages', said)
+        self.assertTrue(os.path.exists(self.path('out of it/pictures/index.html')))
+
+    def test_auxiliary_files_of_an_earlier_call_save_a_run(self):
+        for _ in range(2):
+            self.paginate(self.path('my notes.tex'), '--no-pictures')
+        with open(self.path('out of it/runs'), encoding='utf-8') as runs:
+            self.assertEqual(runs.read().count('run'), 3)
+
+    def test_why_no_galley_was_written(self):
+        with mock.patch.dict(os.environ, FAILS='yes'):
+            status, said = self.paginate(self.path('my notes.tex'))
+        self.assertEqual(status, 2)
+        self.assertIn("  ! LaTeX Error: File `none.sty' not found.\n  ! Emergency stop.\n", said)
+        self.assertEqual(said.count('LaTeX, run'), 1)
+
+    def test_wrong_arguments(self):
+        for arguments in ([], ['a.tex', '--out'], ['a.tex', 'b.tex'], ['--none', 'a.tex']):
+            with self.assertRaises(SystemExit) as ended:
+                run(paginate.main, *arguments)
+            self.assertEqual(ended.exception.code, 2)
+        with self.assertRaises(SystemExit) as ended:
+            run(paginate.main, '--help')
+        self.assertEqual(ended.exception.code, 0)
+        self.assertEqual(self.paginate(self.path('none.tex'))[0], 2)
+
+    def test_names(self):
+        for path, name in (('a/b.tex', 'b'), ('b.ltx', 'b'), ('b.dtx', 'b.dtx'), ('a.b.tex', 'a.b')):
+            self.assertEqual(paginate.document_name(path), name)
+
+    def test_parts_in_order(self):
+        notes = paginate.Document('a [b].tex', self.folder, '')
+        for name in ('a [b].galley', 'a [b].10.galley', 'a [b].2.galley', 'a [b] c.galley', 'a b.galley'):
+            open(self.path(name), 'w', encoding='utf-8').close()
+        self.assertEqual([os.path.basename(path) for path in notes.parts('.galley')],
+                         ['a [b].galley', 'a [b].2.galley', 'a [b].10.galley'])
+
+if __name__ == '__main__':
+    unittest.main()
