@@ -1,5 +1,5 @@
 #!/usr/bin/env bash
-# Runs the program over ends that fail: a pipe that nobody reads, a full device, a directory, ends that are closed. Prints the
+# Runs the program over input and output that fail: a pipe that nobody reads, a full device, a directory, closed streams. Prints the
 # status of each run, and fails if a status, the line on standard error or what was written is not what docs/FORMATS.md says.
 #
 # usage: bench/failing_ends.sh [PROGRAM]   default crates/galley_pages/out/galley_pages, as `rt run` leaves it

@@ -48,7 +48,7 @@ if [ $# -gt 0 ]; then
   callgrind_annotate "$work/calls" | grep -A 16 'file:function' | tail -n 15
   exit
 fi
-echo '| Input                            | Million instructions | Without proofs | Times | Memory, MB | Twice the input |'
+echo '| Input                            | Million instructions | Without proofs | Ratio | Memory, MB | Growth when the input doubles |'
 echo '|---|---|---|---|---|---|'
 row '7.9 MB of text' 188 "$work/text" "$work/text_half"
 row 'its canonical text' 168 "$work/text" "$work/text_half" --mode print
