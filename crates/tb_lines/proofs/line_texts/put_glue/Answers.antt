@@ -1,14 +1,8 @@
-use Rattle.std.proofs.Common.{ap, ◌∙◌, ◌++◌, append_assoc, Result, Ok, Err}
-use Rattle.std.specs.Prelude.{OnOk}
-use Rattle.tb_lines.specs.LineText.{width_text, fixed_text}
+use Rattle.std.proofs.Common.{refl}
+use Rattle.tb_text.proofs.FrontLemmas.{on_joined, when_ok}
+use Rattle.tb_lines.specs.LineText.{glue_line}
 use Rattle.tb_lines.proofs.line_texts.put_glue.Goals as goal
-
-on_ok : {T E : Type 0} (r : Result T E) (P Q : Type 0) → (P → Q) → OnOk r P → OnOk r Q
-on_ok (Ok x) P Q f h = f h
-on_ok (Err e) P Q f h = h
 
 pub returns : goal.returns
 returns c =
-    on_ok c.put.result _ _
-    (λ e. e ∙ ap (λ xs. xs ++ fixed_text) c.in_ok-put_width.ensures ∙ append_assoc c.args.out.now.items (width_text c.args.width) fixed_text)
-    c.put.ensures
+    when_ok c.put.result c.args.out.now.items (glue_line c.args.width) c.put.new.out.items (on_joined c.put.result c.args.out.now.items c.put_width.new.out.items c.put.new.out.items _ _ _ refl c.in_ok-put_width.ensures c.put.ensures)
