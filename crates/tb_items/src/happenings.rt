@@ -1,6 +1,6 @@
 //! What happens while a page is made.
 
-ghost use Rattle.std.specs.Prelude.{◌≡◌, ◌++◌, ◌∷◌, [], OnOk};
+ghost use Rattle.std.specs.Prelude.{◌≡◌, ◌++◌, ◌∷◌, [], MatchResult};
 ghost use Rattle.tb_items.specs.Happenings.{noted_try};
 
 use std::alloc::AllocError;
@@ -35,9 +35,9 @@ pub enum Happening {
     Sent(Event),
 }
 
-/// Appends a place that was tried, if `wanted` is set. It fails only if memory runs out.
+/// Appends a place that was tried, if `wanted` is set. It fails only if memory runs out; nothing is appended then.
 pub fn note_try(happened: &mut Vec<Happening>, wanted: bool, tried: Try) -> Result<(), AllocError>
-    ensures { OnOk result (happened.new.items ≡ happened.old.items ++ noted_try wanted tried) }
+    ensures { MatchResult result (λ _. happened.new.items ≡ happened.old.items ++ noted_try wanted tried) (λ _. happened.new.items ≡ happened.old.items) }
 {
     if wanted {
         happened.push(Happening::Tried(tried))?;
@@ -45,9 +45,9 @@ pub fn note_try(happened: &mut Vec<Happening>, wanted: bool, tried: Try) -> Resu
     Ok(())
 }
 
-/// Appends what the output routine sent. It fails only if memory runs out.
+/// Appends what the output routine sent. It fails only if memory runs out; nothing is appended then.
 pub fn note_sent(happened: &mut Vec<Happening>, sent: Sent) -> Result<(), AllocError>
-    ensures { OnOk result (happened.new.items ≡ happened.old.items ++ Happening.Sent sent ∷ []) }
+    ensures { MatchResult result (λ _. happened.new.items ≡ happened.old.items ++ Happening.Sent sent ∷ []) (λ _. happened.new.items ≡ happened.old.items) }
 {
     happened.push(Happening::Sent(Event { sent }))?;
     Ok(())

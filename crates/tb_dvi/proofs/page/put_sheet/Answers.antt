@@ -2,8 +2,8 @@ use Rattle.std.proofs.Common.{rules, pos, [], ◌∷◌, sym, subst, OnErr, Fits
 use Rattle.std.proofs.lemmas.Int.{to_z-of_z}
 use Rattle.std.proofs.lemmas.List.Elements.{All-cons}
 use Rattle.tb_dvi.specs.declared.page.Part.{Part}
-use Rattle.tb_column.specs.declared.Sheet.{Sheet}
-use Rattle.tb_column.specs.StoredColumns.{sheet_shown}
+use Rattle.tb_sheet.specs.declared.Sheet.{Sheet}
+use Rattle.tb_sheet.specs.StoredSheets.{sheet_shown}
 use Rattle.tb_text.specs.Fronts.{PutsFront}
 use Rattle.tb_dvi.specs.File.{sheet_page, page_bytes}
 use Rattle.tb_dvi.specs.Page.{IsShowable}
