@@ -2,7 +2,7 @@
 # Prints nanoseconds a node of what is done to each of a million nodes (push, iterate, find, pop), and nanoseconds a
 # call of what moves half of them to another list and back (cut in the middle, append).
 #
-# The program is in bench/lists/, each file of the crate with .txt after its name: the gate refuses .rt and .antt
+# The program is in bench/lists/, each file of the crate with .txt after its name: `rt ci` refuses .rt and .antt
 # files that are no part of a crate in crates/. So it is made in a repository of its own, over copies of the crates that
 # it measures. `rt run` builds what it proved and nothing else: the proof takes some minutes if `rt check` kept
 # nothing, then the program runs for a second.

@@ -215,7 +215,7 @@ class ColumnDrawing:
             if left > 14:
                 self.drawing.text(self.box_x, self.y + (bottom + self.height) / 2 + 1.7, '%.1f' % left, 5.2, shape)
 
-    # ---- What is told of the whole column
+    # ---- What is written below a column
 
     def _setting(self):
         column = self.column

@@ -42,7 +42,7 @@ PAGE = '''<!doctype html>
 '''
 
 
-# ---- What is told of the whole document
+# ---- What is written of the whole document
 
 @dataclass
 class Facts:

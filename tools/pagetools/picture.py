@@ -21,7 +21,7 @@ COLUMN_GAP = 22.0
 MARGIN_ROOM = 96.0
 EDGE = 38.0
 TOP = 40.0
-FOOT = 64.0              # the room below the columns: what is told of them, and links
+FOOT = 64.0              # the room below the columns: what is written of them, and links
 
 
 class PageDrawing:
