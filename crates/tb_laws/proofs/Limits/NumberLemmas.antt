@@ -26,6 +26,7 @@ use Rattle.tb_area.specs.Laws.{KeepsLimits}
 use Rattle.tb_area.proofs.LawLemmas.{current-laws, next-laws, double-laws}
 use Rattle.tb_margin.specs.declared.Placed.{Placed}
 use Rattle.tb_column.specs.Column.{PlainColumn, Notes}
+use Rattle.tb_sheet.specs.Asked
 use Rattle.tb_sheet.specs.Sheet.{PlainSheet, PlainSent, warned, shipped, one, pair_sheet}
 use Rattle.tb_sheet.specs.declared.Warn.TheVariants as warnings
 use Rattle.tb_output.specs.State.{State, Work, Recorded, placed, output, begun, puts, sends, records_also, with_floats, footnotes, has_floats}
@@ -367,15 +368,15 @@ module _ (p : Params) where
   output_by-numbered : (f : Fired) (w : Work) → Numbered w → Numbered (Output.output_by p f w)
   output_by-numbered f w h =
       numbered_if (int_le eject_penalty f.penalty) (Columns.ordinary p f.body w) _ (ordinary-numbered f.body w h)
-      (numbered_if (Output.is_int f.penalty Output.clear_penalty) (Clear.clear p f.body w) _ (clear_by-numbered f.body w (footnotes w.state) h)
-      (numbered_if (Output.is_int f.penalty Output.par_penalty) (Text.float_or_note p false f.body w) _ (float_or_note-numbered false f.body w h)
-      (numbered_if (Output.is_int f.penalty Output.vert_penalty) (Text.float_or_note p true f.body w) (Output.hold f.body w) (float_or_note-numbered true f.body w h) (record { lists = h.lists; records = h.records }))))
+      (numbered_if (Output.is_int f.penalty Asked.clear_penalty) (Clear.clear p f.body w) _ (clear_by-numbered f.body w (footnotes w.state) h)
+      (numbered_if (Output.is_int f.penalty Asked.par_penalty) (Text.float_or_note p false f.body w) _ (float_or_note-numbered false f.body w h)
+      (numbered_if (Output.is_int f.penalty Asked.vert_penalty) (Text.float_or_note p true f.body w) (Output.hold f.body w) (float_or_note-numbered true f.body w h) (record { lists = h.lists; records = h.records }))))
 
   next_goal-numbered : (n : ℤ) (w : Work) → Numbered w → Numbered (Output.next_goal p n w)
   next_goal-numbered n w h =
       let room = column_room_of p w.state.floats in
       let told = sends (warned (warnings.Floats w.state.page)) w in
-      numbered_if (Output.is_int n Output.hold_penalty) (Output.with_goal max_dimen w) (Output.goal_by p room w) (record { lists = h.lists; records = h.records })
+      numbered_if (Output.is_int n Asked.hold_penalty) (Output.with_goal max_dimen w) (Output.goal_by p room w) (record { lists = h.lists; records = h.records })
       (numbered_if (Output.is_crowded p room) (Output.leave_column w) (Output.with_goal room w) (puts-numbered _ told (sends-numbered (warned (warnings.Floats w.state.page)) w h)) (record { lists = h.lists; records = h.records }))
 
   -- a firing leaves lists that hold no more, and records such lists alone
