@@ -50,6 +50,7 @@ impl From<AllocError> for DviRunFault {
 }
 
 impl From<SinkFault> for DviRunFault {
+    ghost use Rattle.tb_top.specs.declared.dvi_pages.DviRunFault.TheVariants.{Pages};
     ghost use Rattle.tb_top.specs.PagesWritten.{write_fault};
 
     ghost from_gives = { λ fault e. e ≡ Pages (write_fault fault) };
