@@ -3,7 +3,7 @@ use super::{INPUT, REPORT};
 use std::test::Fail;
 use tb_galley::parse;
 use tb_io::SureSink;
-use tb_top::{View, paginate, paginate_plain};
+use tb_top::{View, first_unsuited, paginate, paginate_plain};
 
 #[test]
 fn each_view_returns_the_totals(rt: HostRuntime) -> Result<(), Fail> {
@@ -40,6 +40,9 @@ fn each_view_of_a_page_makeup(rt: HostRuntime) -> Result<(), Fail> {
     let alloc = rt.alloc();
     let Ok(galley) = parse(alloc, FLOAT_IN_THE_TEXT) else {
         panic!(rt; "the galley is not read");
+    };
+    let None = first_unsuited(&galley) else {
+        panic!(rt; "an item is not supported");
     };
     let views = [
         (View::Silent, b"".as_slice()),
