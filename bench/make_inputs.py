@@ -294,11 +294,11 @@ OTHER = (
     Input("clear_flat", clear_flat, 1000, report("one clear of 1000 floats without height"), 1000),
     Input("flat_floats", flat_floats, 500, report("500 floats without height that never fill a page"), 500),
     Input("floats_one_page", floats_one_page, 500, report("500 floats on one page")),
-    Input("rebuilt_page", rebuilt_page, 10000, report("a page of 10000 places built 200 times"), 5000),
+    Input("rebuilt_page", rebuilt_page, 10000, report("a page of 10000 places, built again for each 50"), 5000),
     Input("columns", columns, 1000, report("1000 changes of columns and back, with floats"), 4000),
     Input("floats_one_class", floats_one_class, 1000, report("1000 floats of one class that wait")),
-    Input("flat_words", flat_words, 1200, by_lines("1200 words without width")),
-    Input("narrow_words", narrow_words, 12000, by_lines("12000 narrow words")),
+    Input("flat_words", flat_words, 1500, by_lines("1500 words without width")),
+    Input("narrow_words", narrow_words, 1500, by_lines("1500 narrow words")),
 )
 INPUTS = USUAL + OTHER
 
