@@ -121,8 +121,8 @@ def set_lines(count):
 
 
 def notes_one_page(count):
-    """Marginal notes on one page, a box before each; each note has the page built again."""
-    return galley(ENDLESS) + [it for k in range(count) for it in (line_of(f"b{k}"), f"margin m{k} 5pt 1pt 5pt 1pt par")] + ["end"]
+    """Marginal notes on one page, a box of 1sp before each; each note has the page built again."""
+    return galley(ENDLESS) + [it for k in range(count) for it in (f"box b{k} 1 0", f"margin m{k} 5pt 1pt 5pt 1pt par")] + ["end"]
 
 
 def notes_many_pages(count):
@@ -283,7 +283,7 @@ OTHER = (
     Input("comment_lines", comment_lines, 500000, report("500000 lines of #")),
     Input("set_lines", set_lines, 200000, report("200000 lines of `set`")),
     Input("faulty_text", faulty_text, 33333, report("7.9 MB of text with a fault in the last line"), status=3),
-    Input("notes_one_page", notes_one_page, 800, report("800 marginal notes on one page"), 1000),
+    Input("notes_one_page", notes_one_page, 800, report("800 marginal notes on one page"), 500),
     Input("notes_many_pages", notes_many_pages, 2000, report("2000 marginal notes on many pages")),
     Input("feet_one_place", feet_one_place, 3000, report("3000 footnotes of one line at one place"), 4000),
     Input("long_foot", long_foot, 12000, report("one footnote of 12000 lines"), 6000),
