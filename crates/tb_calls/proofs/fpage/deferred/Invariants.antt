@@ -1,5 +1,0 @@
-use Rattle.tb_float.specs.Pool.{HasNoMarks}
-use Rattle.tb_calls.proofs.fpage.deferred.Given as goal
-
-abbrev pub invariant-loop-height : goal.invariant-loop-height
-invariant-loop-height l = HasNoMarks l.pool
