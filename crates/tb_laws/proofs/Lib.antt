@@ -9,3 +9,4 @@ pub mod Limits
 pub mod ClassesRise
 pub mod DeadCycles
 pub mod DviFiles
+pub mod PlanLemmas

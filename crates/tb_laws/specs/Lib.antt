@@ -5,3 +5,4 @@ pub mod Laws
 pub mod AreaNumbers
 pub mod DeadCycles
 pub mod Firings
+pub mod PlanLaws

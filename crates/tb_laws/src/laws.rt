@@ -3,6 +3,7 @@
 ghost use Rattle.tb_laws.specs.AreaNumbers.{NumbersHold};
 ghost use Rattle.tb_laws.specs.DeadCycles.{DeadCyclesAreFew};
 ghost use Rattle.tb_laws.specs.Firings.{BoundsAgree, EndsHaveReasons};
+ghost use Rattle.tb_laws.specs.PlanLaws.{BreaksKeepLimits, BreaksKeepOrder, BreaksKeepTotals, BreaksKeepValid, BreaksShipOnce};
 ghost use Rattle.tb_laws.specs.Laws.{ClassesKeepOrder, EachShipsOnce, FilesListTheirPages, LimitsHold, ListsAreEmptied, TotalsAreKept};
 
 /// The run of a galley is defined: each firing ships a page or adds to the dead cycles, so the bound on the firings, with
@@ -60,4 +61,27 @@ pub fn dead_cycles_are_few()
 /// most 8388608 bytes, the lister's machine on the file lists exactly the placements of the run, page by page.
 pub fn dvi_files_list_their_pages()
     ensures { FilesListTheirPages }
+{}
+
+/// Page breaks that are put into a valid galley leave it valid, if it has then no more items than a galley may have.
+pub fn breaks_keep_valid()
+    ensures { BreaksKeepValid }
+{}
+
+/// Whatever page breaks are put into a valid galley, if its run ends well then each box, rule, float and marginal note of
+/// the galley ships once, and its text in order. The totals are the galley's.
+pub fn breaks_ship_once()
+    ensures once { BreaksShipOnce }
+    ensures totals { BreaksKeepTotals }
+{}
+
+/// Whatever page breaks are put into a valid galley, if its run ends well then the galley's floats of one class keep their
+/// order.
+pub fn breaks_keep_order()
+    ensures { BreaksKeepOrder }
+{}
+
+/// Whatever page breaks are put into a galley, no area takes a float past its limits.
+pub fn breaks_keep_limits()
+    ensures { BreaksKeepLimits }
 {}
