@@ -3,7 +3,7 @@ use Rattle.std.specs.Prelude.{◌≡◌, ℤ, pos, ◌+ℤ◌, ◌≤◌, Bool, 
 use Rattle.std.specs.List.{list_any}
 use Rattle.tb_pool.specs.Lists.{Lists}
 use Rattle.tb_node.specs.declared.Node.{Node}
-use Rattle.tb_node.specs.Shape.{is_box, is_discardable}
+use Rattle.tb_node.specs.Shape.{Shape, box, glue, kern, penalty, other, is_box, is_discardable}
 use Rattle.tb_node.specs.PlainNodes.{hbox, rule, skip, kerned, pen, mark, note, whatsit, PlainKind, plain, ins, act, PlainNode, node_shape, shape_of, is_insertion_kind}
 use Rattle.tb_node.specs.Sums.{size_of}
 use Rattle.tb_node.specs.Roles.{act_of_kind}
@@ -60,6 +60,14 @@ pub record AtStop (z : Frozen) (k : Course) (page waiting : List PlainNode) : Ty
   pub reached : breakpoints (reach_from z.limit (terms_after z) [] (page ++ waiting)).reached ≡ places_by z page waiting ++ stop ∷ []
   pub passed : (reach_from z.limit (terms_after z) [] (page ++ waiting)).passed ≡ page
   pub beyond : (reach_from z.limit (terms_after z) [] (page ++ waiting)).beyond ≡ waiting
+
+-- a node of this shape takes no room: it vanishes if it is a penalty, and else it lasts
+abbrev pub IsFlat : Bool → Shape → Type 0
+IsFlat lasting (box h d) = ⊥
+IsFlat lasting (glue g) = ⊥
+IsFlat lasting (kern w) = ⊥
+IsFlat lasting (penalty p) = lasting ≡ false
+IsFlat lasting other = lasting ≡ true
 
 -- a mark, a note or a whatsit
 abbrev pub is_loose : PlainKind → Bool

@@ -31,15 +31,15 @@ pub record LeadsOn (b : Builder) (s : Lists Node) (ask : Ask) (d : Builder) (t :
   pub keeps : KeepsOthers (ids_of b) s (ids_of d) t
   pub later : (e : Event) (x : Builder) (y : Lists Node) → ComesAfter d t ask e x y → ComesAfter b s ask e x y
 
--- what a walk sees of a node of this kind: a box, glue, or another node
+-- what a walk sees of a node of this kind: a box; glue; a penalty; a mark, note or whatsit; or another node
 abbrev pub seen_of : Kind → Seen
 seen_of (kinds.Hbox what h d) = seen.Solid h d
 seen_of (kinds.Rule name h d) = seen.Other
 seen_of (kinds.Skip g) = seen.Space
 seen_of (kinds.Kern w) = seen.Other
-seen_of (kinds.Pen p) = seen.Other
-seen_of (kinds.Mark name) = seen.Other
-seen_of (kinds.Note name) = seen.Other
-seen_of kinds.Whatsit = seen.Other
+seen_of (kinds.Pen p) = seen.Gate p
+seen_of (kinds.Mark name) = seen.Still
+seen_of (kinds.Note name) = seen.Still
+seen_of kinds.Whatsit = seen.Still
 seen_of (kinds.Ins i) = seen.Other
 seen_of (kinds.Act a) = seen.Other

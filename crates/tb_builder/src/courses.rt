@@ -15,7 +15,7 @@ ghost use Rattle.tb_insert.specs.Account.{Frozen};
 ghost use Rattle.tb_insert.specs.AccountEntries.{Differ, ComesTo};
 ghost use Rattle.tb_insert.specs.Arrival.{ArriveFits};
 ghost use Rattle.tb_builder.specs.LegalPlaces.{page_shapes};
-ghost use Rattle.tb_builder.specs.Courses.{IsCourseOf, AllLoose};
+ghost use Rattle.tb_builder.specs.Courses.{IsCourseOf, IsFlat, AllLoose};
 ghost use Rattle.tb_builder.specs.CourseOffers.{OfferIs, MarksBest, TermsFit};
 
 use crate::{Course, Try};
@@ -158,6 +158,15 @@ impl Course {
     {
         self.scan.add_glue(g);
         self.lasting = false;
+    }
+
+    // A node that takes no room goes to the end of the page: a mark, note or whatsit, which lasts, or a penalty.
+    #[inline(always)]
+    pub(crate) fn put_flat(&mut self, lasting: bool)
+        ensures { (n : NodeOf) (z : Frozen) (page : List PlainNode) (bs : List Breakpoint) (held : ℕ → List NodeOf) → IsFlat lasting (shape_of n) → IsCourseOf z self.old page bs → act_of_kind n.kind ≡ None → insertion_of_kind n.kind ≡ None
+            → IsCourseOf z self.new (page ++ plain_of held n ∷ []) bs }
+    {
+        self.lasting = lasting;
     }
 
     // An insertion goes to the end of the page, which has `index` nodes.

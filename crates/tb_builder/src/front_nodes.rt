@@ -1,6 +1,6 @@
 //! Nodes at the front of a list: what they are, and how they go from one list to another.
 
-ghost use Rattle.std.specs.Prelude.{option_copied, ◌≡◌, ◌<◌, ◌≤◌, ◌<ℤ◌, pos, Bool, true, false, None, IfSome, List, ◌∷◌, slice_get, drop};
+ghost use Rattle.std.specs.Prelude.{option_copied, ◌≡◌, ◌<◌, ◌≤◌, ◌<ℤ◌, pos, Bool, true, false, None, Some, IfSome, OnSome, List, ◌∷◌, slice_get, drop};
 ghost use Rattle.tb_pool.specs.Lists.{IsLive, list_at, with_list};
 ghost use Rattle.tb_node.specs.declared.Node.{Node as NodeOf};
 ghost use Rattle.tb_node.specs.PlainNodes.{shape_of};
@@ -56,13 +56,33 @@ pub(crate) fn insertion_place(store: &Lists<Node>, l: ListId) -> usize
     unreachable!()
 }
 
-/// Whether a node is neither an act nor an insertion, nor a kern, whose place depends on the nodes after it.
-pub(crate) fn is_walked(n: &Node) -> bool
-    ensures no_act { result ≡ true → act_of_kind n.now.kind ≡ None }
-    ensures no_insertion { result ≡ true → insertion_of_kind n.now.kind ≡ None }
-    ensures no_kern { result ≡ true → (lasting follows : Bool) → penalty_by lasting follows (shape_of n.now) ≡ penalty_by lasting false (shape_of n.now) }
+/// Whether glue comes behind a node, as far as its place depends on that: for a kern by the node behind it, and for another node
+/// false will do. None if a walk ends at the node: it is an act, an insertion, or a kern with an act behind it.
+pub(crate) fn glue_behind(n: &Node, behind: &Node) -> Option<bool>
+    ensures no_act { OnSome result (act_of_kind n.now.kind ≡ None) }
+    ensures no_insertion { OnSome result (insertion_of_kind n.now.kind ≡ None) }
+    ensures place { IfSome result (λ follows. (lasting : Bool) (ns : List NodeOf) → slice_get ns 0 ≡ Some behind.now → penalty_by lasting (nodes_glue_first ns) (shape_of n.now) ≡ penalty_by lasting follows (shape_of n.now)) }
 {
-    !matches!(n.kind, Kind::Kern(_) | Kind::Ins(_) | Kind::Act(_))
+    if !is_kern(n) {
+        return by_itself(n);
+    }
+    if is_act(behind) {
+        return None;
+    }
+    Some(is_glue(behind))
+}
+
+// The same of a node that is no kern.
+fn by_itself(n: &Node) -> Option<bool>
+    ensures no_act { OnSome result (act_of_kind n.now.kind ≡ None) }
+    ensures no_insertion { OnSome result (insertion_of_kind n.now.kind ≡ None) }
+    ensures none { OnSome result (result ≡ Some false) }
+{
+    if matches!(n.kind, Kind::Ins(_) | Kind::Act(_)) {
+        None
+    } else {
+        Some(false)
+    }
 }
 
 // Whether a node is glue.
@@ -86,10 +106,10 @@ pub(crate) fn seen_in(n: &Node) -> Seen
         Kind::Rule { .. } => Seen::Other,
         Kind::Skip(_) => Seen::Space,
         Kind::Kern(_) => Seen::Other,
-        Kind::Pen(_) => Seen::Other,
-        Kind::Mark(_) => Seen::Other,
-        Kind::Note(_) => Seen::Other,
-        Kind::Whatsit => Seen::Other,
+        Kind::Pen(penalty) => Seen::Gate { penalty },
+        Kind::Mark(_) => Seen::Still,
+        Kind::Note(_) => Seen::Still,
+        Kind::Whatsit => Seen::Still,
         Kind::Ins(_) => Seen::Other,
         Kind::Act(_) => Seen::Other,
     }
@@ -122,7 +142,9 @@ pub(crate) fn first_in(store: &Lists<Node>, l: ListId) -> Option<&Node>
 
 // Whether a node is a kern.
 fn is_kern(n: &Node) -> bool
-    ensures { result ≡ false → (lasting follows : Bool) → penalty_by lasting follows (shape_of n.now) ≡ penalty_by lasting false (shape_of n.now) }
+    ensures no_act { result ≡ true → act_of_kind n.now.kind ≡ None }
+    ensures no_insertion { result ≡ true → insertion_of_kind n.now.kind ≡ None }
+    ensures other { result ≡ false → (lasting follows : Bool) → penalty_by lasting follows (shape_of n.now) ≡ penalty_by lasting false (shape_of n.now) }
 {
     matches!(n.kind, Kind::Kern(_))
 }

@@ -15,13 +15,13 @@ ghost use Rattle.tb_builder.specs.PageProgress.{IsNextOfPage};
 ghost use Rattle.tb_builder.specs.PassedNodes.{EventPast};
 ghost use Rattle.tb_builder.specs.PageCalls.{ComesAfter, IsNoPlace};
 ghost use Rattle.tb_builder.specs.PageWalks.{moved, LeadsOn, seen_of};
-ghost use Rattle.tb_builder.specs.declared.Seen.TheVariants.{Space};
+ghost use Rattle.tb_builder.specs.declared.Seen.TheVariants.{Space, Gate};
 ghost use Rattle.tb_builder.specs.declared.Ask.{Ask as AskOf};
 ghost use Rattle.tb_builder.specs.declared.Event.TheVariants.{Act as an_act};
 ghost use Rattle.tb_builder.specs.PageTurns.{ChangesPage, StepIs, StepFits, event_of, turn_by, TurnIs, TurnTo, Filled};
 
 use crate::courses::stops;
-use crate::front_nodes::{drop_first, first_in, glue_in, is_walked, penalty_of, seen_in};
+use crate::front_nodes::{drop_first, first_in, glue_behind, glue_in, penalty_of, seen_in};
 use crate::fronts::move_front;
 use crate::sizes::list_size;
 use crate::{Ask, Builder, Event, Seen, Turn};
@@ -29,6 +29,7 @@ use std::alloc::AllocError;
 use tb_break::place_penalty;
 use tb_node::{Act, Kind, Node, Role};
 use tb_pool::Lists;
+use tb_scaled::INF_PENALTY;
 
 // The turn of a node that is no event of its own, by whether a place was tried.
 fn turn_by(tried: bool) -> Turn
@@ -118,8 +119,8 @@ impl Builder {
         move_front(store, self.page, self.waiting, self.rest, passed);
     }
 
-    // How many of the first waiting nodes go on the page: those before a stop, or before a node that is left to `next`.
-    // The places before them are tried.
+    // How many of the first waiting nodes go on the page: those before a stop, or before a node that is left to `next`, as
+    // the last one is. The places before them are tried.
     fn walk(&mut self, store: &Lists<Node>, ask: &Ask) -> usize
         requires sound { IsSound self.old store.now }
         requires on { self.old.stopped ≡ false }
@@ -134,23 +135,31 @@ impl Builder {
         let Some(end) = before.checked_add(all) else {
             return 0;
         };
+        let mut nodes = store.iter(self.waiting);
+        let Some(first) = nodes.next() else {
+            return 0;
+        };
+        let mut n = first;
         let mut left = all;
-        for n in store.iter(self.waiting) {
-            if !self.passes(store, ask, n, end - left, all - left) {
+        for behind in nodes {
+            if !self.passes(store, ask, n, behind, end - left, all - left) {
                 return all - left;
             }
+            n = behind;
             left -= 1;
         }
-        all
+        all - left
     }
 
-    // Whether the next node goes on the page, which has `index` nodes with those that the walk passed.
+    // Whether the next node goes on the page, which has `index` nodes with those that the walk passed. The node behind it is
+    // looked at if it is a kern.
     #[inline(always)]
     fn passes(
         &mut self,
         store: &Lists<Node>,
         ask: &Ask,
         n: &Node,
+        behind: &Node,
         index: usize,
         passed: usize,
     ) -> bool
@@ -160,6 +169,7 @@ impl Builder {
         requires fits { NextFits (contents_of self.old (moved (ids_of self.old) store.now passed)) ask.now }
         requires first { drop passed (list_at store.now self.old.waiting) ≡ n.now ∷ drop (passed + 1) (list_at store.now self.old.waiting) }
         requires index { index ≡ length (list_at store.now self.old.page) + passed }
+        requires behind { slice_get (drop (passed + 1) (list_at store.now self.old.waiting)) 0 ≡ Some behind.now }
         ensures goes { result ≡ true → LeadsOn self.old (moved (ids_of self.old) store.now passed) ask.now self.new (moved (ids_of self.old) store.now (passed + 1)) }
         ensures on { result ≡ true → self.new.stopped ≡ false }
         ensures ends { result ≡ false → LeadsOn self.old (moved (ids_of self.old) store.now passed) ask.now self.new (moved (ids_of self.old) store.now passed) }
@@ -172,7 +182,12 @@ impl Builder {
                 true
             }
             Seen::Space => self.passes_glue(store, ask, n, index, passed),
-            Seen::Other => self.passes_other(store, ask, n, index, passed),
+            Seen::Still => {
+                self.course.put_flat(true);
+                true
+            }
+            Seen::Gate { penalty } => self.passes_penalty(store, ask, n, index, passed, penalty),
+            Seen::Other => self.passes_other(store, ask, n, behind, index, passed),
         }
     }
 
@@ -212,6 +227,42 @@ impl Builder {
         true
     }
 
+    // The same of a penalty.
+    fn passes_penalty(
+        &mut self,
+        store: &Lists<Node>,
+        ask: &Ask,
+        n: &Node,
+        index: usize,
+        passed: usize,
+        penalty: i64,
+    ) -> bool
+        requires sound { IsSound self.old (moved (ids_of self.old) store.now passed) }
+        requires on { self.old.stopped ≡ false }
+        requires opened { self.old.opened ≡ true }
+        requires fits { NextFits (contents_of self.old (moved (ids_of self.old) store.now passed)) ask.now }
+        requires first { drop passed (list_at store.now self.old.waiting) ≡ n.now ∷ drop (passed + 1) (list_at store.now self.old.waiting) }
+        requires index { index ≡ length (list_at store.now self.old.page) + passed }
+        requires gate { seen_of n.now.kind ≡ Gate penalty }
+        ensures goes { result ≡ true → LeadsOn self.old (moved (ids_of self.old) store.now passed) ask.now self.new (moved (ids_of self.old) store.now (passed + 1)) }
+        ensures on { result ≡ true → self.new.stopped ≡ false }
+        ensures ends { result ≡ false → LeadsOn self.old (moved (ids_of self.old) store.now passed) ask.now self.new (moved (ids_of self.old) store.now passed) }
+        ensures opened { self.new.opened ≡ true }
+        ensures ids { ids_of self.new ≡ ids_of self.old }
+    {
+        if penalty >= INF_PENALTY {
+            self.course.put_flat(false);
+            return true;
+        }
+        let tried = self.course.offer(index, n.line, penalty);
+        if stops(&tried) {
+            self.stopped = true;
+            return false;
+        }
+        self.course.put_flat(false);
+        true
+    }
+
     // The same of a node that need not be a box, a rule or glue. The walk is to test for boxes and glue first, so this is
     // marked as cold.
     #[cold]
@@ -221,6 +272,7 @@ impl Builder {
         store: &Lists<Node>,
         ask: &Ask,
         n: &Node,
+        behind: &Node,
         index: usize,
         passed: usize,
     ) -> bool
@@ -230,16 +282,17 @@ impl Builder {
         requires fits { NextFits (contents_of self.old (moved (ids_of self.old) store.now passed)) ask.now }
         requires first { drop passed (list_at store.now self.old.waiting) ≡ n.now ∷ drop (passed + 1) (list_at store.now self.old.waiting) }
         requires index { index ≡ length (list_at store.now self.old.page) + passed }
+        requires behind { slice_get (drop (passed + 1) (list_at store.now self.old.waiting)) 0 ≡ Some behind.now }
         ensures goes { result ≡ true → LeadsOn self.old (moved (ids_of self.old) store.now passed) ask.now self.new (moved (ids_of self.old) store.now (passed + 1)) }
         ensures on { result ≡ true → self.new.stopped ≡ false }
         ensures ends { result ≡ false → LeadsOn self.old (moved (ids_of self.old) store.now passed) ask.now self.new (moved (ids_of self.old) store.now passed) }
         ensures opened { self.new.opened ≡ true }
         ensures ids { ids_of self.new ≡ ids_of self.old }
     {
-        if !is_walked(n) {
+        let Some(follows) = glue_behind(n, behind) else {
             return false;
-        }
-        let Some(penalty) = place_penalty(n, self.course.lasting, false) else {
+        };
+        let Some(penalty) = place_penalty(n, self.course.lasting, follows) else {
             self.course.put(n);
             return true;
         };

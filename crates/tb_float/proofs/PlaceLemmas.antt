@@ -9,7 +9,7 @@ use Rattle.tb_float.specs.declared.Part.TheVariants as parts
 use Rattle.tb_float.specs.Slots.{SlotView}
 use Rattle.tb_float.specs.Lists.{without_place, IsWaiting}
 use Rattle.tb_float.specs.Classes.{AreMarkedFrom, AreSetFrom, Tracks}
-use Rattle.tb_float.specs.Pool.{FloatPool, marks_of, marked_among, first_marked, with_mark, without_entry}
+use Rattle.tb_float.specs.Pool.{FloatPool, marks_of, marked_among, first_marked, flagged, with_flags, with_mark, without_entry}
 use Rattle.tb_pool.specs.Lists.{Lists, IsLive, list_at, with_list}
 use Rattle.tb_float.specs.Shelves.{HasTaken, marks_in}
 use Rattle.tb_float.proofs.MoveLemmas.{changed-behind}
@@ -62,6 +62,38 @@ place-mark P chosen marks_from next p k v w same t at before h = by_part p w
     by_part : (q : Part) → IsWaiting q → AreMarkedFrom next (with_mark q k v)
     by_part parts.Deferred is = record { deferred = place-set marks_from next k v.marks low at h.deferred; second = place-more marks_from next v.second_marks low_second h.second }
     by_part parts.Second is = record { deferred = place-more marks_from next v.marks low h.deferred; second = place-set marks_from next k v.second_marks low_second at h.second }
+    by_part q is = absurd is
+
+-- ---- more marks from a place on
+
+flags-true : (k : ℕ) (bs ms : List Bool) (j : ℕ) → slice_get (take k ms ++ flagged bs (drop k ms)) j ≡ Some true → (k ≤ j) ⊎ (slice_get ms j ≡ Some true)
+flags-true zero bs ms j e = inl (omega arith)
+flags-true (suc k) [] [] j e = inr e
+flags-true (suc k) (b ∷ bs) [] j e = inr e
+flags-true (suc k) bs (m ∷ ms) zero e = inr e
+flags-true (suc k) bs (m ∷ ms) (suc j) e = elim (flags-true k bs ms j e) [
+  | inl le ↦ inl (omega (arith, le))
+  | inr at ↦ inr at
+]
+
+place-flagged : (marks_from next k : ℕ) (bs ms : List Bool) → ((j : ℕ) → slice_get ms j ≡ Some true → next ≤ marks_from) → next ≤ k → AreSetFrom marks_from ms → AreSetFrom next (take k ms ++ flagged bs (drop k ms))
+place-flagged marks_from next k bs ms low at h = λ j e. elim (flags-true k bs ms j e) [
+  | inl le ↦ omega (arith, at, le)
+  | inr old ↦ omega (arith, low j old, h j old)
+]
+
+pub place-flags : (P : Float → Type 0) (chosen marks_from next : ℕ) (p : Part) (k : ℕ) (bs : List Bool) (v : FloatPool) → IsWaiting p → HasAllMarks v → Tracks P chosen v → next ≤ k → (0 < chosen → next ≤ marks_from) → AreMarkedFrom marks_from v → AreMarkedFrom next (with_flags p k bs v)
+place-flags P chosen marks_from next p k bs v w same t at before h = by_part p w
+  where
+    low : (j : ℕ) → slice_get v.marks j ≡ Some true → next ≤ marks_from
+    low j e = before (omega (arith, t.few, some-marked v.marks v.lists.deferred j same.deferred e))
+
+    low_second : (j : ℕ) → slice_get v.second_marks j ≡ Some true → next ≤ marks_from
+    low_second j e = before (omega (arith, t.few, some-marked v.second_marks v.lists.second j same.second e))
+
+    by_part : (q : Part) → IsWaiting q → AreMarkedFrom next (with_flags q k bs v)
+    by_part parts.Deferred is = record { deferred = place-flagged marks_from next k bs v.marks low at h.deferred; second = place-more marks_from next v.second_marks low_second h.second }
+    by_part parts.Second is = record { deferred = place-more marks_from next v.marks low h.deferred; second = place-flagged marks_from next k bs v.second_marks low_second at h.second }
     by_part q is = absurd is
 
 -- ---- one mark less

@@ -1,5 +1,5 @@
 -- What each call leaves of the pool.
-use Rattle.std.proofs.Common.{◌≡◌, ◌≢◌, inl, inr, ℕ, ◌+◌, ◌<◌, List, [], ◌∷◌, ◌++◌, length, map, drop, replicate, Bool, true, false, Some, slice_get, refl, sym, ap, ◌∙◌, subst, arith}
+use Rattle.std.proofs.Common.{◌≡◌, ◌≢◌, inl, inr, ℕ, ◌+◌, ◌<◌, List, [], ◌∷◌, ◌++◌, length, map, take, drop, replicate, Bool, true, false, Some, slice_get, refl, sym, ap, ◌∙◌, subst, arith}
 use Rattle.std.specs.Prelude.{ℤ, pos, ◌+ℤ◌, ◌-ℤ◌, slice_set}
 use Rattle.std.proofs.Math.ListN.{length-set}
 use Rattle.std.proofs.lemmas.Int.{ints}
@@ -16,14 +16,14 @@ use Rattle.tb_float.specs.declared.shelves.Shelves.{Shelves}
 use Rattle.tb_float.specs.declared.by_part.ByPart.{ByPart}
 use Rattle.tb_float.specs.Slots.{SlotView}
 use Rattle.tb_float.specs.Lists.{IsWaiting, live_count, entries_of, floats_of, float_entries, float_before, floats_among, without_place}
-use Rattle.tb_float.specs.Pool.{FloatPool, marks_of, with_marks_of, without_marks, joined_before, moved_float, with_float_at, with_mark, with_current, with_floats_after, with_floats_before, without_entry, without_entries}
+use Rattle.tb_float.specs.Pool.{FloatPool, marks_of, with_marks_of, without_marks, joined_before, moved_float, with_float_at, flagged, with_mark, with_flags, with_current, with_floats_after, with_floats_before, without_entry, without_entries}
 use Rattle.tb_float.specs.Ranges.{IsSizedEntry, IsRoom, IsExtent}
 use Rattle.tb_float.specs.Rooms.{total_height}
 use Rattle.tb_float.specs.ByPart.{of_part, with_part}
-use Rattle.tb_float.specs.Shelves.{shelf_of, slots_of, seen_pool, seen_lists, entries_in, floats_in, marks_in, slot_count, is_float, unmarked_slot, IsSlotOf, AreSlotsOf, IsStored}
+use Rattle.tb_float.specs.Shelves.{shelf_of, slots_of, seen_pool, seen_lists, entries_in, floats_in, marks_in, slot_count, is_float, unmarked_slot, flagged_slots, IsSlotOf, AreSlotsOf, IsStored}
 use Rattle.tb_float.proofs.ListLemmas.{length-without_place}
 use Rattle.tb_float.proofs.PartLemmas.{put, put-other, with_part-same}
-use Rattle.tb_float.proofs.SlotLemmas.{slot-of_entry, bare-shown, slots-unmarked, slots-set, floats_in-unmarked, marks-unmarked, marks-none, total-set, entries-set_same, length-floats_in, slots-append, slots-without, slot-there, slots-bare, entries-bare, marks-bare, AreBare, floats_in-append, total_height-append, total-without}
+use Rattle.tb_float.proofs.SlotLemmas.{slot-of_entry, bare-shown, slots-unmarked, slots-flagged, entries-flagged, marks-flagged, slots-set, floats_in-unmarked, marks-unmarked, marks-none, total-set, entries-set_same, length-floats_in, slots-append, slots-without, slot-there, slots-bare, entries-bare, marks-bare, AreBare, floats_in-append, total_height-append, total-without}
 use Rattle.tb_float.proofs.WaitingLemmas.{HasAllMarks, all-marked, waiting-floats, waiting_cases, waiting-marks, marks-with, lists-marked, contents-marks}
 use Rattle.tb_float.proofs.MarkLemmas.{length-replicate_false}
 use Rattle.tb_float.proofs.SoundLemmas.{written, Written, entries_of-seen, floats_of-seen, marks_of-seen, seen-put, seen-set, marks_in-set, map-set, count-put, live_count-seen, seen-after, seen-before, seen-without, seen-emptied}
@@ -273,6 +273,24 @@ mark-set store new sh h size p k s is stored there e spare =
     let xs = slice_set (at p) k u in
     let w = rewritten store new sh h size p xs stored e spare (slots-set p k (at p) u slots new_slot) (length-set (at p) k u) (total-set k (at p) s s.entry true there refl) in
     let marks = map-set {X = SlotView} (λ r. r.marked) k (at p) u ∙ ap (λ ms. slice_set ms k true) (sym (marks_of-seen p at size is)) in
+    record {
+      stored = w.stored;
+      seen = ap (λ a. seen_pool a size) w.slots ∙ seen-put p at xs size
+          ∙ contents-marks p is (entries_in xs) (floats_in xs) (marks_in xs) (seen_pool at size) (ap floats_among same ∙ sym (floats_of-seen p at))
+          ∙ ap (λ ms. with_marks_of p ms (seen_pool at size)) marks;
+    }
+
+-- floats that wait were marked, from a place on
+pub flags-set : (store new : Lists SlotView) (sh : Shelves) (h : ByPart ℤ) (size : ℕ) (p : Part) (k : ℕ) (bs : List Bool) → IsWaiting p → IsStored store sh h size
+    → new.lists ≡ with_list store (shelf_of sh p) (take k (slots_of store sh p) ++ flagged_slots bs (drop k (slots_of store sh p))) → new.spare ≡ store.spare
+    → IsPool new sh h size (with_flags p k bs (seen_pool (slots_of store sh) size))
+flags-set store new sh h size p k bs is stored e spare =
+    let at = slots_of store sh in
+    let xs = take k (at p) ++ flagged_slots bs (drop k (at p)) in
+    let same = entries-flagged k bs (at p) in
+    let many : length xs ≡ length (at p) = sym (length-map xs (λ s. s.entry)) ∙ ap length same ∙ length-map (at p) (λ s. s.entry) in
+    let w = rewritten store new sh h size p xs stored e spare (slots-flagged p (waiting-marks p is) k bs (at p) (stored.sound.slots p)) many (ap (λ es. total_height (floats_among es)) same) in
+    let marks = marks-flagged k bs (at p) ∙ ap (λ ms. take k ms ++ flagged bs (drop k ms)) (sym (marks_of-seen p at size is)) in
     record {
       stored = w.stored;
       seen = ap (λ a. seen_pool a size) w.slots ∙ seen-put p at xs size

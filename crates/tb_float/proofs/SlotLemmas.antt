@@ -5,6 +5,7 @@ use Rattle.std.proofs.lemmas.Int.{ints}
 use Rattle.std.proofs.Math.Bool.{or-true, or-false}
 use Rattle.std.proofs.lemmas.List.{map-append}
 use Rattle.std.proofs.lemmas.List.Elements.{All-nil, All-cons}
+use Rattle.std.proofs.lemmas.Bool.{true≢false}
 use Rattle.std.proofs.lemmas.Option.{same_Some}
 use Rattle.tb_node.specs.declared.Float.{Float}
 use Rattle.tb_float.specs.declared.Part.{Part}
@@ -15,7 +16,8 @@ use Rattle.tb_float.specs.Lists.{has_class, float_before, floats_among, float_en
 use Rattle.tb_float.specs.Ranges.{IsSizedEntry, IsSizedFloat}
 use Rattle.tb_float.specs.Rooms.{total_height}
 use Rattle.tb_float.specs.Heights.{IsSumOf}
-use Rattle.tb_float.specs.Shelves.{entries_in, floats_in, marks_in, is_float, IsSlotOf, AreSlotsOf, unmarked_slot}
+use Rattle.tb_float.specs.Shelves.{entries_in, floats_in, marks_in, is_float, IsSlotOf, AreSlotsOf, unmarked_slot, flagged_slots}
+use Rattle.tb_float.specs.Pool.{flagged}
 
 -- a slot that shows no float of the class is passed
 pub class-passed : (k n : ℕ) (s : SlotView) (ss : List SlotView) → n ≢ 0 → has_class k (float_before s.entry []) ≡ false → has_class k (floats_in (take n (s ∷ ss))) ≡ has_class k (floats_in (take (n - 1) ss))
@@ -213,6 +215,44 @@ slots-unmarked p (s ∷ ss) h = (record { sized = h.0.sized; float = h.0.float; 
 pub marks-unmarked : (ss : List SlotView) → marks_in (map unmarked_slot ss) ≡ replicate (length (marks_in ss)) false
 marks-unmarked [] = refl
 marks-unmarked (s ∷ ss) = ap (λ ms. false ∷ ms) (marks-unmarked ss)
+
+-- ---- some of them are marked
+
+flagged-entries : (bs : List Bool) (ss : List SlotView) → entries_in (flagged_slots bs ss) ≡ entries_in ss
+flagged-entries [] ss = refl
+flagged-entries (b ∷ bs) [] = refl
+flagged-entries (b ∷ bs) (s ∷ ss) = ap (λ es. s.entry ∷ es) (flagged-entries bs ss)
+
+flagged-marks : (bs : List Bool) (ss : List SlotView) → marks_in (flagged_slots bs ss) ≡ flagged bs (marks_in ss)
+flagged-marks [] ss = refl
+flagged-marks (b ∷ bs) [] = refl
+flagged-marks (b ∷ bs) (s ∷ ss) = ap (λ ms. (b || s.marked) ∷ ms) (flagged-marks bs ss)
+
+marks-parts : (k : ℕ) (bs : List Bool) (ss : List SlotView) → marks_in (take k ss) ++ flagged bs (marks_in (drop k ss)) ≡ take k (marks_in ss) ++ flagged bs (drop k (marks_in ss))
+marks-parts zero bs ss = refl
+marks-parts (suc k) bs [] = refl
+marks-parts (suc k) bs (s ∷ ss) = ap (λ ms. s.marked ∷ ms) (marks-parts k bs ss)
+
+-- the same entries, from a place on too
+pub entries-flagged : (k : ℕ) (bs : List Bool) (ss : List SlotView) → entries_in (take k ss ++ flagged_slots bs (drop k ss)) ≡ entries_in ss
+entries-flagged zero bs ss = flagged-entries bs ss
+entries-flagged (suc k) bs [] = flagged-entries bs []
+entries-flagged (suc k) bs (s ∷ ss) = ap (λ es. s.entry ∷ es) (entries-flagged k bs ss)
+
+-- and the marks that flags set from there on
+pub marks-flagged : (k : ℕ) (bs : List Bool) (ss : List SlotView) → marks_in (take k ss ++ flagged_slots bs (drop k ss)) ≡ take k (marks_in ss) ++ flagged bs (drop k (marks_in ss))
+marks-flagged k bs ss = map-append (λ s. s.marked) (take k ss) (flagged_slots bs (drop k ss)) ∙ ap (λ ms. marks_in (take k ss) ++ ms) (flagged-marks bs (drop k ss)) ∙ marks-parts k bs ss
+
+module _ (p : Part) (marks : holds_marks p ≡ true) where
+  flagged-are : (bs : List Bool) (ss : List SlotView) → AreSlotsOf p ss → AreSlotsOf p (flagged_slots bs ss)
+  flagged-are [] ss h = h
+  flagged-are (b ∷ bs) [] h = tt
+  flagged-are (b ∷ bs) (s ∷ ss) h = (record { sized = h.0.sized; float = h.0.float; unmarked = λ n. absurd (true≢false (sym marks ∙ n)) }, flagged-are bs ss h.1)
+
+  pub slots-flagged : (k : ℕ) (bs : List Bool) (ss : List SlotView) → AreSlotsOf p ss → AreSlotsOf p (take k ss ++ flagged_slots bs (drop k ss))
+  slots-flagged zero bs ss h = flagged-are bs ss h
+  slots-flagged (suc k) bs [] h = flagged-are bs [] h
+  slots-flagged (suc k) bs (s ∷ ss) h = (h.0, slots-flagged k bs ss h.1)
 
 -- ---- an entry that is seen is in a slot
 

@@ -1,5 +1,5 @@
 -- The classes that a pool knows, and how many of its floats are chosen.
-use Rattle.std.proofs.Common.{◌≡◌, ℕ, zero, suc, ◌+◌, ◌-◌, ◌≤◌, Bool, true, false, List, [], ◌∷◌, ◌++◌, length, Some, slice_get, replicate, sym, ap, subst, ◌∙◌, arith}
+use Rattle.std.proofs.Common.{◌≡◌, ℕ, zero, suc, ◌+◌, ◌-◌, ◌≤◌, Bool, true, false, List, [], ◌∷◌, ◌++◌, length, take, drop, Some, slice_get, replicate, sym, ap, subst, ◌∙◌, arith}
 use Rattle.std.specs.Prelude.{ℤ, ◌≤ℤ◌, slice_set}
 use Rattle.std.proofs.lemmas.Int.{ints}
 use Rattle.std.specs.List.{AllByRecursion}
@@ -15,11 +15,11 @@ use Rattle.tb_float.specs.declared.by_part.ByPart.{ByPart}
 use Rattle.tb_float.specs.declared.classes.ClassSet.{ClassSet}
 use Rattle.tb_float.specs.Slots.{SlotView}
 use Rattle.tb_float.specs.Lists.{FloatLists, entries_of, live_count, floats_of, floats_among, float_before, float_entries, without_place, no_floats, IsWaiting}
-use Rattle.tb_float.specs.Classes.{AreAtLeast, AreKnown, AreMarkedFrom, IsTracked, Tracks, chosen_count}
+use Rattle.tb_float.specs.Classes.{AreAtLeast, AreKnown, AreMarkedFrom, IsTracked, Tracks, chosen_count, set_count}
 use Rattle.tb_float.specs.declared.firsts.Firsts.{Firsts}
 use Rattle.tb_float.specs.Firsts.{KnowsFirsts}
 use Rattle.tb_float.specs.Shelves.{seen_pool, slots_of, IsStored, IsPooled}
-use Rattle.tb_float.specs.Pool.{FloatPool, marks_of, marked_among, marked_floats, with_contents, with_current, with_floats_after, without_entry, without_entries, without_marks, moved_float, joined_before, with_float_at, with_mark, with_marks_of}
+use Rattle.tb_float.specs.Pool.{FloatPool, marks_of, marked_among, marked_floats, with_contents, with_current, with_floats_after, without_entry, without_entries, without_marks, moved_float, joined_before, with_float_at, flagged, with_flags, with_mark, with_marks_of}
 use Rattle.tb_float.proofs.WaitingLemmas.{HasAllMarks, marks-count, lists-marked}
 use Rattle.tb_float.proofs.MarkLemmas.{marked-none, marked-false, marked-append, marks-without_entry, length-replicate_false}
 
@@ -232,6 +232,33 @@ tracked-mark P n m p k v t more few = record {
     by_part : (q : Part) → chosen_count (with_mark q k v) ≤ n + 1
     by_part parts.Deferred = omega (arith, t.few, count-mark k v.marks v.lists.deferred)
     by_part parts.Second = omega (arith, t.few, count-mark k v.second_marks v.lists.second)
+    by_part q = omega (arith, t.few)
+
+count-flagged : (bs ms : List Bool) (fs : List Float) → length (marked_among (flagged bs ms) fs) ≤ length (marked_among ms fs) + set_count bs
+count-flagged [] ms fs = omega arith
+count-flagged (b ∷ bs) [] fs = omega arith
+count-flagged (b ∷ bs) (m ∷ ms) [] = omega arith
+count-flagged (true ∷ bs) (true ∷ ms) (f ∷ fs) = omega (arith, count-flagged bs ms fs)
+count-flagged (true ∷ bs) (false ∷ ms) (f ∷ fs) = omega (arith, count-flagged bs ms fs)
+count-flagged (false ∷ bs) (true ∷ ms) (f ∷ fs) = omega (arith, count-flagged bs ms fs)
+count-flagged (false ∷ bs) (false ∷ ms) (f ∷ fs) = omega (arith, count-flagged bs ms fs)
+
+count-flags : (k : ℕ) (bs ms : List Bool) (fs : List Float) → length (marked_among (take k ms ++ flagged bs (drop k ms)) fs) ≤ length (marked_among ms fs) + set_count bs
+count-flags zero bs ms fs = count-flagged bs ms fs
+count-flags (suc k) bs [] fs = count-flagged bs [] fs
+count-flags (suc k) bs (m ∷ ms) [] = omega arith
+count-flags (suc k) bs (true ∷ ms) (f ∷ fs) = omega (arith, count-flags k bs ms fs)
+count-flags (suc k) bs (false ∷ ms) (f ∷ fs) = omega (arith, count-flags k bs ms fs)
+
+pub tracked-flags : (P : Float → Type 0) (n m more : ℕ) (p : Part) (k : ℕ) (bs : List Bool) (v : FloatPool) → Tracks P n v → more ≡ set_count bs → ((c : ℕ) → c ≤ n + more → c ≤ 4096 → c ≤ m) → live_count v.lists ≤ 4096 → Tracks P m (with_flags p k bs v)
+tracked-flags P n m more p k bs v t set grows few = record {
+  floats = known-marks P p (take k (marks_of p v) ++ flagged bs (drop k (marks_of p v))) v t.floats;
+  few = grows (chosen_count (with_flags p k bs v)) (by_part p) (omega (arith, few, few-chosen (with_flags p k bs v), ap live_count (lists-marked p (take k (marks_of p v) ++ flagged bs (drop k (marks_of p v))) v)));
+}
+  where
+    by_part : (q : Part) → chosen_count (with_flags q k bs v) ≤ n + more
+    by_part parts.Deferred = omega (arith, t.few, set, count-flags k bs v.marks v.lists.deferred)
+    by_part parts.Second = omega (arith, t.few, set, count-flags k bs v.second_marks v.lists.second)
     by_part q = omega (arith, t.few)
 
 pub tracked-unmarked : (P : Float → Type 0) (n : ℕ) (p : Part) (v : FloatPool) → Tracks P n v → Tracks P n (without_marks p v)

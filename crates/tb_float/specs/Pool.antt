@@ -1,5 +1,5 @@
 -- What contracts see of the float pool, and how its calls change it.
-use Rattle.std.specs.Prelude.{◌≡◌, ℕ, suc, Bool, true, false, List, [], ◌∷◌, ◌++◌, length, replicate, slice_set, if◌then◌else◌}
+use Rattle.std.specs.Prelude.{◌≡◌, ℕ, suc, Bool, true, false, ◌||◌, List, [], ◌∷◌, ◌++◌, length, take, drop, replicate, slice_set, if◌then◌else◌}
 use Rattle.tb_node.specs.declared.Float.{Float}
 use Rattle.tb_node.specs.declared.Places.{Places}
 use Rattle.tb_float.specs.declared.Entry.{Entry}
@@ -79,6 +79,16 @@ with_float_at p k f v = with_contents p (slice_set v.lists.current k (entries.Fl
 -- the float at a place of a list is chosen for a column of floats
 abbrev pub with_mark : Part → ℕ → FloatPool → FloatPool
 with_mark from k v = with_marks_of from (slice_set (marks_of from v) k true) v
+
+-- the marks, of which the first are set if their flags are
+abbrev pub flagged : List Bool → List Bool → List Bool
+flagged [] ms = ms
+flagged (b ∷ bs) [] = []
+flagged (b ∷ bs) (m ∷ ms) = (b || m) ∷ flagged bs ms
+
+-- the floats of a list from a place on are chosen for a column of floats if their flags are set
+abbrev pub with_flags : Part → ℕ → List Bool → FloatPool → FloatPool
+with_flags from k bs v = with_marks_of from (take k (marks_of from v) ++ flagged bs (drop k (marks_of from v))) v
 
 -- the floats whose marks are set; a float without a mark counts as not marked
 abbrev pub marked_among : List Bool → List Float → List Float

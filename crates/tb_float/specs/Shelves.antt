@@ -1,5 +1,5 @@
 -- How the pool stores its lists. No public clause cites this module.
-use Rattle.std.specs.Prelude.{◌≡◌, ◌≢◌, ℕ, ℤ, ◌+◌, ◌≤◌, Bool, true, false, List, [], ◌∷◌, length, map, slice_get, Some}
+use Rattle.std.specs.Prelude.{◌≡◌, ◌≢◌, ℕ, ℤ, ◌+◌, ◌≤◌, Bool, true, false, ◌||◌, List, [], ◌∷◌, length, map, slice_get, Some}
 use Rattle.tb_node.specs.declared.Float.{Float}
 use Rattle.tb_pool.specs.Lists.{Lists, IsLive, list_at, with_list}
 use Rattle.tb_float.specs.declared.Entry.{Entry}
@@ -46,6 +46,16 @@ unmarked_slot s = record { entry = s.entry; marked = false }
 -- the slot, marked
 abbrev pub marked_slot : SlotView → SlotView
 marked_slot s = record { entry = s.entry; marked = true }
+
+-- the slot, marked if it is already or if a flag is set
+abbrev pub flagged_slot : Bool → SlotView → SlotView
+flagged_slot b s = record { entry = s.entry; marked = b || s.marked }
+
+-- the slots, of which the first are marked if their flags are set
+abbrev pub flagged_slots : List Bool → List SlotView → List SlotView
+flagged_slots [] ss = ss
+flagged_slots (b ∷ bs) [] = []
+flagged_slots (b ∷ bs) (s ∷ ss) = flagged_slot b s ∷ flagged_slots bs ss
 
 -- the entries of slots
 abbrev pub entries_in : List SlotView → List Entry

@@ -2,9 +2,12 @@
 ghost use Rattle.std.specs.Prelude.{◌≡◌, ◌≢◌, ◌<◌, ◌≤◌, ◌+◌, ℕ, ◌↔◌, [], ◌∷◌, slice_get, Some, IsNone, OnSome, IfSome, IfNone, length};
 ghost use Rattle.tb_node.specs.declared.Float.{Float};
 ghost use Rattle.tb_float.specs.Lists.{entries_of, floats_of, entry_count, HasFloatAt, IsWaiting, float_entries};
-ghost use Rattle.tb_float.specs.Pool.{moved_float, joined_before, with_places, with_float_at, with_mark, without_entry, without_marks, HasNoMarks, marks_of, marked_floats, unmarked_floats, first_marked};
+ghost use Rattle.tb_float.specs.Classes.{set_count};
+ghost use Rattle.tb_float.specs.Pool.{moved_float, joined_before, with_places, with_float_at, with_mark, with_flags, without_entry, without_marks, HasNoMarks, marks_of, marked_floats, unmarked_floats, first_marked};
 
-use crate::slots::{entry_height, mark_slot, move_slot, slot_at, take_marked, unmark_all};
+use crate::slots::{
+    entry_height, mark_slot, mark_slots, move_slot, slot_at, take_marked, unmark_all,
+};
 use crate::{Entry, Part, Pool, Slot};
 use tb_node::{Float, Places};
 
@@ -125,6 +128,25 @@ impl Pool {
         self.chosen = one_more(self.chosen);
     }
 
+    /// The floats of a list in which floats wait are chosen for a column of floats if their flags are set: the first flag is
+    /// that of the float at place `k`, the next that of the next one. It walks over them once.
+    pub fn mark_by(&mut self, from: Part, k: usize, flags: &[bool])
+        requires waiting { IsWaiting from }
+        requires within { k + length flags.now ≤ length (floats_of from self.old.lists) }
+        ensures { self.new ≡ with_flags from k flags.now self.old }
+    {
+        mark_slots(
+            &mut self.store,
+            self.shelves.lists.of(from),
+            k,
+            flags,
+            self.shelves.one,
+        );
+        self.marks_from = marks_place(self.chosen, self.marks_from, k);
+        let set = count_set(flags);
+        self.chosen = more_chosen(self.chosen, set);
+    }
+
     /// The first marked float of a list in which floats wait leaves the pool. None exactly if no float of the list is
     /// marked.
     pub fn retire_marked(&mut self, from: Part) -> Option<Float>
@@ -172,6 +194,30 @@ fn one_more(count: usize) -> usize
     ensures { (k : ℕ) → k ≤ count + 1 → k ≤ 4096 → k ≤ result }
 {
     if count < 4096 { count + 1 } else { count }
+}
+
+// A number of floats and some more; no more than 4096 wait.
+fn more_chosen(count: usize, more: usize) -> usize
+    ensures { (k : ℕ) → k ≤ count + more → k ≤ 4096 → k ≤ result }
+{
+    if count < 4096 && more < 4096 {
+        count + more
+    } else {
+        4096
+    }
+}
+
+// How many flags are set.
+fn count_set(flags: &[bool]) -> usize
+    ensures { result ≡ set_count flags.now }
+{
+    let mut set = 0;
+    for flag in flags {
+        if *flag {
+            set += 1;
+        }
+    }
+    set
 }
 
 // The float with other places.

@@ -1,13 +1,13 @@
 //! Slots in the lists of the store: moved by their links, taken out, searched.
-ghost use Rattle.std.specs.Prelude.{ℕ, ◌≡◌, ◌≢◌, ◌+◌, ◌<◌, [], ◌∷◌, ◌++◌, Some, IfSome, IfNone, length, true, map, slice_get, slice_set, take, drop};
-ghost use Rattle.std.specs.FinMap.{insert};
+ghost use Rattle.std.specs.Prelude.{ℕ, ◌≡◌, ◌≢◌, ◌+◌, ◌<◌, ◌≤◌, [], ◌∷◌, ◌++◌, Some, IfSome, IfNone, List, length, true, map, slice_get, slice_set, take, drop};
+ghost use Rattle.std.specs.FinMap.{insert, get};
 ghost use Rattle.tb_pool.specs.Lists.{IsLive, list_at, with_list};
 ghost use Rattle.tb_float.specs.Slots.{SlotView};
 ghost use Rattle.tb_float.specs.Lists.{without_place, has_class, float_before};
 ghost use Rattle.tb_float.specs.Classes.{AreSetFrom};
 ghost use Rattle.tb_float.specs.Pool.{first_marked};
 ghost use Rattle.tb_float.specs.Rooms.{total_height};
-ghost use Rattle.tb_float.specs.Shelves.{HasTaken, marked_slot, unmarked_slot, floats_in, marks_in};
+ghost use Rattle.tb_float.specs.Shelves.{HasTaken, flagged_slot, flagged_slots, marked_slot, unmarked_slot, floats_in, marks_in};
 
 use crate::{Entry, Slot};
 use tb_pool::{ListId, Lists};
@@ -113,6 +113,56 @@ fn marked(slot: Slot) -> Slot
     Slot {
         entry: slot.entry,
         marked: true,
+    }
+}
+
+/// Marks the slots of a list whose flags are set: the first flag is that of the slot at a place. It walks over them once.
+#[tactic(auto, using(tb_pool::proofs::MapLemmas::list_steps))]
+pub(crate) fn mark_slots(store: &mut Lists<Slot>, l: ListId, k: usize, flags: &[bool], one: ListId)
+    requires live { IsLive store.old l }
+    requires one_live { IsLive store.old one }
+    requires apart { l ≢ one }
+    requires one_empty { list_at store.old one ≡ [] }
+    requires within { k + length flags.now ≤ length (list_at store.old l) }
+    ensures marked { store.new.lists ≡ with_list store.old l (take k (list_at store.old l) ++ flagged_slots flags.now (drop k (list_at store.old l))) }
+    ensures spare { store.new.spare ≡ store.old.spare }
+{
+    store.cut(l, k, one);
+    pass_slots(store, one, l, flags);
+    store.append(l, one);
+}
+
+// The first slots of a list go to the end of another, as many as there are flags, and are marked if their flags are set.
+#[tactic(auto, using(tb_pool::proofs::MapLemmas::list_steps))]
+fn pass_slots(store: &mut Lists<Slot>, from: ListId, to: ListId, flags: &[bool])
+    requires from_live { IsLive store.old from }
+    requires to_live { IsLive store.old to }
+    requires apart { from ≢ to }
+    requires few { length flags.now ≤ length (list_at store.old from) }
+    ensures passed { list_at store.new to ++ list_at store.new from ≡ list_at store.old to ++ flagged_slots flags.now (list_at store.old from) }
+    ensures from_live { IsLive store.new from }
+    ensures to_live { IsLive store.new to }
+    ensures others { (q : ℕ) → q ≢ from → q ≢ to → get store.new.lists q ≡ get store.old.lists q }
+    ensures spare { store.new.spare ≡ store.old.spare }
+{
+    for flag in flags {
+        mark_if(store, from, *flag);
+        store.move_first(from, to);
+    }
+}
+
+// Marks the first slot of a list if a flag is set.
+#[tactic(auto, using(tb_pool::proofs::MapLemmas::list_steps))]
+fn mark_if(store: &mut Lists<Slot>, l: ListId, flag: bool)
+    requires live { IsLive store.old l }
+    requires some { 0 < length (list_at store.old l) }
+    ensures marked { (s : SlotView) (ss : List SlotView) → list_at store.old l ≡ s ∷ ss → list_at store.new l ≡ flagged_slot flag s ∷ ss }
+    ensures lists_live { (q : ℕ) → IsLive store.old q → IsLive store.new q }
+    ensures others { (q : ℕ) → q ≢ l → get store.new.lists q ≡ get store.old.lists q }
+    ensures spare { store.new.spare ≡ store.old.spare }
+{
+    if flag {
+        mark_first(store, l);
     }
 }
 

@@ -1,19 +1,14 @@
 -- The floats of a company are marked along a walk: its head, and then those that join.
-use Rattle.std.proofs.Common.{◌≡◌, ℕ, zero, suc, ◌+◌, ◌-◌, ◌≤◌, Bool, true, false, ◌||◌, List, [], ◌∷◌, ◌++◌, length, map, take, drop, Some, slice_get, refl, sym, ap, subst, ◌∙◌, arith}
-use Rattle.std.specs.Prelude.{slice_set, if◌then◌else◌}
-use Rattle.std.proofs.Math.ListN.{drop_of_length-le}
-use Rattle.std.proofs.lemmas.List.{append-nil, append_assoc, map-append, length-map}
+use Rattle.std.proofs.Common.{◌≡◌, ℕ, zero, suc, ◌+◌, ◌-◌, ◌≤◌, Bool, true, false, ◌||◌, List, [], ◌∷◌, ◌++◌, length, map, take, drop, Some, refl, sym, ap, ◌∙◌, arith}
+use Rattle.std.proofs.Math.Bool.{or-false}
+use Rattle.std.proofs.lemmas.List.{append-nil, append_assoc, map-append, length-append}
 use Rattle.tb_node.specs.declared.Float.{Float}
-use Rattle.tb_float.specs.declared.Part.{Part}
-use Rattle.tb_float.specs.declared.Part.TheVariants as parts
-use Rattle.tb_float.specs.Lists.{floats_of, IsWaiting}
-use Rattle.tb_float.specs.Pool.{FloatPool, marked_among, marks_of, with_marks_of, with_mark}
-use Rattle.tb_float.proofs.WaitingLemmas.{marks-with, lists-marked}
+use Rattle.tb_float.specs.Pool.{flagged, marked_among}
 use Rattle.tb_fpage.specs.declared.Wanted.{Wanted}
 use Rattle.tb_fpage.specs.declared.walk.Walk.{Walk}
 use Rattle.tb_fpage.specs.Company.{Choice, choices_from, company, joins}
-use Rattle.tb_fpage.specs.Walk.{IsWalkOf, has_chosen, CompanyEndsBy, IsAfterHead, IsMarking, head_choices, company_of_place}
-use Rattle.tb_fpage.proofs.WalkLemmas.{left-next, on-way-ends, on-way-end}
+use Rattle.tb_fpage.specs.Walk.{IsWalkOf, has_chosen, CompanyEndsBy, IsAfterHead, IsMarking, head_choices, company_of_place, marks_by}
+use Rattle.tb_fpage.proofs.WalkLemmas.{on-way-ends, on-way-end}
 
 -- ---- marks
 
@@ -22,7 +17,7 @@ unmarked-first : (m : Bool) (ms : List Bool) (f : Float) (fs : List Float) → m
 unmarked-first true ms f fs none = cc
 unmarked-first false ms f fs none = (refl, none)
 
-unmarked-are : (ms : List Bool) (fs : List Float) → length ms ≡ length fs → marked_among ms fs ≡ [] → ms ≡ map (λ f. false) fs
+pub unmarked-are : (ms : List Bool) (fs : List Float) → length ms ≡ length fs → marked_among ms fs ≡ [] → ms ≡ map (λ f. false) fs
 unmarked-are [] [] many none = refl
 unmarked-are [] (f ∷ fs) many none = absurd (omega (arith, many))
 unmarked-are (m ∷ ms) [] many none = absurd (omega (arith, many))
@@ -31,30 +26,30 @@ unmarked-are (m ∷ ms) (f ∷ fs) many none =
     ap (λ b. b ∷ ms) first.0 ∙ ap (λ bs. false ∷ bs) (unmarked-are ms fs (omega (arith, many)) first.1)
 
 -- the head is marked
-head-marked : (fs : List Float) (k : ℕ) (f : Float) → slice_get fs k ≡ Some f → slice_set (map (λ g. false) fs) k true ≡ map (λ c. c.chosen) (head_choices (take k fs) f) ++ map (λ g. false) (drop (suc k) fs)
-head-marked [] k f there = cc
-head-marked (g ∷ fs) zero f there = refl
-head-marked (g ∷ fs) (suc k) f there = ap (λ bs. false ∷ bs) (head-marked fs k f there)
+head-marked : (fs : List Float) (f : Float) → map (λ c. c.chosen) (head_choices fs f) ≡ map (λ g. false) fs ++ true ∷ []
+head-marked [] f = refl
+head-marked (g ∷ fs) f = ap (λ bs. false ∷ bs) (head-marked fs f)
 
-set-after : (bs cs : List Bool) (b : Bool) → slice_set (bs ++ b ∷ cs) (length bs) true ≡ (bs ++ true ∷ []) ++ cs
-set-after [] cs b = refl
-set-after (d ∷ bs) cs b = ap (λ xs. d ∷ xs) (set-after bs cs b)
+flagged-first : (bs : List Bool) (fs : List Float) → length bs ≤ length fs → flagged bs (map (λ f. false) fs) ≡ bs ++ map (λ f. false) (drop (length bs) fs)
+flagged-first [] fs le = refl
+flagged-first (b ∷ bs) [] le = absurd (omega (arith, le))
+flagged-first (b ∷ bs) (f ∷ fs) le = (λ i. or-false b i ∷ flagged-first bs fs (omega (arith, le)) i)
 
--- the next float is marked, or not
-marks-more : (before : List Choice) (f : Float) (b : Bool) (rest : List Bool) (n : ℕ) → n ≡ length before → (if b then slice_set (map (λ c. c.chosen) before ++ false ∷ rest) n true else (map (λ c. c.chosen) before ++ false ∷ rest)) ≡ map (λ c. c.chosen) (before ++ record { float = f; chosen = b } ∷ []) ++ rest
-marks-more before f true rest n at =
-    let bs = map (λ (c : Choice). c.chosen) before in
-    ap (λ k. slice_set (bs ++ false ∷ rest) k true) (at ∙ sym (length-map before (λ c. c.chosen))) ∙ set-after bs rest false ∙ ap (λ xs. xs ++ rest) (sym (map-append (λ c. c.chosen) before (record { float = f; chosen = true } ∷ [])))
-marks-more before f false rest n at =
-    let bs = map (λ (c : Choice). c.chosen) before in
-    sym (append_assoc bs (false ∷ []) rest) ∙ ap (λ xs. xs ++ rest) (sym (map-append (λ c. c.chosen) before (record { float = f; chosen = false } ∷ [])))
+-- flags are set where no float was marked
+pub flagged-none : (head end : ℕ) (bs : List Bool) (fs : List Float) → end ≡ head + length bs → end ≤ length fs → take head (map (λ f. false) fs) ++ flagged bs (drop head (map (λ f. false) fs)) ≡ map (λ f. false) (take head fs) ++ bs ++ map (λ f. false) (drop end fs)
+flagged-none zero end bs fs at le =
+    let same : length bs ≡ end = omega (arith, at) in
+    flagged-first bs fs (omega (arith, at, le)) ∙ ap (λ n. bs ++ map (λ f. false) (drop n fs)) same
+flagged-none (suc head) zero bs fs at le = absurd (omega (arith, at))
+flagged-none (suc head) (suc end) bs [] at le = absurd (omega (arith, le))
+flagged-none (suc head) (suc end) bs (f ∷ fs) at le = ap (λ cs. false ∷ cs) (flagged-none head end bs fs (omega (arith, at)) (omega (arith, le)))
 
 -- ---- the walk
 
-pub marking-start : (z : Wanted) (w : Walk) (all : List Float) (marks : List Bool) → length marks ≡ length all → marked_among marks all ≡ [] → IsAfterHead w z all → IsMarking w z all (slice_set marks (w.seen - 1) true)
-marking-start z w all marks many none h =
+pub marking-start : (z : Wanted) (w : Walk) (all : List Float) → IsAfterHead w z all → IsMarking w z all (w.seen - 1) (true ∷ [])
+marking-start z w all h =
     let at : w.seen ≡ suc h.place = omega (arith, h.seen) in
-    let place : w.seen - 1 ≡ h.place = omega (arith, h.seen) in
+    let place : h.place ≡ w.seen - 1 = omega (arith, h.seen) in
     record {
       choices = company_of_place z h.place all h.head;
       made = h.made;
@@ -63,15 +58,13 @@ marking-start z w all marks many none h =
         stands = h.stands;
         ends = ap (λ n. choices_from z (head_choices (take h.place all) h.head) (drop n all)) at;
       };
-      marked =
-          ap (λ ms. slice_set ms (w.seen - 1) true) (unmarked-are marks all many none) ∙ ap (λ n. slice_set (map (λ f. false) all) n true) place
-          ∙ head-marked all h.place h.head h.there ∙ ap (λ n. map (λ c. c.chosen) (head_choices (take h.place all) h.head) ++ map (λ f. false) (drop n all)) (sym at);
+      passed = omega (arith, h.seen);
+      marked = head-marked (take h.place all) h.head ∙ ap (λ n. map (λ f. false) (take n all) ++ true ∷ []) place;
     }
 
-marking-next : (z : Wanted) (w v : Walk) (all rest : List Float) (f : Float) (b : Bool) (marks : List Bool) → v.seen ≡ w.seen + 1 → f ∷ rest ≡ drop w.seen all → ((before : List Choice) → IsWalkOf w z.sep before → b ≡ joins z before f) → ((before : List Choice) → IsWalkOf w z.sep before → IsWalkOf v z.sep (before ++ record { float = f; chosen = b } ∷ [])) → IsMarking w z all marks → IsMarking v z all (if b then slice_set marks w.seen true else marks)
-marking-next z w v all rest f b marks further left decided stands m =
+pub marking-next : (z : Wanted) (w v : Walk) (all rest : List Float) (f : Float) (b : Bool) (head : ℕ) (flags : List Bool) → v.seen ≡ w.seen + 1 → f ∷ rest ≡ drop w.seen all → ((before : List Choice) → IsWalkOf w z.sep before → b ≡ joins z before f) → ((before : List Choice) → IsWalkOf w z.sep before → IsWalkOf v z.sep (before ++ record { float = f; chosen = b } ∷ [])) → IsMarking w z all head flags → IsMarking v z all head (flags ++ b ∷ [])
+marking-next z w v all rest f b head flags further left decided stands m =
     let before = m.way.before in
-    let bs = map (λ (c : Choice). c.chosen) before in
     record {
       choices = m.choices;
       made = m.made;
@@ -80,24 +73,26 @@ marking-next z w v all rest f b marks further left decided stands m =
         stands = stands before m.way.stands;
         ends = on-way-ends z w v all rest f b m.choices further left m.way (decided before m.way.stands);
       };
+      passed = omega (arith, further, m.passed, length-append flags (b ∷ []));
       marked =
-          ap (λ ms. if b then slice_set ms w.seen true else ms) (m.marked ∙ ap (λ fs. bs ++ map (λ g. false) fs) (sym left))
-          ∙ marks-more before f b (map (λ g. false) rest) w.seen m.way.stands.seen
-          ∙ ap (λ fs. map (λ c. c.chosen) (before ++ record { float = f; chosen = b } ∷ []) ++ map (λ g. false) fs) (left-next w v all rest f further left);
+          map-append (λ c. c.chosen) before (record { float = f; chosen = b } ∷ []) ∙ ap (λ bs. bs ++ b ∷ []) m.marked
+          ∙ append_assoc (map (λ g. false) (take head all)) flags (b ∷ []);
     }
 
-pub marking-joined : (z : Wanted) (w v : Walk) (all rest : List Float) (f : Float) (b : Bool) (marks : List Bool) → v.seen ≡ w.seen + 1 → f ∷ rest ≡ drop w.seen all → ((before : List Choice) → IsWalkOf w z.sep before → b ≡ joins z before f) → ((before : List Choice) → IsWalkOf w z.sep before → IsWalkOf v z.sep (before ++ record { float = f; chosen = b } ∷ [])) → IsMarking w z all marks → b ≡ true → IsMarking v z all (slice_set marks w.seen true)
-marking-joined z w v all rest f b marks further left decided stands m is =
-    subst (λ (d : Bool). IsMarking v z all (if d then slice_set marks w.seen true else marks)) is (marking-next z w v all rest f b marks further left decided stands m)
-
-pub marking-passed : (z : Wanted) (w v : Walk) (all rest : List Float) (f : Float) (b : Bool) (marks : List Bool) → v.seen ≡ w.seen + 1 → f ∷ rest ≡ drop w.seen all → ((before : List Choice) → IsWalkOf w z.sep before → b ≡ joins z before f) → ((before : List Choice) → IsWalkOf w z.sep before → IsWalkOf v z.sep (before ++ record { float = f; chosen = b } ∷ [])) → IsMarking w z all marks → b ≡ false → IsMarking v z all marks
-marking-passed z w v all rest f b marks further left decided stands m is =
-    subst (λ (d : Bool). IsMarking v z all (if d then slice_set marks w.seen true else marks)) is (marking-next z w v all rest f b marks further left decided stands m)
+-- the marks by the flags, if the choices are those so far and others that choose no float
+by-flags : (w : Walk) (all : List Float) (head : ℕ) (flags marks : List Bool) → w.seen ≡ head + length flags → marks ≡ map (λ f. false) (take head all) ++ flags → marks ++ map (λ f. false) (drop w.seen all) ≡ marks_by head flags all
+by-flags w all head flags marks passed are =
+    λ i. are i ++ map (λ f. false) (drop (passed i) all)
 
 -- if none is left, the marks are those of the company
-pub marking-over : (z : Wanted) (w : Walk) (all : List Float) (marks : List Bool) → [] ≡ drop w.seen all → IsMarking w z all marks → (choices : List Choice) × (company z all ≡ Some choices) × (marks ≡ map (λ c. c.chosen) choices)
-marking-over z w all marks none m =
-    (m.choices, m.made, m.marked ∙ ap (λ fs. map (λ c. c.chosen) m.way.before ++ map (λ f. false) fs) (sym none) ∙ append-nil (map (λ c. c.chosen) m.way.before) ∙ ap (map (λ c. c.chosen)) (on-way-end z w all m.choices none m.way))
+pub marking-over : (z : Wanted) (w : Walk) (all : List Float) (head : ℕ) (flags : List Bool) → [] ≡ drop w.seen all → IsMarking w z all head flags → (choices : List Choice) × (company z all ≡ Some choices) × (map (λ c. c.chosen) choices ≡ marks_by head flags all)
+marking-over z w all head flags none m =
+    let marks = map (λ (c : Choice). c.chosen) m.way.before in (
+      m.choices,
+      m.made,
+      ap (map (λ (c : Choice). c.chosen)) (sym (on-way-end z w all m.choices none m.way)) ∙ sym (append-nil marks)
+          ∙ ap (λ (fs : List Float). marks ++ map (λ f. false) fs) none ∙ by-flags w all head flags marks m.passed m.marked,
+    )
 
 -- the choices on the floats that are left come behind those so far
 left-choices : (z : Wanted) (before : List Choice) (fs : List Float) → (cs : List Choice) × (choices_from z before fs ≡ before ++ cs) × (length cs ≡ length fs)
@@ -123,32 +118,25 @@ drop-first : (before cs : List Choice) → drop (length before) (before ++ cs) �
 drop-first [] cs = refl
 drop-first (b ∷ before) cs = drop-first before cs
 
+unchosen-behind : (k n : ℕ) (cs : List Choice) → k ≤ n → has_chosen (drop k cs) ≡ false → has_chosen (drop n cs) ≡ false
+unchosen-behind zero zero cs le none = none
+unchosen-behind zero (suc n) [] le none = refl
+unchosen-behind zero (suc n) (c ∷ cs) le none = unchosen-behind zero n cs (omega arith) (unchosen-first c.chosen cs none).1
+unchosen-behind (suc k) zero cs le none = absurd (omega (arith, le))
+unchosen-behind (suc k) (suc n) [] le none = refl
+unchosen-behind (suc k) (suc n) (c ∷ cs) le none = unchosen-behind k n cs (omega (arith, le)) none
+
 -- if the last of the company was passed, the marks are those of the company
-pub marking-full : (z : Wanted) (w : Walk) (all : List Float) (marks : List Bool) (last : ℕ) → w.seen ≡ last → CompanyEndsBy last z all → IsMarking w z all marks → (choices : List Choice) × (company z all ≡ Some choices) × (marks ≡ map (λ c. c.chosen) choices)
-marking-full z w all marks last at ends m =
+pub marking-full : (z : Wanted) (w : Walk) (all : List Float) (head : ℕ) (flags : List Bool) (last : ℕ) → last ≤ w.seen → CompanyEndsBy last z all → IsMarking w z all head flags → (choices : List Choice) × (company z all ≡ Some choices) × (map (λ c. c.chosen) choices ≡ marks_by head flags all)
+marking-full z w all head flags last at ends m =
     let before = m.way.before in
+    let marks = map (λ (c : Choice). c.chosen) before in
     let more = left-choices z before (drop w.seen all) in
     let are : before ++ more.0 ≡ m.choices = sym more.1 ∙ m.way.ends in
-    let behind : drop last m.choices ≡ more.0 = ap (λ n. drop n m.choices) (sym at ∙ m.way.stands.seen) ∙ ap (drop (length before)) (sym are) ∙ drop-first before more.0 in
-    let none : has_chosen more.0 ≡ false = ap has_chosen (sym behind) ∙ ends m.choices m.made in
-    (m.choices, m.made, m.marked ∙ ap (λ bs. map (λ (c : Choice). c.chosen) before ++ bs) (unchosen-marks more.0 (drop w.seen all) more.2 none) ∙ sym (map-append (λ (c : Choice). c.chosen) before more.0) ∙ ap (map (λ (c : Choice). c.chosen)) are)
-
-pub none-left : (w : Walk) (all : List Float) → length all ≤ w.seen → [] ≡ drop w.seen all
-none-left w all over = sym (drop_of_length-le all over)
-
--- ---- the pool, which changes by its marks alone
-
-marks-again : (from : Part) (ms ns : List Bool) (v : FloatPool) → with_marks_of from ms (with_marks_of from ns v) ≡ with_marks_of from ms v
-marks-again parts.Deferred ms ns v = refl
-marks-again p ms ns v = refl
-
-pub marks-set : (from : Part) → IsWaiting from → (k : ℕ) (u t : FloatPool) → t ≡ with_mark from k u → marks_of from t ≡ slice_set (marks_of from u) k true
-marks-set from w k u t is = ap (marks_of from) is ∙ marks-with from w (slice_set (marks_of from u) k true) u
-
-pub marked-again : (from : Part) → IsWaiting from → (k : ℕ) (u t v : FloatPool) → u ≡ with_marks_of from (marks_of from u) v → t ≡ with_mark from k u → t ≡ with_marks_of from (marks_of from t) v
-marked-again from w k u t v was is =
-    let ns = slice_set (marks_of from u) k true in
-    is ∙ ap (with_marks_of from ns) was ∙ marks-again from ns (marks_of from u) v ∙ ap (λ ms. with_marks_of from ms v) (sym (marks-set from w k u t is))
-
-pub floats-kept : (from : Part) (ms : List Bool) (u v : FloatPool) → u ≡ with_marks_of from ms v → floats_of from u.lists ≡ floats_of from v.lists
-floats-kept from ms u v is = ap (λ (t : FloatPool). floats_of from t.lists) is ∙ ap (floats_of from) (lists-marked from ms v)
+    let behind : drop w.seen m.choices ≡ more.0 = ap (λ n. drop n m.choices) m.way.stands.seen ∙ ap (drop (length before)) (sym are) ∙ drop-first before more.0 in
+    let none : has_chosen more.0 ≡ false = ap has_chosen (sym behind) ∙ unchosen-behind last w.seen m.choices at (ends m.choices m.made) in (
+      m.choices,
+      m.made,
+      ap (map (λ (c : Choice). c.chosen)) (sym are) ∙ map-append (λ (c : Choice). c.chosen) before more.0 ∙ ap (λ bs. marks ++ bs) (sym (unchosen-marks more.0 (drop w.seen all) more.2 none))
+          ∙ by-flags w all head flags marks m.passed m.marked,
+    )

@@ -70,12 +70,18 @@ pub record IsAfterHead (w : Walk) (z : Wanted) (all : List Float) : Type 0 where
   pub stands : IsWalkOf w z.sep (head_choices (take place all) head)
   pub made : company z all ≡ Some (company_of_place z place all head)
 
--- a walk that chooses the company that makes the column, if the floats that were chosen so far have these marks
-pub record IsMarking (w : Walk) (z : Wanted) (all : List Float) (marks : List Bool) : Type 0 where
+-- the marks of all floats, if these flags are those of the floats from a place on and no other float is marked
+abbrev pub marks_by : ℕ → List Bool → List Float → List Bool
+marks_by head flags all = map (λ f. false) (take head all) ++ flags ++ map (λ f. false) (drop (head + length flags) all)
+
+-- a walk that chooses the company that makes the column, if these flags are those of the head, at this place, and of the floats
+-- behind it that were passed
+pub record IsMarking (w : Walk) (z : Wanted) (all : List Float) (head : ℕ) (flags : List Bool) : Type 0 where
   pub choices : List Choice
   pub made : company z all ≡ Some choices
   pub way : IsOnWay w z all choices
-  pub marked : marks ≡ map (λ c. c.chosen) way.before ++ map (λ f. false) (drop w.seen all)
+  pub passed : w.seen ≡ head + length flags
+  pub marked : map (λ c. c.chosen) way.before ≡ map (λ f. false) (take head all) ++ flags
 
 -- no head before a place has a company that is made; these floats come from there on, and the set has the classes of those before them
 pub record AreTried (z : Wanted) (earlier : ClassSet) (place : ℕ) (all left : List Float) : Type 0 where

@@ -1,13 +1,13 @@
 //! The heads of companies: one walk over the floats that wait finds them, and a walk from each gathers its company; the
 //! same walk marks the company that makes the column.
-ghost use Rattle.std.specs.Prelude.{◌≡◌, ◌≤◌, ◌<◌, ◌∷◌, ◌++◌, IsTrue, List, [], length, map, take, slice_get, slice_set, Some, None, IfSome, IfNone, OnSome, true, false, ◌||◌, int_lt};
+ghost use Rattle.std.specs.Prelude.{ℕ, ◌≡◌, ◌≤◌, ◌<◌, ◌∷◌, ◌++◌, ◌+◌, ◌-◌, IsTrue, List, [], length, map, take, slice_get, Some, None, IfSome, IfNone, OnSome, true, false, ◌||◌, int_lt};
 ghost use Rattle.tb_node.specs.declared.Float.{Float as PlainFloat};
 ghost use Rattle.tb_float.specs.Classes.{AreClassesOf, AreOfClasses, HasLeft};
 ghost use Rattle.tb_float.specs.Firsts.{firsts_of};
 ghost use Rattle.tb_float.specs.Lists.{IsWaiting, floats_of, has_class};
 ghost use Rattle.tb_float.specs.Pool.{marked_floats, marks_of, with_marks_of};
 ghost use Rattle.tb_fpage.specs.Company.{Choice, company, company_height, is_head, is_made};
-ghost use Rattle.tb_fpage.specs.Walk.{EndsBy, CompanyEndsBy, IsAfterHead, IsMarking, company_of_place, is_made_at};
+ghost use Rattle.tb_fpage.specs.Walk.{EndsBy, CompanyEndsBy, IsAfterHead, company_of_place, is_made_at, marks_by};
 
 use crate::Wanted;
 use crate::walk::{Walk, suits};
@@ -197,6 +197,9 @@ fn walk_company(
     walk
 }
 
+// A company whose floats lie this near is marked by few flags, which cost nothing to clear.
+const NEAR: usize = 256;
+
 /// Marks the floats of a company that is made: its head, which a walk has passed last, and those after it that join.
 pub(crate) fn mark_company(pool: &mut Pool, wanted: &Wanted, from: Part, found: Company)
     requires waiting { IsWaiting from }
@@ -206,45 +209,69 @@ pub(crate) fn mark_company(pool: &mut Pool, wanted: &Wanted, from: Part, found: 
     requires last { CompanyEndsBy found.last wanted.now (floats_of from pool.old.lists) }
     ensures { (choices : List Choice) × (company wanted.now (floats_of from pool.old.lists) ≡ Some choices) × (pool.new ≡ with_marks_of from (map (λ c. c.chosen) choices) pool.old) }
 {
-    let count = pool.len(from);
-    let mut walk = found.walk;
-    pool.mark(from, walk.seen - 1);
-    for _joined in 0..count {
-        if walk.seen == found.last {
-            return;
-        }
-        let Some(place) = next_joined(pool, wanted, from, &mut walk, found.last) else {
-            return;
-        };
-        pool.mark(from, place);
+    let end = pool.len(from).min(found.last);
+    if end < found.walk.seen + NEAR {
+        mark_by(pool, wanted, from, found, &mut near_flags());
+    } else {
+        mark_by(pool, wanted, from, found, &mut all_flags());
     }
 }
 
-// The place of the next float that joins, if a company's last float is known. None exactly if no later one joins; the walk
-// is over then.
-fn next_joined(
+fn near_flags() -> [bool; NEAR] {
+    [false; NEAR]
+}
+
+// A flag for each float that may wait.
+fn all_flags() -> [bool; 4096] {
+    [false; 4096]
+}
+
+// Marks the floats of a company by flags, of which there is one for each float from the head to the last that joins.
+fn mark_by(pool: &mut Pool, wanted: &Wanted, from: Part, found: Company, flags: &mut [bool])
+    requires waiting { IsWaiting from }
+    requires few { length (floats_of from pool.old.lists) ≤ 4096 }
+    requires unmarked { marked_floats from pool.old ≡ [] }
+    requires marks { length (marks_of from pool.old) ≡ length (floats_of from pool.old.lists) }
+    requires head { IsAfterHead found.walk wanted.now (floats_of from pool.old.lists) }
+    requires last { CompanyEndsBy found.last wanted.now (floats_of from pool.old.lists) }
+    requires some { 0 < length flags.old }
+    requires room { (k : ℕ) → k < found.last → k < length (floats_of from pool.old.lists) → k < found.walk.seen - 1 + length flags.old }
+    ensures { (choices : List Choice) × (company wanted.now (floats_of from pool.old.lists) ≡ Some choices) × (pool.new ≡ with_marks_of from (map (λ c. c.chosen) choices) pool.old) }
+{
+    let head = found.walk.seen - 1;
+    let count = flag_company(pool, wanted, from, found, flags);
+    pool.mark_by(from, head, &flags[..count]);
+}
+
+// Sets the flags of a company: the first is that of its head, which a walk has passed last, and each of those behind it says
+// whether the next float joins. Returns how many floats the walk passed from the head on.
+fn flag_company(
     pool: &Pool,
     wanted: &Wanted,
     from: Part,
-    walk: &mut Walk,
-    last: usize,
-) -> Option<usize>
+    found: Company,
+    flags: &mut [bool],
+) -> usize
     requires waiting { IsWaiting from }
     requires few { length (floats_of from pool.now.lists) ≤ 4096 }
-    requires marking { IsMarking walk.old wanted.now (floats_of from pool.now.lists) (marks_of from pool.now) }
-    requires last { CompanyEndsBy last wanted.now (floats_of from pool.now.lists) }
-    ensures further { IfSome result (λ k. walk.old.seen < walk.new.seen) }
-    ensures within { IfSome result (λ k. k < length (floats_of from pool.now.lists)) }
-    ensures marking { IfSome result (λ k. IsMarking walk.new wanted.now (floats_of from pool.now.lists) (slice_set (marks_of from pool.now) k true)) }
-    ensures over { IfNone result ((choices : List Choice) × (company wanted.now (floats_of from pool.now.lists) ≡ Some choices) × (marks_of from pool.now ≡ map (λ c. c.chosen) choices)) }
+    requires head { IsAfterHead found.walk wanted.now (floats_of from pool.now.lists) }
+    requires last { CompanyEndsBy found.last wanted.now (floats_of from pool.now.lists) }
+    requires some { 0 < length flags.old }
+    requires room { (k : ℕ) → k < found.last → k < length (floats_of from pool.now.lists) → k < found.walk.seen - 1 + length flags.old }
+    ensures few { result ≤ length flags.new }
+    ensures within { found.walk.seen - 1 + result ≤ length (floats_of from pool.now.lists) }
+    ensures flags { (choices : List Choice) × (company wanted.now (floats_of from pool.now.lists) ≡ Some choices) × (map (λ c. c.chosen) choices ≡ marks_by (found.walk.seen - 1) (take result flags.new) (floats_of from pool.now.lists)) }
 {
+    let mut walk = found.walk;
+    let mut count = 1;
+    flags[0] = true;
     for entry in pool.entries_from(from, walk.seen) {
-        if walk.seen == last {
-            return None;
+        if walk.seen >= found.last {
+            return count;
         }
-        if walk.visit(wanted, entry.float()) {
-            return Some(walk.seen - 1);
-        }
+        let joins = walk.visit(wanted, entry.float());
+        flags[count] = joins;
+        count += 1;
     }
-    None
+    count
 }

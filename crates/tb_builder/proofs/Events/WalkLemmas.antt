@@ -11,7 +11,7 @@ use Rattle.tb_scaled.specs.declared.Glue.{Glue}
 use Rattle.tb_node.specs.declared.Node.{Node}
 use Rattle.tb_node.specs.declared.Kind.{Kind}
 use Rattle.tb_node.specs.declared.Kind.TheVariants as kinds
-use Rattle.tb_node.specs.Shape.{Shape, box, glue}
+use Rattle.tb_node.specs.Shape.{Shape, box, glue, penalty, other}
 use Rattle.tb_node.specs.PlainNodes.{plain_of, shape_of}
 use Rattle.tb_node.specs.SmallAmounts.{IsSmall}
 use Rattle.tb_node.specs.NodeSums.{added_node}
@@ -284,17 +284,36 @@ page_length b s k n ms sound next =
 
 -- ---- what a walk sees of a node
 
--- it is a box
-pub record SeenSolid (h d : ℤ) (n : Node) : Type 0 where
-  pub shape : shape_of n ≡ box h d
+-- it has this shape, and is no act and no insertion
+pub record SeenShape (x : Shape) (n : Node) : Type 0 where
+  pub shape : shape_of n ≡ x
   pub no_act : act_of_kind n.kind ≡ None
   pub no_insertion : insertion_of_kind n.kind ≡ None
 
-pub seen_solid : (h d : ℤ) (n : Node) → seen_of n.kind ≡ seen.Solid h d → SeenSolid h d n
+-- it is a box
+pub seen_solid : (h d : ℤ) (n : Node) → seen_of n.kind ≡ seen.Solid h d → SeenShape (box h d) n
 seen_solid h d n e = by_kind n.kind e
   where
-    by_kind : (k : Kind) → seen_of k ≡ seen.Solid h d → (let x : Node = record { line = n.line; kind = k } in SeenSolid h d x)
+    by_kind : (k : Kind) → seen_of k ≡ seen.Solid h d → (let x : Node = record { line = n.line; kind = k } in SeenShape (box h d) x)
     by_kind (kinds.Hbox what a b) e = record { shape = cc; no_act = refl; no_insertion = refl }
+    by_kind k e = cc
+
+-- it is a penalty
+pub seen_gate : (p : ℤ) (n : Node) → seen_of n.kind ≡ seen.Gate p → SeenShape (penalty p) n
+seen_gate p n e = by_kind n.kind e
+  where
+    by_kind : (k : Kind) → seen_of k ≡ seen.Gate p → (let x : Node = record { line = n.line; kind = k } in SeenShape (penalty p) x)
+    by_kind (kinds.Pen q) e = record { shape = cc; no_act = refl; no_insertion = refl }
+    by_kind k e = cc
+
+-- it is a mark, a note or a whatsit
+pub seen_still : (n : Node) → seen_of n.kind ≡ seen.Still → SeenShape other n
+seen_still n e = by_kind n.kind e
+  where
+    by_kind : (k : Kind) → seen_of k ≡ seen.Still → (let x : Node = record { line = n.line; kind = k } in SeenShape other x)
+    by_kind (kinds.Mark name) e = record { shape = refl; no_act = refl; no_insertion = refl }
+    by_kind (kinds.Note name) e = record { shape = refl; no_act = refl; no_insertion = refl }
+    by_kind kinds.Whatsit e = record { shape = refl; no_act = refl; no_insertion = refl }
     by_kind k e = cc
 
 -- it is glue
@@ -313,8 +332,8 @@ seen_space n e = by_kind n.kind e
 
 -- ---- a node of the walk
 
--- the node is the next of a walk that passed k nodes: no act, insertion or kern
-pub record Walks (b : Builder) (s : Lists Node) (ask : Ask) (n : Node) (k : ℕ) : Type 0 where
+-- the node is the next of a walk that passed k nodes: no act or insertion, and its place is by whether this is glue that follows
+pub record Walks (b : Builder) (s : Lists Node) (ask : Ask) (n : Node) (k : ℕ) (follows : Bool) : Type 0 where
   pub sound : IsSound b (moved (ids_of b) s k)
   pub on : b.stopped ≡ false
   pub opened : b.opened ≡ true
@@ -322,12 +341,12 @@ pub record Walks (b : Builder) (s : Lists Node) (ask : Ask) (n : Node) (k : ℕ)
   pub next : drop k (list_at s b.waiting) ≡ n ∷ drop (k + 1) (list_at s b.waiting)
   pub no_act : act_of_kind n.kind ≡ None
   pub no_insertion : insertion_of_kind n.kind ≡ None
-  pub no_kern : (lasting follows : Bool) → penalty_by lasting follows (shape_of n) ≡ penalty_by lasting false (shape_of n)
+  pub place : (lasting : Bool) → penalty_by lasting (nodes_glue_first (drop (k + 1) (list_at s b.waiting))) (shape_of n) ≡ penalty_by lasting follows (shape_of n)
 
 -- so is one of a shape whose place does not depend on what follows
 pub walks_shape : (b : Builder) (s : Lists Node) (ask : Ask) (n : Node) (k : ℕ) (x : Shape) → shape_of n ≡ x → ((lasting follows : Bool) → penalty_by lasting follows x ≡ penalty_by lasting false x)
     → act_of_kind n.kind ≡ None → insertion_of_kind n.kind ≡ None → IsSound b (moved (ids_of b) s k) → b.stopped ≡ false → b.opened ≡ true → NextFits (contents_of b (moved (ids_of b) s k)) ask
-    → drop k (list_at s b.waiting) ≡ n ∷ drop (k + 1) (list_at s b.waiting) → Walks b s ask n k
+    → drop k (list_at s b.waiting) ≡ n ∷ drop (k + 1) (list_at s b.waiting) → Walks b s ask n k false
 walks_shape b s ask n k x shape same no_act no_insertion sound on opened fits next = record {
   sound = sound;
   on = on;
@@ -336,10 +355,10 @@ walks_shape b s ask n k x shape same no_act no_insertion sound on opened fits ne
   next = next;
   no_act = no_act;
   no_insertion = no_insertion;
-  no_kern = λ lasting follows. ap (penalty_by lasting follows) shape ∙ same lasting follows ∙ sym (ap (penalty_by lasting false) shape);
+  place = λ lasting. (let g = nodes_glue_first (drop (k + 1) (list_at s b.waiting)) in ap (penalty_by lasting g) shape ∙ same lasting g ∙ sym (ap (penalty_by lasting false) shape));
 }
 
-module _ (b : Builder) (s : Lists Node) (ask : Ask) (n : Node) (k : ℕ) (w : Walks b s ask n k) where
+module _ (b : Builder) (s : Lists Node) (ask : Ask) (n : Node) (k : ℕ) {follows : Bool} (w : Walks b s ask n k follows) where
   abbrev here : Lists Node
   here = moved (ids_of b) s k
 
@@ -377,8 +396,8 @@ module _ (b : Builder) (s : Lists Node) (ask : Ask) (n : Node) (k : ℕ) (w : Wa
   walk_terms = step_terms z b.course (contents_of b here).page (places_on z (contents_of b here)) held n underway.course walk_fits
 
   -- the place before it
-  place_is : (o : Option ℤ) → o ≡ penalty_by b.course.lasting false (shape_of n) → node_penalty b.course.lasting (glue_first (map (plain_of held) behind)) (plain_of held n) ≡ o
-  place_is o value = penalty_first held b.course.lasting (nodes_glue_first (drop 1 (list_at here b.waiting))) o (list_at here b.waiting) behind n first w.no_act refl (value ∙ sym (w.no_kern b.course.lasting (nodes_glue_first (drop 1 (list_at here b.waiting)))))
+  place_is : (o : Option ℤ) → o ≡ penalty_by b.course.lasting follows (shape_of n) → node_penalty b.course.lasting (glue_first (map (plain_of held) behind)) (plain_of held n) ≡ o
+  place_is o value = penalty_first held b.course.lasting (nodes_glue_first (drop 1 (list_at here b.waiting))) o (list_at here b.waiting) behind n first w.no_act refl (value ∙ sym (ap (λ ns. penalty_by b.course.lasting (nodes_glue_first ns) (shape_of n)) (ap (drop 1) first) ∙ w.place b.course.lasting))
 
   waits : (contents_of b here).waiting ≡ plain_of held n ∷ map (plain_of held) behind
   waits = plain_first held (list_at here b.waiting) behind n first
@@ -399,18 +418,18 @@ module _ (b : Builder) (s : Lists Node) (ask : Ask) (n : Node) (k : ℕ) (w : Wa
         waiting_now = ap (λ (i : Ids). list_at there i.waiting) ids ∙ wrote.waiting_is
 
     -- no legal place is before it
-    pub walk_passes : (o : Option ℤ) → o ≡ None → o ≡ penalty_by b.course.lasting false (shape_of n) → IsCourseOf z d.course ((contents_of b here).page ++ plain_of held n ∷ []) (places_on z (contents_of b here)) → LeadsOn b here ask d there
+    pub walk_passes : (o : Option ℤ) → o ≡ None → o ≡ penalty_by b.course.lasting follows (shape_of n) → IsCourseOf z d.course ((contents_of b here).page ++ plain_of held n ∷ []) (places_on z (contents_of b here)) → LeadsOn b here ask d there
     walk_passes o none value course = leads_turn ask b d here there w.on w.fits (turns None (passed_step z b.course d.course (contents_of b here) (contents_of d there) held n (map (plain_of held) behind) underway walk_fits waits (place_is o value ∙ none) shifted course))
 
     -- the place before it was tried, and is no stop
-    pub walk_tries : (o : Option ℤ) (p : ℤ) (t : Try) (line : ℕ) (l : Course) → o ≡ Some p → o ≡ penalty_by b.course.lasting false (shape_of n) → OfferIs z l (contents_of b here).page (places_on z (contents_of b here)) t line p → line ≡ n.line
+    pub walk_tries : (o : Option ℤ) (p : ℤ) (t : Try) (line : ℕ) (l : Course) → o ≡ Some p → o ≡ penalty_by b.course.lasting follows (shape_of n) → OfferIs z l (contents_of b here).page (places_on z (contents_of b here)) t line p → line ≡ n.line
         → (int_le awful_bad t.cost || int_le t.penalty (negsuc 9999)) ≡ false
         → ((bs : List Breakpoint) → IsCourseOf z l (contents_of b here).page bs → IsCourseOf z d.course ((contents_of b here).page ++ plain_of held n ∷ []) bs) → LeadsOn b here ask d there
     walk_tries o p t line l some value offered line_is goes put =
         leads_try ask b d here there t w.on w.fits (turns (Some (events.Try t)) (tried_goes z b.course l (contents_of b here) held n p t line underway walk_fits offered line_is d.course (contents_of d there) (map (plain_of held) behind) waits (place_is o value ∙ some) goes shifted (d_stopped ∙ w.on) put))
 
   -- the place before it is a stop
-  pub walk_stops : (l : Course) (o : Option ℤ) (p : ℤ) (t : Try) (line : ℕ) → o ≡ Some p → o ≡ penalty_by b.course.lasting false (shape_of n)
+  pub walk_stops : (l : Course) (o : Option ℤ) (p : ℤ) (t : Try) (line : ℕ) → o ≡ Some p → o ≡ penalty_by b.course.lasting follows (shape_of n)
       → OfferIs z l (contents_of b here).page (places_on z (contents_of b here)) t line p → line ≡ n.line → (int_le awful_bad t.cost || int_le t.penalty (negsuc 9999)) ≡ true
       → (let d : Builder = record b { stopped = true; course = l } in LeadsOn b here ask d here)
   walk_stops l o p t line some value offered line_is stop =

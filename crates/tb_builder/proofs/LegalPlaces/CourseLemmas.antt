@@ -9,7 +9,7 @@ use Rattle.tb_node.specs.declared.Node.{Node}
 use Rattle.tb_node.specs.declared.Sums.{Sums}
 use Rattle.tb_node.specs.declared.Kind.{Kind}
 use Rattle.tb_node.specs.declared.Kind.TheVariants as kinds
-use Rattle.tb_node.specs.Shape.{Shape, other, is_discardable}
+use Rattle.tb_node.specs.Shape.{Shape, box, glue, kern, penalty, other, is_discardable}
 use Rattle.tb_node.specs.PlainNodes.{mark, note, whatsit, Inserted, PlainKind, plain, ins, act, PlainNode, plain_of, plain_kind, node_shape, shape_of, is_act_kind, is_insertion_kind}
 use Rattle.tb_node.specs.NodeSums.{added_node}
 use Rattle.tb_node.specs.Roles.{act_of_kind, insertion_of_kind}
@@ -29,13 +29,13 @@ use Rattle.tb_insert.specs.Account.{Frozen, class_box, labelled, insertions, is_
 use Rattle.tb_insert.specs.AccountEntries.{numbered, boxed, IsAccountOf, IsScanOfPage, ComesTo, met_scan}
 use Rattle.tb_insert.proofs.StandsLemmas.{stands-plain}
 use Rattle.tb_insert.proofs.TermLemmas.{scan_plain}
-use Rattle.tb_builder.proofs.Amounts.ScanLemmas.{scan_meets, scan_loose, scan_new}
+use Rattle.tb_builder.proofs.Amounts.ScanLemmas.{scan_meets, scan_loose, scan_flat, scan_new}
 use Rattle.tb_builder.specs.declared.Course.{Course}
 use Rattle.tb_builder.specs.declared.Try.{Try}
 use Rattle.tb_builder.specs.Reach.{try_of}
 use Rattle.tb_break.specs.SplitPlace.{penalty_by}
 use Rattle.tb_builder.specs.LegalPlaces.{page_shapes, glue_first, node_penalty, NoActs}
-use Rattle.tb_builder.specs.Courses.{ChampionIs, IsCourseOf, is_loose, AllLoose, nodes_glue_first}
+use Rattle.tb_builder.specs.Courses.{ChampionIs, IsCourseOf, IsFlat, is_loose, AllLoose, nodes_glue_first}
 use Rattle.tb_builder.specs.CourseOffers.{MarksBest, place_here}
 
 -- ---- a node by its kind
@@ -269,6 +269,23 @@ pub course_put_shape : (z : Frozen) (k l : Course) (page : List PlainNode) (bs :
     → IsCourseOf z l (page ++ plain_of held n ∷ []) bs
 course_put_shape z k l page bs held n x shape h a i scan account goal lasting =
     course_put_node z k l page bs held n h a i (scan ∙ ap (λ y. with_sums k.scan (added_node k.scan.max_depth k.scan.sums y)) (sym shape)) account goal (lasting ∙ ap (λ y. not (is_discardable y)) (sym shape))
+  where
+    with_sums : Scanned → Sums → Scanned
+    with_sums s y = record s { sums = y }
+
+flat_lasting : (lasting : Bool) (x : Shape) → IsFlat lasting x → lasting ≡ not (is_discardable x)
+flat_lasting lasting (box h d) flat = absurd flat
+flat_lasting lasting (glue g) flat = absurd flat
+flat_lasting lasting (kern w) flat = absurd flat
+flat_lasting lasting (penalty p) flat = flat
+flat_lasting lasting other flat = flat
+
+-- the same of one that takes no room: the sums stay
+pub course_put_flat : (z : Frozen) (k l : Course) (page : List PlainNode) (bs : List Breakpoint) (held : ℕ → List Node) (n : Node) (lasting : Bool) → IsFlat lasting (shape_of n) → IsCourseOf z k page bs → act_of_kind n.kind ≡ None → insertion_of_kind n.kind ≡ None
+    → l.scan ≡ k.scan → l.account ≡ k.account → l.best_goal ≡ k.best_goal → l.lasting ≡ lasting
+    → IsCourseOf z l (page ++ plain_of held n ∷ []) bs
+course_put_flat z k l page bs held n lasting flat h a i scan account goal last =
+    course_put_node z k l page bs held n h a i (scan ∙ ap (with_sums k.scan) (sym (scan_flat z page k.scan lasting (shape_of n) flat h.scan))) account goal (last ∙ flat_lasting lasting (shape_of n) flat)
   where
     with_sums : Scanned → Sums → Scanned
     with_sums s y = record s { sums = y }

@@ -23,7 +23,7 @@ space : (c : Start) → SeenSpace c.args.n.now
 space c = seen_space c.args.n.now c.requires.glue
 
 -- the node is the next of the walk
-walks : (c : Start) → Walks c.args.self.now c.args.store.now c.args.ask.now c.args.n.now c.args.passed
+walks : (c : Start) → Walks c.args.self.now c.args.store.now c.args.ask.now c.args.n.now c.args.passed false
 walks c =
     let x = space c in
     walks_shape _ _ _ _ _ (glue x.g) x.shape (λ lasting follows. refl) x.no_act x.no_insertion c.requires.sound c.requires.on c.requires.opened c.requires.fits c.requires.first
@@ -37,7 +37,7 @@ abbrev page_at : Builder → Lists Node → ℕ → Contents
 page_at b s k = contents_of b (moved (ids_of b) s k)
 
 -- the place before the node was tried
-offered : (c : After-offer-tried) → Walks c.args.self.now c.args.store.now c.args.ask.now c.args.n.now c.args.passed
+offered : (c : After-offer-tried) → Walks c.args.self.now c.args.store.now c.args.ask.now c.args.n.now c.args.passed false
     → (let here = page_at c.args.self.now c.args.store.now c.args.passed in OfferIs (kept_frozen here) c.offer-tried.new.self here.page (places_on (kept_frozen here) here) c.offer-tried.result c.n.inside.line (pos 0))
 offered c w =
     let b = c.args.self.now in
