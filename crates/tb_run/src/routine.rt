@@ -1,6 +1,6 @@
 //! The output routine over one store: the page builder fills a page, and the machine serves it.
 
-ghost use Rattle.std.specs.Prelude.{◌≡◌, ◌≤◌, ◌≤ℤ◌, ◌+◌, ◌++◌, [], pos, IfOk, IfErr, IfNone, OnOk, List, None};
+ghost use Rattle.std.specs.Prelude.{◌≡◌, ◌<◌, ◌≤◌, ◌≤ℤ◌, ◌+◌, ◌++◌, [], pos, IfOk, IfErr, IfNone, OnOk, List, None};
 ghost use Rattle.std.specs.List.{AllByRecursion};
 ghost use Rattle.std.specs.FinMap.{get};
 ghost use Rattle.tb_node.specs.PlainNodes.{PlainNode, plain_list};
@@ -202,8 +202,8 @@ impl Routine {
         Ok(ending)
     }
 
-    /// Closes the lists of `written`, which the last turn sent and which was written, if few places are spare. Else they
-    /// stay, which saves time: they would leave the store node by node.
+    /// Closes the lists of `written`, which the last turn sent and which was written, if fewer than 600 places are spare. Else
+    /// nothing changes, which saves time: they would leave the store node by node.
     pub fn make_room(&mut self, written: &[Happening])
         requires ready { IsReady self.old }
         requires lists { AreHappened self.old written.now }
@@ -211,6 +211,8 @@ impl Routine {
         ensures ready { IsReady self.new }
         ensures state { state_of self.new ≡ state_of self.old }
         ensures machine { self.new.machine ≡ self.old.machine }
+        ensures closed { self.old.store.spare < 600 → AllByRecursion (λ l. get self.new.store.lists l ≡ None) (happened_lists written.now) }
+        ensures kept { 600 ≤ self.old.store.spare → self.new ≡ self.old }
     {
         if self.store.spare() < FEW_PLACES {
             self.done_with(written);

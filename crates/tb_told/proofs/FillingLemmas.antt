@@ -1,23 +1,30 @@
 -- One float of a start is told of and goes to its place: what is left of the walk, and of its lines.
-use Rattle.std.proofs.Common.{◌≡◌, ◌≢◌, ℕ, zero, suc, ◌+◌, ◌<◌, ◌≤◌, List, [], ◌∷◌, ◌++◌, append_assoc, length, take, drop, Some, slice_get, refl, sym, ap, ◌∙◌, add-one, arith}
+use Rattle.std.proofs.Common.{◌≡◌, ◌≢◌, ℕ, suc, ◌<◌, ◌≤◌, List, [], ◌∷◌, ◌++◌, length, take, drop, Some, Result, Ok, Err, OnErr, slice_get, refl, sym, ap, subst, ◌∙◌, arith}
 use Rattle.std.proofs.Math.ListN.{drop_of_length-le}
 use Rattle.std.proofs.lemmas.List.{length-append}
 use Rattle.std.proofs.lemmas.Option.{slice_get_within}
 use Rattle.tb_node.specs.declared.Float.{Float}
 use Rattle.tb_node.specs.declared.Where.{Where}
-use Rattle.tb_node.specs.declared.Where.TheVariants.{Top, Bottom, Deferred}
+use Rattle.tb_node.specs.declared.Where.TheVariants.{Top, Bottom}
 use Rattle.tb_param.specs.declared.Params.{Params}
 use Rattle.tb_float.specs.declared.Suppress.{Suppress}
 use Rattle.tb_float.specs.Lists.{FloatLists}
 use Rattle.tb_float.specs.Pool.{FloatPool}
 use Rattle.tb_float.proofs.ListLemmas.{slice_get-drop, take-at, whole-at, take-front, drop-front}
-use Rattle.tb_area.specs.Area.{AreaPlace, at_top, at_bottom, deferred, where_of, next_area_place, next_place}
+use Rattle.tb_area.specs.Area.{AreaPlace, at_top, at_bottom, deferred, where_of, next_area_place}
 use Rattle.tb_area.specs.Deferred.{gone_to, still_before, filled}
 use Rattle.tb_area.proofs.OrderLemmas.{gone-deferred}
 use Rattle.tb_area.proofs.DeferredWalks.{IsMoved}
+use Rattle.tb_text.specs.Fronts.{PutsFront}
+use Rattle.tb_text.proofs.FrontLemmas.{PutSoFar, put-more, cut-in}
 use Rattle.tb_told.specs.AreaTold.{told_next}
 use Rattle.tb_told.specs.Lines.{told_lines}
 use Rattle.tb_told.specs.Filled.{filled_lines, IsTurn}
+
+-- what holds anyway holds if a call fails
+pub on-failed : {T E P : Type 0} (r : Result T E) → P → OnErr r P
+on-failed (Ok v) h = tt
+on-failed (Err e) h = h
 
 -- a float that goes neither to the top nor to the bottom stays
 pub is-kept : (w : Where) (a : AreaPlace) → w ≡ where_of a → w ≢ Top → w ≢ Bottom → a ≡ deferred
@@ -49,14 +56,14 @@ turn-moved p s k f a v u old new m told =
           ∙ ap (λ n. filled p s before rest n) (sym m.lists)
           ∙ ap (λ b. filled p s b rest u.lists) (sym front)
           ∙ ap (λ left. filled p s (take k u.lists.deferred) left u.lists) (sym back);
-      lines = ap (λ left. old ++ filled_lines p s before left l) next
-          ∙ ap (λ c. old ++ (text ++ filled_lines p s (still_before c f before) rest (gone_to c f before rest l))) m.decided
-          ∙ ap (λ b. old ++ (text ++ filled_lines p s b rest gone)) (m.still before)
-          ∙ ap (λ n. old ++ (text ++ filled_lines p s before rest n)) (sym m.lists)
-          ∙ ap (λ b. old ++ (text ++ filled_lines p s b rest u.lists)) (sym front)
-          ∙ ap (λ left. old ++ (text ++ filled_lines p s (take k u.lists.deferred) left u.lists)) (sym back)
-          ∙ sym (append_assoc old text (filled_lines p s (take k u.lists.deferred) (drop k u.lists.deferred) u.lists))
-          ∙ ap (λ t. t ++ filled_lines p s (take k u.lists.deferred) (drop k u.lists.deferred) u.lists) (sym told);
+      text = text;
+      lines = sym (ap (λ left. filled_lines p s before left l) next
+          ∙ ap (λ c. text ++ filled_lines p s (still_before c f before) rest (gone_to c f before rest l)) m.decided
+          ∙ ap (λ b. text ++ filled_lines p s b rest gone) (m.still before)
+          ∙ ap (λ n. text ++ filled_lines p s before rest n) (sym m.lists)
+          ∙ ap (λ b. text ++ filled_lines p s b rest u.lists) (sym front)
+          ∙ ap (λ left. text ++ filled_lines p s (take k u.lists.deferred) left u.lists) (sym back));
+      appended = told;
       left = omega (arith, ap length are, length-append before rest, ap length whole, length-append before (f ∷ rest));
     }
 
@@ -74,31 +81,30 @@ turn-kept p s k f l old new there stays told =
       lists = ap (λ left. filled p s before left l) next
           ∙ ap (λ c. filled p s (still_before c f before) rest (gone_to c f before rest l)) stays
           ∙ ap (λ b. filled p s b rest l) (sym front);
-      lines = ap (λ left. old ++ filled_lines p s before left l) next
-          ∙ ap (λ c. old ++ (text ++ filled_lines p s (still_before c f before) rest (gone_to c f before rest l))) stays
-          ∙ ap (λ b. old ++ (text ++ filled_lines p s b rest l)) (sym front)
-          ∙ sym (append_assoc old text (filled_lines p s (take (suc k) d) rest l))
-          ∙ ap (λ t. t ++ filled_lines p s (take (suc k) d) rest l) (sym told);
+      text = text;
+      lines = sym (ap (λ left. filled_lines p s before left l) next
+          ∙ ap (λ c. text ++ filled_lines p s (still_before c f before) rest (gone_to c f before rest l)) stays
+          ∙ ap (λ b. text ++ filled_lines p s b rest l) (sym front));
+      appended = told;
       left = omega arith;
     }
 
--- one turn after others
-pub turns-on : (p : Params) (s : Suppress) (k j turn n : ℕ) (l m : FloatLists) (old mid new : List ℕ) (end : FloatLists) (all : List ℕ) → IsTurn p s k j l m mid new →
-    end ≡ filled p s (take k l.deferred) (drop k l.deferred) l → all ≡ mid ++ filled_lines p s (take k l.deferred) (drop k l.deferred) l → length l.deferred + turn ≡ n + k →
-    record { lists : end ≡ filled p s (take j m.deferred) (drop j m.deferred) m; lines : all ≡ new ++ filled_lines p s (take j m.deferred) (drop j m.deferred) m; left : length m.deferred + (turn + 1) ≡ n + j }
-turns-on p s k j turn n l m old mid new end all t lists lines left = record {
-  lists = lists ∙ t.lists;
-  lines = lines ∙ t.lines;
-  left = omega (arith, t.left);
-}
+-- its lines are there, after those of others
+pub turn-lines : {p : Params} {s : Suppress} {k j : ℕ} {l m : FloatLists} {begun all mid new : List ℕ} → PutSoFar begun all mid (filled_lines p s (take k l.deferred) (drop k l.deferred) l) →
+    IsTurn p s k j l m mid new → PutSoFar begun all new (filled_lines p s (take j m.deferred) (drop j m.deferred) m)
+turn-lines {p} {s} {k} {j} {l} {m} {begun} {all} {mid} {new} q t =
+    put-more new t.text (filled_lines p s (take j m.deferred) (drop j m.deferred) m) (subst (PutSoFar begun all mid) (sym t.lines) q) t.appended
+
+-- it stops within the lines of the float
+pub turn-stopped : (p : Params) (s : Suppress) (k : ℕ) (f : Float) (l : FloatLists) (old new : List ℕ) → slice_get l.deferred k ≡ Some f →
+    PutsFront old (told_lines f.name (told_next p l s (take k l.deferred) f)) new → PutsFront old (filled_lines p s (take k l.deferred) (drop k l.deferred) l) new
+turn-stopped p s k f l old new there q =
+    let before = take k l.deferred in
+    let rest = drop (suc k) l.deferred in
+    let place = next_area_place p l s before f in
+    cut-in (filled_lines p s (still_before place f before) rest (gone_to place f before rest l)) (filled_lines p s before (drop k l.deferred) l)
+    (sym (ap (λ left. filled_lines p s before left l) (slice_get-drop k l.deferred f there))) q
 
 -- at the end no float is left to try
-pub turns-over : (p : Params) (s : Suppress) (k : ℕ) (l end : FloatLists) → length l.deferred ≡ k → end ≡ filled p s (take k l.deferred) (drop k l.deferred) l → l ≡ end
-turns-over p s k l end over lists =
-    let few : length l.deferred ≤ k = omega arith in
-    sym (lists ∙ ap (λ left. filled p s (take k l.deferred) left l) (drop_of_length-le l.deferred few))
-
-pub lines-over : (p : Params) (s : Suppress) (k : ℕ) (l : FloatLists) (all new : List ℕ) → length l.deferred ≡ k → all ≡ new ++ filled_lines p s (take k l.deferred) (drop k l.deferred) l → new ++ [] ≡ all
-lines-over p s k l all new over lines =
-    let few : length l.deferred ≤ k = omega arith in
-    sym (lines ∙ ap (λ left. new ++ filled_lines p s (take k l.deferred) left l) (drop_of_length-le l.deferred few))
+pub lines-over : (p : Params) (s : Suppress) (k : ℕ) (l : FloatLists) → length l.deferred ≤ k → filled_lines p s (take k l.deferred) (drop k l.deferred) l ≡ []
+lines-over p s k l over = ap (λ left. filled_lines p s (take k l.deferred) left l) (drop_of_length-le l.deferred over)

@@ -2,7 +2,6 @@ pub mod TestedLemmas
 pub mod AreaLemmas
 pub mod ColumnLemmas
 pub mod ValueLemmas
-pub mod LineLemmas
 pub mod TellingLemmas
 pub mod FillingLemmas
 pub mod DoublingLemmas

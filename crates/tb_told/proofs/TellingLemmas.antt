@@ -17,8 +17,12 @@ use Rattle.tb_told.specs.declared.Entering.{Entering}
 use Rattle.tb_told.specs.declared.AboveBoth.{AboveBoth}
 use Rattle.tb_told.specs.Tested.{all_hold, is_yes}
 use Rattle.tb_told.specs.AreaTold.{Told, enter_tests, here_tests, top_tests, bottom_tests, wide_tests, enter_told, here_told, top_told, bottom_told, wide_told, told_bottom, told_areas, told_column, told_wide, goes}
-use Rattle.tb_told.specs.Lines.{enter_line, here_line, top_line, bottom_line, wide_line, goes_line, told_lines}
+use Rattle.tb_told.specs.Lines.{enter_line, here_line, top_line, bottom_line, wide_line, goes_line, told_line, told_lines}
 use Rattle.tb_told.proofs.TestedLemmas.{yes_is_all}
+
+-- the line of what is told first, and the lines of what is told after it
+pub first-lines : (name : Name) (t u : Told) (later : List Told) → t ≡ u → told_line name t ++ told_lines name later ≡ told_lines name (u ∷ later)
+first-lines name t u later e = ap (λ v. told_line name v ++ told_lines name later) e
 
 bottom-by : (b : Bool) → (if b then Bottom else Deferred) ≡ where_of (if b then at_bottom else deferred)
 bottom-by true = refl

@@ -17,10 +17,12 @@ filled_lines p s before (f ∷ rest) l =
     let place = next_area_place p l s before f in
     told_lines f.name (told_next p l s before f) ++ filled_lines p s (still_before place f before) rest (gone_to place f before rest l)
 
--- one float was told of and went to its place, or stays: the walk from there on leads to the same lists and lines
+-- one float was told of and went to its place, or stays: the walk from there on leads to the same lists, and to the lines past this text
 pub record IsTurn (p : Params) (s : Suppress) (k j : ℕ) (l m : FloatLists) (old new : List ℕ) : Type 0 where
   pub lists : filled p s (take k l.deferred) (drop k l.deferred) l ≡ filled p s (take j m.deferred) (drop j m.deferred) m
-  pub lines : old ++ filled_lines p s (take k l.deferred) (drop k l.deferred) l ≡ new ++ filled_lines p s (take j m.deferred) (drop j m.deferred) m
+  pub text : List ℕ
+  pub lines : text ++ filled_lines p s (take j m.deferred) (drop j m.deferred) m ≡ filled_lines p s (take k l.deferred) (drop k l.deferred) l
+  pub appended : new ≡ old ++ text
   pub left : length m.deferred + (k + 1) ≡ length l.deferred + j
 
 -- no area is suppressed; the space above both columns never is
@@ -37,5 +39,7 @@ doubled_lines from p before (f ∷ rest) l =
 -- one float was told of and went above both columns, or stays
 pub record IsDoubleTurn (from : Part) (p : Params) (k j : ℕ) (l m : FloatLists) (old new : List ℕ) : Type 0 where
   pub lists : doubled from p none_suppressed (take k (floats_of from l)) (drop k (floats_of from l)) l ≡ doubled from p none_suppressed (take j (floats_of from m)) (drop j (floats_of from m)) m
-  pub lines : old ++ doubled_lines from p (take k (floats_of from l)) (drop k (floats_of from l)) l ≡ new ++ doubled_lines from p (take j (floats_of from m)) (drop j (floats_of from m)) m
+  pub text : List ℕ
+  pub lines : text ++ doubled_lines from p (take j (floats_of from m)) (drop j (floats_of from m)) m ≡ doubled_lines from p (take k (floats_of from l)) (drop k (floats_of from l)) l
+  pub appended : new ≡ old ++ text
   pub left : length (floats_of from m) + (k + 1) ≡ length (floats_of from l) + j

@@ -1,6 +1,7 @@
 //! The lines of a column of floats: its heads, those that join, and its company.
-ghost use Rattle.std.specs.Prelude.{◌≡◌, ◌++◌, codes, OnOk};
+ghost use Rattle.std.specs.Prelude.{◌++◌, codes};
 ghost use Rattle.tb_text.specs.Fields.{and_number};
+ghost use Rattle.tb_text.specs.Fronts.{PutsAfter};
 ghost use Rattle.tb_told.specs.Lines.{alone_line, joins_line, company_line};
 
 use crate::fields::{put_blocked, put_end, put_head};
@@ -10,9 +11,10 @@ use tb_node::Name;
 use tb_report::{put_measure, put_total};
 use tb_text::{put, put_field};
 
-/// Appends what is told of a float that may head a column.
+/// Appends what is told of a float that may head a column. If memory runs out, what stood in `out` is still there, and a
+/// front of the line may follow.
 pub fn put_alone(out: &mut Vec<u8>, name: &Name, t: &Alone) -> Result<(), AllocError>
-    ensures { OnOk result (out.new.items ≡ out.old.items ++ alone_line name.now t.now) }
+    ensures { PutsAfter result out.old.items (alone_line name.now t.now) out.new.items }
 {
     put_blocked(out, b"alone", name, &t.blocker)?;
     put_measure(out, b" high", t.high)?;
@@ -20,9 +22,10 @@ pub fn put_alone(out: &mut Vec<u8>, name: &Name, t: &Alone) -> Result<(), AllocE
     put_end(out, t.failed)
 }
 
-/// Appends what is told of a float that may join.
+/// Appends what is told of a float that may join. If memory runs out, what stood in `out` is still there, and a front of
+/// the line may follow.
 pub fn put_joining(out: &mut Vec<u8>, name: &Name, t: &Joining) -> Result<(), AllocError>
-    ensures { OnOk result (out.new.items ≡ out.old.items ++ joins_line name.now t.now) }
+    ensures { PutsAfter result out.old.items (joins_line name.now t.now) out.new.items }
 {
     put_blocked(out, b"joins", name, &t.blocker)?;
     put_measure(out, b" high", t.high)?;
@@ -32,7 +35,7 @@ pub fn put_joining(out: &mut Vec<u8>, name: &Name, t: &Joining) -> Result<(), Al
 
 // The height of floats together.
 fn put_sum(out: &mut Vec<u8>, sum: i128) -> Result<(), AllocError>
-    ensures { OnOk result (out.new.items ≡ out.old.items ++ (codes " sum" ++ and_number sum)) }
+    ensures { PutsAfter result out.old.items (codes " sum" ++ and_number sum) out.new.items }
 {
     put(out, b" sum")?;
     put_field(out, sum)
@@ -40,15 +43,16 @@ fn put_sum(out: &mut Vec<u8>, sum: i128) -> Result<(), AllocError>
 
 // The height of floats together, and the height of the column.
 fn put_most(out: &mut Vec<u8>, sum: i128, most: i64) -> Result<(), AllocError>
-    ensures { OnOk result (out.new.items ≡ out.old.items ++ (codes " sum" ++ and_number sum ++ codes " most" ++ and_number most)) }
+    ensures { PutsAfter result out.old.items (codes " sum" ++ and_number sum ++ codes " most" ++ and_number most) out.new.items }
 {
     put_sum(out, sum)?;
     put_measure(out, b" most", most)
 }
 
-/// Appends what is told of the company of a head.
+/// Appends what is told of the company of a head. If memory runs out, what stood in `out` is still there, and a front of
+/// the line may follow.
 pub fn put_company(out: &mut Vec<u8>, name: &Name, t: &Made) -> Result<(), AllocError>
-    ensures { OnOk result (out.new.items ≡ out.old.items ++ company_line name.now t.now) }
+    ensures { PutsAfter result out.old.items (company_line name.now t.now) out.new.items }
 {
     put_head(out, b"company", name)?;
     put_total(out, b" floats", t.floats as u64)?;

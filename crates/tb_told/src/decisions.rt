@@ -1,6 +1,7 @@
 //! The lines of a decision: one for each area that is tried, and where the float goes.
-ghost use Rattle.std.specs.Prelude.{◌≡◌, ◌++◌, codes, OnOk};
+ghost use Rattle.std.specs.Prelude.{◌++◌, codes};
 ghost use Rattle.tb_text.specs.Fields.{and_number, and_text, line};
+ghost use Rattle.tb_text.specs.Fronts.{PutsAfter};
 ghost use Rattle.tb_report.specs.Lines.{where_text};
 ghost use Rattle.tb_told.specs.Lines.{enter_line, here_line, top_line, bottom_line, wide_line, goes_line};
 
@@ -11,11 +12,10 @@ use tb_node::{Name, Where};
 use tb_report::{put_measure, where_text};
 use tb_text::{end_line, put_text};
 
-/// Appends what is told of a column as a whole.
-///
-/// It fails only if there is no memory, as all functions of this crate; a part of the line may then be there.
+/// Appends what is told of a column as a whole. If memory runs out, what stood in `out` is still there, and a front of the
+/// line may follow.
 pub fn put_entering(out: &mut Vec<u8>, name: &Name, t: &Entering) -> Result<(), AllocError>
-    ensures { OnOk result (out.new.items ≡ out.old.items ++ enter_line name.now t.now) }
+    ensures { PutsAfter result out.old.items (enter_line name.now t.now) out.new.items }
 {
     put_blocked(out, b"enter", name, &t.blocker)?;
     put_counted(out, &t.count)?;
@@ -25,7 +25,7 @@ pub fn put_entering(out: &mut Vec<u8>, name: &Name, t: &Entering) -> Result<(), 
 
 // The least room that the text needs, and the height of a float.
 fn put_least(out: &mut Vec<u8>, least: i64, high: i64) -> Result<(), AllocError>
-    ensures { OnOk result (out.new.items ≡ out.old.items ++ (codes " least" ++ and_number least ++ codes " high" ++ and_number high)) }
+    ensures { PutsAfter result out.old.items (codes " least" ++ and_number least ++ codes " high" ++ and_number high) out.new.items }
 {
     put_measure(out, b" least", least)?;
     put_measure(out, b" high", high)
@@ -33,7 +33,7 @@ fn put_least(out: &mut Vec<u8>, least: i64, high: i64) -> Result<(), AllocError>
 
 // The room of the column and what is required of it.
 fn put_room(out: &mut Vec<u8>, room: i64, need: i64) -> Result<(), AllocError>
-    ensures { OnOk result (out.new.items ≡ out.old.items ++ (codes " room" ++ and_number room ++ codes " need" ++ and_number need)) }
+    ensures { PutsAfter result out.old.items (codes " room" ++ and_number room ++ codes " need" ++ and_number need) out.new.items }
 {
     put_measure(out, b" room", room)?;
     put_measure(out, b" need", need)
@@ -41,7 +41,7 @@ fn put_room(out: &mut Vec<u8>, room: i64, need: i64) -> Result<(), AllocError>
 
 // What the text and the column need.
 fn put_needs(out: &mut Vec<u8>, t: &Entering) -> Result<(), AllocError>
-    ensures { OnOk result (out.new.items ≡ out.old.items ++ (codes " least" ++ and_number t.now.least ++ codes " high" ++ and_number t.now.high ++ codes " room" ++ and_number t.now.room ++ codes " need" ++ and_number t.now.need)) }
+    ensures { PutsAfter result out.old.items (codes " least" ++ and_number t.now.least ++ codes " high" ++ and_number t.now.high ++ codes " room" ++ and_number t.now.room ++ codes " need" ++ and_number t.now.need) out.new.items }
 {
     put_least(out, t.least, t.high)?;
     put_room(out, t.room, t.need)
@@ -49,7 +49,7 @@ fn put_needs(out: &mut Vec<u8>, t: &Entering) -> Result<(), AllocError>
 
 // The room of the column, and the share of an area.
 fn put_fit(out: &mut Vec<u8>, room: i64, need: i64, share: i64, high: i64) -> Result<(), AllocError>
-    ensures { OnOk result (out.new.items ≡ out.old.items ++ (codes " room" ++ and_number room ++ codes " need" ++ and_number need ++ codes " share" ++ and_number share ++ codes " high" ++ and_number high)) }
+    ensures { PutsAfter result out.old.items (codes " room" ++ and_number room ++ codes " need" ++ and_number need ++ codes " share" ++ and_number share ++ codes " high" ++ and_number high) out.new.items }
 {
     put_room(out, room, need)?;
     put_share(out, share, high)
@@ -57,24 +57,26 @@ fn put_fit(out: &mut Vec<u8>, room: i64, need: i64, share: i64, high: i64) -> Re
 
 // What is left of the share of an area, and the height of a float.
 fn put_share(out: &mut Vec<u8>, share: i64, high: i64) -> Result<(), AllocError>
-    ensures { OnOk result (out.new.items ≡ out.old.items ++ (codes " share" ++ and_number share ++ codes " high" ++ and_number high)) }
+    ensures { PutsAfter result out.old.items (codes " share" ++ and_number share ++ codes " high" ++ and_number high) out.new.items }
 {
     put_measure(out, b" share", share)?;
     put_measure(out, b" high", high)
 }
 
-/// Appends what is told of the text.
+/// Appends what is told of the text. If memory runs out, what stood in `out` is still there, and a front of the line may
+/// follow.
 pub fn put_in_text(out: &mut Vec<u8>, name: &Name, t: &InText) -> Result<(), AllocError>
-    ensures { OnOk result (out.new.items ≡ out.old.items ++ here_line name.now t.now) }
+    ensures { PutsAfter result out.old.items (here_line name.now t.now) out.new.items }
 {
     put_blocked(out, b"here", name, &t.blocker)?;
     put_room(out, t.room, t.need)?;
     put_end(out, t.failed)
 }
 
-/// Appends what is told of the top.
+/// Appends what is told of the top. If memory runs out, what stood in `out` is still there, and a front of the line may
+/// follow.
 pub fn put_at_top(out: &mut Vec<u8>, name: &Name, t: &AtTop) -> Result<(), AllocError>
-    ensures { OnOk result (out.new.items ≡ out.old.items ++ top_line name.now t.now) }
+    ensures { PutsAfter result out.old.items (top_line name.now t.now) out.new.items }
 {
     put_blocked(out, b"top", name, &t.blocker)?;
     put_counted(out, &t.count)?;
@@ -82,9 +84,10 @@ pub fn put_at_top(out: &mut Vec<u8>, name: &Name, t: &AtTop) -> Result<(), Alloc
     put_end(out, t.failed)
 }
 
-/// Appends what is told of the bottom.
+/// Appends what is told of the bottom. If memory runs out, what stood in `out` is still there, and a front of the line may
+/// follow.
 pub fn put_at_bottom(out: &mut Vec<u8>, name: &Name, t: &AtBottom) -> Result<(), AllocError>
-    ensures { OnOk result (out.new.items ≡ out.old.items ++ bottom_line name.now t.now) }
+    ensures { PutsAfter result out.old.items (bottom_line name.now t.now) out.new.items }
 {
     put_head(out, b"bottom", name)?;
     put_counted(out, &t.count)?;
@@ -92,9 +95,10 @@ pub fn put_at_bottom(out: &mut Vec<u8>, name: &Name, t: &AtBottom) -> Result<(),
     put_end(out, t.failed)
 }
 
-/// Appends what is told of the space above both columns.
+/// Appends what is told of the space above both columns. If memory runs out, what stood in `out` is still there, and a
+/// front of the line may follow.
 pub fn put_above_both(out: &mut Vec<u8>, name: &Name, t: &AboveBoth) -> Result<(), AllocError>
-    ensures { OnOk result (out.new.items ≡ out.old.items ++ wide_line name.now t.now) }
+    ensures { PutsAfter result out.old.items (wide_line name.now t.now) out.new.items }
 {
     put_blocked(out, b"wide", name, &t.blocker)?;
     put_counted(out, &t.count)?;
@@ -103,18 +107,19 @@ pub fn put_above_both(out: &mut Vec<u8>, name: &Name, t: &AboveBoth) -> Result<(
     put_end(out, t.failed)
 }
 
-/// Appends where a float goes.
+/// Appends where a float goes. If memory runs out, what stood in `out` is still there, and a front of the line may follow.
 pub fn put_goes(out: &mut Vec<u8>, name: &Name, place: Where) -> Result<(), AllocError>
-    ensures { OnOk result (out.new.items ≡ out.old.items ++ goes_line name.now (where_text place)) }
+    ensures { PutsAfter result out.old.items (goes_line name.now (where_text place)) out.new.items }
 {
     put_head(out, b"goes", name)?;
     put_text(out, where_text(place))?;
     end_line(out)
 }
 
-/// Appends that a clear takes a float back from its place.
+/// Appends that a clear takes a float back from its place. If memory runs out, what stood in `out` is still there, and a
+/// front of the line may follow.
 pub fn put_back(out: &mut Vec<u8>, name: &Name, place: Where) -> Result<(), AllocError>
-    ensures { OnOk result (out.new.items ≡ out.old.items ++ line (codes "back" ++ and_text name.now ++ and_text (where_text place))) }
+    ensures { PutsAfter result out.old.items (line (codes "back" ++ and_text name.now ++ and_text (where_text place))) out.new.items }
 {
     put_head(out, b"back", name)?;
     put_text(out, where_text(place))?;

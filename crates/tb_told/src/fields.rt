@@ -1,6 +1,7 @@
 //! Fields of a line that tells of a float.
-ghost use Rattle.std.specs.Prelude.{◌≡◌, ◌++◌, codes, OnOk};
+ghost use Rattle.std.specs.Prelude.{◌≡◌, ◌++◌};
 ghost use Rattle.tb_text.specs.Fields.{and_text, line};
+ghost use Rattle.tb_text.specs.Fronts.{PutsAfter};
 ghost use Rattle.tb_told.specs.Lines.{test_text, verdict_text, blocker_text, count_text, text_if};
 
 use crate::{Counted, Test};
@@ -27,7 +28,7 @@ fn test_text(test: Test) -> &'static [u8]
 
 // Appends `yes`, or `no` and the first test that fails.
 fn put_verdict(out: &mut Vec<u8>, failed: Option<Test>) -> Result<(), AllocError>
-    ensures { OnOk result (out.new.items ≡ out.old.items ++ verdict_text failed) }
+    ensures { PutsAfter result out.old.items (verdict_text failed) out.new.items }
 {
     match failed {
         None => put(out, b" yes"),
@@ -40,7 +41,7 @@ fn put_verdict(out: &mut Vec<u8>, failed: Option<Test>) -> Result<(), AllocError
 
 /// Appends the verdict and the end of the line.
 pub(crate) fn put_end(out: &mut Vec<u8>, failed: Option<Test>) -> Result<(), AllocError>
-    ensures { OnOk result (out.new.items ≡ out.old.items ++ line (verdict_text failed)) }
+    ensures { PutsAfter result out.old.items (line (verdict_text failed)) out.new.items }
 {
     put_verdict(out, failed)?;
     end_line(out)
@@ -48,7 +49,7 @@ pub(crate) fn put_end(out: &mut Vec<u8>, failed: Option<Test>) -> Result<(), All
 
 // Appends the name of a float that is in the way, or a dash.
 fn put_blocker(out: &mut Vec<u8>, blocker: &Option<Float>) -> Result<(), AllocError>
-    ensures { OnOk result (out.new.items ≡ out.old.items ++ blocker_text blocker.now) }
+    ensures { PutsAfter result out.old.items (blocker_text blocker.now) out.new.items }
 {
     put(out, b" class")?;
     match blocker {
@@ -59,7 +60,7 @@ fn put_blocker(out: &mut Vec<u8>, blocker: &Option<Float>) -> Result<(), AllocEr
 
 /// Appends what a limit allows, how many floats are there, and how many may still come.
 pub(crate) fn put_counted(out: &mut Vec<u8>, count: &Counted) -> Result<(), AllocError>
-    ensures { OnOk result (out.new.items ≡ out.old.items ++ count_text count.now) }
+    ensures { PutsAfter result out.old.items (count_text count.now) out.new.items }
 {
     put_measure(out, b" count", count.number)?;
     put_count(out, count.used as u64)?;
@@ -68,7 +69,7 @@ pub(crate) fn put_counted(out: &mut Vec<u8>, count: &Counted) -> Result<(), Allo
 
 /// Appends the word of a line and the name of a float.
 pub(crate) fn put_head(out: &mut Vec<u8>, word: &[u8], name: &Name) -> Result<(), AllocError>
-    ensures { OnOk result (out.new.items ≡ out.old.items ++ (word.now ++ and_text name.now)) }
+    ensures { PutsAfter result out.old.items (word.now ++ and_text name.now) out.new.items }
 {
     put(out, word)?;
     put_text(out, name.as_bytes())
@@ -81,7 +82,7 @@ pub(crate) fn put_blocked(
     name: &Name,
     blocker: &Option<Float>,
 ) -> Result<(), AllocError>
-    ensures { OnOk result (out.new.items ≡ out.old.items ++ (word.now ++ and_text name.now ++ blocker_text blocker.now)) }
+    ensures { PutsAfter result out.old.items (word.now ++ and_text name.now ++ blocker_text blocker.now) out.new.items }
 {
     put_head(out, word, name)?;
     put_blocker(out, blocker)
@@ -89,7 +90,7 @@ pub(crate) fn put_blocked(
 
 /// Appends a text, if this holds.
 pub(crate) fn put_if(out: &mut Vec<u8>, holds: bool, text: &[u8]) -> Result<(), AllocError>
-    ensures { OnOk result (out.new.items ≡ out.old.items ++ text_if holds text.now) }
+    ensures { PutsAfter result out.old.items (text_if holds text.now) out.new.items }
 {
     if holds { put(out, text) } else { Ok(()) }
 }

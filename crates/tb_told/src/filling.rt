@@ -1,5 +1,6 @@
 //! The lines of a start, and of the space above both columns: each float that waits is told of and goes to its place, one after another.
-ghost use Rattle.std.specs.Prelude.{◌≡◌, ◌<◌, ◌+◌, ◌++◌, [], length, slice_get, Some, OnOk, IfOk};
+ghost use Rattle.std.specs.Prelude.{◌≡◌, ◌<◌, ◌+◌, [], length, take, drop, slice_get, Some, OnOk, OnErr, IfOk};
+ghost use Rattle.tb_text.specs.Fronts.{PutsFront, PutsAfter};
 ghost use Rattle.tb_float.specs.Lists.{HasFloatAt, IsWaiting, entries_of, floats_of};
 ghost use Rattle.tb_float.specs.Ranges.{AreFloatParams, IsExtent};
 ghost use Rattle.tb_area.specs.Deferred.{filled, doubled};
@@ -13,6 +14,8 @@ use tb_node::{Float, Where};
 use tb_param::Params;
 
 /// Appends what is told of each float that waits, as it is tried for the next column, and moves it to its place.
+///
+/// If memory runs out, what stood in `out` is still there, and a front of all these lines may follow.
 pub fn put_filled(
     out: &mut Vec<u8>,
     pool: &mut Pool,
@@ -20,7 +23,7 @@ pub fn put_filled(
     s: &Suppress,
 ) -> Result<(), AllocError>
     requires { AreFloatParams p.now }
-    ensures lines { OnOk result (out.new.items ≡ out.old.items ++ filled_lines p.now s.now [] pool.old.lists.deferred pool.old.lists) }
+    ensures lines { PutsAfter result out.old.items (filled_lines p.now s.now [] pool.old.lists.deferred pool.old.lists) out.new.items }
     ensures lists { OnOk result (pool.new.lists ≡ filled p.now s.now [] pool.old.lists.deferred pool.old.lists) }
 {
     let mut kept = 0;
@@ -40,7 +43,8 @@ fn put_turn(
 ) -> Result<usize, AllocError>
     requires params { AreFloatParams p.now }
     requires within { kept < length pool.old.lists.deferred }
-    ensures { IfOk result (λ j. IsTurn p.now s.now kept j pool.old.lists pool.new.lists out.old.items out.new.items) }
+    ensures ok { IfOk result (λ j. IsTurn p.now s.now kept j pool.old.lists pool.new.lists out.old.items out.new.items) }
+    ensures err { OnErr result (PutsFront out.old.items (filled_lines p.now s.now (take kept pool.old.lists.deferred) (drop kept pool.old.lists.deferred) pool.old.lists) out.new.items) }
 {
     let f = waiting(pool, kept);
     put_next(out, pool, p, s, kept, &f)?;
@@ -88,6 +92,8 @@ fn float_at(pool: &Pool, k: usize) -> Float
 
 /// Appends what is told of each float of a list in which floats wait, as it is tried for the space above the next two
 /// columns, and moves it there if it goes.
+///
+/// If memory runs out, what stood in `out` is still there, and a front of all these lines may follow.
 pub fn put_doubled(
     out: &mut Vec<u8>,
     pool: &mut Pool,
@@ -96,7 +102,7 @@ pub fn put_doubled(
 ) -> Result<(), AllocError>
     requires params { AreFloatParams p.now }
     requires waiting { IsWaiting from }
-    ensures lines { OnOk result (out.new.items ≡ out.old.items ++ doubled_lines from p.now [] (floats_of from pool.old.lists) pool.old.lists) }
+    ensures lines { PutsAfter result out.old.items (doubled_lines from p.now [] (floats_of from pool.old.lists) pool.old.lists) out.new.items }
     ensures lists { OnOk result (pool.new.lists ≡ doubled from p.now none_suppressed [] (floats_of from pool.old.lists) pool.old.lists) }
 {
     let mut kept = 0;
@@ -117,7 +123,8 @@ fn put_double_turn(
     requires params { AreFloatParams p.now }
     requires waiting { IsWaiting from }
     requires within { kept < length (floats_of from pool.old.lists) }
-    ensures { IfOk result (λ j. IsDoubleTurn from p.now kept j pool.old.lists pool.new.lists out.old.items out.new.items) }
+    ensures ok { IfOk result (λ j. IsDoubleTurn from p.now kept j pool.old.lists pool.new.lists out.old.items out.new.items) }
+    ensures err { OnErr result (PutsFront out.old.items (doubled_lines from p.now (take kept (floats_of from pool.old.lists)) (drop kept (floats_of from pool.old.lists)) pool.old.lists) out.new.items) }
 {
     let f = wide_waiting(pool, from, kept);
     put_double(out, pool, p, from, kept, &f)?;

@@ -1,6 +1,7 @@
 //! The lines of a whole decision: each area that is tried, and where the float goes.
-ghost use Rattle.std.specs.Prelude.{◌≡◌, ◌++◌, ◌+ℤ◌, take, OnOk, if◌then◌else◌};
+ghost use Rattle.std.specs.Prelude.{◌≡◌, take, if◌then◌else◌};
 ghost use Rattle.tb_node.specs.SmallAmounts.{IsAmount};
+ghost use Rattle.tb_text.specs.Fronts.{PutsAfter};
 ghost use Rattle.tb_float.specs.declared.Suppress.{Suppress as SuppressFlags};
 ghost use Rattle.tb_float.specs.Lists.{IsWaiting, floats_of};
 ghost use Rattle.tb_float.specs.Ranges.{AreFloatParams, IsExtent};
@@ -52,7 +53,7 @@ fn put_bottom(
 ) -> Result<(), AllocError>
     requires params { AreFloatParams p.now }
     requires required { IsRequired 2 required }
-    ensures { OnOk result (out.new.items ≡ out.old.items ++ told_lines f.now.name (told_bottom p.now pool.now.lists s.now required f.now)) }
+    ensures { PutsAfter result out.old.items (told_lines f.now.name (told_bottom p.now pool.now.lists s.now required f.now)) out.new.items }
 {
     let told = at_bottom(pool, p, s, required, f);
     put_at_bottom(out, &f.name, &told)?;
@@ -70,7 +71,7 @@ fn put_areas(
 ) -> Result<(), AllocError>
     requires params { AreFloatParams p.now }
     requires required { IsRequired 1 required }
-    ensures { OnOk result (out.new.items ≡ out.old.items ++ told_lines f.now.name (told_areas p.now pool.now.lists s.now required f.now)) }
+    ensures { PutsAfter result out.old.items (told_lines f.now.name (told_areas p.now pool.now.lists s.now required f.now)) out.new.items }
 {
     let told = at_top(pool, p, s, required, f);
     put_at_top(out, &f.name, &told)?;
@@ -115,7 +116,7 @@ fn put_column(
 ) -> Result<(), AllocError>
     requires params { AreFloatParams p.now }
     requires required { IsRequired 0 required }
-    ensures { OnOk result (out.new.items ≡ out.old.items ++ told_lines f.now.name (told_column p.now pool.now.lists s.now required f.now)) }
+    ensures { PutsAfter result out.old.items (told_lines f.now.name (told_column p.now pool.now.lists s.now required f.now)) out.new.items }
 {
     let told = in_text(pool, p, required, f);
     put_in_text(out, &f.name, &told)?;
@@ -140,7 +141,7 @@ fn after_text(required: i64, need: i64, f: &Float) -> i64
 }
 
 /// Appends what is told of a float that is called, whose text is `page_height` high so far, in scaled points, and where it
-/// goes.
+/// goes. If memory runs out, what stood in `out` is still there, and a front of the lines may follow.
 pub fn put_called(
     out: &mut Vec<u8>,
     pool: &Pool,
@@ -152,7 +153,7 @@ pub fn put_called(
     requires params { AreFloatParams p.now }
     requires height { IsAmount page_height }
     requires extent { IsExtent f.now.height }
-    ensures { OnOk result (out.new.items ≡ out.old.items ++ told_lines f.now.name (told_call p.now pool.now.lists s.now page_height f.now)) }
+    ensures { PutsAfter result out.old.items (told_lines f.now.name (told_call p.now pool.now.lists s.now page_height f.now)) out.new.items }
 {
     let told = entering_current(pool, p, s, page_height, f);
     put_entering(out, &f.name, &told)?;
@@ -164,6 +165,7 @@ pub fn put_called(
 }
 
 /// Appends what is told of the `k`-th float that waits at the start of a column, and where it goes; nothing of a wide one.
+/// If memory runs out, what stood in `out` is still there, and a front of the lines may follow.
 pub fn put_next(
     out: &mut Vec<u8>,
     pool: &Pool,
@@ -174,7 +176,7 @@ pub fn put_next(
 ) -> Result<(), AllocError>
     requires params { AreFloatParams p.now }
     requires extent { IsExtent f.now.height }
-    ensures { OnOk result (out.new.items ≡ out.old.items ++ told_lines f.now.name (told_next p.now pool.now.lists s.now (take k pool.now.lists.deferred) f.now)) }
+    ensures { PutsAfter result out.old.items (told_lines f.now.name (told_next p.now pool.now.lists s.now (take k pool.now.lists.deferred) f.now)) out.new.items }
 {
     if f.wide {
         return Ok(());
@@ -189,7 +191,7 @@ pub fn put_next(
 }
 
 /// Appends what is told of the `k`-th float of a list in which floats wait, after a pair of columns, and where it goes;
-/// nothing of a single one.
+/// nothing of a single one. If memory runs out, what stood in `out` is still there, and a front of the lines may follow.
 pub fn put_double(
     out: &mut Vec<u8>,
     pool: &Pool,
@@ -200,7 +202,7 @@ pub fn put_double(
 ) -> Result<(), AllocError>
     requires params { AreFloatParams p.now }
     requires waiting { IsWaiting from }
-    ensures { (s : SuppressFlags) → OnOk result (out.new.items ≡ out.old.items ++ told_lines f.now.name (told_wide p.now pool.now.lists s (take k (floats_of from pool.now.lists)) f.now)) }
+    ensures { (s : SuppressFlags) → PutsAfter result out.old.items (told_lines f.now.name (told_wide p.now pool.now.lists s (take k (floats_of from pool.now.lists)) f.now)) out.new.items }
 {
     if !f.wide {
         return Ok(());

@@ -1,14 +1,33 @@
-use Rattle.std.proofs.Common.{[], ◌∷◌, ◌++◌, codes}
-use Rattle.tb_text.specs.Fields.{and_number, and_text, line}
-use Rattle.tb_told.proofs.LineLemmas.{on_joined, grown, blocked-line}
-use Rattle.tb_told.specs.Lines.{verdict_text, blocker_text, count_text}
+use Rattle.std.proofs.Common.{List, [], append_assoc, codes, refl, ℕ, ◌++◌, ◌∷◌, ◌≡◌}
+use Rattle.tb_text.specs.Fields.{and_number, and_text}
+use Rattle.tb_text.proofs.FrontLemmas.{cut, cut-in, cut-after, past, fails, on_joined}
+use Rattle.tb_node.specs.declared.Name.{Name}
+use Rattle.tb_told.specs.declared.Entering.{Entering}
+use Rattle.tb_told.specs.Lines.{verdict_text, blocker_text, count_text, enter_line}
 use Rattle.tb_told.proofs.decisions.put_entering.Goals as goal
+
+-- the parts, one after another
+joined : (a b d e f g h i j k l m n o : List ℕ) → (a ++ b ++ d) ++ (e ++ ((f ++ g ++ h ++ i ++ j ++ k ++ l ++ m) ++ (n ++ o))) ≡ (a ++ b ++ d ++ e ++ f ++ g ++ h ++ i ++ j ++ k ++ l ++ m ++ n) ++ o
+joined a b d e f g h i j k l m n o = simp append_assoc
+
+-- those of the text
+parts : (name : Name) (t : Entering) → (codes "enter" ++ and_text name ++ blocker_text t.blocker) ++ (count_text t.count ++ ((codes " least" ++ and_number t.least ++ codes " high" ++ and_number t.high ++ codes " room" ++ and_number t.room ++ codes " need" ++ and_number t.need) ++ (verdict_text t.failed ++ 10 ∷ []))) ≡ enter_line name t
+parts name t = joined (codes "enter") (and_text name) (blocker_text t.blocker) (count_text t.count) (codes " least") (and_number t.least) (codes " high") (and_number t.high) (codes " room") (and_number t.room) (codes " need") (and_number t.need) (verdict_text t.failed) (10 ∷ [])
+
+pub returns-in_err-put_blocked : goal.returns-in_err-put_blocked
+returns-in_err-put_blocked c =
+    fails _ _ _ _ c.from_residual.ensures.0 (cut-in _ _ (parts c.args.name.now c.args.t.now) c.in_err-put_blocked.ensures)
+
+pub returns-in_err-put_counted : goal.returns-in_err-put_counted
+returns-in_err-put_counted c =
+    fails _ _ _ _ c.from_residual-in_err-put_counted.ensures.0 (cut-after _ _ (parts c.args.name.now c.args.t.now) c.in_ok-put_blocked.ensures (cut _ c.in_err-put_counted.ensures))
+
+pub returns-in_err-put_needs : goal.returns-in_err-put_needs
+returns-in_err-put_needs c =
+    fails _ _ _ _ c.from_residual-in_err-put_needs.ensures.0 (cut-after _ _ (parts c.args.name.now c.args.t.now) c.in_ok-put_blocked.ensures (past _ c.in_ok-put_counted.ensures (cut _ c.in_err-put_needs.ensures)))
 
 pub returns : goal.returns
 returns c =
-    let t = c.args.t.now in
-    let front = grown c.args.out.now.items (codes "enter" ++ and_text c.args.name.now ++ blocker_text t.blocker) (count_text t.count) (codes " least" ++ and_number t.least ++ codes " high" ++ and_number t.high ++ codes " room" ++ and_number t.room ++ codes " need" ++ and_number t.need) c.put_blocked.new.out.items c.put_counted.new.out.items c.put_needs.new.out.items c.in_ok-put_blocked.ensures c.in_ok-put_counted.ensures c.in_ok-put_needs.ensures in
-    on_joined c.put_end.result c.args.out.now.items c.put_needs.new.out.items c.put_end.new.out.items
-    ((codes "enter" ++ and_text c.args.name.now ++ blocker_text t.blocker) ++ (count_text t.count ++ (codes " least" ++ and_number t.least ++ codes " high" ++ and_number t.high ++ codes " room" ++ and_number t.room ++ codes " need" ++ and_number t.need))) (verdict_text t.failed ++ 10 ∷ [])
-    (line (codes "enter" ++ and_text c.args.name.now ++ blocker_text t.blocker ++ count_text t.count ++ codes " least" ++ and_number t.least ++ codes " high" ++ and_number t.high ++ codes " room" ++ and_number t.room ++ codes " need" ++ and_number t.need ++ verdict_text t.failed))
-    (blocked-line (codes "enter") (and_text c.args.name.now) (blocker_text t.blocker) (count_text t.count) (codes " least") (and_number t.least) (codes " high") (and_number t.high) (codes " room") (and_number t.room) (codes " need") (and_number t.need) (verdict_text t.failed) (10 ∷ [])) front c.put_end.ensures
+    on_joined c.put_end.result c.args.out.now.items c.put_blocked.new.out.items c.put_end.new.out.items _ _ _ (parts c.args.name.now c.args.t.now) c.in_ok-put_blocked.ensures
+    (on_joined c.put_end.result c.put_blocked.new.out.items c.put_counted.new.out.items c.put_end.new.out.items _ _ _ refl c.in_ok-put_counted.ensures
+    (on_joined c.put_end.result c.put_counted.new.out.items c.put_needs.new.out.items c.put_end.new.out.items _ _ _ refl c.in_ok-put_needs.ensures c.put_end.ensures))

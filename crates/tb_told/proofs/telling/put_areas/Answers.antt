@@ -1,11 +1,11 @@
-use Rattle.std.proofs.Common.{sym, ◌∙◌, FitsSigned, w64, rules}
+use Rattle.std.proofs.Common.{sym, ap, ◌∙◌, FitsSigned, w64, rules}
 use Rattle.std.proofs.lemmas.Int.{to_z-of_z}
 use Rattle.tb_node.specs.declared.Where.TheVariants.{Top}
 use Rattle.tb_report.specs.Lines.{where_text}
-use Rattle.tb_told.proofs.LineLemmas.{on_joined}
-use Rattle.tb_told.specs.AreaTold.{told_bottom, told_areas}
+use Rattle.tb_text.proofs.FrontLemmas.{cut-in, fails, on_joined}
+use Rattle.tb_told.specs.AreaTold.{told_bottom, told_areas, tests_top}
 use Rattle.tb_told.specs.Lines.{top_line, goes_line, told_lines}
-use Rattle.tb_told.proofs.TellingLemmas.{top-goes, top-fails}
+use Rattle.tb_told.proofs.TellingLemmas.{first-lines, top-goes, top-fails}
 use Rattle.tb_told.proofs.telling.put_areas.Goals as goal
 
 pub returns-then-is_yes : goal.returns-then-is_yes
@@ -37,3 +37,9 @@ returns-else-is_yes c =
     on_joined c.put_bottom.result c.args.out.now.items c.put_at_top.new.out.items c.put_bottom.new.out.items
     (top_line f.name c.at_top-told.result) (told_lines f.name (told_bottom p l s c.after_top-low.result f)) (told_lines f.name (told_areas p l s c.args.required f))
     (top-fails p l s c.args.required c.after_top-low.result f c.at_top-told.result told stops low) c.in_ok-put_at_top.ensures back
+
+pub returns-in_err-put_at_top : goal.returns-in_err-put_at_top
+returns-in_err-put_at_top c =
+    let rr = c.ranges.required in
+    let told = simp to_z-of_z at c.at_top-told.ensures.told in
+    fails _ _ _ _ c.from_residual.ensures.0 (cut-in _ _ (first-lines c.args.f.now.name _ _ _ (ap (λ t. tests_top t) told)) c.in_err-put_at_top.ensures)

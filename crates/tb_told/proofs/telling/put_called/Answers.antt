@@ -4,11 +4,11 @@ use Rattle.std.proofs.lemmas.Int.{to_z-of_z}
 use Rattle.tb_scaled.specs.Scaled.{max_ℤ}
 use Rattle.tb_node.specs.declared.Where.TheVariants.{Deferred}
 use Rattle.tb_report.specs.Lines.{where_text}
-use Rattle.tb_told.proofs.LineLemmas.{on_joined}
+use Rattle.tb_text.proofs.FrontLemmas.{cut-in, fails, on_joined}
 use Rattle.tb_area.specs.Area.{text_minimum}
-use Rattle.tb_told.specs.AreaTold.{told_column, told_call}
+use Rattle.tb_told.specs.AreaTold.{told_column, told_call, enters}
 use Rattle.tb_told.specs.Lines.{enter_line, goes_line, told_lines}
-use Rattle.tb_told.proofs.TellingLemmas.{enters-on, enters-not}
+use Rattle.tb_told.proofs.TellingLemmas.{first-lines, enters-on, enters-not}
 use Rattle.tb_told.proofs.telling.put_called.Goals as goal
 
 pub returns-then-is_yes : goal.returns-then-is_yes
@@ -41,3 +41,9 @@ returns-else-is_yes c =
     on_joined c.put_goes.result c.args.out.now.items c.put_entering.new.out.items c.put_goes.new.out.items
     (enter_line f.name c.entering_current-told.result) (goes_line f.name (where_text Deferred)) (told_lines f.name (told_call p l s c.args.page_height f))
     (enters-not p l s l.deferred r f c.entering_current-told.result (told_column p l s r f) told stops) c.in_ok-put_entering.ensures c.put_goes.ensures
+
+pub returns-in_err-put_entering : goal.returns-in_err-put_entering
+returns-in_err-put_entering c =
+    let rr = c.ranges.page_height in
+    let told = simp to_z-of_z at c.entering_current-told.ensures.told in
+    fails _ _ _ _ c.from_residual.ensures.0 (cut-in _ _ (first-lines c.args.f.now.name _ _ _ (ap (λ t. enters t) told)) c.in_err-put_entering.ensures)

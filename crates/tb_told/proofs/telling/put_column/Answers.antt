@@ -3,11 +3,11 @@ use Rattle.std.specs.Prelude.{is_some}
 use Rattle.std.proofs.lemmas.Int.{to_z-of_z}
 use Rattle.tb_node.specs.declared.Where.TheVariants.{Here}
 use Rattle.tb_report.specs.Lines.{where_text}
-use Rattle.tb_told.proofs.LineLemmas.{on_joined}
-use Rattle.tb_told.specs.AreaTold.{told_bottom, told_areas, told_column}
+use Rattle.tb_text.proofs.FrontLemmas.{cut-in, fails, on_joined}
+use Rattle.tb_told.specs.AreaTold.{told_bottom, told_areas, told_column, tests_here}
 use Rattle.tb_told.specs.Lines.{here_line, goes_line, told_lines}
 use Rattle.tb_told.proofs.TestedLemmas.{first_is}
-use Rattle.tb_told.proofs.TellingLemmas.{here-goes, here-bottom, here-areas}
+use Rattle.tb_told.proofs.TellingLemmas.{first-lines, here-goes, here-bottom, here-areas}
 use Rattle.tb_told.proofs.telling.put_column.Goals as goal
 
 pub returns-then-is_yes : goal.returns-then-is_yes
@@ -55,3 +55,9 @@ returns-else-is_some c =
     on_joined c.put_areas.result c.args.out.now.items c.put_in_text.new.out.items c.put_areas.new.out.items
     (here_line f.name c.in_text-told.result) (told_lines f.name (told_areas p l s c.after_text-low.result f)) (told_lines f.name (told_column p l s c.args.required f))
     (here-areas p l s c.args.required c.after_text-low.result f c.in_text-told.result told stops free low) c.in_ok-put_in_text.ensures back
+
+pub returns-in_err-put_in_text : goal.returns-in_err-put_in_text
+returns-in_err-put_in_text c =
+    let rr = c.ranges.required in
+    let told = simp to_z-of_z at c.in_text-told.ensures.told in
+    fails _ _ _ _ c.from_residual.ensures.0 (cut-in _ _ (first-lines c.args.f.now.name _ _ _ (ap (λ t. tests_here t) told)) c.in_err-put_in_text.ensures)

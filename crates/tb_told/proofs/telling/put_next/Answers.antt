@@ -3,11 +3,11 @@ use Rattle.std.specs.Prelude.{◌+ℤ◌}
 use Rattle.std.proofs.lemmas.Int.{to_z-of_z}
 use Rattle.tb_node.specs.declared.Where.TheVariants.{Deferred}
 use Rattle.tb_report.specs.Lines.{where_text}
-use Rattle.tb_told.proofs.LineLemmas.{on_joined}
+use Rattle.tb_text.proofs.FrontLemmas.{cut-in, fails, on_joined}
 use Rattle.tb_area.specs.Area.{text_minimum}
-use Rattle.tb_told.specs.AreaTold.{told_areas, told_next}
+use Rattle.tb_told.specs.AreaTold.{told_areas, told_next, enters}
 use Rattle.tb_told.specs.Lines.{enter_line, goes_line, told_lines}
-use Rattle.tb_told.proofs.TellingLemmas.{enters-on, enters-not, not-asked, asked}
+use Rattle.tb_told.proofs.TellingLemmas.{first-lines, enters-on, enters-not, not-asked, asked}
 use Rattle.tb_told.proofs.telling.put_next.Goals as goal
 
 pub returns-then-f : goal.returns-then-f
@@ -45,3 +45,9 @@ returns-else-is_yes c =
     on_joined c.put_goes.result c.args.out.now.items c.put_entering.new.out.items c.put_goes.new.out.items
     (enter_line f.name c.entering_next-told.result) (goes_line f.name (where_text Deferred)) (told_lines f.name (told_next p l s before f))
     (enters-not p l s before r f c.entering_next-told.result (told_areas p l s r f) told stops ∙ asked f.name f.wide _ c.if-f.false) c.in_ok-put_entering.ensures c.put_goes.ensures
+
+pub returns-in_err-put_entering : goal.returns-in_err-put_entering
+returns-in_err-put_entering c =
+    let f = c.args.f.now in
+    let told = c.entering_next-told.ensures.told in
+    fails _ _ _ _ c.from_residual.ensures.0 (cut-in _ _ (first-lines f.name _ _ _ (ap (λ t. enters t) told) ∙ asked f.name f.wide _ c.if-f.false) c.in_err-put_entering.ensures)

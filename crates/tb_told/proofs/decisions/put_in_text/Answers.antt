@@ -1,0 +1,33 @@
+use Rattle.std.proofs.Common.{FitsSigned, List, [], append_assoc, codes, refl, rules, w64, ℕ, ◌++◌, ◌∷◌, ◌≡◌}
+use Rattle.std.proofs.lemmas.Int.{to_z-of_z}
+use Rattle.tb_text.specs.Fields.{and_number, and_text}
+use Rattle.tb_text.proofs.FrontLemmas.{cut, cut-in, cut-after, fails, on_joined}
+use Rattle.tb_node.specs.declared.Name.{Name}
+use Rattle.tb_told.specs.declared.InText.{InText}
+use Rattle.tb_told.specs.Lines.{verdict_text, blocker_text, here_line}
+use Rattle.tb_told.proofs.decisions.put_in_text.Goals as goal
+
+-- the parts, one after another
+joined : (a b d e f g h i j : List ℕ) → (a ++ b ++ d) ++ ((e ++ f ++ g ++ h) ++ (i ++ j)) ≡ (a ++ b ++ d ++ e ++ f ++ g ++ h ++ i) ++ j
+joined a b d e f g h i j = simp append_assoc
+
+-- those of the text
+parts : (name : Name) (t : InText) → (codes "here" ++ and_text name ++ blocker_text t.blocker) ++ ((codes " room" ++ and_number t.room ++ codes " need" ++ and_number t.need) ++ (verdict_text t.failed ++ 10 ∷ [])) ≡ here_line name t
+parts name t = joined (codes "here") (and_text name) (blocker_text t.blocker) (codes " room") (and_number t.room) (codes " need") (and_number t.need) (verdict_text t.failed) (10 ∷ [])
+
+pub returns-in_err-put_blocked : goal.returns-in_err-put_blocked
+returns-in_err-put_blocked c =
+    fails _ _ _ _ c.from_residual.ensures.0 (cut-in _ _ (parts c.args.name.now c.args.t.now) c.in_err-put_blocked.ensures)
+
+pub returns-in_err-put_room : goal.returns-in_err-put_room
+returns-in_err-put_room c =
+    let a : FitsSigned w64 c.args.t.now.room = search rules in
+    let b : FitsSigned w64 c.args.t.now.need = search rules in
+    fails _ _ _ _ c.from_residual-in_err-put_room.ensures.0 (cut-after _ _ (parts c.args.name.now c.args.t.now) c.in_ok-put_blocked.ensures (cut _ (simp to_z-of_z at c.in_err-put_room.ensures)))
+
+pub returns : goal.returns
+returns c =
+    let a : FitsSigned w64 c.args.t.now.room = search rules in
+    let b : FitsSigned w64 c.args.t.now.need = search rules in
+    on_joined c.put_end.result c.args.out.now.items c.put_blocked.new.out.items c.put_end.new.out.items _ _ _ (parts c.args.name.now c.args.t.now) c.in_ok-put_blocked.ensures
+    (on_joined c.put_end.result c.put_blocked.new.out.items c.put_room.new.out.items c.put_end.new.out.items _ _ _ refl (simp to_z-of_z at c.in_ok-put_room.ensures) c.put_end.ensures)
