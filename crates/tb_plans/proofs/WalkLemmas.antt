@@ -1,12 +1,16 @@
 -- The walk finds the places: what it found and what it has still to find are all of them.
-use Rattle.std.proofs.Common.{◌≡◌, refl, sym, ◌∙◌, ap, ℕ, suc, ◌<◌, ◌≤◌, Bool, true, false, ◌&&◌, List, [], ◌∷◌, ◌++◌, append_assoc, append-nil, length, get_or, drop, if◌then◌else◌, Option, Some, None}
+use Rattle.std.proofs.Common.{◌≡◌, refl, sym, ◌∙◌, ap, ℕ, suc, ◌<◌, ◌≤◌, Bool, true, false, ◌&&◌, List, [], ◌∷◌, ◌++◌, append_assoc, append-nil, length, get_or, drop, if◌then◌else◌, Option, Some, None, arith}
 use Rattle.std.proofs.Math.Seq.{drop-cons}
+use Rattle.std.specs.Prelude.{IsTrue, nat_le}
 use Rattle.std.proofs.lemmas.List.{drop_all}
+use Rattle.std.proofs.lemmas.Bool.Decides.{nat_tests}
 use Rattle.tb_param.specs.declared.Params.{Params}
 use Rattle.tb_galley.specs.declared.Item.{Item}
 use Rattle.tb_galley.specs.declared.ItemKind.{ItemKind}
 use Rattle.tb_galley.specs.declared.ItemKind.TheVariants as items
 use Rattle.tb_galley.specs.GalleyNodes.{two_after}
+use Rattle.tb_galley.specs.declared.Galley.{Galley}
+use Rattle.tb_galley.specs.Valid.{IsValid, weight, weight_of}
 use Rattle.tb_plans.specs.declared.walk.Before.{Before}
 use Rattle.tb_plans.specs.declared.walk.Before.TheVariants as befores
 use Rattle.tb_plans.specs.declared.walk.Walk.{Walk}
@@ -86,3 +90,20 @@ no-kern (Some k) = refl
 pub all-found : (p : Params) (ns : List Item) (w : Walk) (k : ℕ) (found places : List ℕ) → length ns ≤ k → found ++ places_left p w k (drop k ns) ≡ places → found ≡ places
 all-found p ns w k found places end h =
     sym (append-nil found) ∙ ap (λ l. found ++ l) (sym (ap (λ l. places_left p w k l) (drop_all k ns end) ∙ append-nil (kern_place w.kern false) ∙ no-kern w.kern)) ∙ h
+
+-- ---- how many items
+
+items-weigh : (ns : List Item) → length ns ≤ weight ns
+items-weigh [] = omega arith
+items-weigh (n ∷ ns) = let more : length ns ≤ weight ns = items-weigh ns in let one : 1 ≤ weight_of n.kind = heavy n.kind in omega arith
+  where
+    heavy : (k : ItemKind) → 1 ≤ weight_of k
+    heavy (items.Foot class ls) = omega arith
+    heavy k = omega arith
+
+-- a valid galley has at most 100000 items
+pub few-items : (g : Galley) → IsValid g → length g.items ≤ 100000
+few-items g v = let most : weight g.items ≤ 100000 = below (weight g.items) v.count in let all : length g.items ≤ weight g.items = items-weigh g.items in omega arith
+  where
+    below : (n : ℕ) → IsTrue (nat_le n 100000) → n ≤ 100000
+    below n h = grind (arith, nat_tests, h)

@@ -9,8 +9,8 @@ use std::alloc::{AllocError, Global};
 use tb_galley::{Classes, Galley, Item, ItemKind, Items, Leaf, LeafKind, Leaves};
 use tb_scaled::EJECT_PENALTY;
 
-/// A valid galley with `penalty -10000` before each of these items, on the item's line. The numbers count the items from 0 and
-/// rise; what comes after one that does not rise, or is no item's, is left out.
+/// A valid galley with `penalty -10000` before each of these items, on the item's line. The numbers count the items from 0
+/// and rise; one that does not rise, or is no item's, is left out with all after it.
 ///
 /// It fails only if memory runs out.
 pub fn with_breaks(alloc: Global, galley: &Galley, places: &[u32]) -> Result<Galley, AllocError>

@@ -1,9 +1,10 @@
 //! The places of a galley: the items before which a page break may be put in.
 
-ghost use Rattle.std.specs.Prelude.{◌≡◌, ◌<◌, ◌++◌, false, length, IfOk, OnOk};
+ghost use Rattle.std.specs.Prelude.{◌≡◌, ◌++◌, false, IfOk, OnOk};
 ghost use Rattle.tb_plans.specs.Places.{before_by, if_place, is_call, is_glue, is_looked_past, is_place, lets_glue_break, past, places_of};
 ghost use Rattle.tb_plans.specs.Walk.{kern_place, open_kern, passed, walked};
 ghost use Rattle.tb_galley.specs.GalleyNodes.{two_after};
+ghost use Rattle.tb_galley.specs.Valid.{IsValid};
 
 use std::alloc::{AllocError, Global};
 use tb_galley::{Galley, ItemKind};
@@ -31,13 +32,13 @@ struct Walk {
     kern: Option<u32>,
 }
 
-/// The places of a galley, rising: the numbers of its items, counted from 0, before which a page break may be put in. They
+/// The places of a valid galley, rising: the numbers of its items, counted from 0, before which a page break may be put in. They
 /// are the legal breakpoints among its items, but for forced breaks, and the places between two lines right after the call
 /// of a float or of a marginal note. The first item is no place.
 ///
 /// It fails only if memory runs out.
 pub fn places(alloc: Global, galley: &Galley) -> Result<Vec<u32>, AllocError>
-    requires { length galley.now.items < 4294967296 }
+    requires { IsValid galley.now }
     ensures { IfOk result (λ v. v.items ≡ places_of galley.now) }
 {
     let mut found = Vec::new(alloc);
