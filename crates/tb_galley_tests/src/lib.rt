@@ -5,3 +5,5 @@
 mod galley;
 #[cfg(test)]
 mod lines;
+#[cfg(test)]
+mod plans;
