@@ -1,6 +1,7 @@
 -- The list of a footnote.
 use Rattle.std.proofs.Common.{◌≡◌, ◌≢◌, refl, sym, subst, ◌∙◌, ap, ℕ, ◌+◌, ◌<◌, true, List, [], ◌∷◌, ◌++◌, length, map, take, get_or, None, Some, append-nil}
 use Rattle.std.specs.FinMap.{get}
+use Rattle.std.proofs.lemmas.Bool.{true≢false}
 use Rattle.std.proofs.lemmas.List.{map-append, take_more}
 use Rattle.tb_pool.specs.Lists.{Lists, IsLive, list_at, with_list}
 use Rattle.tb_pool.proofs.CallerLemmas.{list_same, live_same, get_other, with_list-same}
@@ -16,11 +17,11 @@ use Rattle.tb_node.specs.Fit.{IsSummable}
 use Rattle.tb_node.proofs.FitLemmas.{size_within}
 use Rattle.tb_param.specs.declared.Params.{Params}
 use Rattle.tb_builder.specs.declared.Builder.{Builder}
-use Rattle.tb_builder.specs.Contents.{contents_of}
+use Rattle.tb_builder.specs.Contents.{Contents, contents_of}
 use Rattle.tb_builder.specs.Ownership.{Lacks, has_class, inner_ids, ids_of, owned, is_plain, AllPlain, classes_of}
 use Rattle.tb_builder.specs.Courses.{IsSound}
-use Rattle.tb_builder.specs.Contributions.{NodesJoin, MayWait, NoPage}
-use Rattle.tb_builder.proofs.Ownership.FrameLemmas.{live_all_same, frame_owned, frame_contents, frame_sound, insertion_joins, fresh_apart, empty_may_wait}
+use Rattle.tb_builder.specs.Contributions.{NodesJoin, MayWait, ends_in_kern}
+use Rattle.tb_builder.proofs.Ownership.FrameLemmas.{live_all_same, frame_owned, frame_contents, frame_sound, insertion_joins, fresh_apart}
 use Rattle.tb_builder.proofs.Ownership.OwnedLemmas.{AllSame, lacks-append}
 use Rattle.tb_builder.proofs.Ownership.NewLemmas.{fresh_lacks}
 use Rattle.tb_builder.proofs.Ranges.PageableLemmas.{size_amount}
@@ -110,7 +111,7 @@ module _ (b : Builder) (s e t : Lists Node) (l : ℕ) (ls : List Leaf) (can : Ca
         (ap (has_class (classes_of (ids_of b))) class-is ∙ known)
 
     pub foot-may : MayWait (contents_of b t) (plain_of (list_at t) n)
-    foot-may = empty_may_wait (contents_of b t) (plain_of (list_at t) n) (subst NoPage (sym foot-contents) can.empty)
+    foot-may = λ kern acts. absurd (true≢false (sym kern ∙ ap (λ (c : Contents). ends_in_kern c.page) foot-contents ∙ can.no_kern))
 
     module _ (p : Params) (height : i.height ≡ size_of (map shape_of (list_at t l))) (depth : i.split_depth ≡ p.footsplitdepth) (top : i.split_top ≡ p.footsplittop) (floating : i.floating ≡ p.footfloating) where
       inner-is : map leaf_of (list_at t i.list) ≡ map plain_leaf ls

@@ -1,6 +1,8 @@
 pub mod ItemLemmas
 pub mod WaitsLemmas
 pub mod FootLemmas
+pub mod OpenLemmas
+pub mod LeftLemmas
 pub mod ItemAmounts
 pub mod GalleyClasses
 pub mod GalleyItems

@@ -14,7 +14,7 @@ use Rattle.tb_builder.specs.Contents.{Contents, contents_of}
 use Rattle.tb_builder.specs.Ownership.{Lacks, inner_of, inner_ids, ids_of, owned, is_known, classes_of}
 use Rattle.tb_builder.specs.Courses.{IsSound}
 use Rattle.tb_builder.specs.Contributions.{NodesJoin, MayWait}
-use Rattle.tb_builder.proofs.Ownership.FrameLemmas.{plain_joins, empty_may_wait}
+use Rattle.tb_builder.proofs.Ownership.FrameLemmas.{plain_joins}
 use Rattle.tb_builder.proofs.Ownership.SpareLemmas.{contents_still, owned_still, sound_still}
 use Rattle.tb_items.specs.WaitingNodes.{CanTake, Waits, lone}
 
@@ -57,7 +57,7 @@ module _ (b : Builder) (s : Lists Node) (line : ℕ) (k : Kind) (h : CanTake b s
   lone-joins = plain_joins (ids_of b) s n h.sound.own e (lone-known (classes_of (ids_of b)) k e)
 
   pub lone-may : MayWait (contents_of b s) (plain_of (list_at s) n)
-  lone-may = empty_may_wait (contents_of b s) (plain_of (list_at s) n) h.empty
+  lone-may = λ kern acts. absurd (true≢false (sym kern ∙ h.no_kern))
 
   pub lone-waits : (d : Builder) (t : Lists Node) → IsSound d t → contents_of d t ≡ record (contents_of b s) { waiting = (contents_of b s).waiting ++ plain_of (list_at s) n ∷ [] }
       → ((q : ℕ) → Lacks q (owned (ids_of b) s) → get t.lists q ≡ get s.lists q) → ((q : ℕ) → Lacks q (owned (ids_of b) s ++ inner_ids (n ∷ [])) → Lacks q (owned (ids_of d) t)) → Waits (lone line k ∷ []) b s d t

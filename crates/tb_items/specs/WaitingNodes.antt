@@ -1,5 +1,5 @@
 -- What waits at a page builder when nodes were handed to it.
-use Rattle.std.specs.Prelude.{◌≡◌, ℕ, true, List, [], ◌++◌, ◌≤◌, map, length, All, Some}
+use Rattle.std.specs.Prelude.{◌≡◌, false, ℕ, true, List, [], ◌++◌, ◌≤◌, map, length, All, Some}
 use Rattle.std.specs.FinMap.{get}
 use Rattle.tb_pool.specs.Lists.{Lists, IsLive}
 use Rattle.tb_node.specs.declared.What.TheVariants.{Text}
@@ -19,12 +19,12 @@ use Rattle.tb_builder.specs.declared.Builder.{Builder}
 use Rattle.tb_builder.specs.Contents.{contents_of}
 use Rattle.tb_builder.specs.Ownership.{Lacks, has_class, ids_of, owned}
 use Rattle.tb_builder.specs.Courses.{IsSound}
-use Rattle.tb_builder.specs.Contributions.{NoPage}
+use Rattle.tb_builder.specs.Contributions.{ends_in_kern}
 
--- the builder has no page
+-- the builder's page does not end with a kern, so that any node may wait
 pub record CanTake (b : Builder) (s : Lists Node) : Type 0 where
   pub sound : IsSound b s
-  pub empty : NoPage (contents_of b s)
+  pub no_kern : ends_in_kern (contents_of b s).page ≡ false
 
 -- these nodes wait behind those that waited; lists that were not the builder's are as they were, and still not its own
 pub record Waits (ns : List PlainNode) (b : Builder) (s : Lists Node) (d : Builder) (t : Lists Node) : Type 0 where

@@ -4,13 +4,13 @@ ghost use Rattle.std.specs.Prelude.{◌≡◌, ◌∷◌, ◌++◌, [], true, fa
 ghost use Rattle.tb_node.specs.PlainNodes.{act, on_line, newpage_kinds, clearpage_kinds};
 ghost use Rattle.tb_builder.specs.Contents.{contents_of};
 ghost use Rattle.tb_builder.specs.Ownership.{inner_of};
-ghost use Rattle.tb_galley.specs.GalleyNodes.{break_strength, with_firings, float_kinds, item_kinds, two_after, item_nodes, expanded};
+ghost use Rattle.tb_galley.specs.GalleyNodes.{break_strength, with_firings, float_kinds, item_kinds, two_after, two_past, item_nodes};
 ghost use Rattle.tb_items.specs.WaitingNodes.{CanTake, Waits, lone, IsItem, AreItems};
 
 use crate::foot_nodes::put_foot;
 use std::alloc::AllocError;
 use tb_builder::Builder;
-use tb_galley::{Galley, Item, ItemKind};
+use tb_galley::{Item, ItemKind};
 use tb_node::{
     Act, Area, CLEAR_PENALTY, Float, HOLD_PENALTY, Kind, Margin, Name, Node, PAR_PENALTY,
     VERT_PENALTY, What,
@@ -19,39 +19,26 @@ use tb_param::Params;
 use tb_pool::Lists;
 use tb_scaled::{EJECT_PENALTY, Glue, INF_PENALTY, filling_glue};
 
-/// Hands over the nodes of a galley: those of its items in order, and those of a clear with the line of its end. The page
-/// is empty, and the builder has the class of each footnote.
-pub fn expand(
-    store: &mut Lists<Node>,
-    builder: &mut Builder,
-    galley: &Galley,
-) -> Result<(), AllocError>
-    requires can { CanTake builder.old store.old }
-    requires items { AreItems (contents_of builder.old store.old).classes galley.now.items }
-    ensures { OnOk result (Waits (expanded galley.now) builder.old store.old builder.new store.new) }
-{
-    expand_items(store, builder, &galley.params, galley.items.as_slice())?;
-    put_clear(store, builder, galley.end_line)
-}
-
-// A galley begins in one column.
-fn expand_items(
+// Hands over the nodes of items, and returns whether there are two columns after them; `two` says whether there are two
+// before.
+pub(crate) fn put_items(
     store: &mut Lists<Node>,
     builder: &mut Builder,
     p: &Params,
+    mut two: bool,
     items: &[Item],
-) -> Result<(), AllocError>
+) -> Result<bool, AllocError>
     requires can { CanTake builder.old store.old }
     requires items { AreItems (contents_of builder.old store.old).classes items.now }
-    ensures { OnOk result (Waits (item_nodes p.now false items.now) builder.old store.old builder.new store.new) }
+    ensures two { IfOk result (λ after. after ≡ two_past two items.now) }
+    ensures waits { OnOk result (Waits (item_nodes p.now two items.now) builder.old store.old builder.new store.new) }
 {
     // Most items have one node, and few have more.
     store.reserve(items.len() + items.len() / 8)?;
-    let mut two = false;
     for item in items {
         two = put_next(store, builder, p, two, item.line, &item.kind)?;
     }
-    Ok(())
+    Ok(two)
 }
 
 // Hands over the nodes of an item, and returns whether there are two columns after it. Most items are boxes or glue: their
@@ -91,7 +78,7 @@ fn put_next(
 }
 
 // Whether there are two columns after an item.
-fn two_after(two: bool, kind: &ItemKind) -> bool
+pub(crate) fn two_after(two: bool, kind: &ItemKind) -> bool
     ensures { result ≡ two_after two kind.now }
 {
     match kind {
@@ -333,7 +320,11 @@ fn put_page_end(store: &mut Lists<Node>, builder: &mut Builder, line: u32) -> Re
 // A clear: the end of a page, and a blank box with the penalty at which the output routine puts out what it holds (LaTeX,
 // \clearpage).
 #[inline(never)]
-fn put_clear(store: &mut Lists<Node>, builder: &mut Builder, line: u32) -> Result<(), AllocError>
+pub(crate) fn put_clear(
+    store: &mut Lists<Node>,
+    builder: &mut Builder,
+    line: u32,
+) -> Result<(), AllocError>
     requires can { CanTake builder.old store.old }
     ensures { OnOk result (Waits (on_line line clearpage_kinds) builder.old store.old builder.new store.new) }
 {

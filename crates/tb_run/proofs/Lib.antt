@@ -1,3 +1,4 @@
+pub mod Behind
 pub mod Filled
 pub mod ServedAgain
 pub mod Turns

@@ -1,6 +1,5 @@
 -- The routine between two firings, and what one of its turns shows.
 use Rattle.std.specs.Prelude.{◌≡◌, ℕ, ◌≤◌, pos, Bool, false, List, [], Option, Some, None, int_lt, if◌then◌else◌}
-use Rattle.std.specs.List.{AllByRecursion}
 use Rattle.tb_pool.specs.Lists.{IsLive}
 use Rattle.tb_param.specs.declared.Params.{Params}
 use Rattle.tb_builder.specs.Contents.{Contents, contents_of}
@@ -20,11 +19,16 @@ use Rattle.tb_run.specs.declared.routine.Ending.TheVariants as endings
 use Rattle.tb_steps.specs.Run.{End, done, pool_full, dead_cycles, page_limit, node_limit, Step, ends, goes_on, step, held_count, step_events}
 use Rattle.tb_steps.specs.Runnable.{AreRunnable, AreRunClasses}
 use Rattle.tb_run.specs.ServedStates.{IsServed}
+use Rattle.tb_items.specs.ItemsLeft.{nodes_left, AreItemsLeft, with_more, IsOpen}
 use Rattle.tb_items.specs.Happenings.{events_of, noted, happened_lists, ArePages}
 
 -- what the builder holds
+abbrev pub built_in : Routine → Contents
+built_in r = contents_of r.builder r.store
+
+-- the same, with the nodes of the items that are left behind those that wait
 abbrev pub held_in : Routine → Contents
-held_in r = contents_of r.builder r.store
+held_in r = with_more (nodes_left r.left) (built_in r)
 
 -- the state that the routine shows
 abbrev pub state_of : Routine → State
@@ -36,12 +40,13 @@ with_events es r = record r { machine = record r.machine { events = es } }
 
 -- ---- between two firings
 
--- the builder and the machine are as their last calls left them, with lists of their own, and no fault was returned
+-- the builder and the machine are as their last calls left them, with lists of their own, and no fault was returned; the builder can take the items that are left
 pub record IsConsistent (r : Routine) : Type 0 where
   pub builder : IsSound r.builder r.store
   pub machine : IsMachine r.machine r.store
   pub fault : r.machine.fault ≡ None
   pub apart : AreNoneOf (machine_lists r.machine) (builder_lists r.builder r.store)
+  pub items : AreItemsLeft (built_in r).classes r.left
 
 -- no more nodes are held than the routine's bound, which is no more than the limit
 pub record IsBounded (limit : ℕ) (r : Routine) : Type 0 where
@@ -60,6 +65,7 @@ pub record IsBetweenFirings (r : Routine) : Type 0 where
   pub between : held_in r ≡ between_pages (state_of r)
   pub served : IsServed (held_in r).waiting (state_of r)
   pub bounded : IsBounded 4194304 r
+  pub ends : IsOpen r.left (built_in r).waiting
 
 -- a page can be filled and served, and the machine's queue of events is empty
 pub record IsReady (r : Routine) : Type 0 where

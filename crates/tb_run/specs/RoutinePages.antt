@@ -1,5 +1,5 @@
 -- A page that is filled and fires, as part of a step of the run. No public clause cites this module.
-use Rattle.std.specs.Prelude.{◌≡◌, ℕ, ◌+◌, ◌≤◌, pos, ◌<ℤ◌, ◌≤ℤ◌, Bool, true, false, List, [], ◌++◌, map, Option, Some, None, int_lt}
+use Rattle.std.specs.Prelude.{◌≡◌, ℕ, ◌+◌, ◌<◌, ◌≤◌, pos, ◌<ℤ◌, ◌≤ℤ◌, Bool, true, false, List, [], ◌++◌, map, Option, Some, None, int_lt}
 use Rattle.tb_pool.specs.Lists.{Lists}
 use Rattle.tb_node.specs.declared.Act.{Act}
 use Rattle.tb_node.specs.declared.Node.{Node}
@@ -11,17 +11,18 @@ use Rattle.tb_builder.specs.declared.Event.{Event}
 use Rattle.tb_builder.specs.declared.Page.{Page}
 use Rattle.tb_builder.specs.PageCalls.{PassedOver, ComesBy}
 use Rattle.tb_builder.specs.PageEvents.{fired_room}
-use Rattle.tb_builder.specs.FiredPages.{Boxed}
+use Rattle.tb_builder.specs.FiredPages.{Boxed, Fired}
 use Rattle.tb_builder.specs.SizedContents.{fired_count}
 use Rattle.tb_builder.specs.Contents.{node_count}
 use Rattle.tb_sheet.specs.declared.Sent.{Sent}
 use Rattle.tb_output.specs.declared.RunFault.{RunFault}
 use Rattle.tb_output.specs.declared.RunFault.TheVariants as faults
-use Rattle.tb_output.specs.State.{Recorded}
+use Rattle.tb_output.specs.State.{Work, Recorded}
+use Rattle.tb_output.specs.Output.{out}
 use Rattle.tb_output.specs.Act.{Acted, went, full, act_on}
 use Rattle.tb_output.specs.ActCalls.{line_of, warnings_sent}
 use Rattle.tb_output.specs.Machine.{state_shown, events_shown}
-use Rattle.tb_output.specs.Firing.{CanFire, fired_in, whole_work}
+use Rattle.tb_output.specs.Firing.{CanFire, fired_in}
 use Rattle.tb_items.specs.declared.happenings.Happening.{Happening}
 use Rattle.tb_items.specs.declared.happenings.Happening.TheVariants as happenings
 use Rattle.tb_run.specs.declared.routine.Routine.{Routine}
@@ -30,11 +31,13 @@ use Rattle.tb_run.specs.declared.routine.Ending.TheVariants as endings
 use Rattle.tb_run.specs.declared.routine.Filled.{Filled}
 use Rattle.tb_run.specs.declared.routine.Filled.TheVariants as filled
 use Rattle.tb_items.specs.RunEvents.{RunEvent}
-use Rattle.tb_steps.specs.Run.{dead_cycles, held_count, step, firing_step, step_events}
+use Rattle.tb_steps.specs.Run.{held_count, step, firing_step, step_events}
 use Rattle.tb_steps.specs.Runnable.{AreRunClasses}
 use Rattle.tb_run.specs.ServedStates.{IsServed, IsServedPage}
+use Rattle.tb_items.specs.declared.items_left.ItemsLeft.{ItemsLeft}
+use Rattle.tb_items.specs.ItemsLeft.{nodes_of, nodes_left, pieces_left, with_more, IsOpen}
 use Rattle.tb_items.specs.Happenings.{events_of, noted, happened_lists}
-use Rattle.tb_run.specs.Routine.{held_in, state_of, IsConsistent, IsBounded, between_pages, EndsAs, IsEnded}
+use Rattle.tb_run.specs.Routine.{built_in, held_in, state_of, IsConsistent, IsBounded, between_pages, EndsAs, IsEnded}
 
 -- what was sent, as happenings
 abbrev pub sent_happenings : List Sent → List Happening
@@ -49,6 +52,21 @@ pub record HasComeTo (wanted : Bool) (e : Event) (ask : Ask) (r q : Routine) : T
   pub none : wanted ≡ true → passed ≡ []
   pub machine : q.machine ≡ r.machine
   pub most : q.most ≡ r.most
+  pub left : q.left ≡ r.left
+
+-- ---- items are handed over
+
+-- nodes of the items that were left wait behind those that waited; of the rest as much is left
+pub record IsSupplied (l : ItemsLeft) (r q : Routine) : Type 0 where
+  pub nodes : List PlainNode
+  pub contents : built_in q ≡ with_more nodes (built_in r)
+  pub all : nodes ++ nodes_left q.left ≡ nodes_of l
+  pub ends : IsOpen q.left nodes
+  pub fewer : pieces_left q.left < pieces_left (Some l)
+  pub whole : IsConsistent q
+  pub machine : q.machine ≡ r.machine
+  pub most : q.most ≡ r.most
+  pub state : (boxes : List Boxed) (waiting : List PlainNode) → state_shown q.store boxes waiting q.machine ≡ state_shown r.store boxes waiting r.machine
 
 -- ---- an act
 
@@ -61,10 +79,11 @@ HasDone boxes waiting r q (full line live) = ⊥
 pub record HasActed (a : Act) (r q : Routine) : Type 0 where
   pub whole : IsConsistent q
   pub acted : (boxes : List Boxed) (waiting : List PlainNode) → HasDone boxes waiting r q (act_on r.machine.params (state_shown r.store boxes waiting r.machine) a)
-  pub contents : held_in q ≡ held_in r
+  pub built : built_in q ≡ built_in r
   pub builder : q.builder ≡ r.builder
   pub params : q.machine.params ≡ r.machine.params
   pub most : q.most ≡ r.most
+  pub left : q.left ≡ r.left
 
 -- the pool was full, with this many boxes; nothing changed
 pub record HasNotActed (a : Act) (live : ℕ) (r q : Routine) : Type 0 where
@@ -85,9 +104,17 @@ pub record IsFilledLast (wanted : Bool) (r : Routine) (e : Ending) (q : Routine)
   pub whole : IsConsistent q
   pub params : q.machine.params ≡ r.machine.params
 
+-- the page that the builder fired, with all that waits after it
+abbrev pub fired_whole : Routine → Page → Fired
+fired_whole r page = record (fired_in r.builder r.store page) { rest = (held_in r).waiting }
+
+-- what the definition does at the firing of the page
+abbrev pub work_of : Routine → Page → Work
+work_of r page = out r.machine.params (state_of r) (fired_whole r page)
+
 -- with the page that fires, this many nodes are held
 pub record IsBoundedPage (page : Page) (q : Routine) : Type 0 where
-  pub held : fired_count (fired_in q.builder q.store page) + node_count (state_of q).held_page ≤ q.most + 1
+  pub held : fired_count (fired_whole q page) + node_count (state_of q).held_page ≤ q.most + 1
   pub few : q.most ≤ 4194304
 
 -- the page fires in the state after its acts
@@ -95,7 +122,7 @@ pub record IsFiring (wanted : Bool) (r : Routine) (page : Page) (q : Routine) (h
   pub events : List RunEvent
   pub records : List Recorded
   pub quiet : AreQuiet wanted hs events
-  pub step_is : step r.machine.params (state_of r) ≡ firing_step r.machine.params events records (state_of q) (fired_in q.builder q.store page)
+  pub step_is : step r.machine.params (state_of r) ≡ firing_step r.machine.params events records (state_of q) (fired_whole q page)
   pub whole : IsConsistent q
   pub can : CanFire q.machine q.builder q.store page
   pub room : fired_room q.builder ≡ size_of (shapes q.store page.body)
@@ -103,9 +130,10 @@ pub record IsFiring (wanted : Bool) (r : Routine) (page : Page) (q : Routine) (h
   pub params : q.machine.params ≡ r.machine.params
   pub classes : q.machine.classes ≡ r.machine.classes
   pub known : AreRunClasses q.machine.classes
-  pub served : IsServedPage (state_of q) (fired_in q.builder q.store page)
+  pub served : IsServedPage (state_of q) (fired_whole q page)
   pub bounded : IsBoundedPage page q
   pub most : q.most ≡ r.most
+  pub ends : (before : List PlainNode) → IsOpen q.left (before ++ (built_in q).waiting)
 
 -- the page that was filled fires, or the run ends before it does
 abbrev pub Fills : Bool → Routine → Filled → Routine → List Happening → Type 0
@@ -117,13 +145,14 @@ Fills wanted r (filled.Ends e) q hs = IsFilledLast wanted r e q hs
 -- the firing was allowed and went through: the routine shows the state after it
 pub record IsServedOn (page : Page) (r q : Routine) : Type 0 where
   pub alive : pos r.machine.dead_cycles <ℤ r.machine.params.maxdeadcycles
-  pub done : (whole_work r.machine r.builder r.store page).refused ≡ false
-  pub state : state_of q ≡ (whole_work r.machine r.builder r.store page).state
-  pub sent : events_shown q.store q.machine.events ≡ events_shown r.store r.machine.events ++ (whole_work r.machine r.builder r.store page).sent
+  pub done : (work_of r page).refused ≡ false
+  pub state : state_of q ≡ (work_of r page).state
+  pub sent : events_shown q.store q.machine.events ≡ events_shown r.store r.machine.events ++ (work_of r page).sent
   pub whole : IsConsistent q
   pub between : held_in q ≡ between_pages (state_of q)
   pub served : IsServed (held_in q).waiting (state_of q)
   pub bounded : IsBounded 8388608 q
+  pub ends : IsOpen q.left (built_in q).waiting
 
 -- no more than this many nodes are held
 pub record IsWithinLimit (q : Routine) : Type 0 where
@@ -138,9 +167,9 @@ pub record IsOverLimit (n : ℕ) (q : Routine) : Type 0 where
 -- the page limit was met
 pub record IsLimited (n : ℕ) (page : Page) (r q : Routine) : Type 0 where
   pub alive : pos r.machine.dead_cycles <ℤ r.machine.params.maxdeadcycles
-  pub refused : (whole_work r.machine r.builder r.store page).refused ≡ true
-  pub pages : n + 1 ≡ (whole_work r.machine r.builder r.store page).state.page
-  pub sent : events_shown q.store q.machine.events ≡ events_shown r.store r.machine.events ++ (whole_work r.machine r.builder r.store page).sent
+  pub refused : (work_of r page).refused ≡ true
+  pub pages : n + 1 ≡ (work_of r page).state.page
+  pub sent : events_shown q.store q.machine.events ≡ events_shown r.store r.machine.events ++ (work_of r page).sent
 
 -- n firings in a row shipped no page, and `maxdeadcycles` allows no more; nothing changed
 pub record IsDead (n : ℕ) (r q : Routine) : Type 0 where

@@ -1,6 +1,6 @@
 //! The output routine over one store: the page builder fills a page, and the machine serves it.
 
-ghost use Rattle.std.specs.Prelude.{◌≡◌, ◌<◌, ◌≤◌, ◌≤ℤ◌, ◌+◌, ◌++◌, [], pos, IfOk, IfErr, IfNone, OnOk, List, None};
+ghost use Rattle.std.specs.Prelude.{◌≡◌, ◌<◌, ◌≤◌, ◌≤ℤ◌, ◌+◌, ◌++◌, [], pos, false, IfOk, IfErr, IfNone, OnOk, List, None, Some};
 ghost use Rattle.std.specs.List.{AllByRecursion};
 ghost use Rattle.std.specs.FinMap.{get};
 ghost use Rattle.tb_node.specs.PlainNodes.{PlainNode, plain_list};
@@ -8,31 +8,32 @@ ghost use Rattle.tb_node.specs.Fit.{shapes};
 ghost use Rattle.tb_node.specs.Sums.{size_of};
 ghost use Rattle.tb_builder.specs.FiredPages.{Boxed};
 ghost use Rattle.tb_builder.specs.PageEvents.{NextFits, fired_room};
-ghost use Rattle.tb_builder.specs.Contents.{contents_of, nothing_yet};
-ghost use Rattle.tb_builder.specs.Ownership.{ClassesFit};
+ghost use Rattle.tb_builder.specs.Contents.{node_count};
+ghost use Rattle.tb_builder.specs.Contributions.{ends_in_kern};
 ghost use Rattle.tb_builder.specs.Courses.{IsSound};
 ghost use Rattle.tb_galley.specs.GalleyNodes.{expanded};
 ghost use Rattle.tb_output.specs.State.{first_state};
 ghost use Rattle.tb_sheet.specs.Asked.{IsSizedAct};
 ghost use Rattle.tb_output.specs.ActCalls.{line_of};
 ghost use Rattle.tb_output.specs.Machine.{events_shown, state_shown};
-ghost use Rattle.tb_output.specs.Firing.{CanFire, CanGoBack, fired_in};
+ghost use Rattle.tb_output.specs.Firing.{CanFire, CanGoBack};
 ghost use Rattle.tb_items.specs.GalleyNodes.{AreGalleyNodes};
 ghost use Rattle.tb_steps.specs.Runnable.{AreRunnable, AreRunClasses};
 ghost use Rattle.tb_run.specs.ServedStates.{IsServedPage};
 ghost use Rattle.tb_items.specs.WaitingNodes.{AreItems};
+ghost use Rattle.tb_items.specs.ItemsLeft.{nodes_left, IsOpen};
 ghost use Rattle.tb_items.specs.Classes.{classes_of};
 ghost use Rattle.tb_steps.specs.Run.{held_count};
 ghost use Rattle.tb_items.specs.Happenings.{happened_lists, ArePages};
-ghost use Rattle.tb_run.specs.Routine.{held_in, state_of, IsConsistent, IsBounded, IsReady, AreHappened, IsTurned, IsEnded, over_limit, with_events};
-ghost use Rattle.tb_run.specs.RoutinePages.{HasComeTo, Fills, Serves, IsBoundedPage, HasActed, HasNotActed, sent_happenings};
+ghost use Rattle.tb_run.specs.Routine.{built_in, state_of, IsConsistent, IsBounded, IsReady, AreHappened, IsTurned, IsEnded, over_limit, with_events};
+ghost use Rattle.tb_run.specs.RoutinePages.{HasComeTo, IsSupplied, Fills, Serves, fired_whole, IsBoundedPage, HasActed, HasNotActed, sent_happenings};
 
 use crate::classes::classes_of;
 use std::alloc::{AllocError, Global};
 use tb_builder::{Ask, Builder, Event, Page, new_builder};
 use tb_galley::Galley;
 use tb_insert::Class;
-use tb_items::{Happening, close_happened, close_list, expand, note_sent, note_try};
+use tb_items::{Happening, ItemsLeft, all_items, close_happened, close_list, note_sent, note_try};
 use tb_node::{Act, Node};
 use tb_output::{Full, Machine, RunFault, new_machine};
 use tb_param::exceeds;
@@ -40,7 +41,7 @@ use tb_pool::{ListId, Lists};
 
 /// Between two firings: one store, the page builder with the nodes that wait, and the output routine's machine.
 #[derive(Drop)]
-pub struct Routine {
+pub struct Routine<'a> {
     /// Holds the lists of the builder, of the machine, and of what was sent until it is done with.
     pub store: Lists<Node>,
     /// Holds what waits.
@@ -49,6 +50,8 @@ pub struct Routine {
     pub machine: Machine,
     /// A bound on the nodes that are held, so that they need not be counted after each firing.
     pub most: u64,
+    /// The items whose nodes do not wait yet, until all wait.
+    pub left: Option<ItemsLeft<'a>>,
 }
 
 // No galley has more nodes: an item has at most six, and the clear at the end has five.
@@ -93,25 +96,8 @@ fn line_of(act: &Act) -> u32
     }
 }
 
-// A builder of these classes for which all nodes of a galley wait.
-fn waiting_builder(
-    alloc: Global,
-    store: &mut Lists<Node>,
-    galley: &Galley,
-    served: &[Class],
-) -> Result<Builder, AllocError>
-    requires classes { ClassesFit served.now }
-    requires items { AreItems served.now galley.now.items }
-    ensures sound { IfOk result (λ b. IsSound b store.new) }
-    ensures contents { IfOk result (λ b. contents_of b store.new ≡ record (nothing_yet served.now) { waiting = expanded galley.now }) }
-{
-    let mut builder = new_builder(alloc, store, served)?;
-    expand(store, &mut builder, galley)?;
-    Ok(builder)
-}
-
 // The routine of a galley that has these classes. The machine is made last, so that no failure lets go of it.
-fn begun(alloc: Global, galley: &Galley, served: &[Class]) -> Result<Routine, AllocError>
+fn begun<'a>(alloc: Global, galley: &'a Galley, served: &[Class]) -> Result<Routine<'a>, AllocError>
     requires params { AreRunnable galley.now.params }
     requires classes { AreRunClasses served.now }
     requires items { AreItems served.now galley.now.items }
@@ -122,19 +108,31 @@ fn begun(alloc: Global, galley: &Galley, served: &[Class]) -> Result<Routine, Al
     ensures ready { IfOk result IsReady }
 {
     let mut store = Lists::new(alloc);
-    let builder = waiting_builder(alloc, &mut store, galley, served)?;
+    let builder = new_builder(alloc, &mut store, served)?;
     let machine = new_machine(alloc, &mut store, &galley.params, served)?;
     Ok(Routine {
         store,
         builder,
         machine,
         most: MOST_NODES,
+        left: Some(all_items(galley)),
     })
 }
 
-impl Routine {
-    /// All nodes of a galley wait for its first page. It fails only if memory runs out.
-    pub fn new(alloc: Global, galley: &Galley) -> Result<Self, AllocError>
+// How many nodes do not wait yet.
+fn nodes_left(left: &Option<ItemsLeft<'_>>) -> u64
+    requires { node_count (nodes_left left.now) ≤ 8388608 }
+    ensures { result ≡ node_count (nodes_left left.now) }
+{
+    match left {
+        Some(left) => left.nodes(),
+        None => 0,
+    }
+}
+
+impl<'a> Routine<'a> {
+    /// All of a galley is left for its first page. It fails only if memory runs out.
+    pub fn new(alloc: Global, galley: &'a Galley) -> Result<Self, AllocError>
         requires params { AreRunnable galley.now.params }
         requires classes { AreRunClasses (classes_of galley.now) }
         requires items { AreItems (classes_of galley.now) galley.now.items }
@@ -148,8 +146,8 @@ impl Routine {
         begun(alloc, galley, classes.as_slice())
     }
 
-    /// The ending if more nodes are held than `maxnodes`: those that wait, those of the held page and those of
-    /// insertions, in their boxes too.
+    /// The ending if more nodes are held than `maxnodes`: those that wait, those of the items that are left, those of the
+    /// held page and those of insertions, in their boxes too.
     ///
     /// They are counted only if the bound on them is more than `maxnodes`; the bound is then their number.
     pub fn node_limit(&mut self) -> Option<Ending>
@@ -165,7 +163,9 @@ impl Routine {
         if !exceeds(self.most, limit) {
             return None;
         }
-        self.most = self.builder.nodes(&self.store) + self.machine.held_nodes(&self.store);
+        self.most = self.builder.nodes(&self.store)
+            + self.machine.held_nodes(&self.store)
+            + nodes_left(&self.left);
         if exceeds(self.most, limit) {
             return Some(Ending::NodeLimit { count: self.most });
         }
@@ -252,16 +252,32 @@ impl Routine {
                     self.hand_over(happened)?;
                 }
                 Event::Fired(page) => return Ok(Filled::Fires(page)),
-                Event::Empty => return Ok(Filled::Ends(Ending::Done)),
+                Event::Empty => {
+                    let Some(left) = self.left else {
+                        return Ok(Filled::Ends(Ending::Done));
+                    };
+                    self.supply(left)?;
+                }
             }
         }
+    }
+
+    // Hands over more of the items that are left.
+    fn supply(&mut self, left: ItemsLeft<'a>) -> Result<(), AllocError>
+        requires whole { IsConsistent self.old }
+        requires left { self.old.left ≡ Some left }
+        requires no_kern { ends_in_kern (built_in self.old).page ≡ false }
+        ensures { OnOk result (IsSupplied left.entry self.old self.new) }
+    {
+        self.left = left.hand_over(&mut self.store, &mut self.builder)?;
+        Ok(())
     }
 
     // The next event of the builder. Places that were tried are passed over unless `wanted` is set.
     fn next_event(&mut self, wanted: bool, ask: &Ask) -> Result<Event, AllocError>
         requires sound { IsSound self.old.builder self.old.store }
-        requires fits { NextFits (held_in self.old) ask.now }
-        requires none_held { (held_in self.old).held ≡ [] }
+        requires fits { NextFits (built_in self.old) ask.now }
+        requires none_held { (built_in self.old).held ≡ [] }
         ensures { IfOk result (λ e. HasComeTo wanted e ask.now self.old self.new) }
     {
         if wanted {
@@ -293,7 +309,8 @@ impl Routine {
         requires bounded { IsBoundedPage page self.old }
         requires params { AreRunnable self.old.machine.params }
         requires classes { AreRunClasses self.old.machine.classes }
-        requires served { IsServedPage (state_of self.old) (fired_in self.old.builder self.old.store page) }
+        requires served { IsServedPage (state_of self.old) (fired_whole self.old page) }
+        requires ends { (before : List PlainNode) → IsOpen self.old.left (before ++ (built_in self.old).waiting) }
         ensures { IfOk result (λ o. Serves page self.old o self.new) }
     {
         let room = self.builder.fired_room();
@@ -316,12 +333,13 @@ impl Routine {
         requires whole { IsConsistent self.old }
         requires list { CanGoBack list self.old.machine self.old.builder self.old.store }
         ensures whole { IsConsistent self.new }
-        ensures contents { held_in self.new ≡ record (held_in self.old) {
-          waiting = (held_in self.old).held ++ (plain_list self.old.store list ++ (held_in self.old).waiting);
+        ensures contents { built_in self.new ≡ record (built_in self.old) {
+          waiting = (built_in self.old).held ++ (plain_list self.old.store list ++ (built_in self.old).waiting);
           held = [];
         } }
         ensures machine { self.new.machine ≡ self.old.machine }
         ensures most { self.new.most ≡ self.old.most }
+        ensures left { self.new.left ≡ self.old.left }
         ensures state { (boxes : List Boxed) (waiting : List PlainNode) → state_shown self.new.store boxes waiting self.new.machine ≡ state_shown self.old.store boxes waiting self.old.machine }
         ensures events { events_shown self.new.store self.new.machine.events ≡ events_shown self.old.store self.old.machine.events }
     {

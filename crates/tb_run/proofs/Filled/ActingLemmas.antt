@@ -49,7 +49,7 @@ module _ (r : Routine) (m : MachineView) (a : Act) (whole : IsConsistent r) (mac
   apart = apart-swap (builder_lists r.builder r.store) (machine_lists m) (taken-by (builder_lists r.builder r.store) (apart-swap (machine_lists r.machine) (builder_lists r.builder r.store) whole.apart))
 
   done-by : (store : Lists Node) (boxes : List Boxed) (waiting : List PlainNode) → state_shown store boxes waiting m ≡ state_shown r.store boxes waiting m → (o : Acted) → IsActed r.store boxes waiting r.machine m o
-      → HasDone boxes waiting r (record { store = store; builder = r.builder; machine = m; most = r.most }) o
+      → HasDone boxes waiting r (record { store = store; builder = r.builder; machine = m; most = r.most; left = r.left }) o
   done-by store boxes waiting same (went s ws rs) h = (same ∙ h.state, h.sent)
   done-by store boxes waiting same (full line live) h = h
 
@@ -58,17 +58,19 @@ module _ (r : Routine) (m : MachineView) (a : Act) (whole : IsConsistent r) (mac
     shown : IsShownBy m r.store new
     shown = closed-shown m r.store new (dropped_lists a r.machine.left_column) is others (dropped r.store whole.machine)
 
-    pub has-acted : HasActed a r (record { store = new; builder = r.builder; machine = m; most = r.most })
+    pub has-acted : HasActed a r (record { store = new; builder = r.builder; machine = m; most = r.most; left = r.left })
     has-acted = record {
       whole = record {
         builder = closed-sound r.builder r.store new (dropped_lists a r.machine.left_column) whole.builder others dropped-free;
         machine = shown.machine;
         fault = fault ∙ whole.fault;
         apart = subst (AreNoneOf (machine_lists m)) (sym (closed-owned r.builder r.store new (dropped_lists a r.machine.left_column) whole.builder others dropped-free)) apart;
+        items = whole.items;
       };
       acted = λ boxes waiting. done-by new boxes waiting (shown.state boxes waiting) (acted_in r.store boxes waiting r.machine a) (acted r.store boxes waiting);
-      contents = closed-contents r.builder r.store new (dropped_lists a r.machine.left_column) whole.builder others dropped-free;
+      built = closed-contents r.builder r.store new (dropped_lists a r.machine.left_column) whole.builder others dropped-free;
       builder = refl;
       params = params;
       most = refl;
+      left = refl;
     }

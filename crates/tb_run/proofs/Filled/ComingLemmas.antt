@@ -82,6 +82,17 @@ module _ (p : Params) (s : State) where
   }
 
   module _ (rs : List Reached) (c d : Contents) (t : State) (h : IsComing rs c t) where
+    -- the same page, and the same is laid out
+    pub coming-same : HasCome start rs d ask → laid d ask ≡ laid c ask → IsComing rs d t
+    coming-same come whole = record {
+      come = come;
+      none = h.none;
+      state = h.state;
+      served = subst (λ ns. IsServed ns t) (sym whole) h.served;
+      few = let f = h.few in let e = ap node_count whole in omega (arith, f, e);
+      keeps = h.keeps;
+    }
+
     -- ---- a place was tried
 
     module _ (x : Try) (n : ComesToTry x start rs c ask d) where

@@ -1,5 +1,6 @@
 -- The routine while a page is filled.
-use Rattle.std.proofs.Common.{◌≡◌, refl, sym, subst, ◌∙◌, ap, ℕ, ◌<◌, ◌≤◌, Bool, List, [], ◌∷◌, ◌++◌, length, map, Some, append-nil, arith}
+use Rattle.std.proofs.Common.{◌≡◌, refl, sym, subst, ◌∙◌, ap, ℕ, ◌<◌, ◌≤◌, Bool, List, [], ◌∷◌, ◌++◌, length, map, None, Some, append-nil, arith}
+use Rattle.std.specs.Prelude.{◌+◌, Option}
 use Rattle.std.specs.List.{AllByRecursion}
 use Rattle.tb_break.proofs.EachLemmas.{all-front}
 use Rattle.tb_pool.specs.Lists.{Lists}
@@ -34,13 +35,17 @@ use Rattle.tb_run.specs.declared.routine.Routine.{Routine}
 use Rattle.tb_run.specs.declared.routine.Ending.TheVariants as endings
 use Rattle.tb_items.specs.RunEvents.{RunEvent, offered, sent}
 use Rattle.tb_steps.specs.Run.{held_count, step_events}
+use Rattle.tb_items.specs.declared.items_left.ItemsLeft.{ItemsLeft}
+use Rattle.tb_items.specs.ItemsLeft.{nodes_left, pieces_left, AreItemsLeft, with_more, IsOpen}
 use Rattle.tb_items.specs.Happenings.{noted_try, noted}
-use Rattle.tb_run.specs.Routine.{held_in, state_of, with_events, IsConsistent, IsReady, EndsAs}
+use Rattle.tb_run.specs.Routine.{built_in, held_in, state_of, with_events, IsConsistent, IsReady, EndsAs}
 use Rattle.tb_run.specs.RoutinePages.{sent_happenings, HasDone, HasActed, HasNotActed, AreQuiet, IsFilledLast}
 use Rattle.tb_run.proofs.Turns.WholeLemmas.{built-shown, built-whole}
 use Rattle.tb_items.proofs.HappenedLemmas.{lists-append, events-append, noted-append, noted-warned, try-noted, try-lists}
 use Rattle.tb_run.proofs.Turns.HappenedLemmas.{warned-events, warned-lists}
 use Rattle.tb_run.proofs.Filled.ComingLemmas.{IsComing, start, so_far, coming-start, after, tried-events, coming-tried, acted-sized, acted-events, coming-acted, step-full, step-over}
+use Rattle.tb_run.proofs.Behind.EventLemmas.{open-start}
+use Rattle.tb_run.proofs.Filled.MoreLemmas.{IsOpenFor, fits-front}
 use Rattle.tb_run.proofs.Filled.ComingPages.{coming-fits}
 
 -- ---- events that were taken
@@ -52,7 +57,7 @@ pub taken-all : (P : ℕ → Type 0) (m : MachineView) → AllByRecursion P (mac
 taken-all P m h = (h.0, subst (AllByRecursion P) (sym (append-nil (left_lists m.left_column))) (all-front P (left_lists m.left_column) (event_lists m.events) h.1))
 
 pub taken-whole : (q : Routine) → IsConsistent q → IsConsistent (with_events [] q)
-taken-whole q w = record { builder = w.builder; machine = taken-machine q.machine q.store w.machine; fault = w.fault; apart = taken-all (λ l. IsNoneOf l (builder_lists q.builder q.store)) q.machine w.apart }
+taken-whole q w = record { builder = w.builder; machine = taken-machine q.machine q.store w.machine; fault = w.fault; apart = taken-all (λ l. IsNoneOf l (builder_lists q.builder q.store)) q.machine w.apart; items = w.items }
 
 -- ---- so far
 
@@ -69,10 +74,15 @@ pub record IsUnderway (wanted : Bool) (r q : Routine) (hs : List Happening) : Ty
   pub taken : q.machine.events ≡ []
   pub params : q.machine.params ≡ r.machine.params
   pub most : q.most ≡ r.most
+  pub ends : IsOpenFor q.left (built_in q) (ask_of r.machine.params (state_of r))
 
 -- calls of the builder that are left, at most
 abbrev pub left_of_page : Routine → Routine → ℕ
 left_of_page r q = calls_left (held_in q).stopped (length (reach_ahead (held_in q) (ask_of r.machine.params (state_of r))).reached)
+
+-- turns of the loop that are left, at most: each call but the last of a batch, and each batch
+abbrev pub turns_left : Routine → Routine → ℕ
+turns_left r q = left_of_page r q + pieces_left q.left
 
 pub underway-start : (wanted : Bool) (r : Routine) (hs : List Happening) → IsReady r → hs ≡ [] → IsUnderway wanted r r hs
 underway-start wanted r hs h e = record {
@@ -83,7 +93,12 @@ underway-start wanted r hs h e = record {
   taken = h.events;
   params = refl;
   most = refl;
+  ends = start-open r.left h.settled.ends;
 }
+  where
+    start-open : (o : Option ItemsLeft) → IsOpen o (built_in r).waiting → IsOpenFor o (built_in r) (ask_of r.machine.params (state_of r))
+    start-open None k = tt
+    start-open (Some l) k = open-start (built_in r) (ask_of r.machine.params (state_of r)) (ap (λ (c : Contents). c.page) h.settled.between) (ap (λ (c : Contents). c.stopped) h.settled.between) k
 
 -- ---- what happened
 
@@ -118,18 +133,18 @@ module _ (wanted : Bool) (r q d : Routine) (hs : List Happening) (ready : IsRead
   s = state_of r
 
   -- all that is added up fits
-  pub underway-fits : NextFits (held_in q) ask
+  pub underway-fits : NextFits (built_in q) ask
   underway-fits =
       let t = ready.settled in
       let few : held_count s ≤ 4194304 = (let a = t.bounded.held in let b = t.bounded.few in omega (arith, a, b)) in
-      subst (NextFits (held_in q)) (sym asked) (coming-fits p s t.params t.classes t.whole.machine.goal t.served few h.rs (held_in q) (state_now r q) h.coming)
+      fits-front (built_in q) ask (nodes_left q.left) (subst (NextFits (held_in q)) (sym asked) (coming-fits p s t.params t.classes t.whole.machine.goal t.served few h.rs (held_in q) (state_now r q) h.coming))
 
-  module _ (e : Event) (page : IsNextOfPage e (held_in q) ask (held_in d) d.store) (sound : IsSound d.builder d.store) (keeps : KeepsOthers (ids_of q.builder) q.store (ids_of d.builder) d.store) (same : d.machine ≡ q.machine) (most : d.most ≡ q.most) where
+  module _ (e : Event) (page : IsNextOfPage e (held_in q) ask (held_in d) d.store) (sound : IsSound d.builder d.store) (keeps : KeepsOthers (ids_of q.builder) q.store (ids_of d.builder) d.store) (same : d.machine ≡ q.machine) (most : d.most ≡ q.most) (left : d.left ≡ q.left) (kept : (built_in d).classes ≡ (built_in q).classes) where
     pub next-is : (f : Event) → e ≡ f → ComesTo f (start p s) h.rs (held_in q) (ask_of p s) (held_in d) d.store
     next-is f is = subst (λ x. IsNextOfPage f (held_in q) x (held_in d) d.store) asked (subst (λ x. IsNextOfPage x (held_in q) ask (held_in d) d.store) is page) (start p s) h.rs h.coming.come
 
     pub next-whole : IsConsistent d
-    next-whole = built-whole q d h.whole keeps sound same
+    next-whole = built-whole q d h.whole keeps sound same (subst (λ o. AreItemsLeft (built_in d).classes o) (sym left) (subst (λ cs. AreItemsLeft cs q.left) (sym kept) h.whole.items))
 
     -- the machine shows the same state
     pub next-state : state_now r d ≡ state_now r q
@@ -150,8 +165,8 @@ module _ (wanted : Bool) (r q d : Routine) (hs : List Happening) (ready : IsRead
       abbrev more : List Reached
       more = after p s h.rs (held_in q) (held_in d) (state_now r q) h.coming x tries
 
-      pub underway-tried : (new : List Happening) → new ≡ hs ++ noted_try wanted x → IsUnderway wanted r d new
-      underway-tried new e = record {
+      pub underway-tried : IsOpenFor d.left (built_in d) ask → (new : List Happening) → new ≡ hs ++ noted_try wanted x → IsUnderway wanted r d new
+      underway-tried ends new e = record {
         rs = more;
         coming = subst (IsComing p s more (held_in d)) (sym next-state) (coming-tried p s h.rs (held_in q) (held_in d) (state_now r q) h.coming x tries);
         quiet = subst (λ hs'. AreQuiet wanted hs' (so_far p s more).events) (sym e) (quiet-tried wanted hs (so_far p s h.rs).events h.quiet x (so_far p s more).events (tried-events p s h.rs (held_in q) (held_in d) (state_now r q) h.coming x tries));
@@ -159,6 +174,7 @@ module _ (wanted : Bool) (r q d : Routine) (hs : List Happening) (ready : IsRead
         taken = next-taken;
         params = next-params;
         most = most ∙ h.most;
+        ends = subst (IsOpenFor d.left (built_in d)) asked ends;
       }
 
       pub fewer-tried : left_of_page r d < left_of_page r q
@@ -177,9 +193,9 @@ module _ (wanted : Bool) (r q d : Routine) (hs : List Happening) (ready : IsRead
       of-act = λ i. act_on (next-params i) (next-state i) a
 
       -- it was done, and its warnings were taken
-      module _ (now : Routine) (acted_so : HasActed a d now) where
+      module _ (now : Routine) (acted_so : HasActed a d now) (ends : IsOpenFor d.left (built_in d) ask) where
         hold : (held_in now) ≡ held_in d
-        hold = acted_so.contents
+        hold = λ i. with_more (nodes_left (acted_so.left i)) (acted_so.built i)
 
         by-act : (o : Acted) → act_on p (state_now r q) a ≡ o → HasDone s.boxes s.waiting d now o → (new : List Happening) → new ≡ hs ++ sent_happenings now.machine.events → IsUnderway wanted r (with_events [] now) new
         by-act (full line live) e o new is_new = absurd o
@@ -195,6 +211,7 @@ module _ (wanted : Bool) (r q d : Routine) (hs : List Happening) (ready : IsRead
               taken = refl;
               params = acted_so.params ∙ next-params;
               most = acted_so.most ∙ most ∙ h.most;
+              ends = subst (λ o. IsOpenFor o (built_in now) (ask_of p s)) (sym acted_so.left) (subst (λ c. IsOpenFor d.left c (ask_of p s)) (sym acted_so.built) (subst (IsOpenFor d.left (built_in d)) asked ends));
             }
 
         pub underway-acted : (new : List Happening) → new ≡ hs ++ sent_happenings now.machine.events → IsUnderway wanted r (with_events [] now) new

@@ -21,7 +21,7 @@ use Rattle.tb_builder.specs.FiredPages.{Boxed, Fired}
 use Rattle.tb_builder.specs.Contents.{Contents, contents_of, node_count, box_count}
 use Rattle.tb_builder.specs.SizedContents.{fired_count, AreBoxesOf}
 use Rattle.tb_pool.specs.Frame.{IsNoneOf}
-use Rattle.tb_builder.specs.Contributions.{NoPage}
+use Rattle.tb_items.specs.ItemsLeft.{IsOpen}
 use Rattle.tb_builder.specs.PageEvents.{IsGivenOut, TellsRoom}
 use Rattle.tb_builder.specs.PageProgress.{page_fired, ComesToPage, IsNextOfPage}
 use Rattle.tb_builder.specs.Ownership.{ids_of, KeepsOthers}
@@ -36,7 +36,7 @@ use Rattle.tb_sheet.specs.Asked.{hold_penalty}
 use Rattle.tb_output.specs.Output.{out}
 use Rattle.tb_output.specs.Machine.{MachineView, state_shown, machine_lists}
 use Rattle.tb_builder.specs.BuilderLists.{builder_lists}
-use Rattle.tb_output.specs.Firing.{fired_in, IsReach, CanFire}
+use Rattle.tb_output.specs.Firing.{IsReach, CanFire}
 use Rattle.tb_column.proofs.ShownLemmas.{shapes-held}
 use Rattle.tb_output.proofs.FiringWork.ApartLemmas.{fresh-none}
 use Rattle.tb_builder.proofs.Ownership.LackLemmas.{lacks-none}
@@ -47,8 +47,8 @@ use Rattle.tb_items.specs.RunEvents.{RunEvent}
 use Rattle.tb_steps.specs.Run.{held_count, firing_step}
 use Rattle.tb_steps.specs.Runnable.{AreRunClasses}
 use Rattle.tb_run.specs.ServedStates.{IsTextKind, notes_left, IsServedPage}
-use Rattle.tb_run.specs.Routine.{held_in, state_of, IsConsistent, IsBetweenFirings, IsReady}
-use Rattle.tb_run.specs.RoutinePages.{IsBoundedPage, IsFiring}
+use Rattle.tb_run.specs.Routine.{built_in, held_in, state_of, IsConsistent, IsBetweenFirings, IsReady}
+use Rattle.tb_run.specs.RoutinePages.{fired_whole, IsBoundedPage, IsFiring}
 use Rattle.tb_run.proofs.ServedAgain.ServedFirings.{reach_where}
 use Rattle.tb_run.proofs.Turns.CountedLemmas.{leaves-count}
 use Rattle.tb_run.proofs.Filled.ComingLemmas.{start, so_far, step-fires}
@@ -89,8 +89,8 @@ page-same : (store : Lists Node) (bs cs : List Boxed) (ns ms : List PlainNode) (
 page-same store bs cs ns ms m f h = record { body = h.body; text = h.text; back = h.back; rest = h.rest; boxes = h.boxes; boxes_of = h.boxes_of; held = h.held; entries = h.entries; notes = h.notes; bottom = h.bottom }
 
 module _ (wanted : Bool) (r q d : Routine) (hs : List Happening) (ready : IsReady r) (h : IsUnderway wanted r q hs) (ask : Ask) (asked : ask ≡ ask_of r.machine.params (state_of r))
-    (e : Event) (of_page : IsNextOfPage e (held_in q) ask (held_in d) d.store) (sound : IsSound d.builder d.store) (keeps : KeepsOthers (ids_of q.builder) q.store (ids_of d.builder) d.store) (same : d.machine ≡ q.machine) (most : d.most ≡ q.most)
-    (page : Page) (is : e ≡ events.Fired page) (given : IsGivenOut e q.store (ids_of d.builder) d.store) (told : TellsRoom e d.builder d.store) where
+    (e : Event) (of_page : IsNextOfPage e (held_in q) ask (held_in d) d.store) (sound : IsSound d.builder d.store) (keeps : KeepsOthers (ids_of q.builder) q.store (ids_of d.builder) d.store) (same : d.machine ≡ q.machine) (most : d.most ≡ q.most) (d_left : d.left ≡ q.left) (kept : (built_in d).classes ≡ (built_in q).classes)
+    (page : Page) (is : e ≡ events.Fired page) (given : IsGivenOut e q.store (ids_of d.builder) d.store) (told : TellsRoom e d.builder d.store) (open_so : q.builder.stopped ≡ true → (before : List PlainNode) → IsOpen d.left (before ++ (built_in d).waiting)) where
   abbrev p : Params
   p = r.machine.params
 
@@ -98,7 +98,7 @@ module _ (wanted : Bool) (r q d : Routine) (hs : List Happening) (ready : IsRead
   s = state_of r
 
   fires : ComesToPage page (start p s) (held_in q) (ask_of p s) (held_in d) d.store
-  fires = next-is wanted r q d hs ready h ask asked e of_page sound keeps same most (events.Fired page) is
+  fires = next-is wanted r q d hs ready h ask asked e of_page sound keeps same most d_left kept (events.Fired page) is
 
   abbrev f : Fired
   f = page_fired (start p s) (ask_of p s)
@@ -110,16 +110,16 @@ module _ (wanted : Bool) (r q d : Routine) (hs : List Happening) (ready : IsRead
   few = let a = ready.settled.bounded.held in let b = ready.settled.bounded.few in omega (arith, a, b)
 
   whole : IsConsistent d
-  whole = next-whole wanted r q d hs ready h ask asked e of_page sound keeps same most
+  whole = next-whole wanted r q d hs ready h ask asked e of_page sound keeps same most d_left kept
 
   t-now : state_now r d ≡ state_now r q
-  t-now = next-state wanted r q d hs ready h ask asked e of_page sound keeps same most
+  t-now = next-state wanted r q d hs ready h ask asked e of_page sound keeps same most d_left kept
 
   of-boxes : AreBoxesOf s.classes s.boxes
   of-boxes = subst (λ (c : Contents). AreBoxesOf c.classes s.boxes) ready.settled.between (boxes_of r.store r.builder.boxes.items)
 
   -- the page in the store
-  fired-same : fired_in d.builder d.store page ≡ f
+  fired-same : fired_whole d page ≡ f
   fired-same = λ i. record {
     body = fires.page.body i;
     boxes = (fires.after i).boxes;
@@ -137,8 +137,8 @@ module _ (wanted : Bool) (r q d : Routine) (hs : List Happening) (ready : IsRead
   served : IsServedPage (state_now r q) f
   served = fired-served p s set.params set.classes set.whole.machine.goal set.served few h.rs (held_in q) (state_now r q) h.coming fires.stopped (page-quiet q.builder q.store h.whole.builder fires.stopped) of-boxes
 
-  served-now : IsServedPage (state_of d) (fired_in d.builder d.store page)
-  served-now = page-same d.store s.boxes (held_in d).boxes s.waiting (held_in d).waiting d.machine (fired_in d.builder d.store page)
+  served-now : IsServedPage (state_of d) (fired_whole d page)
+  served-now = page-same d.store s.boxes (held_in d).boxes s.waiting (held_in d).waiting d.machine (fired_whole d page)
       (subst (IsServedPage (state_now r d)) (sym fired-same) (subst (λ t. IsServedPage t f) (sym t-now) served))
 
   counted : fired_count f ≤ node_count s.waiting + 1 + box_count s.boxes
@@ -167,10 +167,10 @@ module _ (wanted : Bool) (r q d : Routine) (hs : List Happening) (ready : IsRead
 
   can-fire : CanFire d.machine d.builder d.store page
   can-fire = record {
-    awaits = subst NoPage (sym fires.after) (record { page = refl; frozen = refl });
+    awaits = record { page = ap (λ (c : Contents). c.page) fires.after; frozen = ap (λ (c : Contents). c.frozen) fires.after };
     classes = ap (λ (c : Contents). c.classes) fires.after ∙ h.coming.come.stays.classes ∙ sym classes-now;
     penalty = subst (λ z. hold_penalty ≤ℤ z) (sym fires.page.penalty) (fired-mild p s set.params set.classes set.whole.machine.goal set.served few h.rs (held_in q) (state_now r q) h.coming fires.stopped (page-quiet q.builder q.store h.whole.builder fires.stopped) of-boxes);
-    note_bottom = reach-within (notes_left ((fired_in d.builder d.store page).held ++ (fired_in d.builder d.store page).rest) (state_of d)) d.machine.note_bottom served-now.bottom;
+    note_bottom = reach-within (notes_left ((fired_whole d page).held ++ (fired_whole d page).rest) (state_of d)) d.machine.note_bottom served-now.bottom;
     body = record {
       live = fires.page.live;
       leaves = text-leaves (list_at d.store) (list_at d.store page.body) served-now.text;
@@ -198,15 +198,16 @@ module _ (wanted : Bool) (r q d : Routine) (hs : List Happening) (ready : IsRead
     step_is =
         step-fires p s h.rs (held_in q) (state_now r q) h.coming fires.stopped
         ∙ (λ i. firing_step p (so_far p s h.rs).events (so_far p s h.rs).records (sym t-now i) (sym fired-same i))
-        ∙ firing-same p (so_far p s h.rs).events (so_far p s h.rs).records d.store s.boxes (held_in d).boxes s.waiting (held_in d).waiting d.machine (fired_in d.builder d.store page);
+        ∙ firing-same p (so_far p s h.rs).events (so_far p s h.rs).records d.store s.boxes (held_in d).boxes s.waiting (held_in d).waiting d.machine (fired_whole d page);
     whole = whole;
     can = can-fire;
     room = subst (λ x. TellsRoom x d.builder d.store) is told ∙ ap size_of (shapes-held (list_at d.store) (list_at d.store page.body));
-    taken = next-taken wanted r q d hs ready h ask asked e of_page sound keeps same most;
-    params = next-params wanted r q d hs ready h ask asked e of_page sound keeps same most;
+    taken = next-taken wanted r q d hs ready h ask asked e of_page sound keeps same most d_left kept;
+    params = next-params wanted r q d hs ready h ask asked e of_page sound keeps same most d_left kept;
     classes = classes-now;
     known = subst AreRunClasses (sym classes-now) set.classes;
     served = served-now;
     bounded = bounded;
     most = most ∙ h.most;
+    ends = open_so fires.stopped;
   }

@@ -1,5 +1,5 @@
 -- The routine before the first page.
-use Rattle.std.proofs.Common.{◌≡◌, refl, sym, subst, ◌∙◌, ap, ℕ, ◌≤◌, List, [], ◌∷◌, ◌++◌, Option, None, Some, arith}
+use Rattle.std.proofs.Common.{◌≡◌, refl, sym, subst, ◌∙◌, ap, ◌≤◌, List, [], ◌∷◌, ◌++◌, false, Option, None, Some, arith}
 use Rattle.std.specs.List.{AllByRecursion}
 use Rattle.std.specs.FinMap.{get}
 use Rattle.std.proofs.lemmas.Int.{ints}
@@ -13,7 +13,7 @@ use Rattle.tb_node.specs.PlainNodes.{PlainKind, plain, ins, act, PlainNode}
 use Rattle.tb_param.specs.declared.Params.{Params}
 use Rattle.tb_insert.specs.declared.Class.{Class}
 use Rattle.tb_builder.specs.declared.Builder.{Builder}
-use Rattle.tb_builder.specs.Contents.{contents_of, nothing_yet, kind_count, node_count, box_count}
+use Rattle.tb_builder.specs.Contents.{Contents, contents_of, nothing_yet, kind_count, node_count, box_count}
 use Rattle.tb_builder.specs.Ownership.{ids_of, owned}
 use Rattle.tb_builder.specs.Courses.{IsSound}
 use Rattle.tb_builder.proofs.Ownership.OwnedLemmas.{AllSame}
@@ -26,11 +26,14 @@ use Rattle.tb_builder.specs.BuilderLists.{builder_lists}
 use Rattle.tb_sheet.specs.ApartLists.{AreNoneOf}
 use Rattle.tb_builder.proofs.Ownership.LackLemmas.{lacks-none}
 use Rattle.tb_run.specs.declared.routine.Routine.{Routine}
+use Rattle.tb_items.specs.declared.items_left.ItemsLeft.{ItemsLeft}
+use Rattle.tb_items.specs.ItemsLeft.{nodes_of, with_more, kern_last}
+use Rattle.tb_items.specs.WaitingNodes.{AreItems}
 use Rattle.tb_items.specs.GalleyNodes.{AreGalleyNodes}
 use Rattle.tb_steps.specs.Run.{held_count}
 use Rattle.tb_steps.specs.Runnable.{AreRunnable, AreRunClasses}
 use Rattle.tb_run.specs.ServedStates.{kind_notes, notes_waiting, IsServed}
-use Rattle.tb_run.specs.Routine.{held_in, state_of, between_pages, IsReady}
+use Rattle.tb_run.specs.Routine.{built_in, held_in, state_of, between_pages, IsReady}
 
 -- ---- the first state
 
@@ -74,17 +77,21 @@ no-left : (store : Lists Node) (o : Option Column) → left_shown store o ≡ No
 no-left store None is = refl
 no-left store (Some c) is = cc
 
--- a machine that opened a list for its held page, beside a builder for which these nodes wait
+-- a machine that opened a list for its held page, beside a builder for which nothing waits; these items are left, and have these nodes
 module _ (p : Params) (m : MachineView) (v w : Lists Node) (d : Builder) (cs : List Class) (ns : List PlainNode) (begins : (waiting : List PlainNode) → state_shown w (void_boxes cs) waiting m ≡ first_state p cs waiting) (machine : IsMachine m w) (params : m.params ≡ p) (classes : m.classes ≡ cs)
-    (fault : m.fault ≡ None) (taken : m.events ≡ []) (fresh : get v.lists m.held_page ≡ None) (opened : w.lists ≡ with_list v m.held_page []) (sound : IsSound d v) (holds : contents_of d v ≡ record (nothing_yet cs) { waiting = ns }) where
+    (fault : m.fault ≡ None) (taken : m.events ≡ []) (fresh : get v.lists m.held_page ≡ None) (opened : w.lists ≡ with_list v m.held_page []) (sound : IsSound d v) (holds : contents_of d v ≡ nothing_yet cs)
+    (l : ItemsLeft) (nodes_are : nodes_of l ≡ ns) (items : AreItems cs l.items.now) where
   abbrev begun : Routine
-  begun = record { store = w; builder = d; machine = m; most = 600005 }
+  begun = record { store = w; builder = d; machine = m; most = 600005; left = Some l }
 
   same : AllSame v w (owned (ids_of d) v)
   same = opened_same d v w m.held_page sound fresh opened
 
+  built : built_in begun ≡ nothing_yet cs
+  built = frame_contents d v w sound same ∙ holds
+
   begun-holds : held_in begun ≡ record (nothing_yet cs) { waiting = ns }
-  begun-holds = frame_contents d v w sound same ∙ holds
+  begun-holds = ap (with_more (nodes_of l)) built ∙ ap (λ xs. record (nothing_yet cs) { waiting = xs }) nodes_are
 
   pub begin-state : state_of begun ≡ first_state p cs ns
   begin-state = (λ i. state_shown w (begun-holds i).boxes (begun-holds i).waiting m) ∙ begins ns
@@ -99,12 +106,13 @@ module _ (p : Params) (m : MachineView) (v w : Lists Node) (d : Builder) (cs : L
   pub begin-ready : AreRunnable p → AreRunClasses cs → AreGalleyNodes cs ns → IsReady begun
   begin-ready runs known nodes = record {
     settled = record {
-      whole = record { builder = frame_sound d v w sound same; machine = machine; fault = fault; apart = apart };
+      whole = record { builder = frame_sound d v w sound same; machine = machine; fault = fault; apart = apart; items = subst (λ (c : Contents). AreItems c.classes l.items.now) (sym built) items };
       params = subst AreRunnable (sym params) runs;
       classes = subst AreRunClasses (sym classes) known;
       between = begun-holds ∙ ap between_pages (sym begin-state);
       served = subst (λ (s : State). IsServed s.waiting s) (sym begin-state) (first-served p cs ns nodes);
       bounded = record { held = subst (λ (s : State). held_count s ≤ 600005) (sym begin-state) (first-count p cs ns nodes); few = omega arith };
+      ends = ap (λ (c : Contents). kern_last false c.waiting) built;
     };
     events = taken;
   }

@@ -12,11 +12,13 @@ use Rattle.tb_node.specs.Fit.{IsSizedNode, IsSizedPlain}
 use Rattle.tb_node.specs.PlainNodes.{plain_of, plain_kind, plain_list}
 use Rattle.tb_param.specs.declared.Params.{Params}
 use Rattle.tb_builder.specs.Contents.{contents_count, kind_count, node_count, box_count}
+use Rattle.tb_builder.proofs.Ranges.PageableLemmas.{count-append}
+use Rattle.tb_items.specs.ItemsLeft.{nodes_left}
 use Rattle.tb_column.specs.Page.{is_leaf_kind, AreLeaves}
 use Rattle.tb_run.specs.declared.routine.Routine.{Routine}
 use Rattle.tb_run.specs.declared.routine.Ending.TheVariants as endings
 use Rattle.tb_steps.specs.Run.{held_count}
-use Rattle.tb_run.specs.Routine.{held_in, state_of, IsConsistent, IsBounded, over_limit}
+use Rattle.tb_run.specs.Routine.{built_in, state_of, IsConsistent, IsBounded, over_limit}
 
 -- ---- a list of a page
 
@@ -58,11 +60,39 @@ none-over p a b less e = sym (ap (λ t. if t then Some (endings.NodeLimit a) els
 pub some-over : (p : Params) (a b : ℕ) → b ≡ a → int_lt p.maxnodes (pos b) ≡ true → Some (endings.NodeLimit b) ≡ over_limit p a
 some-over p a b same e = subst (λ n. Some (endings.NodeLimit b) ≡ over_limit p n) same (sym (ap (λ t. if t then Some (endings.NodeLimit b) else None) e))
 
+-- the nodes that wait, those of the items that are left, those of the held page and those of boxes
+counted-so : (r : Routine) → held_count (state_of r) ≡ node_count (built_in r).waiting + node_count (nodes_left r.left) + node_count (plain_list r.store r.machine.held_page) + box_count (built_in r).boxes
+counted-so r = ap (λ n. n + node_count (plain_list r.store r.machine.held_page) + box_count (built_in r).boxes) (count-append (built_in r).waiting (nodes_left r.left))
+
+-- those of the items that are left are not too many
+pub left-few : (r : Routine) → IsBounded 8388608 r → node_count (nodes_left r.left) ≤ 8388608
+left-few r bounded = by_number (node_count (built_in r).waiting) (node_count (nodes_left r.left)) (box_count (built_in r).boxes) (node_count (plain_list r.store r.machine.held_page)) (held_count (state_of r)) (counted-so r) bounded.held bounded.few
+  where
+    by_number : (w z b h all : ℕ) → all ≡ w + z + h + b → all ≤ r.most → r.most ≤ 8388608 → z ≤ 8388608
+    by_number w z b h all is at few = omega (arith, is, at, few)
+
 -- the nodes that are counted are those that are held
-pub counted-all : (r : Routine) → IsConsistent r → IsBounded 8388608 r → (nodes held : ℕ) → nodes ≡ contents_count (held_in r) → held ≡ length (list_at r.store r.machine.held_page) → nodes + held ≡ held_count (state_of r)
-counted-all r whole bounded nodes held e f =
-    by_number (node_count (held_in r).waiting) (box_count (held_in r).boxes) (node_count (plain_list r.store r.machine.held_page)) (leaves-count (list_at r.store) (list_at r.store r.machine.held_page) whole.machine.held_page.leaves) e f bounded.held
+pub counted-all : (r : Routine) → IsConsistent r → IsBounded 8388608 r → (nodes held left : ℕ) → nodes ≡ contents_count (built_in r) → held ≡ length (list_at r.store r.machine.held_page) → left ≡ node_count (nodes_left r.left)
+    → nodes + held + left ≡ held_count (state_of r)
+counted-all r whole bounded nodes held left e f g =
+    by_number (node_count (built_in r).waiting) (node_count (nodes_left r.left)) (box_count (built_in r).boxes) (node_count (plain_list r.store r.machine.held_page)) (held_count (state_of r)) (counted-so r)
+    (leaves-count (list_at r.store) (list_at r.store r.machine.held_page) whole.machine.held_page.leaves) e f g bounded.held
     bounded.few
   where
-    by_number : (w b h : ℕ) → h ≡ length (list_at r.store r.machine.held_page) → nodes ≡ min (w + b) 18446744073709551615 → held ≡ length (list_at r.store r.machine.held_page) → w + h + b ≤ r.most → r.most ≤ 8388608 → nodes + held ≡ w + h + b
-    by_number w b h long void is at few = let m = small-min (w + b) (omega (arith, at, few)) in omega (arith, m, long, void, is, at)
+    by_number : (w z b h all : ℕ) → all ≡ w + z + h + b → h ≡ length (list_at r.store r.machine.held_page) → nodes ≡ min (w + b) 18446744073709551615 → held ≡ length (list_at r.store r.machine.held_page) → left ≡ z → all ≤ r.most → r.most ≤ 8388608 → nodes + held + left ≡ all
+    by_number w z b h all sum long void is rest at few = let m = small-min (w + b) (omega (arith, sum, at, few)) in omega (arith, sum, m, long, void, is, rest, at)
+
+-- what is counted fits
+pub counted-fits : (r : Routine) → IsConsistent r → IsBounded 8388608 r → (nodes held left : ℕ) → nodes ≡ contents_count (built_in r) → held ≡ length (list_at r.store r.machine.held_page) → left ≡ node_count (nodes_left r.left)
+    → nodes + held + left ≤ 8388608
+counted-fits r whole bounded nodes held left e f g = let same = counted-all r whole bounded nodes held left e f g in let a = bounded.held in let b = bounded.few in by_number (held_count (state_of r)) same a b
+  where
+    by_number : (all : ℕ) → nodes + held + left ≡ all → all ≤ r.most → r.most ≤ 8388608 → nodes + held + left ≤ 8388608
+    by_number all same a b = omega (arith, same, a, b)
+
+-- and so do those that wait, those in boxes, and those of the held page
+pub counted-few : (r : Routine) → IsConsistent r → IsBounded 8388608 r → (nodes held : ℕ) → nodes ≡ contents_count (built_in r) → held ≡ length (list_at r.store r.machine.held_page) → nodes + held ≤ 8388608
+counted-few r whole bounded nodes held e f = let a = counted-fits r whole bounded nodes held (node_count (nodes_left r.left)) e f refl in by_number (node_count (nodes_left r.left)) a
+  where
+    by_number : (z : ℕ) → nodes + held + z ≤ 8388608 → nodes + held ≤ 8388608
+    by_number z a = omega (arith, a)

@@ -1,5 +1,5 @@
 -- The routine after the machine served a page.
-use Rattle.std.proofs.Common.{◌≡◌, refl, sym, subst, ◌∙◌, ap, ℕ, ◌+◌, ◌≤◌, ℤ, pos, ◌≤ℤ◌, Bool, true, false, List, [], ◌++◌, Option, Some, None, append_assoc, arith}
+use Rattle.std.proofs.Common.{◌≡◌, ◌≢◌, refl, sym, subst, ◌∙◌, ap, ℕ, ◌+◌, ◌≤◌, ℤ, pos, ◌≤ℤ◌, Bool, true, false, List, [], ◌++◌, Option, Some, None, append_assoc, arith}
 use Rattle.std.specs.Prelude.{int_lt, IfNone, if◌then◌else◌}
 use Rattle.std.specs.List.{AllByRecursion}
 use Rattle.tb_pool.specs.Lists.{Lists, list_at}
@@ -13,18 +13,21 @@ use Rattle.tb_builder.specs.FiredPages.{Boxed, Fired}
 use Rattle.tb_builder.specs.Contents.{Contents, contents_of, node_count}
 use Rattle.tb_builder.specs.Courses.{IsSound, IsPageSoFar}
 use Rattle.tb_output.specs.declared.Turn.{Turn}
+use Rattle.tb_output.specs.declared.RunFault.{RunFault}
+use Rattle.tb_output.specs.declared.RunFault.TheVariants as faults
 use Rattle.tb_output.specs.State.{State, Work}
 use Rattle.tb_output.specs.Output.{out}
 use Rattle.tb_output.specs.Machine.{MachineView, state_shown, events_shown, IsMachine}
-use Rattle.tb_output.specs.Firing.{fired_in, whole_work, CanFire, CanGoBack, IsFired, KeepsAll}
+use Rattle.tb_output.specs.Firing.{fired_in, state_in, whole_work, CanFire, CanGoBack, IsFired, IsRefusal, KeepsAll}
+use Rattle.tb_items.specs.ItemsLeft.{nodes_left, AreItemsLeft, with_more, IsOpen}
 use Rattle.tb_run.specs.declared.routine.Routine.{Routine}
 use Rattle.tb_run.specs.declared.routine.Ending.{Ending}
 use Rattle.tb_run.specs.declared.routine.Ending.TheVariants as endings
 use Rattle.tb_steps.specs.Run.{held_count}
 use Rattle.tb_steps.specs.Runnable.{AreRunnable, AreRunClasses}
 use Rattle.tb_run.specs.ServedStates.{IsServed, IsServedPage}
-use Rattle.tb_run.specs.Routine.{held_in, state_of, IsConsistent, IsBounded, between_pages, IsEnded, over_limit}
-use Rattle.tb_run.specs.RoutinePages.{IsBoundedPage, IsServedOn, ServesTo, Serves}
+use Rattle.tb_run.specs.Routine.{built_in, held_in, state_of, IsConsistent, IsBounded, between_pages, IsEnded, over_limit}
+use Rattle.tb_run.specs.RoutinePages.{fired_whole, work_of, IsBoundedPage, IsServedOn, IsFaultOf, ServesTo, Serves}
 use Rattle.tb_run.proofs.Turns.CountedLemmas.{shown-sized}
 use Rattle.tb_run.proofs.ServedAgain.ServedOut.{out-count, out-served}
 
@@ -40,17 +43,63 @@ no-stop b s h e = by_frozen b.frozen b.stopped e h.page
 pub sound-ended : (r : Routine) → IsSound r.builder r.store → IsMachine r.machine r.store → IsEnded r
 sound-ended r b m = record { machine = m; page = b.own.live.0 }
 
+-- ---- the items that are left come behind what waits
+
+-- the work of a firing, if more nodes wait behind
+abbrev pub work_with : List PlainNode → Work → Work
+work_with more w = record w { state = record w.state { waiting = w.state.waiting ++ more } }
+
+-- the output routine does not look at what waits
+pub work-more : (p : Params) (s : State) (f : Fired) (more : List PlainNode) → out p (record s { waiting = s.waiting ++ more }) (record f { rest = f.rest ++ more }) ≡ work_with more (out p s f)
+unfolding out
+work-more p s f more = ap (λ ns. record (out p s f) { state = record (out p s f).state { waiting = ns } }) (sym (append_assoc (f.held ++ (out p s f).put_back) f.rest more))
+
 -- what waits after a firing
 work-waits : (p : Params) (s : State) (f : Fired) → (out p s f).state.waiting ≡ f.held ++ ((out p s f).put_back ++ f.rest)
 unfolding out
 work-waits p s f = append_assoc f.held (out p s f).put_back f.rest
 
-module _ (r : Routine) (page : Page) (whole : IsConsistent r) (can : CanFire r.machine r.builder r.store page) (bounded : IsBoundedPage page r) (runs : AreRunnable r.machine.params) (known : AreRunClasses r.machine.classes) (served : IsServedPage (state_of r) (fired_in r.builder r.store page)) where
+module _ (r : Routine) (page : Page) (whole : IsConsistent r) (can : CanFire r.machine r.builder r.store page) (bounded : IsBoundedPage page r) (runs : AreRunnable r.machine.params) (known : AreRunClasses r.machine.classes) (served : IsServedPage (state_of r) (fired_whole r page))
+    (ends : (before : List PlainNode) → IsOpen r.left (before ++ (built_in r).waiting)) where
   abbrev f : Fired
-  f = fired_in r.builder r.store page
+  f = fired_whole r page
 
   abbrev w : Work
-  w = whole_work r.machine r.builder r.store page
+  w = work_of r page
+
+  -- without the items that are left
+  abbrev short : Work
+  short = whole_work r.machine r.builder r.store page
+
+  abbrev more : List PlainNode
+  more = nodes_left r.left
+
+  of-short : w ≡ work_with more short
+  of-short = work-more r.machine.params (state_in r.machine r.builder r.store) (fired_in r.builder r.store page) more
+
+  -- the firing was refused, and not for lack of memory
+  module _ (now : MachineView) (d : Builder) (new : Lists Node) (keeps : KeepsAll page.body r.machine now r.builder d r.store new) where
+    abbrev at_fault : Routine
+    at_fault = record { store = new; builder = d; machine = now; most = r.most; left = r.left }
+
+    fault-of : (e : RunFault) → e ≢ faults.Memory → IsRefusal e r.machine now r.builder d r.store new short → IsFaultOf e page r at_fault
+    fault-of (faults.DeadCycles n) other h =
+        record { count = h.count; reached = h.reached; same = λ i. record { store = h.untouched.lists i; builder = h.untouched.builder i; machine = h.untouched.machine i; most = r.most; left = r.left } }
+    fault-of (faults.PageLimit n) other h = record {
+      alive = h.alive;
+      refused = ap (λ (x : Work). x.refused) of-short ∙ h.refused;
+      pages = h.pages ∙ ap (λ (x : Work). x.state.page) (sym of-short);
+      sent = h.sent ∙ ap (λ (x : Work). events_shown r.store r.machine.events ++ x.sent) (sym of-short);
+    }
+    fault-of faults.Memory other h = absurd (other refl)
+
+    pub refused-serves : (e : RunFault) → e ≢ faults.Memory → IfNone r.machine.fault (IsRefusal e r.machine now r.builder d r.store new short) → Serves page r (Some (endings.Fault e)) at_fault
+    refused-serves e other h = record {
+      served = fault-of e other (subst (λ o. IfNone o (IsRefusal e r.machine now r.builder d r.store new short)) whole.fault h);
+      ended = sound-ended at_fault keeps.builder keeps.machine;
+      params = keeps.params;
+      classes = keeps.classes;
+    }
 
   fits : node_count f.body + node_count (state_of r).held_page ≤ 4194305
   fits = let a = bounded.held in let b = bounded.few in omega (arith, a, b)
@@ -58,22 +107,37 @@ module _ (r : Routine) (page : Page) (whole : IsConsistent r) (can : CanFire r.m
   held-sized : AllByRecursion IsSizedPlain (state_of r).held_page
   held-sized = shown-sized (list_at r.store) (list_at r.store r.machine.held_page) whole.machine.held_page.sized
 
-  module _ (m : MachineView) (b : Builder) (store : Lists Node) (turn : Turn) (fired : IsFired turn r.machine m b r.store store w) (contents : contents_of b store ≡ record (contents_of r.builder r.store) { boxes = w.state.boxes }) (back : CanGoBack turn.put_back m b store) (goes_on : m.fault ≡ None)
+  module _ (m : MachineView) (b : Builder) (store : Lists Node) (turn : Turn) (fired_so : IsFired turn r.machine m b r.store store short) (contents_so : contents_of b store ≡ record (contents_of r.builder r.store) { boxes = short.state.boxes }) (back : CanGoBack turn.put_back m b store) (goes_on : m.fault ≡ None)
       (keeps : KeepsAll page.body r.machine m r.builder b r.store store) where
     abbrev between_both : Routine
-    between_both = record { store = store; builder = b; machine = m; most = r.most }
+    between_both = record { store = store; builder = b; machine = m; most = r.most; left = r.left }
+
+    fired : IsFired turn r.machine m b r.store store w
+    fired = subst (IsFired turn r.machine m b r.store store) (sym of-short) (record {
+      alive = fired_so.alive;
+      served = fired_so.served;
+      put_back = fired_so.put_back;
+      sent = fired_so.sent;
+      state = ap (λ (s : State). record s { waiting = short.state.waiting ++ more }) fired_so.state;
+    })
+
+    contents : contents_of b store ≡ record (contents_of r.builder r.store) { boxes = w.state.boxes }
+    contents = contents_so ∙ ap (λ (x : Work). record (contents_of r.builder r.store) { boxes = x.state.boxes }) (sym of-short)
 
     pub fired-whole : IsConsistent between_both
-    fired-whole = record { builder = keeps.builder; machine = keeps.machine; fault = goes_on; apart = back.machine_free }
+    fired-whole = record { builder = keeps.builder; machine = keeps.machine; fault = goes_on; apart = back.machine_free; items = subst (λ (c : Contents). AreItemsLeft c.classes r.left) (sym contents) whole.items }
 
     module _ (q : Routine) (q_whole : IsConsistent q)
-        (q_contents : held_in q ≡ record (held_in between_both) { waiting = (held_in between_both).held ++ (plain_list store turn.put_back ++ (held_in between_both).waiting); held = [] })
-        (machine : q.machine ≡ m) (most : q.most ≡ r.most) (state : (boxes : List Boxed) (waiting : List PlainNode) → state_shown q.store boxes waiting q.machine ≡ state_shown store boxes waiting m) (events : events_shown q.store q.machine.events ≡ events_shown store m.events) where
+        (q_contents : built_in q ≡ record (built_in between_both) { waiting = (built_in between_both).held ++ (plain_list store turn.put_back ++ (built_in between_both).waiting); held = [] })
+        (machine : q.machine ≡ m) (most : q.most ≡ r.most) (q_left : q.left ≡ r.left) (state : (boxes : List Boxed) (waiting : List PlainNode) → state_shown q.store boxes waiting q.machine ≡ state_shown store boxes waiting m) (events : events_shown q.store q.machine.events ≡ events_shown store m.events) where
       abbrev as_left : Contents
       as_left = record (contents_of r.builder r.store) { boxes = w.state.boxes; waiting = f.held ++ (plain_list store turn.put_back ++ f.rest); held = [] }
 
       left : held_in q ≡ as_left
-      left = q_contents ∙ ap (λ (c : Contents). record c { waiting = c.held ++ (plain_list store turn.put_back ++ c.waiting); held = [] }) contents
+      left =
+          (λ i. with_more (nodes_left (q_left i)) (q_contents i))
+          ∙ ap (λ (c : Contents). with_more more (record c { waiting = c.held ++ (plain_list store turn.put_back ++ c.waiting); held = [] })) contents
+          ∙ ap (λ ns. record as_left { waiting = ns }) (append_assoc f.held (plain_list store turn.put_back ++ (built_in r).waiting) more ∙ ap (λ ns. f.held ++ ns) (append_assoc (plain_list store turn.put_back) (built_in r).waiting more))
 
       waits : (held_in q).waiting ≡ w.state.waiting
       waits =
@@ -122,6 +186,13 @@ module _ (r : Routine) (page : Page) (whole : IsConsistent r) (can : CanFire r.m
       pub after-bounded : IsBounded 8388608 (record q { most = q.most + 300 })
       after-bounded = record { held = let a = after-held in omega (arith, a, most); few = let a = bounded.few in omega (arith, a, most) }
 
+      after-ends : IsOpen q.left (built_in q).waiting
+      after-ends =
+          subst (λ ns. IsOpen q.left ns)
+          (append_assoc f.held (plain_list store turn.put_back) (built_in r).waiting
+          ∙ sym (ap (λ (c : Contents). c.waiting) q_contents ∙ ap (λ (c : Contents). c.held ++ (plain_list store turn.put_back ++ c.waiting)) contents))
+          (subst (λ o. IsOpen o ((f.held ++ plain_list store turn.put_back) ++ (built_in r).waiting)) (sym q_left) (ends (f.held ++ plain_list store turn.put_back)))
+
       -- the nodes were counted, if that was to be done
       module _ (o : Option Ending) (end : Routine) (over : o ≡ over_limit q.machine.params (held_count (state_of q))) (same : end ≡ record q { most = end.most }) (end_bounded : IsBounded 8388608 end) (within : IfNone o (pos end.most ≤ℤ q.machine.params.maxnodes)) where
         abbrev of_most : ℕ → Routine
@@ -133,10 +204,11 @@ module _ (r : Routine) (page : Page) (whole : IsConsistent r) (can : CanFire r.m
           done = fired.served;
           state = after-state;
           sent = events ∙ fired.sent;
-          whole = record { builder = q_whole.builder; machine = q_whole.machine; fault = q_whole.fault; apart = q_whole.apart };
+          whole = record { builder = q_whole.builder; machine = q_whole.machine; fault = q_whole.fault; apart = q_whole.apart; items = q_whole.items };
           between = after-between;
           served = after-served;
           bounded = few;
+          ends = after-ends;
         }
 
         serves-by : (k : ℕ) → IsBounded 8388608 (of_most k) → (t : Bool) → int_lt q.machine.params.maxnodes (pos (held_count (state_of q))) ≡ t → (x : Option Ending) → x ≡ (if t then Some (endings.NodeLimit (held_count (state_of q))) else None) → IfNone x (pos k ≤ℤ q.machine.params.maxnodes)

@@ -1,5 +1,5 @@
 -- A turn of the routine is a step of the run.
-use Rattle.std.proofs.Common.{◌≡◌, refl, sym, subst, ◌∙◌, ap, ℕ, ◌+◌, ◌≤◌, ℤ, pos, ◌≤ℤ◌, Bool, true, false, List, [], ◌∷◌, ◌++◌, map, Option, Some, None, append-nil, arith}
+use Rattle.std.proofs.Common.{◌≡◌, refl, sym, subst, ◌∙◌, ap, ℕ, ◌≤◌, ℤ, pos, ◌≤ℤ◌, Bool, true, false, List, [], ◌∷◌, ◌++◌, map, Option, Some, None, append-nil, arith}
 use Rattle.std.specs.Prelude.{int_lt, pred, IfNone, ◌<ℤ◌, if◌then◌else◌}
 use Rattle.std.proofs.lemmas.Int.{ints}
 use Rattle.std.proofs.lemmas.Bool.{true≢false}
@@ -18,7 +18,6 @@ use Rattle.tb_output.specs.declared.RunFault.TheVariants as faults
 use Rattle.tb_output.specs.State.{Work, Recorded}
 use Rattle.tb_output.specs.Machine.{events_shown, left_lists, event_lists, machine_lists}
 use Rattle.tb_sheet.specs.StoredSheets.{sheet_lists}
-use Rattle.tb_output.specs.Firing.{fired_in, whole_work}
 use Rattle.tb_builder.specs.BuilderLists.{builder_lists}
 use Rattle.tb_sheet.specs.ApartLists.{AreNoneOf}
 use Rattle.tb_sheet.proofs.ListsApart.{apart-swap, distinct-back, distinct-apart}
@@ -32,7 +31,7 @@ use Rattle.tb_steps.specs.Run.{dead_cycles, page_limit, node_limit, Step, ends, 
 use Rattle.tb_steps.specs.Runnable.{AreRunnable, AreRunClasses}
 use Rattle.tb_items.specs.Happenings.{events_of, noted, happened_lists, IsPage, ArePages}
 use Rattle.tb_run.specs.Routine.{state_of, with_events, IsReady, EndsAs, IsTurned, AreHappened}
-use Rattle.tb_run.specs.RoutinePages.{sent_happenings, IsFilledLast, IsFiring, IsServedOn, IsOverLimit, IsFaultOf, ServesTo, Serves}
+use Rattle.tb_run.specs.RoutinePages.{sent_happenings, fired_whole, work_of, IsFilledLast, IsFiring, IsServedOn, IsOverLimit, IsFaultOf, ServesTo, Serves}
 use Rattle.tb_items.proofs.HappenedLemmas.{lists-append, events-append, noted-append, noted-sent}
 use Rattle.tb_run.proofs.Turns.HappenedLemmas.{sent-events, sent-lists, sent-pages}
 use Rattle.tb_items.proofs.PageNumbers.{pred-is}
@@ -89,10 +88,10 @@ module _ (es : List RunEvent) (rs : List Recorded) (q d : Routine) (page : Page)
   p = q.machine.params
 
   abbrev w : Work
-  w = whole_work q.machine q.builder q.store page
+  w = work_of q page
 
   abbrev st : Step
-  st = firing_step p es rs (state_of q) (fired_in q.builder q.store page)
+  st = firing_step p es rs (state_of q) (fired_whole q page)
 
   sent-is : events_shown d.store d.machine.events ≡ events_shown q.store q.machine.events ++ w.sent → es ++ map sent w.sent ≡ es ++ map sent (events_shown d.store d.machine.events)
   sent-is e = ap (λ xs. es ++ map sent xs) (sym (e ∙ ap (λ xs. events_shown q.store xs ++ w.sent) taken))
@@ -148,8 +147,8 @@ module _ (wanted : Bool) (r q d : Routine) (page : Page) (o : Option Ending) (hs
   abbrev end : Routine
   end = with_events [] d
 
-  step-same : step r.machine.params (state_of r) ≡ firing_step q.machine.params h.events h.records (state_of q) (fired_in q.builder q.store page)
-  step-same = h.step_is ∙ ap (λ x. firing_step x h.events h.records (state_of q) (fired_in q.builder q.store page)) (sym h.params)
+  step-same : step r.machine.params (state_of r) ≡ firing_step q.machine.params h.events h.records (state_of q) (fired_whole q page)
+  step-same = h.step_is ∙ ap (λ x. firing_step x h.events h.records (state_of q) (fired_whole q page)) (sym h.params)
 
   is-step : IsStep h.events d o (step r.machine.params (state_of r))
   is-step = subst (IsStep h.events d o) (sym step-same) (served-step h.events h.records q d page h.taken k.params o k.served)
@@ -179,6 +178,7 @@ module _ (wanted : Bool) (r q d : Routine) (page : Page) (o : Option Ending) (hs
       classes = subst AreRunClasses (sym k.classes) h.known;
       between = s.0.between;
       served = s.0.served;
+      ends = s.0.ends;
       bounded = record { held = s.0.bounded.held; few = within-limit d.most d.machine.params.maxnodes s.1.within (subst (λ (x : Params). x.maxnodes ≤ℤ pos 4194304) (sym served-params) ready.settled.params.maxnodes.high) };
     };
     events = refl;

@@ -2,6 +2,7 @@ use Rattle.std.proofs.Common.{◌≡◌, ◌∙◌, sym, subst, ap, List, refl, 
 use Rattle.std.proofs.lemmas.Int.{to_z-of_z}
 use Rattle.tb_insert.specs.declared.Class.{Class}
 use Rattle.tb_builder.specs.Contents.{Contents, nothing_yet}
+use Rattle.tb_builder.specs.Contributions.{ends_in_kern}
 use Rattle.tb_builder.specs.Ownership.{ClassesFit}
 use Rattle.tb_items.specs.WaitingNodes.{AreItems}
 use Rattle.tb_plain.specs.GalleyNodes.{made_up}
@@ -15,7 +16,7 @@ new_builder-requires c = subst ClassesFit (sym (c.as_slice.ensures.value ∙ c.i
 pub expand-requires-clause-can : goal.expand-requires-clause-can
 expand-requires-clause-can c =
     let holds = c.in_ok-builder.ensures.contents in
-    record { sound = c.in_ok-builder.ensures.sound; empty = record { page = ap (λ (x : Contents). x.page) holds; frozen = ap (λ (x : Contents). x.frozen) holds } }
+    record { sound = c.in_ok-builder.ensures.sound; no_kern = ap (λ (x : Contents). ends_in_kern x.page) holds }
 
 pub expand-requires-clause-items : goal.expand-requires-clause-items
 expand-requires-clause-items c =

@@ -4,8 +4,10 @@ use Rattle.tb_run.specs.declared.routine.Routine.{Routine}
 use Rattle.tb_run.specs.declared.routine.Ending.TheVariants as endings
 use Rattle.tb_run.specs.Routine.{held_in}
 use Rattle.tb_run.specs.RoutinePages.{IsFilledLast}
-use Rattle.tb_run.proofs.Filled.FillingLemmas.{IsUnderway, left_of_page, underway-start, underway-fits}
+use Rattle.tb_run.proofs.Filled.FillingLemmas.{IsUnderway, turns_left, underway-start, underway-fits}
+use Rattle.tb_run.proofs.Filled.MoreLemmas.{none-left}
 use Rattle.tb_run.proofs.Filled.PassingLemmas.{come-whole, come-tried, come-fewer, come-sized, come-acted, come-fewer-acted, come-full, come-over, come-fires}
+use Rattle.tb_run.proofs.Filled.SupplyingLemmas.{come-takes, come-supplied-so, come-fewer-left}
 use Rattle.tb_run.proofs.routine.Routine.fill.Goals as goal
 
 pub next-init : goal.next-init
@@ -37,13 +39,13 @@ returns-in-Err c =
     subst (λ n. IsFilledLast c.args.wanted c.args.self.now (endings.PoolFull n c.in-Err.full.live) c.act.new.self c.next.happened.items) (sym c.line_of.ensures)
     (come-full c.args.wanted c.args.self.now c.next_event.new.self c.next.happened.items c.requires.ready c.ask-ask.result (c.ask-ask.ensures c.args.self.now.store (held_in c.args.self.now).boxes (held_in c.args.self.now).waiting) c.in_ok-tried.field-0 c.next.self c.next.invariant c.in_ok-tried.ensures c.in-Act.act c.in-Act.is c.act.new.self c.in-Err.full.live c.in-Err.ensures.err)
 
-pub next-smaller : goal.next-smaller
-next-smaller c =
-    subst (λ (x : Routine). left_of_page c.args.self.now x < left_of_page c.args.self.now c.next.self) (sym c.in_ok-hand_over-in-Act.ensures.machine)
+pub next-smaller-in-Continue-branch-4 : goal.next-smaller-in-Continue-branch-4
+next-smaller-in-Continue-branch-4 c =
+    subst (λ (x : Routine). turns_left c.args.self.now x < turns_left c.args.self.now c.next.self) (sym c.in_ok-hand_over-in-Act.ensures.machine)
     (come-fewer-acted c.args.wanted c.args.self.now c.next_event.new.self c.next.happened.items c.requires.ready c.ask-ask.result (c.ask-ask.ensures c.args.self.now.store (held_in c.args.self.now).boxes (held_in c.args.self.now).waiting) c.in_ok-tried.field-0 c.next.self c.next.invariant c.in_ok-tried.ensures c.in-Act.act c.in-Act.is c.act.new.self c.in_default.ensures.ok)
 
-pub next-preserved : goal.next-preserved
-next-preserved c =
+pub next-preserved-in-Continue-branch-4 : goal.next-preserved-in-Continue-branch-4
+next-preserved-in-Continue-branch-4 c =
     subst (λ (x : Routine). IsUnderway c.args.wanted c.args.self.now x c.hand_over.new.happened.items) (sym c.in_ok-hand_over-in-Act.ensures.machine)
     (come-acted c.args.wanted c.args.self.now c.next_event.new.self c.next.happened.items c.requires.ready c.ask-ask.result (c.ask-ask.ensures c.args.self.now.store (held_in c.args.self.now).boxes (held_in c.args.self.now).waiting) c.in_ok-tried.field-0 c.next.self c.next.invariant c.in_ok-tried.ensures c.in-Act.act c.in-Act.is c.act.new.self c.in_default.ensures.ok c.hand_over.new.happened.items c.in_ok-hand_over-in-Act.ensures.events)
 
@@ -51,6 +53,17 @@ pub returns-in-Fired : goal.returns-in-Fired
 returns-in-Fired c =
     come-fires c.args.wanted c.args.self.now c.next_event.new.self c.next.happened.items c.requires.ready c.ask-ask.result (c.ask-ask.ensures c.args.self.now.store (held_in c.args.self.now).boxes (held_in c.args.self.now).waiting) c.in_ok-tried.field-0 c.next.self c.next.invariant c.in_ok-tried.ensures c.in-Fired.page c.in-Fired.is
 
-pub returns-in-Empty : goal.returns-in-Empty
-returns-in-Empty c =
-    come-over c.args.wanted c.args.self.now c.next_event.new.self c.next.happened.items c.requires.ready c.ask-ask.result (c.ask-ask.ensures c.args.self.now.store (held_in c.args.self.now).boxes (held_in c.args.self.now).waiting) c.in_ok-tried.field-0 c.next.self c.next.invariant c.in_ok-tried.ensures c.in-Empty.is
+pub returns-in_default-left : goal.returns-in_default-left
+returns-in_default-left c = come-over c.args.wanted c.args.self.now c.next_event.new.self c.next.happened.items c.requires.ready c.ask-ask.result (c.ask-ask.ensures c.args.self.now.store (held_in c.args.self.now).boxes (held_in c.args.self.now).waiting) c.in_ok-tried.field-0 c.next.self c.next.invariant c.in_ok-tried.ensures c.in-Empty.is (none-left c.next_event.new.self.left c.in_default-left.not-Some)
+
+pub supply-requires-clause-whole : goal.supply-requires-clause-whole
+supply-requires-clause-whole c = come-whole c.args.wanted c.args.self.now c.next_event.new.self c.next.happened.items c.requires.ready c.ask-ask.result (c.ask-ask.ensures c.args.self.now.store (held_in c.args.self.now).boxes (held_in c.args.self.now).waiting) c.in_ok-tried.field-0 c.next.self c.next.invariant c.in_ok-tried.ensures
+
+pub supply-requires-clause-no_kern : goal.supply-requires-clause-no_kern
+supply-requires-clause-no_kern c = come-takes c.args.wanted c.args.self.now c.next_event.new.self c.next.happened.items c.requires.ready c.ask-ask.result (c.ask-ask.ensures c.args.self.now.store (held_in c.args.self.now).boxes (held_in c.args.self.now).waiting) c.in_ok-tried.field-0 c.next.self c.next.invariant c.in_ok-tried.ensures c.in-Empty.is c.in-Some.left c.in-Some.is
+
+pub next-smaller : goal.next-smaller
+next-smaller c = come-fewer-left c.args.wanted c.args.self.now c.next_event.new.self c.next.happened.items c.requires.ready c.ask-ask.result (c.ask-ask.ensures c.args.self.now.store (held_in c.args.self.now).boxes (held_in c.args.self.now).waiting) c.in_ok-tried.field-0 c.next.self c.next.invariant c.in_ok-tried.ensures c.in-Empty.is c.in-Some.left c.in-Some.is c.supply.new.self c.in_ok-supply-in-Empty.ensures
+
+pub next-preserved : goal.next-preserved
+next-preserved c = come-supplied-so c.args.wanted c.args.self.now c.next_event.new.self c.next.happened.items c.requires.ready c.ask-ask.result (c.ask-ask.ensures c.args.self.now.store (held_in c.args.self.now).boxes (held_in c.args.self.now).waiting) c.in_ok-tried.field-0 c.next.self c.next.invariant c.in_ok-tried.ensures c.in-Empty.is c.in-Some.left c.in-Some.is c.supply.new.self c.in_ok-supply-in-Empty.ensures

@@ -21,6 +21,11 @@ serve-requires-clause-params c =
     let h : IsFiring c.args.wanted c.args.self.now c.in-Fires.page c.fill.new.self c.fill.new.happened.items = (subst (λ x. Fills c.args.wanted c.args.self.now x c.fill.new.self c.fill.new.happened.items) c.in-Fires.is c.in_ok-page.ensures) in
     subst AreRunnable (sym h.params) c.requires.settled.params
 
+pub serve-requires-clause-ends : goal.serve-requires-clause-ends
+serve-requires-clause-ends c =
+    let h : IsFiring c.args.wanted c.args.self.now c.in-Fires.page c.fill.new.self c.fill.new.happened.items = (subst (λ x. Fills c.args.wanted c.args.self.now x c.fill.new.self c.fill.new.happened.items) c.in-Fires.is c.in_ok-page.ensures) in
+    h.ends
+
 pub returns-clause-turned : goal.returns-clause-turned
 returns-clause-turned c =
     subst (λ (x : Routine). IsTurned c.args.wanted c.args.self.now c.hand_over.new.happened.items c.in_ok-ending.ending x) (sym c.in_ok-hand_over.ensures.machine)

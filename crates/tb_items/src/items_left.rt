@@ -1,0 +1,127 @@
+//! The items of a galley whose nodes do not wait yet.
+
+ghost use Rattle.std.specs.Prelude.{◌≡◌, ◌≤◌, ◌<◌, true, length, take, IfOk};
+ghost use Rattle.tb_node.specs.PlainNodes.{on_line};
+ghost use Rattle.tb_builder.specs.Contents.{contents_of, node_count};
+ghost use Rattle.tb_galley.specs.GalleyNodes.{item_kinds, expanded};
+ghost use Rattle.tb_items.specs.WaitingNodes.{CanTake, AreItems};
+ghost use Rattle.tb_items.specs.ItemsLeft.{nodes_of, are_ended, ends_batch, IsHandedOver};
+
+use crate::galley_nodes::{put_clear, put_items, two_after};
+use std::alloc::AllocError;
+use tb_builder::Builder;
+use tb_galley::{Galley, Item, ItemKind};
+use tb_node::Node;
+use tb_param::Params;
+use tb_pool::Lists;
+
+/// What is left of a galley: items whose nodes do not wait yet, and the clear at its end.
+#[derive(Clone, Copy)]
+pub struct ItemsLeft<'a> {
+    galley: &'a Galley,
+    items: &'a [Item],
+    // Whether there are two columns before them.
+    two: bool,
+}
+
+// So many items are handed over at once, if there are more.
+const BATCH: usize = 256;
+
+/// All of a galley, which begins in one column.
+pub fn all_items(galley: &Galley) -> ItemsLeft<'_>
+    ensures nodes { nodes_of result ≡ expanded galley.now }
+    ensures items { result.items.now ≡ galley.now.items }
+{
+    ItemsLeft {
+        galley,
+        items: galley.items.as_slice(),
+        two: false,
+    }
+}
+
+// Whether the nodes of an item end neither with a kern nor with acts. What comes behind them does not decide then whether
+// a kern before is a legal place.
+fn ends_batch(kind: &ItemKind) -> bool
+    ensures { result ≡ ends_batch kind.now }
+{
+    !matches!(
+        kind,
+        ItemKind::Kern(_) | ItemKind::Float { .. } | ItemKind::Suppress(_)
+    )
+}
+
+// How many items are handed over at once: all, or up to one that ends a batch.
+fn batch_len(items: &[Item]) -> usize
+    ensures within { result ≤ length items.now }
+    ensures ended { result < length items.now → are_ended (take result items.now) ≡ true }
+{
+    for count in BATCH..items.len() {
+        if ends_batch(&items[count - 1].kind) {
+            return count;
+        }
+    }
+    items.len()
+}
+
+// How many nodes an item has, with those of its footnote.
+fn item_count(p: &Params, two: bool, item: &Item) -> u64
+    requires { node_count (on_line item.now.line (item_kinds p.now two item.now.kind)) ≤ 8388608 }
+    ensures { result ≡ node_count (on_line item.now.line (item_kinds p.now two item.now.kind)) }
+{
+    match &item.kind {
+        ItemKind::Foot { class: _, leaves } => 1 + leaves.len() as u64,
+        ItemKind::Float { float, vert: _ } => {
+            if p.has_second() && two && float.wide {
+                1
+            } else {
+                4
+            }
+        }
+        ItemKind::Margin { .. } => 4,
+        ItemKind::NewPage => 2,
+        ItemKind::ClearPage => 5,
+        ItemKind::OneColumn | ItemKind::TwoColumn => 6,
+        _ => 1,
+    }
+}
+
+impl<'a> ItemsLeft<'a> {
+    /// Hands over the nodes of the next items, and returns what is left then. If that is nothing, the nodes of the clear at
+    /// the end wait too.
+    pub fn hand_over(
+        &self,
+        store: &mut Lists<Node>,
+        builder: &mut Builder,
+    ) -> Result<Option<ItemsLeft<'a>>, AllocError>
+        requires can { CanTake builder.old store.old }
+        requires items { AreItems (contents_of builder.old store.old).classes self.now.items.now }
+        ensures { IfOk result (λ rest. IsHandedOver self.now rest builder.old store.old builder.new store.new) }
+    {
+        let count = batch_len(self.items);
+        let p = &self.galley.params;
+        let two = put_items(store, builder, p, self.two, &self.items[..count])?;
+        if count == self.items.len() {
+            put_clear(store, builder, self.galley.end_line)?;
+            return Ok(None);
+        }
+        Ok(Some(ItemsLeft {
+            galley: self.galley,
+            items: &self.items[count..],
+            two,
+        }))
+    }
+
+    /// How many nodes they have, those of footnotes and of the clear too.
+    pub fn nodes(&self) -> u64
+        requires { node_count (nodes_of self.now) ≤ 8388608 }
+        ensures { result ≡ node_count (nodes_of self.now) }
+    {
+        let mut count = 5;
+        let mut two = self.two;
+        for item in self.items {
+            count += item_count(&self.galley.params, two, item);
+            two = two_after(two, &item.kind);
+        }
+        count
+    }
+}
