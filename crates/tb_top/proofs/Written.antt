@@ -2,6 +2,7 @@
 pub mod EventCounts
 pub mod TallyLemmas
 pub mod PrintablePages
+pub mod KeptLemmas
 pub mod GoingLemmas
 pub mod TurnLemmas
 pub mod FinishLemmas

@@ -1,6 +1,6 @@
 -- What `paginate_dvi` writes, page by page.
 use Rattle.std.specs.Prelude.{◌≡◌, ◌⊎◌, ℕ, ℤ, Bool, List, ◌++◌, Option, Some, Result, Ok, Err}
-use Rattle.std.specs.Io.KnownBytes.{Appends}
+use Rattle.std.specs.Io.KnownBytes.{Appends, append_known}
 use Rattle.tb_io.specs.Faults.{Rose}
 use Rattle.tb_io.specs.Sink.{AppendsPrefix}
 use Rattle.tb_io.specs.declared.sink.SinkFault.{SinkFault}
@@ -41,10 +41,10 @@ abbrev pub FailsAmong : DviRunFault → Option (List ℕ) → Option (List ℕ) 
 FailsAmong (refused.TooFar page) start now ps = StopsFar start now page ps
 FailsAmong (refused.Pages f) start now ps = StopsShort start now ps
 
--- these pages are written, or were to be
-abbrev pub SendsPages : Result (Unit {0}) DviRunFault → Option (List ℕ) → Option (List ℕ) → Progress → List Page → Type 0
-SendsPages (Ok u) start now w ps = HoldsPages start now w ps
-SendsPages (Err e) start now w ps = FailsAmong e start now ps
+-- out holds these pages once what is kept is written, or was to hold them
+abbrev pub SendsPages : Result (Unit {0}) DviRunFault → Option (List ℕ) → Option (List ℕ) → List ℕ → Progress → List Page → Type 0
+SendsPages (Ok u) start now kept w ps = HoldsPages start (append_known now kept) w ps
+SendsPages (Err e) start now kept w ps = FailsAmong e start now ps
 
 -- a page is out of range, or writing failed: there was no memory, or the sink failed
 abbrev pub IsWriteFailure : ℕ → ℕ → DviRunFault → Type 0
@@ -55,16 +55,22 @@ IsWriteFailure before now (refused.Pages f) = (fault : SinkFault) × (f ≡ writ
 abbrev pub last_bytes : ℤ → Progress → List ℕ
 last_bytes textheight w = post_bytes textheight w.pages w.any w.last w.place
 
--- the run ended well, and the end of the file is written
-abbrev pub EndsFile : ℤ → Progress → Ending → Option (List ℕ) → Option (List ℕ) → Type 0
-EndsFile textheight w ending old new = (ending ≡ endings.Done) × Appends old new (last_bytes textheight w)
+-- the run ended well, and what is kept and the end of the file are written
+abbrev pub EndsFile : ℤ → Progress → Ending → List ℕ → Option (List ℕ) → Option (List ℕ) → Type 0
+EndsFile textheight w ending kept old new = (ending ≡ endings.Done) × Appends old new (kept ++ last_bytes textheight w)
 
--- the ending is a refusal, and nothing more is written; or the run ended well, and writing the end of the file failed
-abbrev pub StopsRun : ℤ → Progress → Ending → Option (List ℕ) → Option (List ℕ) → PageFault → Type 0
-StopsRun textheight w ending old new f =
-    (IsRefusalOf ending f × (new ≡ old)) ⊎ ((ending ≡ endings.Done) × ((fault : SinkFault) × (f ≡ write_fault fault)) × AppendsPrefix old new (last_bytes textheight w))
+-- a text was not written as a whole, and the fault is that of the sink
+abbrev pub FailsToWrite : Option (List ℕ) → Option (List ℕ) → List ℕ → PageFault → Type 0
+FailsToWrite old new text f = ((fault : SinkFault) × (f ≡ write_fault fault)) × AppendsPrefix old new text
+
+-- writing what is kept failed; or the ending is a refusal, and nothing more is written; or the run ended well, and writing what is kept and the end of the file failed
+abbrev pub StopsRun : ℤ → Progress → Ending → List ℕ → Option (List ℕ) → Option (List ℕ) → PageFault → Type 0
+StopsRun textheight w ending kept old new f =
+    FailsToWrite old new kept f
+    ⊎ ((IsRefusalOf ending f × Appends old new kept)
+    ⊎ ((ending ≡ endings.Done) × FailsToWrite old new (kept ++ last_bytes textheight w) f))
 
 -- the end of the file fails as the run or its writing does; no page is out of range any more
-abbrev pub StopsFile : ℤ → Progress → Ending → Option (List ℕ) → Option (List ℕ) → DviRunFault → Type 0
-StopsFile textheight w ending old new (refused.Pages f) = StopsRun textheight w ending old new f
-StopsFile textheight w ending old new (refused.TooFar page) = ⊥
+abbrev pub StopsFile : ℤ → Progress → Ending → List ℕ → Option (List ℕ) → Option (List ℕ) → DviRunFault → Type 0
+StopsFile textheight w ending kept old new (refused.Pages f) = StopsRun textheight w ending kept old new f
+StopsFile textheight w ending kept old new (refused.TooFar page) = ⊥

@@ -12,6 +12,7 @@ pub mod VersionRows
 pub mod LinesRows
 pub mod MakeupRows
 pub mod MakeupTraceRows
+pub mod Kept
 pub mod Views
 pub mod PagesWritten
 pub mod DviRefusal

@@ -1,5 +1,5 @@
 -- What `paginate_plain` writes, page by page.
-use Rattle.std.specs.Prelude.{◌≡◌, ◌⊎◌, ℕ, List, [], Option}
+use Rattle.std.specs.Prelude.{◌≡◌, ◌⊎◌, ℕ, List, [], ◌++◌, Option}
 use Rattle.std.specs.Io.KnownBytes.{Appends}
 use Rattle.tb_io.specs.declared.sink.SinkFault.{SinkFault}
 use Rattle.tb_io.specs.declared.sink.SinkFault.TheVariants as outputs
@@ -30,13 +30,15 @@ IsRefusalOf endings.Done f = ⊥
 IsRefusalOf (endings.PageLimit n) f = f ≡ faults.PageLimit n
 IsRefusalOf (endings.NodeLimit n) f = f ≡ faults.NodeLimit n
 
--- the ending is a refusal, and nothing more is written; or the run is done, and writing its last line failed
-abbrev pub StopsWith : View → Totals → MakeupEnding → Option (List ℕ) → Option (List ℕ) → ℕ → ℕ → PlainRunFault → Type 0
-StopsWith v t e held_old held_new before now f =
-    (IsRefusalOf e f × (held_new ≡ held_old)) ⊎ ((e ≡ endings.Done) × FailsToShow write_fault v held_old held_new before now (end_lines [] t) f)
+-- writing what is kept failed; or the ending is a refusal, and nothing more is written; or the run is done, and writing what is kept and its last line failed
+abbrev pub StopsWith : View → Totals → MakeupEnding → List ℕ → Option (List ℕ) → Option (List ℕ) → ℕ → ℕ → PlainRunFault → Type 0
+StopsWith v t e kept held_old held_new before now f =
+    FailsToShow write_fault v held_old held_new before now kept f
+    ⊎ ((IsRefusalOf e f × Appends held_old held_new (viewed v kept))
+    ⊎ ((e ≡ endings.Done) × FailsToShow write_fault v held_old held_new before now (kept ++ end_lines [] t) f))
 
--- the run ended well: its totals are returned, and its last line is written
-pub record EndsWell (v : View) (t : Totals) (e : MakeupEnding) (held_old held_new : Option (List ℕ)) (u : Totals) : Type 0 where
+-- the run ended well: its totals are returned, and what is kept and its last line are written
+pub record EndsWell (v : View) (t : Totals) (e : MakeupEnding) (kept : List ℕ) (held_old held_new : Option (List ℕ)) (u : Totals) : Type 0 where
   pub ending : e ≡ endings.Done
   pub totals : u ≡ t
-  pub written : Appends held_old held_new (viewed v (end_lines [] t))
+  pub written : Appends held_old held_new (viewed v (kept ++ end_lines [] t))

@@ -1,5 +1,5 @@
 -- What `paginate` writes, piece by piece.
-use Rattle.std.specs.Prelude.{◌≡◌, ◌⊎◌, ℕ, List, length, Option}
+use Rattle.std.specs.Prelude.{◌≡◌, ◌⊎◌, ℕ, List, ◌++◌, length, Option}
 use Rattle.std.specs.Io.KnownBytes.{Appends}
 use Rattle.tb_node.specs.PlainNodes.{plain_list}
 use Rattle.tb_io.specs.declared.sink.SinkFault.{SinkFault}
@@ -46,16 +46,18 @@ IsRefusalOf (endings.PoolFull line live) f = f ≡ faults.PoolFull line live
 IsRefusalOf (endings.Fault e) f = IsFaultRefusal e f
 IsRefusalOf (endings.NodeLimit n) f = f ≡ faults.NodeLimit n
 
--- the ending is a refusal, and nothing more is written; or the run is done, and writing its last lines failed
-abbrev pub StopsWith : View → Routine → Totals → Ending → Option (List ℕ) → Option (List ℕ) → ℕ → ℕ → PageFault → Type 0
-StopsWith v r t e held_old held_new before now f =
-    (IsRefusalOf e f × (held_new ≡ held_old)) ⊎ ((e ≡ endings.Done) × FailsToShow write_fault v held_old held_new before now (last_lines r t) f)
+-- writing what is kept failed; or the ending is a refusal, and nothing more is written; or the run is done, and writing what is kept and its last lines failed
+abbrev pub StopsWith : View → Routine → Totals → Ending → List ℕ → Option (List ℕ) → Option (List ℕ) → ℕ → ℕ → PageFault → Type 0
+StopsWith v r t e kept held_old held_new before now f =
+    FailsToShow write_fault v held_old held_new before now kept f
+    ⊎ ((IsRefusalOf e f × Appends held_old held_new (viewed v kept))
+    ⊎ ((e ≡ endings.Done) × FailsToShow write_fault v held_old held_new before now (kept ++ last_lines r t) f))
 
--- the run ended well: its totals are returned, and its last lines are written
-pub record EndsWell (v : View) (r : Routine) (t : Totals) (e : Ending) (held_old held_new : Option (List ℕ)) (u : Totals) : Type 0 where
+-- the run ended well: its totals are returned, and what is kept and its last lines are written
+pub record EndsWell (v : View) (r : Routine) (t : Totals) (e : Ending) (kept : List ℕ) (held_old held_new : Option (List ℕ)) (u : Totals) : Type 0 where
   pub ending : e ≡ endings.Done
   pub totals : u ≡ t
-  pub written : Appends held_old held_new (viewed v (last_lines r t))
+  pub written : Appends held_old held_new (viewed v (kept ++ last_lines r t))
 
 -- how many nodes a page has
 abbrev pub node_total : PlainSent → ℕ

@@ -1,5 +1,5 @@
 -- What a view shows of a run, as it is written.
-use Rattle.std.specs.Prelude.{◌≡◌, ◌≤◌, ℕ, Bool, true, false, List, [], ◌∷◌, Option, Result, IfErr, OnOk, OnErr}
+use Rattle.std.specs.Prelude.{◌≡◌, ◌≤◌, ℕ, Bool, true, false, List, [], ◌∷◌, ◌++◌, Option, Result, IfErr, OnOk, OnErr}
 use Rattle.std.specs.Io.KnownBytes.{Appends}
 use Rattle.tb_io.specs.Faults.{Rose}
 use Rattle.tb_io.specs.Sink.{AppendsPrefix}
@@ -8,6 +8,7 @@ use Rattle.tb_io.specs.declared.sink.SinkFault.TheVariants as outputs
 use Rattle.tb_report.specs.declared.Totals.{Totals}
 use Rattle.tb_report.specs.RunTotals.{with_sent}
 use Rattle.tb_items.specs.RunEvents.{RunEvent, offered, sent}
+use Rattle.tb_top.specs.Kept.{Keeps}
 use Rattle.tb_top.specs.declared.View.{View}
 use Rattle.tb_top.specs.declared.View.TheVariants as views
 
@@ -43,6 +44,13 @@ IsWriteFault v before now fault = fault ≡ outputs.Failed → Rose before now �
 pub record Shows (v : View) (held_old held_new : Option (List ℕ)) (faults_old faults_new : ℕ) (text : List ℕ) (result : Result (Unit {0}) SinkFault) : Type 0 where
   pub whole : OnOk result (Appends held_old held_new (viewed v text))
   pub part : OnErr result (AppendsPrefix held_old held_new (viewed v text))
+  pub cause : IfErr result (IsWriteFault v faults_old faults_new)
+  pub later : faults_old ≤ faults_new
+
+-- a sink and a text that is kept for it, before and after a piece is kept too; after an error a front of both is written
+pub record Sends (v : View) (held_old held_new : Option (List ℕ)) (faults_old faults_new : ℕ) (kept_old kept_new text : List ℕ) (result : Result (Unit {0}) SinkFault) : Type 0 where
+  pub whole : OnOk result (Keeps held_old held_new (viewed v kept_old) (viewed v kept_new) (viewed v text))
+  pub part : OnErr result (AppendsPrefix held_old held_new (viewed v (kept_old ++ text)))
   pub cause : IfErr result (IsWriteFault v faults_old faults_new)
   pub later : faults_old ≤ faults_new
 

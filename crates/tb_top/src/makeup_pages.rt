@@ -1,6 +1,6 @@
 //! From a galley to the text of its run under plain TeX's page makeup.
 
-ghost use Rattle.std.specs.Prelude.{◌≡◌, ◌≢◌, ◌≤◌, [], Err, IsTrue, OnOk, IfOk, IfErr};
+ghost use Rattle.std.specs.Prelude.{◌≡◌, ◌≢◌, ◌≤◌, [], ◌++◌, Err, IsTrue, OnOk, IfOk, IfErr, IfNone, IfSome};
 ghost use Rattle.tb_io.specs.Faults.{Rose};
 ghost use Rattle.tb_galley.specs.Valid.{IsValid};
 ghost use Rattle.tb_report.specs.Lines.{end_lines};
@@ -10,7 +10,7 @@ ghost use Rattle.tb_plain.specs.Suitability.{IsSuited};
 ghost use Rattle.tb_makeup.specs.Makeup.{IsReady};
 ghost use Rattle.tb_top.specs.MakeupLaws.{MakesUpOnce};
 ghost use Rattle.tb_top.specs.MakeupPages.{MakesPages, RefusesPages};
-ghost use Rattle.tb_top.specs.MakeupWritten.{write_fault, run_on, EndsWell, StopsWith};
+ghost use Rattle.tb_top.specs.MakeupWritten.{write_fault, run_on, EndsWell, StopsWith, IsRefusalOf};
 
 use crate::View;
 use crate::views::{is_traced, send, show};
@@ -19,6 +19,7 @@ use tb_galley::Galley;
 use tb_io::{Sink, SinkFault};
 use tb_makeup::{Makeup, MakeupEnding};
 use tb_report::{HEADER, Totals, put_totals};
+use tb_text::put;
 
 /// Why a run under plain TeX's page makeup or its writing stopped.
 #[derive(Clone, Copy, Debug, PartialEq, Eq)]
@@ -54,8 +55,8 @@ impl From<SinkFault> for PlainRunFault {
     }
 }
 
-/// Makes the pages of a galley by plain TeX's page makeup and writes what a view shows of the run, page by page: the
-/// report, with the places that were tried or without, or nothing. Returns what was shipped.
+/// Makes the pages of a galley by plain TeX's page makeup and writes what a view shows of the run, in pieces of at least
+/// 32768 bytes: the report, with the places that were tried or without, or nothing. Returns what was shipped.
 ///
 /// The run ends well if nothing waits any more and the page is empty, or is refused: too many pages would be shipped
 /// (`PageLimit`), or too many nodes wait at the start or after a firing (`NodeLimit`). Its text up to there is written then.
@@ -100,51 +101,59 @@ fn run_on<K: Sink>(
     ensures silent { view ≡ View.Silent → result ≢ Err PlainRunFault.WriteFault }
     ensures later { K.faults out.old ≤ K.faults out.new }
 {
-    show(view, HEADER, out)?;
+    let mut kept = Vec::new(alloc);
+    put(&mut kept, HEADER)?;
     let mut totals = Totals::new();
     let mut happened = Vec::new(alloc);
-    let mut text = Vec::new(alloc);
     if let Some(ending) = makeup.node_limit() {
-        return finish(alloc, view, &totals, ending, out);
+        return finish(view, &totals, ending, &mut kept, out);
     }
     'page: loop {
         let ending = makeup.turn(is_traced(view), &mut happened)?;
-        send(&makeup.store, &happened, view, &mut totals, &mut text, out)?;
+        send(&makeup.store, &happened, view, &mut totals, &mut kept, out)?;
         if let Some(ending) = ending {
-            return finish(alloc, view, &totals, ending, out);
+            return finish(view, &totals, ending, &mut kept, out);
         }
         makeup.done_with(&happened);
     }
 }
 
-// The line of the totals. Nothing is left of a run that ended well.
-fn end_text(alloc: Global, t: &Totals) -> Result<Vec<u8>, AllocError>
-    ensures { IfOk result (λ text. text.items ≡ end_lines [] t.now) }
+// Appends the line of the totals. Nothing is left of a run that ended well.
+fn put_end(text: &mut Vec<u8>, t: &Totals) -> Result<(), AllocError>
+    ensures { OnOk result (text.new.items ≡ text.old.items ++ end_lines [] t.now) }
 {
-    let mut out = Vec::new(alloc);
-    put_totals(&mut out, b"end pages", t)?;
-    Ok(out)
+    put_totals(text, b"end pages", t)
 }
 
-// The end of a run: its last line if it ends well, or its refusal.
+// The refusal of an ending; a run that ended well has none.
+fn fault_of(ending: MakeupEnding) -> Option<PlainRunFault>
+    ensures none { IfNone result (ending ≡ MakeupEnding.Done) }
+    ensures some { IfSome result (IsRefusalOf ending) }
+{
+    match ending {
+        MakeupEnding::Done => None,
+        MakeupEnding::PageLimit { pages } => Some(PlainRunFault::PageLimit { pages }),
+        MakeupEnding::NodeLimit { count } => Some(PlainRunFault::NodeLimit { count }),
+    }
+}
+
+// The end of a run: what is kept is written, and behind it the last line, if the run ends well; else its refusal is returned.
 fn finish<K: Sink>(
-    alloc: Global,
     view: View,
     totals: &Totals,
     ending: MakeupEnding,
+    kept: &mut Vec<u8>,
     out: &mut K,
 ) -> Result<Totals, PlainRunFault>
-    ensures done { IfOk result (EndsWell view totals.now ending (K.held out.old) (K.held out.new)) }
-    ensures refused { IfErr result (StopsWith view totals.now ending (K.held out.old) (K.held out.new) (K.faults out.old) (K.faults out.new)) }
+    ensures done { IfOk result (EndsWell view totals.now ending kept.old.items (K.held out.old) (K.held out.new)) }
+    ensures refused { IfErr result (StopsWith view totals.now ending kept.old.items (K.held out.old) (K.held out.new) (K.faults out.old) (K.faults out.new)) }
     ensures later { K.faults out.old ≤ K.faults out.new }
 {
-    match ending {
-        MakeupEnding::Done => {
-            let text = end_text(alloc, totals)?;
-            show(view, &text, out)?;
-            Ok(*totals)
-        }
-        MakeupEnding::PageLimit { pages } => Err(PlainRunFault::PageLimit { pages }),
-        MakeupEnding::NodeLimit { count } => Err(PlainRunFault::NodeLimit { count }),
+    if let Some(fault) = fault_of(ending) {
+        show(view, kept.as_slice(), out)?;
+        return Err(fault);
     }
+    put_end(kept, totals)?;
+    show(view, kept.as_slice(), out)?;
+    Ok(*totals)
 }

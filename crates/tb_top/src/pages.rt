@@ -20,6 +20,7 @@ use tb_io::{Sink, SinkFault};
 use tb_output::RunFault;
 use tb_report::{HEADER, Totals, end_text};
 use tb_run::{Ending, Routine};
+use tb_text::put;
 
 impl From<AllocError> for PageFault {
     ghost use Rattle.tb_top.specs.declared.PageFault.TheVariants.{Memory};
@@ -42,8 +43,8 @@ impl From<SinkFault> for PageFault {
     }
 }
 
-/// Makes the pages of a galley and writes what a view shows of the run, piece by piece: the report, with the places that
-/// were tried or without, or nothing. Returns what was shipped.
+/// Makes the pages of a galley and writes what a view shows of the run, in pieces of at least 32768 bytes: the report, with
+/// the places that were tried or without, or nothing. Returns what was shipped.
 ///
 /// The run ends well if nothing fires any more, or is refused: a float or marginal note found no room (`PoolFull`), the
 /// page fired too often without a page shipped (`DeadCycles`), too many pages would be shipped (`PageLimit`), or too many
@@ -94,42 +95,46 @@ fn run_on<K: Sink>(
     ensures silent { view ≡ View.Silent → result ≢ Err PageFault.WriteFault }
     ensures later { K.faults out.old ≤ K.faults out.new }
 {
-    show(view, HEADER, out)?;
+    let mut kept = Vec::new(alloc);
+    put(&mut kept, HEADER)?;
     let mut totals = Totals::new();
     let mut happened = Vec::new(alloc);
-    let mut text = Vec::new(alloc);
     if let Some(ending) = routine.node_limit() {
-        return finish(alloc, routine, view, &totals, ending, out);
+        return finish(alloc, routine, view, &totals, ending, &mut kept, out);
     }
     'firing: loop {
         let ending = routine.turn(is_traced(view), &mut happened)?;
-        send(&routine.store, &happened, view, &mut totals, &mut text, out)?;
+        send(&routine.store, &happened, view, &mut totals, &mut kept, out)?;
         if let Some(ending) = ending {
-            return finish(alloc, routine, view, &totals, ending, out);
+            return finish(alloc, routine, view, &totals, ending, &mut kept, out);
         }
         routine.make_room(&happened);
     }
 }
 
-// The end of a run: the lines of what is left and the last line, if it ends well, or its refusal.
+// The end of a run: what is kept is written, and behind it the lines of what is left and the last line, if the run ends well;
+// else its refusal is returned.
 fn finish<K: Sink>(
     alloc: Global,
     routine: &Routine,
     view: View,
     totals: &Totals,
     ending: Ending,
+    kept: &mut Vec<u8>,
     out: &mut K,
 ) -> Result<Totals, PageFault>
     requires { IsLive routine.now.store routine.now.builder.page }
-    ensures done { IfOk result (EndsWell view routine.now totals.now ending (K.held out.old) (K.held out.new)) }
-    ensures refused { IfErr result (StopsWith view routine.now totals.now ending (K.held out.old) (K.held out.new) (K.faults out.old) (K.faults out.new)) }
+    ensures done { IfOk result (EndsWell view routine.now totals.now ending kept.old.items (K.held out.old) (K.held out.new)) }
+    ensures refused { IfErr result (StopsWith view routine.now totals.now ending kept.old.items (K.held out.old) (K.held out.new) (K.faults out.old) (K.faults out.new)) }
     ensures later { K.faults out.old ≤ K.faults out.new }
 {
     if let Some(fault) = fault_of(ending) {
+        show(view, kept.as_slice(), out)?;
         return Err(fault);
     }
     let text = end_text(alloc, &routine.store, routine.builder.on_page(), totals)?;
-    show(view, &text, out)?;
+    put(kept, &text)?;
+    show(view, kept.as_slice(), out)?;
     Ok(*totals)
 }
 

@@ -1,10 +1,10 @@
-//! What a view shows of a run is written as it happens.
+//! What a view shows of a run is kept as it happens, and written in large pieces.
 
 ghost use Rattle.std.specs.Prelude.{◌≡◌, ◌∷◌, [], ◌++◌, OnOk};
 ghost use Rattle.tb_report.specs.RunTotals.{AreCounts};
 ghost use Rattle.tb_items.specs.Happenings.{event_of, events_of, IsPage, ArePages};
 ghost use Rattle.tb_top.specs.Report.{traced_lines, all_lines};
-ghost use Rattle.tb_top.specs.Views.{Shows, viewed, with_events, is_traced};
+ghost use Rattle.tb_top.specs.Views.{Shows, Sends, viewed, with_events, is_traced};
 
 use crate::View;
 use std::alloc::AllocError;
@@ -36,24 +36,31 @@ pub(crate) fn show<K: Sink>(view: View, bytes: &[u8], out: &mut K) -> Result<(),
     }
 }
 
-// Counts what was sent, and writes the lines of what happened, in a text that is used again.
+// A text that is kept is written once it has so many bytes.
+pub(crate) const PIECE: usize = 32768;
+
+// Counts what was sent, and keeps the lines of what happened; what is kept is written once it is long.
 pub(crate) fn send<K: Sink>(
     store: &Lists<Node>,
     happened: &[Happening],
     view: View,
     totals: &mut Totals,
-    text: &mut Vec<u8>,
+    kept: &mut Vec<u8>,
     out: &mut K,
 ) -> Result<(), SinkFault>
     requires pages { ArePages store.now happened.now }
     requires room { AreCounts (with_events (events_of store.now happened.now) totals.old) }
-    ensures shown { Shows view (K.held out.old) (K.held out.new) (K.faults out.old) (K.faults out.new) (all_lines traced_lines (events_of store.now happened.now)) result }
+    ensures shown { Sends view (K.held out.old) (K.held out.new) (K.faults out.old) (K.faults out.new) kept.old.items kept.new.items (all_lines traced_lines (events_of store.now happened.now)) result }
     ensures counted { OnOk result (totals.new ≡ with_events (events_of store.now happened.now) totals.old) }
 {
     count_happened(store, happened, totals);
-    text.clear();
-    put_happened(text, store, happened, view)?;
-    show(view, text.as_slice(), out)
+    put_happened(kept, store, happened, view)?;
+    if kept.len() < PIECE {
+        return Ok(());
+    }
+    show(view, kept.as_slice(), out)?;
+    kept.clear();
+    Ok(())
 }
 
 // Counts the pages and warnings that were sent.

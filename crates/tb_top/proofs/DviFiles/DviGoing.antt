@@ -1,12 +1,12 @@
 -- A run whose pages are written as a DVI file: what is written, and what is left.
-use Rattle.std.proofs.Common.{◌≡◌, refl, sym, subst, ◌∙◌, ap, ℕ, zero, suc, ◌<◌, ◌≤◌, inl, inr, ℤ, pos, negsuc, FitsSigned, w32, Bool, true, false, List, [], ◌++◌, Option, Some, None, append_assoc, append-nil, arith}
+use Rattle.std.proofs.Common.{◌≡◌, refl, sym, subst, ◌∙◌, ap, ℕ, zero, suc, ◌<◌, ◌≤◌, inl, inr, pos, Bool, true, false, List, [], ◌++◌, Option, Some, None, append_assoc, append-nil, arith}
 use Rattle.std.specs.Prelude.{int_lt, if◌then◌else◌}
-use Rattle.std.specs.Io.KnownBytes.{Appends}
+use Rattle.std.specs.Io.KnownBytes.{Appends, append_known}
 use Rattle.tb_io.specs.Sink.{AppendsPrefix}
 use Rattle.tb_io.specs.declared.sink.SinkFault.{SinkFault}
 use Rattle.tb_io.specs.declared.sink.SinkFault.TheVariants as outputs
 use Rattle.std.proofs.KnownBytes.{Appends-trans}
-use Rattle.tb_io.proofs.Appended.{prefix_longer, prefix_on}
+use Rattle.tb_io.proofs.Appended.{prefix_whole, prefix_on}
 use Rattle.tb_param.specs.declared.Params.{Params}
 use Rattle.tb_galley.specs.declared.Galley.{Galley}
 use Rattle.tb_galley.specs.GalleyNodes.{expanded}
@@ -18,8 +18,6 @@ use Rattle.tb_dvi.specs.File.{Page, preamble, file_front, first_too_far}
 use Rattle.tb_dvi.specs.Progress.{at_first, HasWritten, run_bytes}
 use Rattle.tb_node.specs.PlainNodes.{PlainNode}
 use Rattle.tb_dvi.proofs.ProgressLemmas.{begins_written, none_far, well_bytes, stopped_bytes}
-use Rattle.tb_dvi.proofs.FrontLemmas.{run_begins}
-use Rattle.std.proofs.lemmas.Int.{ints}
 use Rattle.tb_steps.specs.Run.{Run, End, done, pool_full, dead_cycles, page_limit, node_limit, Step, ends, goes_on, held_count, step, run_from, firings_left, run_of_state, run_of, step_events}
 use Rattle.tb_items.specs.RunEvents.{RunEvent}
 use Rattle.tb_items.specs.Classes.{classes_of}
@@ -38,11 +36,13 @@ use Rattle.tb_top.specs.Pages.{end_fault}
 use Rattle.tb_top.specs.PagesWritten.{write_fault, IsRefusalOf, IsFaultRefusal}
 use Rattle.tb_laws.specs.DviPages.{event_pages, run_pages}
 use Rattle.tb_top.specs.DviFiles.{Writes, WritesFile, RefusesPages, RefusesFile}
-use Rattle.tb_top.specs.DviWritten.{HoldsPages, StopsShort, FailsAmong, IsWriteFailure, last_bytes, EndsFile, StopsRun, StopsFile}
+use Rattle.tb_top.specs.DviWritten.{HoldsPages, StopsShort, FailsAmong, IsWriteFailure, last_bytes, EndsFile, FailsToWrite, StopsRun, StopsFile}
+use Rattle.tb_top.specs.Kept.{Grows}
 use Rattle.tb_top.proofs.Written.GoingLemmas.{Steps, Stops, steps, stops}
 use Rattle.tb_top.proofs.Written.TurnLemmas.{ShowsStep}
 use Rattle.tb_top.proofs.Written.FinishLemmas.{over-some, over-none}
-use Rattle.tb_top.proofs.DviFiles.DviSending.{events-append, noted-pages, holds-short, fails-more}
+use Rattle.tb_top.proofs.Written.KeptLemmas.{more-kept, more-written, front-written}
+use Rattle.tb_top.proofs.DviFiles.DviSending.{events-append, noted-pages, holds-short, holds-written, fails-more}
 
 -- ---- the run from here
 
@@ -199,12 +199,6 @@ module _ (g : Galley) (start : Option (List ℕ)) where
       )
   refuses-among (refused.Pages f) before after new c h = rw c.1 (refuses-cut c.0 new (all-short new h))
 
-  -- a part of the preamble was written, and nothing else
-  pub prefix-first : (new : Option (List ℕ)) → AppendsPrefix start new preamble → AppendsPrefix start new (dvi_file g.params.textheight (run_of g))
-  prefix-first new b =
-      let r = run_begins [] (run_pages (run_of g)) tt g.params.textheight (is_done (run_of g).end) in
-      subst (AppendsPrefix start new) (sym r.1) (prefix_longer start new (file_front []) r.0 (subst (AppendsPrefix start new) (sym (append-nil preamble)) b))
-
   module _ (now : Option (List ℕ)) (w : Progress) where
     -- nothing more is written
     pub going-short : (p : Params) (s : State) → Going p s start now w (run_of g) → AppendsPrefix start now (dvi_file g.params.textheight (run_of g))
@@ -218,6 +212,12 @@ module _ (g : Galley) (start : Option (List ℕ)) where
 
       file-is : (well : Bool) → is_done e ≡ well → dvi_file g.params.textheight (run_of g) ≡ run_bytes g.params.textheight k.written well
       file-is well is = (λ i. run_bytes g.params.textheight (k.pages i) (is_done (k.end i))) ∙ ap (run_bytes g.params.textheight k.written) is
+
+      -- a front of the file is there
+      closing-short : AppendsPrefix start now (dvi_file g.params.textheight (run_of g))
+      closing-short =
+          subst (λ ps. AppendsPrefix start now (run_bytes g.params.textheight ps (is_done (run_of g).end))) (append-nil k.written ∙ sym k.pages)
+          (holds-short start now w k.written k.holds g.params.textheight [] (is_done (run_of g).end))
 
       -- the end of the file is left
       done-file : is_done e ≡ true → dvi_file g.params.textheight (run_of g) ≡ file_front k.written ++ last_bytes g.params.textheight w
@@ -263,13 +263,31 @@ module _ (g : Galley) (start : Option (List ℕ)) where
       at-done : ending ≡ endings.Done → Closing (done (held_in r).page) start now w (run_of g)
       at-done is = let left : c.end ≡ done (held_in r).page = subst (λ x. IsEnd r x c.end) is c.is in subst (λ x. Closing x start now w (run_of g)) left c.closing
 
-      pub ends-well : (new : Option (List ℕ)) → EndsFile g.params.textheight w ending now new → WritesFile g start new
-      ends-well new h = done-well (held_in r).page (at-done h.0) new h.1
+  -- a text is kept, and out would hold now if it were written
+  module _ (held : Option (List ℕ)) (kept : List ℕ) (w : Progress) (r : Routine) (ending : Ending) (c : ClosesAt r ending start (append_known held kept) w (run_of g)) (new : Option (List ℕ)) where
+    abbrev now : Option (List ℕ)
+    now = append_known held kept
 
-      stops-run : (f : PageFault) (new : Option (List ℕ)) → StopsRun g.params.textheight w ending now new f → RefusesPages g start new f
-      stops-run f new (inl h) = by-ending r ending c.end f new c.is h.0 h.1 c.closing
-      stops-run f new (inr h) = rw h.1.1 (refuses-cut h.1.0 new (done-cut (held_in r).page (at-done h.0) new h.2))
+    abbrev last : List ℕ
+    last = last_bytes g.params.textheight w
 
-      pub stops-with : (e : DviRunFault) (new : Option (List ℕ)) → StopsFile g.params.textheight w ending now new e → RefusesFile g start new e
-      stops-with (refused.Pages f) new h = stops-run f new h
-      stops-with (refused.TooFar page) new h = absurd h
+    closing-written : Appends held new kept → Closing c.end start new w (run_of g)
+    closing-written a = record { written = c.closing.written; holds = holds-written start held new kept c.closing.written w c.closing.holds a; pages = c.closing.pages; end = c.closing.end }
+
+    pub ends-well : EndsFile g.params.textheight w ending kept held new → WritesFile g start new
+    ends-well h = done-well now w (held_in r).page (at-done now w r ending c h.0) new (more-written held new kept last h.1)
+
+    module _ (grown : Grows start held) where
+      cut-off : (f : PageFault) (text : List ℕ) → FailsToWrite held new text f → AppendsPrefix start (append_known held text) (dvi_file g.params.textheight (run_of g)) → RefusesPages g start new f
+      cut-off f text h p = rw h.0.1 (refuses-cut h.0.0 new (front-written start held new text (dvi_file g.params.textheight (run_of g)) grown h.1 p))
+
+      stops-run : (f : PageFault) → StopsRun g.params.textheight w ending kept held new f → RefusesPages g start new f
+      stops-run f (inl h) = cut-off f kept h (closing-short now w c.end c.closing)
+      stops-run f (inr (inl h)) = by-ending new w r ending c.end f new c.is h.0 refl (closing-written h.1)
+      stops-run f (inr (inr h)) =
+          let all = append_known held (kept ++ last) in
+          cut-off f (kept ++ last) h.1 (done-cut now w (held_in r).page (at-done now w r ending c h.0) all (prefix_whole now all last (more-kept held kept last)))
+
+      pub stops-with : (e : DviRunFault) → StopsFile g.params.textheight w ending kept held new e → RefusesFile g start new e
+      stops-with (refused.Pages f) h = stops-run f h
+      stops-with (refused.TooFar page) h = absurd h

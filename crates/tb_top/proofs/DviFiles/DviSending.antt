@@ -1,12 +1,14 @@
 -- Pages of a DVI file, one after another.
-use Rattle.std.proofs.Common.{◌≡◌, refl, sym, subst, ◌∙◌, ap, ℕ, suc, ◌+◌, ◌<◌, ◌≤◌, length, drop, get_or, drop-cons, arith, Bool, true, false, List, [], ◌∷◌, ◌++◌, Option, append_assoc, append-nil}
+use Rattle.std.proofs.Common.{◌≡◌, refl, sym, subst, ◌∙◌, ap, ℕ, suc, ◌+◌, ◌<◌, ◌≤◌, length, take, drop, get_or, drop-cons, arith, Bool, true, false, List, [], ◌∷◌, ◌++◌, Option, append_assoc, append-nil}
 use Rattle.std.proofs.lemmas.List.{drop_all}
+use Rattle.std.proofs.Math.Seq.{take-append_seam}
+use Rattle.tb_text.specs.Fronts.{PutsFront}
 use Rattle.tb_pool.specs.Lists.{Lists}
 use Rattle.tb_node.specs.declared.Node.{Node}
-use Rattle.std.specs.Io.KnownBytes.{Appends}
+use Rattle.std.specs.Io.KnownBytes.{Appends, append_known}
 use Rattle.tb_io.specs.Sink.{AppendsPrefix}
 use Rattle.std.proofs.KnownBytes.{Appends-trans}
-use Rattle.tb_io.proofs.Appended.{prefix_whole, prefix_longer, prefix_on}
+use Rattle.tb_io.proofs.Appended.{prefix_whole, prefix_longer}
 use Rattle.tb_sheet.specs.Sheet.{PlainSent, warned, shipped}
 use Rattle.tb_dvi.specs.declared.progress.Progress.{Progress}
 use Rattle.tb_dvi.specs.File.{Page, page_bytes, file_front, is_too_far, first_too_far}
@@ -23,7 +25,9 @@ use Rattle.tb_laws.specs.DviPages.{sent_among, event_pages}
 use Rattle.tb_top.specs.declared.dvi_pages.DviRunFault.{DviRunFault}
 use Rattle.tb_top.specs.declared.dvi_pages.DviRunFault.TheVariants as refused
 use Rattle.tb_top.specs.DviWritten.{HoldsPages, StopsFar, StopsShort, FailsAmong, IsWriteFailure, page_failure}
+use Rattle.tb_top.specs.Kept.{Grows}
 use Rattle.tb_top.proofs.Written.EventCounts.{among-append}
+use Rattle.tb_top.proofs.Written.KeptLemmas.{all-written, front-written}
 use Rattle.tb_top.proofs.Written.TallyLemmas.{noted-among}
 
 -- ---- the pages of events
@@ -76,15 +80,6 @@ module _ (start now : Option (List ℕ)) (w : Progress) (ps : List Page) (h : Ho
       held = subst (Appends start new) (sym (front-more w ps p h.progress)) (Appends-trans start now new (file_front ps) (page_bytes w.last p) h.held b);
     }
 
-    -- writing a page in range was cut short
-    pub short-more : is_too_far w.place p ≡ false → (new : Option (List ℕ)) → AppendsPrefix now new (page_bytes w.last p) → StopsShort start new (ps ++ p ∷ [])
-    short-more near new b textheight rest well =
-        let k = written-more w ps p h.progress near in
-        let r = run_begins (ps ++ p ∷ []) rest k.in_range textheight well in
-        let whole = run_bytes textheight ((ps ++ p ∷ []) ++ rest) well in
-        prefix_on start now new whole (file_front ps) (page_bytes w.last p) r.0 h.held b
-        (r.1 ∙ ap (λ t. t ++ r.0) (front-more w ps p h.progress) ∙ append_assoc (file_front ps) (page_bytes w.last p) r.0)
-
     -- a page out of range ends the file
     pub far-more : is_too_far w.place p ≡ true → StopsFar start now p.number (ps ++ p ∷ [])
     far-more far textheight rest well =
@@ -93,7 +88,7 @@ module _ (start now : Option (List ℕ)) (w : Progress) (ps : List Page) (h : Ho
           subst (Appends start now) (sym (ap (λ l. run_bytes textheight l well) same ∙ cut_bytes w ps p h.progress far rest textheight well)) h.held,
         )
 
-    -- nothing was written of a page
+    -- nothing is written of a page
     pub short-before : StopsShort start now (ps ++ p ∷ [])
     short-before textheight rest well =
         subst (λ l. AppendsPrefix start now (run_bytes textheight l well)) (sym (append_assoc ps (p ∷ []) rest)) (holds-short textheight (p ∷ rest) well)
@@ -102,6 +97,18 @@ module _ (start now : Option (List ℕ)) (w : Progress) (ps : List Page) (h : Ho
     pub misses-page : (e : DviFault) → MissesPage e w.place p → FailsAmong (page_failure e) start now (ps ++ p ∷ [])
     misses-page (unwritten.TooFar page) m = subst (λ n. StopsFar start now n (ps ++ p ∷ [])) (sym m.0) (far-more m.1)
     misses-page unwritten.Memory m = short-before
+
+-- what is kept is written, or a front of it
+module _ (start held new : Option (List ℕ)) (kept : List ℕ) (ps : List Page) where
+  pub holds-written : (w : Progress) → HoldsPages start (append_known held kept) w ps → Appends held new kept → HoldsPages start new w ps
+  holds-written w h a = record { progress = h.progress; held = all-written start held new kept (file_front ps) h.held a }
+
+  pub short-written : Grows start held → AppendsPrefix held new kept → StopsShort start (append_known held kept) ps → StopsShort start new ps
+  short-written g a h textheight rest well = front-written start held new kept (run_bytes textheight (ps ++ rest) well) g a (h textheight rest well)
+
+-- what was kept before a page that has no bytes
+pub as-before : (old whole all kept : List ℕ) (n : ℕ) → PutsFront old whole all → n ≡ length old → kept ≡ take n all → kept ≡ old
+as-before old whole all kept n f is k = k ∙ ap (take n) f.appended ∙ ap (λ m. take m (old ++ f.put)) is ∙ take-append_seam old f.put
 
 -- more pages were to come
 pub fails-more : (e : DviRunFault) (start now : Option (List ℕ)) (ps qs : List Page) → FailsAmong e start now ps → FailsAmong e start now (ps ++ qs)

@@ -1,5 +1,5 @@
 -- A run of the page makeup that goes on: what was written, what was shipped, and what is left.
-use Rattle.std.proofs.Common.{◌≡◌, refl, sym, subst, ◌∙◌, ap, ℕ, ℤ, ◌<◌, ◌≤◌, pos, Bool, true, false, List, [], ◌∷◌, ◌++◌, map, length, length-append, append_assoc, append-nil, Option, Some, None, arith}
+use Rattle.std.proofs.Common.{◌≡◌, refl, sym, subst, ◌∙◌, ap, ℕ, ℤ, ◌<◌, ◌≤◌, pos, Bool, true, false, List, [], ◌∷◌, ◌++◌, length, length-append, append_assoc, append-nil, Option, Some, None, arith}
 use Rattle.std.specs.Prelude.{nat_abs, int_lt, if◌then◌else◌}
 use Rattle.std.specs.Io.KnownBytes.{Appends}
 use Rattle.std.proofs.lemmas.List.{map-append}
@@ -82,13 +82,6 @@ prefix-now p v s old now t whole g =
     let rest = (run_at p s).events in
     subst (AppendsPrefix old now) (sym (text-from v whole g.events rest (ap (λ (r : MakeupRun). r.events) g.run)))
     (prefix_longer old now (viewed v (header ++ shown_lines v g.events)) (viewed v (shown_lines v rest ++ closing_lines whole.end (sent_of whole))) (prefix_whole old now (viewed v (header ++ shown_lines v g.events)) g.appended))
-
--- a part of the header was written, and nothing else
-pub prefix-first : (v : View) (whole : MakeupRun) (old now : Option (List ℕ)) → AppendsPrefix old now (viewed v header) → AppendsPrefix old now (makeup_text v whole)
-prefix-first v whole old now b =
-    let rest = whole.events in
-    subst (AppendsPrefix old now) (sym (text-from v whole [] rest refl))
-    (prefix_longer old now (viewed v (header ++ [])) (viewed v (shown_lines v rest ++ closing_lines whole.end (sent_of whole))) (subst (λ ls. AppendsPrefix old now (viewed v ls)) (sym (append-nil header)) b))
 
 -- ---- the beginning
 

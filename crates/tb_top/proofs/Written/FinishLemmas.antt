@@ -1,10 +1,9 @@
 -- The end of a run of the routine, and the parameters that it asks for.
-use Rattle.std.proofs.Common.{◌≡◌, refl, sym, subst, ◌∙◌, ap, ℕ, ◌<◌, ◌≤◌, inl, inr, ℤ, pos, ◌≤ℤ◌, Bool, true, false, List, [], length, Option, None, Some, arith}
+use Rattle.std.proofs.Common.{◌≡◌, refl, sym, subst, ◌∙◌, ap, ℕ, ◌<◌, ◌≤◌, inl, inr, pos, ◌≤ℤ◌, Bool, true, false, List, [], ◌++◌, length, Option, None, Some, arith}
 use Rattle.tb_io.specs.Faults.{Rose}
-use Rattle.std.specs.Prelude.{int_lt, if◌then◌else◌, IsTrue, IfNone}
-use Rattle.std.specs.Io.KnownBytes.{Appends}
+use Rattle.std.specs.Prelude.{int_lt, if◌then◌else◌, IfNone}
+use Rattle.std.specs.Io.KnownBytes.{Appends, append_known}
 use Rattle.tb_io.specs.Sink.{AppendsPrefix}
-use Rattle.std.proofs.lemmas.Int.{ints}
 use Rattle.std.proofs.lemmas.Option.{MatchOption-at_none}
 use Rattle.tb_builder.proofs.Ranges.PageableLemmas.{length_counted}
 use Rattle.tb_param.specs.declared.Params.{Params}
@@ -12,6 +11,7 @@ use Rattle.tb_report.specs.RunTotals.{no_totals, AreCounts}
 use Rattle.tb_report.specs.declared.Totals.{Totals}
 use Rattle.tb_output.specs.declared.RunFault.{RunFault}
 use Rattle.tb_output.specs.declared.RunFault.TheVariants as refused
+use Rattle.tb_node.specs.PlainNodes.{PlainNode}
 use Rattle.tb_output.specs.State.{State}
 use Rattle.tb_items.specs.declared.happenings.Happening.{Happening}
 use Rattle.tb_run.specs.declared.routine.Routine.{Routine}
@@ -27,23 +27,20 @@ use Rattle.tb_top.specs.declared.PageFault.{PageFault}
 use Rattle.tb_top.specs.declared.PageFault.TheVariants as faults
 use Rattle.tb_top.specs.Report.{all_lines, traced_lines, closing_lines}
 use Rattle.tb_top.specs.Pages.{view_text, end_fault, Paginates, EndsWith, Refuses}
-use Rattle.tb_top.specs.PagesWritten.{IsFaultRefusal, IsRefusalOf, EndsWell, StopsWith}
-use Rattle.tb_top.specs.Views.{viewed, is_traced, with_events}
+use Rattle.tb_top.specs.PagesWritten.{write_fault, last_lines, IsFaultRefusal, IsRefusalOf, EndsWell, StopsWith}
+use Rattle.tb_top.specs.Kept.{Grows}
+use Rattle.tb_top.specs.Views.{viewed, is_traced, with_events, IsShown, FailsToShow}
 use Rattle.tb_laws.specs.DviPages.{sent_among}
 use Rattle.tb_top.proofs.Written.EventCounts.{SendsBy, step-sends}
 use Rattle.tb_top.proofs.Written.TallyLemmas.{IsTally, AreFewNodes, tally-first, tally-counts, tally-next, step-few}
 use Rattle.tb_laws.proofs.Defined.RunParams.{AreFewFirings}
 use Rattle.tb_top.proofs.Written.TurnLemmas.{ShowsStep, turn-fewer}
-use Rattle.tb_top.proofs.Written.GoingLemmas.{Going, Closing, header, turn_lines, noted-lines, noted-events, begins, begins-over, goes, closes, cut-short, done-well, done-cut, refused-end, refuses-cut, failed-write, silent-shown}
+use Rattle.tb_top.proofs.Written.GoingLemmas.{Going, Closing, header, turn_lines, noted-lines, noted-events, begins, begins-over, goes, closes, cut-short, done-well, done-cut, closing-front, refused-end, refuses-cut, failed-write, silent-shown, viewed-append, more-shown}
+use Rattle.tb_top.proofs.Written.KeptLemmas.{more-written, all-written, front-written}
 
 -- ---- the end
 
 module _ (v : View) (r : Routine) (t : Totals) (whole : Run) (old mid new : Option (List ℕ)) where
-  pub ends-well : (ending : Ending) (e : End) (u : Totals) → IsEnd r ending e → Closing v e old mid t whole → EndsWell v r t ending mid new u → Paginates v whole old new u
-  ends-well ending e u is c h =
-      let left : e ≡ done (held_in r).page = subst (λ x. IsEnd r x e) h.ending is in
-      done-well v old mid new t whole (held_in r).page u (subst (λ x. Closing v x old mid t whole) left c) h.totals h.written
-
   refused-at : (e d : End) (f g : PageFault) → e ≡ d → f ≡ g → end_fault d ≡ Some g → closing_lines d whole.events ≡ [] → new ≡ mid → Closing v e old mid t whole → EndsWith v whole old new g
   refused-at e d f g is same fault none kept c = refused-end v old mid new t whole d g (subst (λ x. Closing v x old mid t whole) is c) fault none kept
 
@@ -58,11 +55,32 @@ module _ (v : View) (r : Routine) (t : Totals) (whole : Run) (old mid new : Opti
   by-ending (endings.Fault x) e f is h kept c = by-fault x e f is h kept c
   by-ending (endings.NodeLimit n) e f is h kept c = rw h (refused-at e (node_limit n) f (faults.NodeLimit n) is h refl refl kept c)
 
-  pub stops-with : (ending : Ending) (e : End) (before now : ℕ) (f : PageFault) → IsEnd r ending e → Closing v e old mid t whole → StopsWith v r t ending mid new before now f → Refuses v whole old new f
-  stops-with ending e before now f is c (inl h) = by-ending ending e f is h.0 h.1 c
-  stops-with ending e before now f is c (inr h) =
+-- a text is kept, and out would hold full if it were written
+module _ (v : View) (r : Routine) (t : Totals) (whole : Run) (old held new : Option (List ℕ)) (kept : List ℕ) where
+  abbrev full : Option (List ℕ)
+  full = append_known held (viewed v kept)
+
+  at-done : (e : End) (left : List PlainNode) → e ≡ done left → Closing v e old full t whole → Closing v (done left) old full t whole
+  at-done e left is c = subst (λ x. Closing v x old full t whole) is c
+
+  closing-written : (e : End) → Appends held new (viewed v kept) → Closing v e old full t whole → Closing v e old new t whole
+  closing-written e a c = record { written = c.written; appended = all-written old held new (viewed v kept) (viewed v c.written) c.appended a; text = c.text; end = c.end; totals = c.totals }
+
+  pub ends-well : (ending : Ending) (e : End) (u : Totals) → IsEnd r ending e → Closing v e old (append_known held (viewed v kept)) t whole → EndsWell v r t ending kept held new u → Paginates v whole old new u
+  ends-well ending e u is c h =
+      let left : e ≡ done (held_in r).page = subst (λ x. IsEnd r x e) h.ending is in
+      done-well v old full new t whole (held_in r).page u (at-done e (held_in r).page left c) h.totals
+      (more-written held new (viewed v kept) (viewed v (last_lines r t)) (subst (Appends held new) (viewed-append v kept (last_lines r t)) h.written))
+
+  pub stops-with : (ending : Ending) (e : End) (before now : ℕ) (f : PageFault) → IsEnd r ending e → Grows old held → Closing v e old (append_known held (viewed v kept)) t whole → StopsWith v r t ending kept held new before now f → Refuses v whole old new f
+  stops-with ending e before now f is grown c (inl h) =
+      rw h.is (refuses-cut v whole old new h.fault (front-written old held new (viewed v kept) (view_text v whole) grown h.part (closing-front v old full new t whole e c)))
+  stops-with ending e before now f is grown c (inr (inl h)) = by-ending v r t whole old new new ending e f is h.0 refl (closing-written e h.1 c)
+  stops-with ending e before now f is grown c (inr (inr h)) =
       let left : e ≡ done (held_in r).page = subst (λ x. IsEnd r x e) h.0 is in
-      rw h.1.is (refuses-cut v whole old new h.1.fault (done-cut v old mid new t whole (held_in r).page (subst (λ x. Closing v x old mid t whole) left c) h.1.part))
+      let all = viewed v (kept ++ last_lines r t) in
+      let cut = done-cut v old full (append_known held all) t whole (held_in r).page (at-done e (held_in r).page left c) (more-shown v held kept (last_lines r t)) in
+      rw h.1.is (refuses-cut v whole old new h.1.fault (front-written old held new all (view_text v whole) grown h.1.part cut))
 
 -- ---- a refusal for a failed write
 
@@ -71,16 +89,23 @@ no-write endings.Done h = h
 no-write (endings.Fault (refused.DeadCycles n)) h = cc
 no-write e h = cc
 
-module _ (v : View) (r : Routine) (t : Totals) (e : Ending) (old new : Option (List ℕ)) (before now : ℕ) where
+-- what failed is the sink, at a view that shows something
+fails-so : (v : View) (old new : Option (List ℕ)) (before now : ℕ) (text : List ℕ) → FailsToShow write_fault v old new before now text faults.WriteFault → Rose before now × IsShown v
+fails-so v old new before now text h = h.cause (failed-write h.fault h.is)
+
+module _ (v : View) (r : Routine) (t : Totals) (e : Ending) (kept : List ℕ) (old new : Option (List ℕ)) (before now : ℕ) where
+  stops-so : StopsWith v r t e kept old new before now faults.WriteFault → Rose before now × IsShown v
+  stops-so (inl h) = fails-so v old new before now kept h
+  stops-so (inr (inl h)) = absurd (no-write e h.0)
+  stops-so (inr (inr h)) = fails-so v old new before now (kept ++ last_lines r t) h.1
+
   -- it comes only if the sink's faults rose
-  pub stops-cause : (start : ℕ) → start ≤ before → StopsWith v r t e old new before now faults.WriteFault → Rose start now
-  stops-cause start le (inl h) = absurd (no-write e h.0)
-  stops-cause start le (inr h) = let rose = (h.1.cause (failed-write h.1.fault h.1.is)).0 in omega (arith, rose)
+  pub stops-cause : (start : ℕ) → start ≤ before → StopsWith v r t e kept old new before now faults.WriteFault → Rose start now
+  stops-cause start le h = let rose = (stops-so h).0 in omega (arith, rose)
 
   -- and never at a silent view
-  pub stops-shown : v ≡ views.Silent → StopsWith v r t e old new before now faults.WriteFault → ⊥
-  stops-shown silent (inl h) = no-write e h.0
-  stops-shown silent (inr h) = silent-shown v silent (h.1.cause (failed-write h.1.fault h.1.is)).1
+  pub stops-shown : v ≡ views.Silent → StopsWith v r t e kept old new before now faults.WriteFault → ⊥
+  stops-shown silent h = silent-shown v silent (stops-so h).1
 
 -- the run ends as this ending says, and its last lines are left
 pub record ClosesAt (v : View) (r : Routine) (ending : Ending) (old now : Option (List ℕ)) (t : Totals) (whole : Run) : Type 0 where

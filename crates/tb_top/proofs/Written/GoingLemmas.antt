@@ -1,7 +1,7 @@
 -- A run that goes on: what was written, what was shipped, and what is left.
 use Rattle.std.proofs.Common.{◌≡◌, refl, sym, subst, ◌∙◌, ap, ℕ, zero, suc, ◌+◌, ◌<◌, ◌≤◌, pos, Bool, true, false, List, [], ◌∷◌, ◌++◌, codes, Option, Some, append_assoc, append-nil, add-zero, zero-add, arith}
 use Rattle.std.specs.Prelude.{int_lt, if◌then◌else◌, Result, Err, IsErrAnd}
-use Rattle.std.specs.Io.KnownBytes.{Appends}
+use Rattle.std.specs.Io.KnownBytes.{Appends, append_known}
 use Rattle.tb_io.specs.declared.sink.SinkFault.{SinkFault}
 use Rattle.tb_io.specs.declared.sink.SinkFault.TheVariants as outputs
 use Rattle.tb_io.specs.Sink.{AppendsPrefix}
@@ -27,6 +27,7 @@ use Rattle.tb_items.specs.Happenings.{noted}
 use Rattle.tb_top.specs.PagesWritten.{write_fault}
 use Rattle.tb_top.specs.Views.{viewed, is_traced, with_events, IsShown}
 use Rattle.tb_laws.proofs.Defined.FuelLemmas.{Turns, step-turns}
+use Rattle.tb_top.proofs.Written.KeptLemmas.{more-kept}
 
 -- ---- totals
 
@@ -91,6 +92,13 @@ noted-events wanted (sent e ∷ es) t = noted-events wanted es (with_sent e t)
 pub viewed-append : (v : View) (a b : List ℕ) → viewed v (a ++ b) ≡ viewed v a ++ viewed v b
 viewed-append views.Report a b = refl
 viewed-append v a b = refl
+
+-- a text is kept, and the sink would hold more if more were kept
+pub more-shown : (v : View) (held : Option (List ℕ)) (kept more : List ℕ) → AppendsPrefix (append_known held (viewed v kept)) (append_known held (viewed v (kept ++ more))) (viewed v more)
+more-shown v held kept more =
+    let all = append_known held (viewed v (kept ++ more)) in
+    prefix_whole (append_known held (viewed v kept)) all (viewed v more)
+    (subst (λ x. Appends (append_known held (viewed v kept)) (append_known held x) (viewed v more)) (sym (viewed-append v kept more)) (more-kept held (viewed v kept) (viewed v more)))
 
 -- ---- the run from here
 
@@ -263,12 +271,6 @@ module _ (p : Params) (v : View) (first s : State) (old now : Option (List ℕ))
   begins-over e = subst (Closing v (node_limit (held_count s)) old now no_totals) (ap (λ t. if t then (let r : Run = record { events = []; records = []; end = node_limit (held_count s) } in r) else run_from p (suc (firings_left p s)) s) (sym e) ∙ ap (run_of_state p) is)
       ((begins-by p v s old now true e pages a).1 refl)
 
--- a part of the header was written, and nothing else
-pub prefix-first : (v : View) (whole : Run) (old now : Option (List ℕ)) → AppendsPrefix old now (viewed v header) → AppendsPrefix old now (view_text v whole)
-prefix-first v whole old now b =
-    subst (AppendsPrefix old now) (sym (viewed-append v header (tail_lines v whole.events whole)) ∙ viewed-whole v whole)
-    (prefix_longer old now (viewed v header) (viewed v (tail_lines v whole.events whole)) b)
-
 -- ---- the end
 
 module _ (v : View) (old mid new : Option (List ℕ)) (t : Totals) (whole : Run) where
@@ -285,6 +287,13 @@ module _ (v : View) (old mid new : Option (List ℕ)) (t : Totals) (whole : Run)
 
   pub done-cut : (left : List PlainNode) → Closing v (done left) old mid t whole → AppendsPrefix mid new (viewed v (end_lines left t)) → AppendsPrefix old new (view_text v whole)
   done-cut left c b = prefix_on old mid new (view_text v whole) (viewed v c.written) (viewed v (end_lines left t)) [] c.appended b (last-text left c ∙ ap (λ ls. viewed v c.written ++ ls) (sym (append-nil (viewed v (end_lines left t)))))
+
+  -- a front of the text is there
+  pub closing-front : (e : End) → Closing v e old mid t whole → AppendsPrefix old mid (view_text v whole)
+  closing-front e c =
+      let last = closing_lines e whole.events in
+      subst (AppendsPrefix old mid) (sym (viewed-append v c.written last) ∙ sym (ap (viewed v) c.text) ∙ viewed-whole v whole)
+      (prefix_longer old mid (viewed v c.written) (viewed v last) (prefix_whole old mid (viewed v c.written) c.appended))
 
   pub refused-end : (e : End) (f : PageFault) → Closing v e old mid t whole → end_fault e ≡ Some f → closing_lines e whole.events ≡ [] → new ≡ mid → EndsWith v whole old new f
   refused-end e f c fault none same = record {

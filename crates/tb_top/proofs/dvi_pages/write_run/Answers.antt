@@ -1,7 +1,6 @@
 use Rattle.std.proofs.Common.{◌∙◌, refl, ap, sym, subst, ◌≡◌, ◌<◌, ◌++◌, false, Some, arith}
 use Rattle.std.proofs.lemmas.Result.{err_from_is_err_and, IfErr-weaker, IfOk-weaker}
-use Rattle.std.specs.Io.KnownBytes.{Appends}
-use Rattle.tb_io.specs.Sink.{AppendsPrefix}
+use Rattle.std.specs.Io.KnownBytes.{Appends, append_known}
 use Rattle.tb_output.specs.Machine.{MachineView}
 use Rattle.tb_run.specs.declared.routine.Routine.{Routine}
 use Rattle.tb_run.specs.declared.routine.Ending.{Ending}
@@ -12,7 +11,9 @@ use Rattle.tb_dvi.specs.File.{preamble}
 use Rattle.tb_laws.specs.DviFiles.{galley_file}
 use Rattle.tb_laws.specs.DviPages.{event_pages}
 use Rattle.tb_top.specs.DviWritten.{HoldsPages, FailsAmong}
-use Rattle.tb_top.proofs.DviFiles.DviGoing.{ClosesAt, prefix-first, refuses-cut, refuses-among, going-short, start-closing, start-going, turn-fails, turn-closing, turn-going, ends-well, stops-with}
+use Rattle.tb_top.specs.Kept.{Grows}
+use Rattle.tb_top.proofs.Written.KeptLemmas.{grows-nothing, grows-on, first-kept, none-written}
+use Rattle.tb_top.proofs.DviFiles.DviGoing.{ClosesAt, refuses-among, going-short, start-closing, start-going, turn-fails, turn-closing, turn-going, ends-well, stops-with}
 use Rattle.tb_laws.proofs.Defined.RunParams.{height-fits}
 use Rattle.tb_top.proofs.Written.TurnLemmas.{ShowsStep, shows-step, turn-fewer}
 use Rattle.tb_top.proofs.Written.FinishLemmas.{limit-ready}
@@ -20,23 +21,19 @@ use Rattle.tb_top.proofs.Written.FirstRuns.{none-yet}
 use Rattle.tb_param.specs.declared.Params.{Params}
 use Rattle.tb_steps.specs.Runnable.{AreRunnable}
 use Rattle.tb_top.proofs.dvi_pages.write_run.Given.{Over}
-use Rattle.tb_top.proofs.dvi_pages.write_run.Goals.{In_ok-write_all, In-Some, In_ok-ending, In_ok-send}
+use Rattle.tb_top.proofs.dvi_pages.write_run.Goals.{In_ok-kept, In-Some, In_ok-ending, In_ok-send}
 use Rattle.tb_top.proofs.dvi_pages.write_run.Goals as goal
 
-pub returns-in_err-start-clause-refused : goal.returns-in_err-start-clause-refused
-returns-in_err-start-clause-refused g c =
+pub returns-in_err-kept-clause-refused : goal.returns-in_err-kept-clause-refused
+returns-in_err-kept-clause-refused g c =
     let p = err_from_is_err_and c.from_residual.result c.from_residual.ensures.1 in
     rw (p.1, p.2) (none-yet (g.K.Sink.held c.args.out.now) (galley_file c.args.galley.now))
 
-pub returns-in_err-write_all-clause-refused : goal.returns-in_err-write_all-clause-refused
-returns-in_err-write_all-clause-refused g c =
-    let p = err_from_is_err_and c.from_residual-in_err-write_all.result c.from_residual-in_err-write_all.ensures.1 in
-    let part = subst (AppendsPrefix (g.K.Sink.held c.args.out.now) (g.K.Sink.held c.write_all.new.out)) (c.deref.ensures.value ∙ c.in_ok-start.ensures) c.in_err-write_all.ensures.err in
-    rw (p.1, p.2) (refuses-cut c.args.galley.now _ c.in_err-write_all.field-0.0 _ (prefix-first c.args.galley.now _ _ part))
-
--- the preamble is written
-begun : (g : Over) (c : In_ok-write_all g) → Appends (g.K.Sink.held c.args.out.now) (g.K.Sink.held c.write_all.new.out) preamble
-begun g c = subst (Appends (g.K.Sink.held c.args.out.now) (g.K.Sink.held c.write_all.new.out)) (c.deref.ensures.value ∙ c.in_ok-start.ensures) c.in_ok-write_all.ensures.ok
+-- the preamble is kept
+begun : (g : Over) (c : In_ok-kept g) → Appends (g.K.Sink.held c.args.out.now) (append_known (g.K.Sink.held c.args.out.now) c.in_ok-kept.kept.items) preamble
+begun g c =
+    let held = g.K.Sink.held c.args.out.now in
+    subst (λ ls. Appends held (append_known held ls) preamble) (sym c.in_ok-kept.ensures) (first-kept held preamble)
 
 -- a run's parameters are in their ranges
 runs : (p : Params) (r : Routine) → IsReady r → r.machine.params ≡ p → AreRunnable p
@@ -48,24 +45,24 @@ finish-requires-in-Some-ending-clause-height g c = height-fits c.args.galley.now
 -- ---- more nodes wait at the start than may be
 
 -- nothing but the end of the file is left
-ends-at-start : (g : Over) (c : In-Some g) → Appends (g.K.Sink.held c.args.out.now) (g.K.Sink.held c.write_all.new.out) preamble → ClosesAt c.node_limit.new.self c.in-Some.ending (g.K.Sink.held c.args.out.now) (g.K.Sink.held c.write_all.new.out) c.new-progress.result (run_of c.args.galley.now)
+ends-at-start : (g : Over) (c : In-Some g) → Appends (g.K.Sink.held c.args.out.now) (append_known (g.K.Sink.held c.args.out.now) c.in_ok-kept.kept.items) preamble → ClosesAt c.node_limit.new.self c.in-Some.ending (g.K.Sink.held c.args.out.now) (append_known (g.K.Sink.held c.args.out.now) c.in_ok-kept.kept.items) c.new-progress.result (run_of c.args.galley.now)
 ends-at-start g c whole = start-closing c.args.galley.now c.node_limit.new.self _ _ c.new-progress.result c.node_limit.result (ap state_of c.node_limit.ensures.same ∙ c.requires.state) c.new-progress.ensures.value whole (c.node_limit.ensures.limit ∙ (λ i. over_limit (c.requires.params i) (held_count (sym (ap state_of c.node_limit.ensures.same) i)))) c.in-Some.ending c.in-Some.is
 
 pub returns-in-Some-clause-done : goal.returns-in-Some-clause-done
 returns-in-Some-clause-done g c =
     let w = goal.at.returns-in-Some-clause-done g c in
-    let closing = ends-at-start g w.In-Some (begun g w.In_ok-write_all) in
-    IfOk-weaker c.finish.result _ _ (λ u h. ends-well c.args.galley.now _ _ c.new-progress.result c.node_limit.new.self c.in-Some.ending closing _ h) c.finish.ensures.done
+    let closing = ends-at-start g w.In-Some (begun g w.In_ok-kept) in
+    IfOk-weaker c.finish.result _ _ (λ u h. ends-well c.args.galley.now _ (g.K.Sink.held c.args.out.now) c.in_ok-kept.kept.items c.new-progress.result c.node_limit.new.self c.in-Some.ending closing _ h) c.finish.ensures.done
 
 pub returns-in-Some-clause-refused : goal.returns-in-Some-clause-refused
 returns-in-Some-clause-refused g c =
     let w = goal.at.returns-in-Some-clause-refused g c in
-    let closing = ends-at-start g w.In-Some (begun g w.In_ok-write_all) in
-    IfErr-weaker c.finish.result _ _ (λ e h. stops-with c.args.galley.now _ _ c.new-progress.result c.node_limit.new.self c.in-Some.ending closing e _ h) c.finish.ensures.refused
+    let closing = ends-at-start g w.In-Some (begun g w.In_ok-kept) in
+    IfErr-weaker c.finish.result _ _ (λ e h. stops-with c.args.galley.now _ (g.K.Sink.held c.args.out.now) c.in_ok-kept.kept.items c.new-progress.result c.node_limit.new.self c.in-Some.ending closing _ (grows-nothing (g.K.Sink.held c.args.out.now)) e h) c.finish.ensures.refused
 
 pub firing-init : goal.firing-init
 firing-init g c =
-    let whole = begun g (goal.at.firing-init g c).In_ok-write_all in
+    let whole = begun g (goal.at.firing-init g c).In_ok-kept in
     let is = ap state_of c.node_limit.ensures.same ∙ c.requires.state in
     let over = c.node_limit.ensures.limit ∙ (λ i. over_limit (c.requires.params i) (held_count (sym (ap state_of c.node_limit.ensures.same) i))) in
     record {
@@ -73,13 +70,15 @@ firing-init g c =
       params = ap (λ (r : Routine). r.machine.params) c.node_limit.ensures.same ∙ c.requires.params;
       in_file = c.new-progress.ensures.in_file;
       going = start-going c.args.galley.now c.node_limit.new.self _ _ c.new-progress.result c.node_limit.result is c.new-progress.ensures.value whole over c.in_default.is;
-      later = c.in_ok-write_all.ensures.cause.later;
+      grown = grows-nothing (g.K.Sink.held c.args.out.now);
+      later = omega arith;
     }
 
 pub returns-in_err-ending-clause-refused : goal.returns-in_err-ending-clause-refused
 returns-in_err-ending-clause-refused g c =
     let p = err_from_is_err_and c.from_residual-in_err-ending.result c.from_residual-in_err-ending.ensures.1 in
-    rw (p.1, p.2) (going-short c.args.galley.now _ _ c.firing.progress c.args.galley.now.params (state_of c.firing.routine) c.firing.invariant.going)
+    let front = going-short c.args.galley.now _ _ c.firing.progress c.args.galley.now.params (state_of c.firing.routine) c.firing.invariant.going in
+    rw (p.1, p.2) (none-written _ _ c.firing.kept.items (galley_file c.args.galley.now) c.firing.invariant.grown front)
 
 -- ---- a turn
 
@@ -92,35 +91,38 @@ returns-in_err-send-clause-refused g c =
     let going = c.firing.invariant.going in
     let shows = turn g (goal.at.returns-in_err-send-clause-refused g c).In_ok-ending in
     let p = err_from_is_err_and c.from_residual-in_err-send.result c.from_residual-in_err-send.ensures.1 in
-    let failed = subst (λ hs. FailsAmong c.in_err-send.field-0.0 (g.K.Sink.held c.args.out.now) (g.K.Sink.held c.send.new.out) (going.written ++ event_pages (events_of c.turn.new.self.store hs))) c.deref-in-firing.ensures.value
-    (c.in_err-send.ensures.sent (g.K.Sink.held c.args.out.now) going.written going.holds) in
+    let failed = subst (λ hs. FailsAmong c.in_err-send.field-0.0 (g.K.Sink.held c.args.out.now) (g.K.Sink.held c.send.new.out) (going.written ++ event_pages (events_of c.turn.new.self.store hs))) c.deref.ensures.value
+    (c.in_err-send.ensures.sent (g.K.Sink.held c.args.out.now) going.written c.firing.invariant.grown going.holds) in
     rw (p.1, p.2)
     (refuses-among c.args.galley.now _ c.in_err-send.field-0.0 _ _ _ c.in_err-send.ensures.cause
     (turn-fails c.args.galley.now.params (state_of c.firing.routine) _ _ c.firing.progress (run_of c.args.galley.now) going c.turn.new.self c.turn.new.happened.items c.in_ok-ending.ending false shows c.in_err-send.field-0.0 _ failed))
 
--- its pages are written
-holds : (g : Over) (c : In_ok-send g) → HoldsPages (g.K.Sink.held c.args.out.now) (g.K.Sink.held c.send.new.out) c.send.new.progress (c.firing.invariant.going.written ++ event_pages (events_of c.turn.new.self.store c.turn.new.happened.items))
+-- its pages are written or kept
+holds : (g : Over) (c : In_ok-send g) → HoldsPages (g.K.Sink.held c.args.out.now) (append_known (g.K.Sink.held c.send.new.out) c.send.new.kept.items) c.send.new.progress (c.firing.invariant.going.written ++ event_pages (events_of c.turn.new.self.store c.turn.new.happened.items))
 holds g c =
     let going = c.firing.invariant.going in
-    subst (λ hs. HoldsPages (g.K.Sink.held c.args.out.now) (g.K.Sink.held c.send.new.out) c.send.new.progress (going.written ++ event_pages (events_of c.turn.new.self.store hs))) c.deref-in-firing.ensures.value
-    (c.in_ok-send.ensures.sent (g.K.Sink.held c.args.out.now) going.written going.holds)
+    subst (λ hs. HoldsPages (g.K.Sink.held c.args.out.now) (append_known (g.K.Sink.held c.send.new.out) c.send.new.kept.items) c.send.new.progress (going.written ++ event_pages (events_of c.turn.new.self.store hs))) c.deref.ensures.value
+    (c.in_ok-send.ensures.sent (g.K.Sink.held c.args.out.now) going.written c.firing.invariant.grown going.holds)
+
+grown : (g : Over) (c : In_ok-send g) → Grows (g.K.Sink.held c.args.out.now) (g.K.Sink.held c.send.new.out)
+grown g c = grows-on _ _ _ c.firing.invariant.grown c.in_ok-send.ensures.grown
 
 -- nothing but the end of the file is left
 ends-here : (g : Over) (c : In_ok-send g) → ShowsStep c.args.galley.now.params false (state_of c.firing.routine) c.turn.new.self c.turn.new.happened.items c.in_ok-ending.ending → (ending : Ending) → c.in_ok-ending.ending ≡ Some ending
-    → ClosesAt c.turn.new.self ending (g.K.Sink.held c.args.out.now) (g.K.Sink.held c.send.new.out) c.send.new.progress (run_of c.args.galley.now)
+    → ClosesAt c.turn.new.self ending (g.K.Sink.held c.args.out.now) (append_known (g.K.Sink.held c.send.new.out) c.send.new.kept.items) c.send.new.progress (run_of c.args.galley.now)
 ends-here g c shows ending some = turn-closing c.args.galley.now.params (state_of c.firing.routine) _ _ c.firing.progress (run_of c.args.galley.now) c.firing.invariant.going c.turn.new.self c.turn.new.happened.items c.in_ok-ending.ending false shows _ c.send.new.progress (holds g c) ending some
 
 pub returns-in-Some-ending-clause-done : goal.returns-in-Some-ending-clause-done
 returns-in-Some-ending-clause-done g c =
     let w = goal.at.returns-in-Some-ending-clause-done g c in
     let closing = ends-here g w.In_ok-send (turn g w.In_ok-ending) c.in-Some-ending.ending c.in-Some-ending.is in
-    IfOk-weaker c.finish-in-Some-ending.result _ _ (λ u h. ends-well c.args.galley.now _ _ c.send.new.progress c.turn.new.self c.in-Some-ending.ending closing _ h) c.finish-in-Some-ending.ensures.done
+    IfOk-weaker c.finish-in-Some-ending.result _ _ (λ u h. ends-well c.args.galley.now _ (g.K.Sink.held c.send.new.out) c.send.new.kept.items c.send.new.progress c.turn.new.self c.in-Some-ending.ending closing _ h) c.finish-in-Some-ending.ensures.done
 
 pub returns-in-Some-ending-clause-refused : goal.returns-in-Some-ending-clause-refused
 returns-in-Some-ending-clause-refused g c =
     let w = goal.at.returns-in-Some-ending-clause-refused g c in
     let closing = ends-here g w.In_ok-send (turn g w.In_ok-ending) c.in-Some-ending.ending c.in-Some-ending.is in
-    IfErr-weaker c.finish-in-Some-ending.result _ _ (λ e h. stops-with c.args.galley.now _ _ c.send.new.progress c.turn.new.self c.in-Some-ending.ending closing e _ h) c.finish-in-Some-ending.ensures.refused
+    IfErr-weaker c.finish-in-Some-ending.result _ _ (λ e h. stops-with c.args.galley.now _ (g.K.Sink.held c.send.new.out) c.send.new.kept.items c.send.new.progress c.turn.new.self c.in-Some-ending.ending closing _ (grown g w.In_ok-send) e h) c.finish-in-Some-ending.ensures.refused
 
 pub firing-smaller : goal.firing-smaller
 firing-smaller g c =
@@ -138,5 +140,6 @@ firing-preserved g c =
       params = ap (λ (m : MachineView). m.params) c.done_with.ensures.machine ∙ c.in_ok-ending.ensures.params ∙ c.firing.invariant.params;
       in_file = c.in_ok-send.ensures.in_file;
       going = turn-going c.args.galley.now.params (state_of c.firing.routine) _ _ c.firing.progress (run_of c.args.galley.now) c.firing.invariant.going c.turn.new.self c.turn.new.happened.items c.in_ok-ending.ending false (turn g w.In_ok-ending) _ c.send.new.progress (holds g w.In_ok-send) (state_of c.done_with.new.self) c.done_with.ensures.state c.in_default-ending.is;
+      grown = grown g w.In_ok-send;
       later = omega (arith, start, later);
     }
