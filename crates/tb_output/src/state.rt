@@ -1,6 +1,6 @@
 //! A new machine, and what is asked of a machine between two firings.
 
-ghost use Rattle.std.specs.Prelude.{◌≡◌, ◌≤◌, pos, List, [], ◌∷◌, length, None, IsTrue, IfOk, IfSome, IfNone, OnErr};
+ghost use Rattle.std.specs.Prelude.{◌≡◌, ◌≤◌, ◌+◌, pos, List, [], ◌∷◌, length, None, IsTrue, IfOk, IfSome, IfNone, OnErr};
 ghost use Rattle.std.specs.FinMap.{get};
 ghost use Rattle.tb_pool.specs.Lists.{Lists as ListMap, list_at, with_list};
 ghost use Rattle.tb_node.specs.declared.Node.{Node as NodeValue};
@@ -161,6 +161,14 @@ impl Machine {
         ensures { result ≡ self.now.params.maxnodes }
     {
         self.params.maxnodes
+    }
+
+    /// How many floats wait for a column or a page of their own: the deferred ones, and in release 2014 the wide ones.
+    pub fn floats_waiting(&self) -> u64
+        ensures value { result ≡ length self.now.pool.lists.deferred + length self.now.pool.lists.second }
+        ensures few { result ≤ 8192 }
+    {
+        (self.pool.len(Part::Deferred) + self.pool.len(Part::Second)) as u64
     }
 
     /// How many nodes the held page has.

@@ -1,0 +1,4 @@
+pub mod PlaceLemmas
+pub mod TriedLemmas
+pub mod RunLemmas
+pub mod RowLemmas

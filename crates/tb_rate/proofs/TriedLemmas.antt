@@ -1,0 +1,197 @@
+-- Each place that is tried in a step has a badness of at least 0 and a penalty below 10000.
+use Rattle.std.proofs.Common.{◌≡◌, refl, ℕ, ◌≤ℤ◌, ℤ, pos, Bool, true, false, List, [], ◌∷◌, ◌++◌, map, Option, Some, None, arith}
+use Rattle.std.specs.Prelude.{negsuc, ◌<ℤ◌, ◌-ℤ◌, ◌*ℤ◌, ◌+ℤ◌, pred, int_lt, int_le, int_div, IfSome, if◌then◌else◌}
+use Rattle.std.proofs.lemmas.Int.{ints}
+use Rattle.tb_scaled.specs.Scaled.{awful_bad, inf_bad, inf_penalty, min_ℤ, badness_ratio, cubed_ratio, badness_of}
+use Rattle.tb_node.specs.Shape.{Shape, box, glue, kern, penalty, other}
+use Rattle.tb_node.specs.declared.Sums.{Sums}
+use Rattle.tb_node.specs.PlainNodes.{PlainKind, plain, ins, act, PlainNode, node_shape, without_acts}
+use Rattle.tb_param.specs.declared.Params.{Params}
+use Rattle.tb_break.specs.Best.{Breakpoint, is_stop}
+use Rattle.tb_break.specs.Cost.{finite_stretch, stretches_infinitely, page_badness}
+use Rattle.tb_break.specs.Places.{begins_with_glue, ends_lasting, legal_penalty}
+use Rattle.tb_insert.specs.Terms.{Terms}
+use Rattle.tb_insert.specs.Account.{terms_after}
+use Rattle.tb_sheet.specs.Sheet.{PlainSent, warned}
+use Rattle.tb_sheet.specs.declared.Warn.{Warn}
+use Rattle.tb_builder.specs.declared.Try.{Try}
+use Rattle.tb_builder.specs.Reach.{Reached, acted, tried, Reach, try_of, also_reached, page_place, reach_at, reach_node, reach_from, stopped_at, laid_out}
+use Rattle.tb_builder.specs.FiredPages.{reach_of, fired_of, frozen_for}
+use Rattle.tb_output.specs.State.{State, Work, Recorded, ask_of, emptied}
+use Rattle.tb_output.specs.Act.{Acted, went, full, act_on}
+use Rattle.tb_output.specs.Output.{out}
+use Rattle.tb_items.specs.RunEvents.{RunEvent, offered, sent}
+use Rattle.tb_steps.specs.Run.{End, done, dead_cycles, page_limit, node_limit, Progress, progress_by, progress, Step, ends, goes_on, step_events, held_count, after_firing, firing_step, fire, after_progress, step}
+use Rattle.tb_rate.specs.Rating.{IsTried}
+use Rattle.tb_rate.specs.Tries.{later_champion, champion_or, last_champion}
+
+-- ---- a place
+
+cubed-by : (n : ℕ) (t : Bool) → pos 0 ≤ℤ (if t then inf_bad else int_div (pos n *ℤ pos n *ℤ pos n +ℤ pos 131072) (pos 262144))
+cubed-by n true = omega (arith, ints)
+cubed-by n false = omega (arith, ints)
+
+low-cubed : (r : ℤ) → pos 0 ≤ℤ r → pos 0 ≤ℤ cubed_ratio r
+low-cubed (pos n) h = cubed-by n (int_lt (pos 1290) (pos n))
+low-cubed (negsuc n) h = absurd (omega (arith, ints))
+
+ratio-by : (t s : ℕ) (u v : Bool) → pos 0 ≤ℤ (if u then int_div (pos t *ℤ pos 297) (pos s) else (if v then int_div (pos t) (int_div (pos s) (pos 297)) else pos t))
+ratio-by t s true v = omega (arith, ints)
+ratio-by t s false true = omega (arith, ints)
+ratio-by t s false false = omega (arith, ints)
+
+low-ratio : (t s : ℤ) → int_le t (pos 0) ≡ false → int_le s (pos 0) ≡ false → pos 0 ≤ℤ badness_ratio t s
+low-ratio (pos t) (pos s) h k = ratio-by t s (int_le (pos t) (pos 7230584)) (int_le (pos 1663497) (pos s))
+low-ratio (pos t) (negsuc s) h k = absurd (grind (arith, ints))
+low-ratio (negsuc t) s h k = absurd (grind (arith, ints))
+
+low-by : (t s : ℤ) (u v : Bool) → int_le t (pos 0) ≡ u → int_le s (pos 0) ≡ v → pos 0 ≤ℤ (if u then pos 0 else (if v then inf_bad else cubed_ratio (badness_ratio t s)))
+low-by t s true v e f = omega (arith, ints)
+low-by t s false true e f = omega (arith, ints)
+low-by t s false false e f = low-cubed (badness_ratio t s) (low-ratio t s e f)
+
+low-badness : (t s : ℤ) → pos 0 ≤ℤ badness_of t s
+unfolding badness_of
+low-badness t s = low-by t s (int_le t (pos 0)) (int_le s (pos 0)) refl refl
+
+low-under : (s : Sums) (g : ℤ) (t : Bool) → pos 0 ≤ℤ (if t then pos 0 else badness_of (g -ℤ s.total) (finite_stretch s.stretch))
+low-under s g true = omega (arith, ints)
+low-under s g false = low-badness (g -ℤ s.total) (finite_stretch s.stretch)
+
+low-over : (s : Sums) (g : ℤ) (t : Bool) → pos 0 ≤ℤ (if t then awful_bad else badness_of (s.total -ℤ g) s.shrink)
+low-over s g true = omega (arith, ints)
+low-over s g false = low-badness (s.total -ℤ g) s.shrink
+
+low-either : (s : Sums) (g : ℤ) (t : Bool)
+    → pos 0 ≤ℤ (if t then (if stretches_infinitely s.stretch then pos 0 else badness_of (g -ℤ s.total) (finite_stretch s.stretch)) else (if int_lt s.shrink (s.total -ℤ g) then awful_bad else badness_of (s.total -ℤ g) s.shrink))
+low-either s g true = low-under s g (stretches_infinitely s.stretch)
+low-either s g false = low-over s g (int_lt s.shrink (s.total -ℤ g))
+
+low-page : (s : Sums) (g : ℤ) → pos 0 ≤ℤ page_badness s g
+unfolding page_badness
+low-page s g = low-either s g (int_lt s.total g)
+
+-- the penalty of a legal place
+abbrev IsBelow : Option ℤ → Type 0
+IsBelow None = Unit {0}
+IsBelow (Some p) = p <ℤ pos 10000
+
+none-by : (t : Bool) → IsBelow (if t then Some (pos 0) else None)
+none-by true = omega (arith, ints)
+none-by false = tt
+
+below-by : (p : ℤ) (t : Bool) → int_lt p inf_penalty ≡ t → IsBelow (if t then Some p else None)
+below-by p true e = grind (arith, ints)
+below-by p false e = tt
+
+legal-below : (before ns : List Shape) → IsBelow (legal_penalty before ns)
+legal-below before [] = tt
+legal-below before (box h d ∷ rest) = tt
+legal-below before (glue g ∷ rest) = none-by (ends_lasting before)
+legal-below before (kern w ∷ rest) = none-by (begins_with_glue rest)
+legal-below before (penalty p ∷ rest) = below-by p (int_lt p inf_penalty) refl
+legal-below before (other ∷ rest) = tt
+
+-- ---- what is reached
+
+abbrev IsPlace : Reached → Type 0
+IsPlace (acted a) = Unit {0}
+IsPlace (tried line b) = (pos 0 ≤ℤ b.badness) × (b.penalty <ℤ pos 10000)
+
+abbrev ArePlaces : List Reached → Type 0
+ArePlaces [] = Unit {0}
+ArePlaces (r ∷ rs) = IsPlace r × ArePlaces rs
+
+module _ (limit : ℤ) (terms : List PlainNode → Terms) (before : List PlainNode) (n : PlainNode) (rest : List PlainNode) (later : Reach) (h : ArePlaces later.reached) where
+  place-by : (b : Breakpoint) → IsPlace (tried n.line b) → (t : Bool) → ArePlaces (if t then stopped_at before n rest b else also_reached (tried n.line b) later).reached
+  place-by b k true = (k, tt)
+  place-by b k false = (k, h)
+
+  at-place : (o : Option ℤ) → IsBelow o → ArePlaces (reach_at limit terms before n rest later o).reached
+  at-place None k = h
+  at-place (Some p) k =
+      let b = page_place limit terms before p in
+      place-by b (low-page b.sums b.goal, k) (is_stop b)
+
+  node-places : (k : PlainKind) → ArePlaces (reach_node limit terms before n rest later k).reached
+  node-places (plain m) = at-place (legal_penalty (map node_shape before) (map node_shape (n ∷ without_acts rest))) (legal-below (map node_shape before) (map node_shape (n ∷ without_acts rest)))
+  node-places (ins i) = h
+  node-places (act a) = (tt, h)
+
+reached-places : (limit : ℤ) (terms : List PlainNode → Terms) (before ns : List PlainNode) → ArePlaces (reach_from limit terms before ns).reached
+reached-places limit terms before [] = tt
+reached-places limit terms before (n ∷ rest) = node-places limit terms before n rest _ (reached-places limit terms (before ++ without_acts (n ∷ [])) rest) n.kind
+
+-- ---- the events of a step
+
+-- each place among these is as the page builder tries it
+abbrev pub AreTried : List RunEvent → Type 0
+AreTried [] = Unit {0}
+AreTried (offered t ∷ es) = IsTried t × AreTried es
+AreTried (sent e ∷ es) = AreTried es
+
+sends-tried : (xs : List RunEvent) (es : List PlainSent) → AreTried xs → AreTried (xs ++ map sent es)
+sends-tried [] [] h = tt
+sends-tried [] (e ∷ es) h = sends-tried [] es tt
+sends-tried (offered t ∷ xs) es h = (h.0, sends-tried xs es h.1)
+sends-tried (sent e ∷ xs) es h = sends-tried xs es h
+
+warned-tried : (ws : List Warn) (es : List RunEvent) → AreTried es → AreTried (map (λ w. sent (warned w)) ws ++ es)
+warned-tried [] es h = h
+warned-tried (w ∷ ws) es h = warned-tried ws es h
+
+act-tried : (later : State → Progress) (s : State) → ((t : State) → AreTried (later t).events) → (a : Acted) → AreTried (progress_by later s a).events
+act-tried later s h (went t ws rs) = warned-tried ws (later t).events (h t)
+act-tried later s h (full line live) = tt
+
+progress-tried : (p : Params) (rs : List Reached) → ArePlaces rs → (least : ℤ) (s : State) → AreTried (progress p rs least s).events
+progress-tried p [] h least s = tt
+progress-tried p (acted a ∷ rs) h least s = act-tried (λ t. progress p rs least t) s (λ t. progress-tried p rs h.1 least t) (act_on p s a)
+progress-tried p (tried line b ∷ rs) h least s = (record { badness = h.0.0; penalty = h.0.1 }, progress-tried p rs h.1 (min_ℤ least b.cost) s)
+
+module _ (es : List RunEvent) (rs qs : List Recorded) (h : AreTried es) where
+  firing-by : (xs : List PlainSent) (refused over : Bool) (e f : End) (s : State)
+      → AreTried (step_events (if refused then ends (es ++ map sent xs) rs e else (if over then ends (es ++ map sent xs) rs f else goes_on (es ++ map sent xs) rs s)))
+  firing-by xs true over e f s = sends-tried es xs h
+  firing-by xs false true e f s = sends-tried es xs h
+  firing-by xs false false e f s = sends-tried es xs h
+
+  either-tried : (t : Bool) (fired : Step) (e : End) → AreTried (step_events fired) → AreTried (step_events (if t then fired else ends es qs e))
+  either-tried true fired e k = k
+  either-tried false fired e k = h
+
+fire-tried : (p : Params) (w : Reach) (q : Progress) → AreTried q.events → AreTried (step_events (fire p w q))
+fire-tried p w q h =
+    let s = q.state in
+    let x = out p s (fired_of (ask_of p s) s.classes s.boxes w) in
+    either-tried q.events q.records q.records h (int_lt (pos s.dead_cycles) p.maxdeadcycles) (after_firing p q.events q.records x) (dead_cycles s.dead_cycles)
+    (firing-by q.events (q.records ++ x.records) [] h x.sent x.refused (int_lt p.maxnodes (pos (held_count x.state))) (page_limit (pred x.state.page)) (node_limit (held_count x.state)) x.state)
+
+fault-tried : (p : Params) (w : Reach) (q : Progress) → AreTried q.events → (o : Option (ℕ × ℕ)) → AreTried (step_events (after_progress p w q o))
+fault-tried p w q h None = either-tried q.events q.records (q.records ++ emptied q.state.floats ∷ []) h w.fires (fire p w q) (done w.passed) (fire-tried p w q h)
+fault-tried p w q h (Some f) = h
+
+-- each place that is tried in a step
+pub step-tried : (p : Params) (s : State) → AreTried (step_events (step p s))
+unfolding step
+step-tried p s =
+    let ask = ask_of p s in
+    let w = reach_of ask s.classes s.boxes [] s.waiting in
+    let q = progress p w.reached awful_bad s in
+    let places = reached-places ask.max_depth (terms_after (frozen_for ask s.classes s.boxes)) [] (laid_out ask.top_skip [] s.waiting) in
+    fault-tried p w q (progress-tried p w.reached places awful_bad s) q.fault
+
+-- ---- the break
+
+later-tried : (t : Bool) (x : Try) (best : Option Try) → IsTried x → IfSome best IsTried → IfSome (if t then Some x else best) IsTried
+later-tried true x best h k = h
+later-tried false x best h k = k
+
+champion-tried : (best : Option Try) (es : List RunEvent) → IfSome best IsTried → AreTried es → IfSome (champion_or best es) IsTried
+champion-tried best [] k h = k
+champion-tried best (offered t ∷ es) k h = champion-tried (later_champion best t) es (later-tried t.champion t best h.0 k) h.1
+champion-tried best (sent e ∷ es) k h = champion-tried best es k h
+
+-- the place at which a page broke
+pub last-tried : (es : List RunEvent) → AreTried es → IfSome (last_champion es) IsTried
+last-tried es h = champion-tried None es tt h
