@@ -19,7 +19,7 @@ use Rattle.tb_galley.specs.declared.LeafKind.{LeafKind}
 use Rattle.tb_galley.specs.declared.LeafKind.TheVariants as leaves
 use Rattle.tb_galley.specs.declared.contents.Content.{Content}
 use Rattle.tb_galley.specs.declared.contents.Content.TheVariants as contents
-use Rattle.tb_galley.specs.Words.{LineWord, hbox, skip, kern, penalty, setting, foot, endfoot, newpage, clearpage, onecolumn, twocolumn, suppressfloats, Phase, at_start, among_sets, among_items, in_foot, ended, word_of, Known}
+use Rattle.tb_galley.specs.Words.{LineWord, hbox, skip, kern, penalty, setting, foot, endfoot, newpage, clearpage, onecolumn, twocolumn, suppressfloats, Phase, at_start, among_sets, among_items, in_foot, ended, word_of, is_leaf_word, Known}
 use Rattle.tb_galley.specs.Faults.{place_causes, cause_if}
 use Rattle.tb_galley.specs.FieldReader.{Left, ◌>>=◌, mapped, finished, end_left, settled, at_fault, dimension_left, range_left, sized_left, glue_left, set_left, area_left, foot_left, named_class, content_left}
 use Rattle.tb_galley.specs.Line.{Said, said, first_of, content_line, line_left}
@@ -35,7 +35,7 @@ finished_as : {X Y : Type 0} (f : X → Y) (r : Result (X × Left) At) (x : X) �
 finished_as f (Ok y) x h = ended_as f y.0 x (end_left y.1) h
 finished_as f (Err e) x h = cc
 
--- ---- the place of a box or of glue
+-- ---- the place of what may be in a footnote
 
 many : (count : ℕ) → nat_lt count 100000 ≡ true → nat_le 100000 count ≡ false
 many count h = grind (arith, nat_tests)
@@ -54,33 +54,12 @@ same_phase among_items count h = refl
 same_phase in_foot count h = refl
 same_phase ended count h = cc
 
-box_placed : (p : Phase) (count : ℕ) → takes_leaf p count ≡ true → first_of (place_causes p (Some hbox)) ≡ None
-box_placed at_start count h = cc
-box_placed among_sets count h = cc
-box_placed among_items count h = refl
-box_placed in_foot count h = refl
-box_placed ended count h = cc
-
-glue_placed : (p : Phase) (count : ℕ) → takes_leaf p count ≡ true → first_of (place_causes p (Some skip)) ≡ None
-glue_placed at_start count h = cc
-glue_placed among_sets count h = cc
-glue_placed among_items count h = refl
-glue_placed in_foot count h = refl
-glue_placed ended count h = cc
-
-kern_placed : (p : Phase) (count : ℕ) → takes_leaf p count ≡ true → first_of (place_causes p (Some kern)) ≡ None
-kern_placed at_start count h = cc
-kern_placed among_sets count h = cc
-kern_placed among_items count h = refl
-kern_placed in_foot count h = refl
-kern_placed ended count h = cc
-
-penalty_placed : (p : Phase) (count : ℕ) → takes_leaf p count ≡ true → first_of (place_causes p (Some penalty)) ≡ None
-penalty_placed at_start count h = cc
-penalty_placed among_sets count h = cc
-penalty_placed among_items count h = refl
-penalty_placed in_foot count h = refl
-penalty_placed ended count h = cc
+leaf_placed : (p : Phase) (w : LineWord) (count : ℕ) → is_leaf_word w ≡ true → takes_leaf p count ≡ true → first_of (place_causes p (Some w)) ≡ None
+leaf_placed among_items hbox count leaf free = refl
+leaf_placed among_items w count leaf free = cc
+leaf_placed in_foot hbox count leaf free = refl
+leaf_placed in_foot w count leaf free = cc
+leaf_placed p w count leaf free = cc
 
 -- ---- the line
 
@@ -106,7 +85,7 @@ module _ (p : Phase) (k : Known) (count n : ℕ) (rest : List ℕ) (free : takes
   unfolding line_left content_line content_left word_of
   box_left few b read =
       ap (λ t. if t then at_fault 0 causes.LineLength else placed (first_of (place_causes p (Some hbox))) (first_of (cause_if (nat_le 100000 count) causes.Items)) (said hbox (finished (content_left k n hbox (past_word rest))))) (short (98 ∷ 111 ∷ 120 ∷ 32 ∷ rest) few)
-      ∙ worded hbox (contents.Plain (leaves.Hbox b.0 b.1 b.2)) (box_placed p count free)
+      ∙ worded hbox (contents.Plain (leaves.Hbox b.0 b.1 b.2)) (leaf_placed p hbox count refl free)
       (finished_as (λ s. contents.Plain (leaves.Hbox s.0 s.1 s.2)) (sized_left (past_word rest)) b read)
 
   skip_left : length (103 ∷ 108 ∷ 117 ∷ 101 ∷ 32 ∷ rest) ≤ 255 → (g : Glue) → finished (glue_left causes.UnknownWord (past_word rest)) ≡ Ok g
@@ -114,7 +93,7 @@ module _ (p : Phase) (k : Known) (count n : ℕ) (rest : List ℕ) (free : takes
   unfolding line_left content_line content_left word_of
   skip_left few g read =
       ap (λ t. if t then at_fault 0 causes.LineLength else placed (first_of (place_causes p (Some skip))) (first_of (cause_if (nat_le 100000 count) causes.Items)) (said skip (finished (content_left k n skip (past_word rest))))) (short (103 ∷ 108 ∷ 117 ∷ 101 ∷ 32 ∷ rest) few)
-      ∙ worded skip (contents.Plain (leaves.Skip g)) (glue_placed p count free)
+      ∙ worded skip (contents.Plain (leaves.Skip g)) (leaf_placed p skip count refl free)
       (finished_as (λ g. contents.Plain (leaves.Skip g)) (glue_left causes.UnknownWord (past_word rest)) g read)
 
   kern_left : length (107 ∷ 101 ∷ 114 ∷ 110 ∷ 32 ∷ rest) ≤ 255 → (v : ℤ) → finished (dimension_left (past_word rest)) ≡ Ok v
@@ -122,7 +101,7 @@ module _ (p : Phase) (k : Known) (count n : ℕ) (rest : List ℕ) (free : takes
   unfolding line_left content_line content_left word_of
   kern_left few v read =
       ap (λ t. if t then at_fault 0 causes.LineLength else placed (first_of (place_causes p (Some kern))) (first_of (cause_if (nat_le 100000 count) causes.Items)) (said kern (finished (content_left k n kern (past_word rest))))) (short (107 ∷ 101 ∷ 114 ∷ 110 ∷ 32 ∷ rest) few)
-      ∙ worded kern (contents.Plain (leaves.Kern v)) (kern_placed p count free)
+      ∙ worded kern (contents.Plain (leaves.Kern v)) (leaf_placed p kern count refl free)
       (finished_as (λ w. contents.Plain (leaves.Kern w)) (dimension_left (past_word rest)) v read)
 
   penalty_left : length (112 ∷ 101 ∷ 110 ∷ 97 ∷ 108 ∷ 116 ∷ 121 ∷ 32 ∷ rest) ≤ 255 → (v : ℤ) → finished (range_left (negsuc 9999) (pos 10000) causes.Penalty (past_word rest)) ≡ Ok v
@@ -130,7 +109,7 @@ module _ (p : Phase) (k : Known) (count n : ℕ) (rest : List ℕ) (free : takes
   unfolding line_left content_line content_left word_of
   penalty_left few v read =
       ap (λ t. if t then at_fault 0 causes.LineLength else placed (first_of (place_causes p (Some penalty))) (first_of (cause_if (nat_le 100000 count) causes.Items)) (said penalty (finished (content_left k n penalty (past_word rest))))) (short (112 ∷ 101 ∷ 110 ∷ 97 ∷ 108 ∷ 116 ∷ 121 ∷ 32 ∷ rest) few)
-      ∙ worded penalty (contents.Plain (leaves.Penalty v)) (penalty_placed p count free)
+      ∙ worded penalty (contents.Plain (leaves.Penalty v)) (leaf_placed p penalty count refl free)
       (finished_as (λ q. contents.Plain (leaves.Penalty q)) (range_left (negsuc 9999) (pos 10000) causes.Penalty (past_word rest)) v read)
 
 set_line_left : (k : Known) (count n : ℕ) (rest : List ℕ) → length (115 ∷ 101 ∷ 116 ∷ 32 ∷ rest) ≤ 255 → (c : Content) → finished (set_left k.version (past_word rest)) ≡ Ok c
