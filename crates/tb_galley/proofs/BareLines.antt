@@ -1,9 +1,7 @@
 -- Lines that say nothing only count.
-use Rattle.std.proofs.Common.{◌≡◌, ◌⊎◌, inl, inr, ℕ, ◌+◌, ◌≤◌, true, false, nat_lt, List, [], ◌∷◌, length, take, Option, Some, None, Ok, refl, ap, sym, ◌∙◌, arith, one-add, if◌then◌else◌}
-use Rattle.std.specs.List.{fold, prefix_len}
-use Rattle.std.proofs.lemmas.Bool.Decides.{nat_tests}
-use Rattle.tb_text.specs.Lines.{is_mark, fields_of, is_skipped, begins_with}
-use Rattle.tb_text.proofs.FirstField.{first_field_is}
+use Rattle.std.proofs.Common.{◌≡◌, ◌⊎◌, inl, inr, ℕ, ◌+◌, ◌≤◌, true, List, [], ◌∷◌, length, Option, Some, None, Ok, refl, ap, sym, ◌∙◌, arith, if◌then◌else◌}
+use Rattle.std.specs.List.{fold}
+use Rattle.tb_text.specs.Lines.{fields_of, is_skipped}
 use Rattle.tb_galley.specs.declared.Fault.{Fault}
 use Rattle.tb_galley.specs.declared.Cause.TheVariants as causes
 use Rattle.tb_galley.specs.Words.{Phase, Known, content_at, line_at}
@@ -13,14 +11,9 @@ use Rattle.tb_galley.specs.GalleyReader.{State, known_in, said_first, said_unles
 use Rattle.tb_galley.specs.Unfinished.{kept_line}
 use Rattle.tb_galley.specs.declared.pieces.Progress.TheVariants.{Lines}
 use Rattle.tb_galley.specs.Pieces.{take_byte}
+use Rattle.tb_galley.proofs.FrequentLines.{short}
 
--- a line that begins with `#` says nothing
-pub comment_skipped : (bs : List ℕ) → is_skipped (fields_of (35 ∷ bs)) ≡ true
-comment_skipped bs =
-    ap is_skipped (first_field_is (35 ∷ bs) (omega arith) refl) ∙ ap (λ n. begins_with 35 (take n (35 ∷ bs))) (one-add (prefix_len is_mark bs))
-
-short : (bytes : List ℕ) → length bytes ≤ 255 → nat_lt 255 (length bytes) ≡ false
-short bytes h = grind (arith, nat_tests)
+-- ---- a line that says nothing
 
 skipped_left : (p : Phase) (k : Known) (count n : ℕ) (bytes : List ℕ) → length bytes ≤ 255 → is_skipped (fields_of bytes) ≡ true → line_left p k count n bytes ≡ Ok None
 unfolding line_left

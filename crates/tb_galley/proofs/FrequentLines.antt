@@ -69,7 +69,7 @@ placed place items read = do
   _ ← settled 1 items (tt {0})
   read
 
-short : (bytes : List ℕ) → length bytes ≤ 255 → nat_lt 255 (length bytes) ≡ false
+pub short : (bytes : List ℕ) → length bytes ≤ 255 → nat_lt 255 (length bytes) ≡ false
 short bytes h = grind (arith, nat_tests)
 
 module _ (p : Phase) (k : Known) (count n : ℕ) (rest : List ℕ) (free : takes_leaf p count ≡ true) where
