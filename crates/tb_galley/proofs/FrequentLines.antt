@@ -1,5 +1,5 @@
--- Lines of the most frequent kinds, by their first bytes: boxes, glue, and `foot` and `endfoot` alone.
-use Rattle.std.proofs.Common.{◌≡◌, ◌≤◌, ℕ, ℤ, ◌+◌, true, false, nat_lt, nat_le, ◌==◌, codes, List, [], ◌∷◌, length, Option, Some, None, Result, Ok, Err, refl, ap, sym, subst, ◌∙◌, arith, if◌then◌else◌}
+-- Lines of the most frequent kinds, by their first bytes: a word and a space, or one word alone.
+use Rattle.std.proofs.Common.{◌≡◌, ◌≤◌, ℕ, ℤ, ◌+◌, true, false, nat_lt, nat_le, ◌==◌, pos, negsuc, codes, List, [], ◌∷◌, ◌++◌, length, Option, Some, None, Result, Ok, Err, refl, ap, sym, subst, ◌∙◌, arith, if◌then◌else◌}
 use Rattle.std.specs.Prelude.{is_some}
 use Rattle.std.proofs.lemmas.Bool.{eqb-true}
 use Rattle.std.proofs.lemmas.Bool.Decides.{nat_tests}
@@ -10,15 +10,20 @@ use Rattle.tb_galley.specs.declared.Cause.{Cause}
 use Rattle.tb_galley.specs.declared.Cause.TheVariants as causes
 use Rattle.tb_galley.specs.declared.Fault.{Fault}
 use Rattle.tb_galley.specs.declared.fields.At.{At}
+use Rattle.tb_node.specs.declared.Area.TheVariants as areas
+use Rattle.tb_param.specs.declared.fields.Field.{Field}
+use Rattle.tb_param.specs.declared.Value.{Value}
+use Rattle.tb_galley.specs.declared.ItemKind.{ItemKind}
+use Rattle.tb_galley.specs.declared.ItemKind.TheVariants as items
 use Rattle.tb_galley.specs.declared.LeafKind.{LeafKind}
 use Rattle.tb_galley.specs.declared.LeafKind.TheVariants as leaves
 use Rattle.tb_galley.specs.declared.contents.Content.{Content}
 use Rattle.tb_galley.specs.declared.contents.Content.TheVariants as contents
-use Rattle.tb_galley.specs.Words.{LineWord, hbox, skip, foot, endfoot, Phase, at_start, among_sets, among_items, in_foot, ended, word_of, Known}
+use Rattle.tb_galley.specs.Words.{LineWord, hbox, skip, kern, penalty, setting, foot, endfoot, newpage, clearpage, onecolumn, twocolumn, suppressfloats, Phase, at_start, among_sets, among_items, in_foot, ended, word_of, is_leaf_word, Known}
 use Rattle.tb_galley.specs.Faults.{place_causes, cause_if}
-use Rattle.tb_galley.specs.FieldReader.{Left, ◌>>=◌, mapped, finished, end_left, settled, at_fault, sized_left, glue_left, foot_left, named_class, content_left}
+use Rattle.tb_galley.specs.FieldReader.{Left, ◌>>=◌, mapped, finished, end_left, settled, at_fault, dimension_left, range_left, sized_left, glue_left, set_left, area_left, foot_left, named_class, content_left}
 use Rattle.tb_galley.specs.Line.{Said, said, first_of, content_line, line_left}
-use Rattle.tb_galley.specs.GalleyReader.{State, known_in, item_phase, foot_phase, endfoot_phase, takes_leaf, past_word, IsBoxLine, IsGlueLine, with_leaf, with_foot_begun, with_foot_ended, past_said, said_first, said_unless, take_said}
+use Rattle.tb_galley.specs.GalleyReader.{State, known_in, phase_past, item_phase, foot_phase, endfoot_phase, takes_leaf, past_word, IsBoxLine, IsLineOf, IsBareItem, with_leaf, with_bare_item, with_setting, with_foot_begun, with_foot_ended, past_said, said_first, said_unless, take_said}
 
 -- ---- what is read to the end, as something else
 
@@ -30,7 +35,7 @@ finished_as : {X Y : Type 0} (f : X → Y) (r : Result (X × Left) At) (x : X) �
 finished_as f (Ok y) x h = ended_as f y.0 x (end_left y.1) h
 finished_as f (Err e) x h = cc
 
--- ---- the place of a box or of glue
+-- ---- the place of what may be in a footnote
 
 many : (count : ℕ) → nat_lt count 100000 ≡ true → nat_le 100000 count ≡ false
 many count h = grind (arith, nat_tests)
@@ -49,19 +54,12 @@ same_phase among_items count h = refl
 same_phase in_foot count h = refl
 same_phase ended count h = cc
 
-box_placed : (p : Phase) (count : ℕ) → takes_leaf p count ≡ true → first_of (place_causes p (Some hbox)) ≡ None
-box_placed at_start count h = cc
-box_placed among_sets count h = cc
-box_placed among_items count h = refl
-box_placed in_foot count h = refl
-box_placed ended count h = cc
-
-glue_placed : (p : Phase) (count : ℕ) → takes_leaf p count ≡ true → first_of (place_causes p (Some skip)) ≡ None
-glue_placed at_start count h = cc
-glue_placed among_sets count h = cc
-glue_placed among_items count h = refl
-glue_placed in_foot count h = refl
-glue_placed ended count h = cc
+leaf_placed : (p : Phase) (w : LineWord) (count : ℕ) → is_leaf_word w ≡ true → takes_leaf p count ≡ true → first_of (place_causes p (Some w)) ≡ None
+leaf_placed among_items hbox count leaf free = refl
+leaf_placed among_items w count leaf free = cc
+leaf_placed in_foot hbox count leaf free = refl
+leaf_placed in_foot w count leaf free = cc
+leaf_placed p w count leaf free = cc
 
 -- ---- the line
 
@@ -71,7 +69,7 @@ placed place items read = do
   _ ← settled 1 items (tt {0})
   read
 
-short : (bytes : List ℕ) → length bytes ≤ 255 → nat_lt 255 (length bytes) ≡ false
+pub short : (bytes : List ℕ) → length bytes ≤ 255 → nat_lt 255 (length bytes) ≡ false
 short bytes h = grind (arith, nat_tests)
 
 module _ (p : Phase) (k : Known) (count n : ℕ) (rest : List ℕ) (free : takes_leaf p count ≡ true) where
@@ -87,7 +85,7 @@ module _ (p : Phase) (k : Known) (count n : ℕ) (rest : List ℕ) (free : takes
   unfolding line_left content_line content_left word_of
   box_left few b read =
       ap (λ t. if t then at_fault 0 causes.LineLength else placed (first_of (place_causes p (Some hbox))) (first_of (cause_if (nat_le 100000 count) causes.Items)) (said hbox (finished (content_left k n hbox (past_word rest))))) (short (98 ∷ 111 ∷ 120 ∷ 32 ∷ rest) few)
-      ∙ worded hbox (contents.Plain (leaves.Hbox b.0 b.1 b.2)) (box_placed p count free)
+      ∙ worded hbox (contents.Plain (leaves.Hbox b.0 b.1 b.2)) (leaf_placed p hbox count refl free)
       (finished_as (λ s. contents.Plain (leaves.Hbox s.0 s.1 s.2)) (sized_left (past_word rest)) b read)
 
   skip_left : length (103 ∷ 108 ∷ 117 ∷ 101 ∷ 32 ∷ rest) ≤ 255 → (g : Glue) → finished (glue_left causes.UnknownWord (past_word rest)) ≡ Ok g
@@ -95,10 +93,55 @@ module _ (p : Phase) (k : Known) (count n : ℕ) (rest : List ℕ) (free : takes
   unfolding line_left content_line content_left word_of
   skip_left few g read =
       ap (λ t. if t then at_fault 0 causes.LineLength else placed (first_of (place_causes p (Some skip))) (first_of (cause_if (nat_le 100000 count) causes.Items)) (said skip (finished (content_left k n skip (past_word rest))))) (short (103 ∷ 108 ∷ 117 ∷ 101 ∷ 32 ∷ rest) few)
-      ∙ worded skip (contents.Plain (leaves.Skip g)) (glue_placed p count free)
+      ∙ worded skip (contents.Plain (leaves.Skip g)) (leaf_placed p skip count refl free)
       (finished_as (λ g. contents.Plain (leaves.Skip g)) (glue_left causes.UnknownWord (past_word rest)) g read)
 
+  kern_left : length (107 ∷ 101 ∷ 114 ∷ 110 ∷ 32 ∷ rest) ≤ 255 → (v : ℤ) → finished (dimension_left (past_word rest)) ≡ Ok v
+      → line_left p k count n (107 ∷ 101 ∷ 114 ∷ 110 ∷ 32 ∷ rest) ≡ Ok (Some (kern, contents.Plain (leaves.Kern v)))
+  unfolding line_left content_line content_left word_of
+  kern_left few v read =
+      ap (λ t. if t then at_fault 0 causes.LineLength else placed (first_of (place_causes p (Some kern))) (first_of (cause_if (nat_le 100000 count) causes.Items)) (said kern (finished (content_left k n kern (past_word rest))))) (short (107 ∷ 101 ∷ 114 ∷ 110 ∷ 32 ∷ rest) few)
+      ∙ worded kern (contents.Plain (leaves.Kern v)) (leaf_placed p kern count refl free)
+      (finished_as (λ w. contents.Plain (leaves.Kern w)) (dimension_left (past_word rest)) v read)
+
+  penalty_left : length (112 ∷ 101 ∷ 110 ∷ 97 ∷ 108 ∷ 116 ∷ 121 ∷ 32 ∷ rest) ≤ 255 → (v : ℤ) → finished (range_left (negsuc 9999) (pos 10000) causes.Penalty (past_word rest)) ≡ Ok v
+      → line_left p k count n (112 ∷ 101 ∷ 110 ∷ 97 ∷ 108 ∷ 116 ∷ 121 ∷ 32 ∷ rest) ≡ Ok (Some (penalty, contents.Plain (leaves.Penalty v)))
+  unfolding line_left content_line content_left word_of
+  penalty_left few v read =
+      ap (λ t. if t then at_fault 0 causes.LineLength else placed (first_of (place_causes p (Some penalty))) (first_of (cause_if (nat_le 100000 count) causes.Items)) (said penalty (finished (content_left k n penalty (past_word rest))))) (short (112 ∷ 101 ∷ 110 ∷ 97 ∷ 108 ∷ 116 ∷ 121 ∷ 32 ∷ rest) few)
+      ∙ worded penalty (contents.Plain (leaves.Penalty v)) (leaf_placed p penalty count refl free)
+      (finished_as (λ q. contents.Plain (leaves.Penalty q)) (range_left (negsuc 9999) (pos 10000) causes.Penalty (past_word rest)) v read)
+
+set_line_left : (k : Known) (count n : ℕ) (rest : List ℕ) → length (115 ∷ 101 ∷ 116 ∷ 32 ∷ rest) ≤ 255 → (c : Content) → finished (set_left k.version (past_word rest)) ≡ Ok c
+    → line_left among_sets k count n (115 ∷ 101 ∷ 116 ∷ 32 ∷ rest) ≡ Ok (Some (setting, c))
+unfolding line_left content_line content_left word_of
+set_line_left k count n rest few c read =
+    ap (λ t. if t then at_fault 0 causes.LineLength else said setting (finished (content_left k n setting (past_word rest)))) (short (115 ∷ 101 ∷ 116 ∷ 32 ∷ rest) few)
+    ∙ ap (said setting) read
+
 -- ---- the state after it
+
+-- a line that begins with this word and a space
+record Spaced {X : Type 0} (word : List ℕ) (read_left : Left → Result (X × Left) At) (line : List ℕ) (x : X) : Type 0 where
+  rest : List ℕ
+  begins : line ≡ word ++ 32 ∷ rest
+  few : length (word ++ 32 ∷ rest) ≤ 255
+  read : finished (read_left (past_word rest)) ≡ Ok x
+
+spaced : {X : Type 0} (word : List ℕ) (read_left : Left → Result (X × Left) At) (line : List ℕ) → length line ≤ 255 → (x : X) → IsLineOf word read_left line x → Spaced word read_left line x
+spaced word read_left line few x h = by h.rest h.begins h.space h.read
+  where
+    by : (rest : List ℕ) → line ≡ word ++ rest → begins_with 32 rest ≡ true → finished (read_left (past_word rest)) ≡ Ok x → Spaced word read_left line x
+    by [] e space read = cc
+    by (b ∷ bs) e space read =
+        let blank : b ≡ 32 = eqb-true b 32 space in
+        let whole : line ≡ word ++ 32 ∷ bs = e ∙ ap (λ c. word ++ c ∷ bs) blank in
+        record {
+          rest = bs;
+          begins = whole;
+          few = subst (λ xs. length xs ≤ 255) whole few;
+          read = subst (λ c. finished (read_left (past_word (c ∷ bs))) ≡ Ok x) blank read;
+        }
 
 pub no_first : (s : State) → is_some s.first ≡ false → s.first ≡ None
 no_first s h = by s.first h
@@ -119,20 +162,34 @@ module _ (s : State) (first : s.first ≡ None) (free : takes_leaf s.phase s.cou
       stepped (98 ∷ 111 ∷ 120 ∷ 32 ∷ h.rest) hbox (leaves.Hbox b.0 b.1 b.2) (box_left s.phase (known_in s.draft) s.count (s.lines + 1) h.rest free short b h.read)
       (ap (λ q. record (with_leaf s (leaves.Hbox b.0 b.1 b.2)) { phase = q }) (same_phase s.phase s.count free)) ∙ ap (take_said s) (sym e)
 
-  pub glue_step : (line : List ℕ) → length line ≤ 255 → (g : Glue) → IsGlueLine line g → with_leaf s (leaves.Skip g) ≡ take_said s line
-  glue_step line few g h = by h.rest h.begins h.space h.read
-    where
-      by : (rest : List ℕ) → line ≡ 103 ∷ 108 ∷ 117 ∷ 101 ∷ rest → begins_with 32 rest ≡ true → finished (glue_left causes.UnknownWord (past_word rest)) ≡ Ok g → with_leaf s (leaves.Skip g) ≡ take_said s line
-      by [] e space read = cc
-      by (b ∷ bs) e space read =
-          let blank : b ≡ 32 = eqb-true b 32 space in
-          let whole : line ≡ 103 ∷ 108 ∷ 117 ∷ 101 ∷ 32 ∷ bs = e ∙ ap (λ c. 103 ∷ 108 ∷ 117 ∷ 101 ∷ c ∷ bs) blank in
-          let short : length (103 ∷ 108 ∷ 117 ∷ 101 ∷ 32 ∷ bs) ≤ 255 = subst (λ xs. length xs ≤ 255) whole few in
-          let same : finished (glue_left causes.UnknownWord (past_word bs)) ≡ Ok g = subst (λ c. finished (glue_left causes.UnknownWord (past_word (c ∷ bs))) ≡ Ok g) blank read in
-          stepped (103 ∷ 108 ∷ 117 ∷ 101 ∷ 32 ∷ bs) skip (leaves.Skip g) (skip_left s.phase (known_in s.draft) s.count (s.lines + 1) bs free short g same)
-          (ap (λ q. record (with_leaf s (leaves.Skip g)) { phase = q }) (same_phase s.phase s.count free)) ∙ ap (take_said s) (sym whole)
+  pub glue_step : (line : List ℕ) → length line ≤ 255 → (g : Glue) → IsLineOf (codes "glue") (glue_left causes.UnknownWord) line g → with_leaf s (leaves.Skip g) ≡ take_said s line
+  glue_step line few g h =
+      let l = spaced (codes "glue") (glue_left causes.UnknownWord) line few g h in
+      stepped (103 ∷ 108 ∷ 117 ∷ 101 ∷ 32 ∷ l.rest) skip (leaves.Skip g) (skip_left s.phase (known_in s.draft) s.count (s.lines + 1) l.rest free l.few g l.read)
+      (ap (λ q. record (with_leaf s (leaves.Skip g)) { phase = q }) (same_phase s.phase s.count free)) ∙ ap (take_said s) (sym l.begins)
 
--- ---- `foot` and `endfoot` alone
+  pub kern_step : (line : List ℕ) → length line ≤ 255 → (v : ℤ) → IsLineOf (codes "kern") dimension_left line v → with_leaf s (leaves.Kern v) ≡ take_said s line
+  kern_step line few v h =
+      let l = spaced (codes "kern") dimension_left line few v h in
+      stepped (107 ∷ 101 ∷ 114 ∷ 110 ∷ 32 ∷ l.rest) kern (leaves.Kern v) (kern_left s.phase (known_in s.draft) s.count (s.lines + 1) l.rest free l.few v l.read)
+      (ap (λ q. record (with_leaf s (leaves.Kern v)) { phase = q }) (same_phase s.phase s.count free)) ∙ ap (take_said s) (sym l.begins)
+
+  pub penalty_step : (line : List ℕ) → length line ≤ 255 → (v : ℤ) → IsLineOf (codes "penalty") (range_left (negsuc 9999) (pos 10000) causes.Penalty) line v → with_leaf s (leaves.Penalty v) ≡ take_said s line
+  penalty_step line few v h =
+      let l = spaced (codes "penalty") (range_left (negsuc 9999) (pos 10000) causes.Penalty) line few v h in
+      stepped (112 ∷ 101 ∷ 110 ∷ 97 ∷ 108 ∷ 116 ∷ 121 ∷ 32 ∷ l.rest) penalty (leaves.Penalty v) (penalty_left s.phase (known_in s.draft) s.count (s.lines + 1) l.rest free l.few v l.read)
+      (ap (λ q. record (with_leaf s (leaves.Penalty v)) { phase = q }) (same_phase s.phase s.count free)) ∙ ap (take_said s) (sym l.begins)
+
+pub set_step : (s : State) → s.first ≡ None → s.phase ≡ among_sets → (line : List ℕ) → length line ≤ 255 → (f : Field) (v : Value)
+    → IsLineOf (codes "set") (set_left s.draft.version) line (contents.Set f v) → with_setting s f v ≡ take_said s line
+set_step s first phase line few f v h =
+    let l = spaced (codes "set") (set_left s.draft.version) line few (contents.Set f v) h in
+    ap (λ p. record (with_setting s f v) { phase = p }) (phase ∙ ap phase_past (sym phase))
+    ∙ sym (ap (take_said s) l.begins ∙ ap (said_first s (115 ∷ 101 ∷ 116 ∷ 32 ∷ l.rest)) first
+    ∙ ap (λ q. said_unless s (line_left q (known_in s.draft) s.count (s.lines + 1) (115 ∷ 101 ∷ 116 ∷ 32 ∷ l.rest))) phase
+    ∙ ap (said_unless s) (set_line_left (known_in s.draft) s.count (s.lines + 1) l.rest l.few (contents.Set f v) l.read))
+
+-- ---- one word alone
 
 foot_left_alone : (k : Known) (n count : ℕ) → takes_leaf among_items count ≡ true → line_left among_items k count n (codes "foot") ≡ Ok (Some (foot, contents.Foot 254))
 unfolding line_left content_line content_left foot_left word_of
@@ -144,6 +201,31 @@ endfoot_left_alone : (k : Known) (n count : ℕ) → takes_leaf in_foot count �
 unfolding line_left content_line content_left word_of
 endfoot_left_alone k n count free =
     ap (λ o. placed None o (said endfoot (finished (content_left k n endfoot (past_word []))))) (items_left in_foot count free)
+
+newpage_left_alone : (k : Known) (n count : ℕ) → takes_leaf among_items count ≡ true → line_left among_items k count n (codes "newpage") ≡ Ok (Some (newpage, contents.Item items.NewPage))
+unfolding line_left content_line content_left word_of
+newpage_left_alone k n count free =
+    ap (λ o. placed None o (said newpage (finished (content_left k n newpage (past_word []))))) (items_left among_items count free)
+
+clearpage_left_alone : (k : Known) (n count : ℕ) → takes_leaf among_items count ≡ true → line_left among_items k count n (codes "clearpage") ≡ Ok (Some (clearpage, contents.Item items.ClearPage))
+unfolding line_left content_line content_left word_of
+clearpage_left_alone k n count free =
+    ap (λ o. placed None o (said clearpage (finished (content_left k n clearpage (past_word []))))) (items_left among_items count free)
+
+onecolumn_left_alone : (k : Known) (n count : ℕ) → takes_leaf among_items count ≡ true → line_left among_items k count n (codes "onecolumn") ≡ Ok (Some (onecolumn, contents.Item items.OneColumn))
+unfolding line_left content_line content_left word_of
+onecolumn_left_alone k n count free =
+    ap (λ o. placed None o (said onecolumn (finished (content_left k n onecolumn (past_word []))))) (items_left among_items count free)
+
+twocolumn_left_alone : (k : Known) (n count : ℕ) → takes_leaf among_items count ≡ true → line_left among_items k count n (codes "twocolumn") ≡ Ok (Some (twocolumn, contents.Item items.TwoColumn))
+unfolding line_left content_line content_left word_of
+twocolumn_left_alone k n count free =
+    ap (λ o. placed None o (said twocolumn (finished (content_left k n twocolumn (past_word []))))) (items_left among_items count free)
+
+suppressfloats_left_alone : (k : Known) (n count : ℕ) → takes_leaf among_items count ≡ true → line_left among_items k count n (codes "suppressfloats") ≡ Ok (Some (suppressfloats, contents.Item (items.Suppress areas.All)))
+unfolding line_left content_line content_left word_of area_left
+suppressfloats_left_alone k n count free =
+    ap (λ o. placed None o (said suppressfloats (finished (content_left k n suppressfloats (past_word []))))) (items_left among_items count free)
 
 module _ (s : State) (first : s.first ≡ None) (free : takes_leaf s.phase s.count ≡ true) where
   said_by : (bytes line : List ℕ) (p : Phase) (w : LineWord) (c : Content) → s.phase ≡ p → line ≡ bytes
@@ -163,3 +245,23 @@ module _ (s : State) (first : s.first ≡ None) (free : takes_leaf s.phase s.cou
       ap (λ p. record (with_foot_ended s) { phase = endfoot_phase p }) (sym phase)
       ∙ said_by (codes "endfoot") line in_foot endfoot contents.Endfoot phase e
       (endfoot_left_alone (known_in s.draft) (s.lines + 1) s.count (subst (λ p. takes_leaf p s.count ≡ true) phase free))
+
+  bare : (bytes line : List ℕ) (w : LineWord) (kind : ItemKind) → s.phase ≡ among_items → line ≡ bytes
+      → line_left among_items (known_in s.draft) s.count (s.lines + 1) bytes ≡ Ok (Some (w, contents.Item kind))
+      → past_said s (Some (w, contents.Item kind)) ≡ record (with_bare_item s kind) { phase = item_phase s.phase } → with_bare_item s kind ≡ take_said s line
+  bare bytes line w kind phase e read past =
+      ap (λ q. record (with_bare_item s kind) { phase = q }) (sym (same_phase s.phase s.count free)) ∙ sym past
+      ∙ said_by bytes line among_items w (contents.Item kind) phase e read
+
+  pub bare_step : (line : List ℕ) (kind : ItemKind) → s.phase ≡ among_items → IsBareItem line kind → with_bare_item s kind ≡ take_said s line
+  bare_step line items.NewPage phase e =
+      bare (codes "newpage") line newpage items.NewPage phase e (newpage_left_alone (known_in s.draft) (s.lines + 1) s.count (subst (λ p. takes_leaf p s.count ≡ true) phase free)) refl
+  bare_step line items.ClearPage phase e =
+      bare (codes "clearpage") line clearpage items.ClearPage phase e (clearpage_left_alone (known_in s.draft) (s.lines + 1) s.count (subst (λ p. takes_leaf p s.count ≡ true) phase free)) refl
+  bare_step line items.OneColumn phase e =
+      bare (codes "onecolumn") line onecolumn items.OneColumn phase e (onecolumn_left_alone (known_in s.draft) (s.lines + 1) s.count (subst (λ p. takes_leaf p s.count ≡ true) phase free)) refl
+  bare_step line items.TwoColumn phase e =
+      bare (codes "twocolumn") line twocolumn items.TwoColumn phase e (twocolumn_left_alone (known_in s.draft) (s.lines + 1) s.count (subst (λ p. takes_leaf p s.count ≡ true) phase free)) refl
+  bare_step line (items.Suppress areas.All) phase e =
+      bare (codes "suppressfloats") line suppressfloats (items.Suppress areas.All) phase e (suppressfloats_left_alone (known_in s.draft) (s.lines + 1) s.count (subst (λ p. takes_leaf p s.count ≡ true) phase free)) refl
+  bare_step line _ phase e = absurd e

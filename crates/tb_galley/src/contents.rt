@@ -113,8 +113,9 @@ fn value(form: Form, fields: &mut Fields<'_>) -> Result<Value, At>
     }
 }
 
+/// A parameter of a galley of this version, and its value.
 #[tactic(auto, unfolding(crate::specs::FieldReader::set_left))]
-fn set(version: u8, fields: &mut Fields<'_>) -> Result<Content, At>
+pub(crate) fn set(version: u8, fields: &mut Fields<'_>) -> Result<Content, At>
     ensures { Gives result (left_of fields.new) (set_left version (left_of fields.old)) }
 {
     let number = fields.number;

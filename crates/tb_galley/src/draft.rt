@@ -38,7 +38,9 @@ pub struct Draft {
 }
 
 impl Draft {
-    fn add_item(&mut self, line: u32, kind: ItemKind) -> Result<(), AllocError>
+    /// Adds an item.
+    #[inline(always)]
+    pub fn add_item(&mut self, line: u32, kind: ItemKind) -> Result<(), AllocError>
         ensures { OnOk result (self.new ≡ with_item self.old line kind) }
     {
         self.items.push(Item { line, kind })
@@ -92,6 +94,20 @@ impl Draft {
         }
     }
 
+    /// Adds what may be in a footnote: to the one that is open, if one is.
+    #[inline(always)]
+    pub fn add_leaf(&mut self, line: u32, kind: LeafKind) -> Result<(), AllocError>
+        ensures { OnOk result (self.new ≡ with_content self.old line (Content.Plain kind)) }
+    {
+        match &mut self.foot {
+            Some(foot) => foot.leaves.push(Leaf { line, kind }),
+            None => self.items.push(Item {
+                line,
+                kind: item_kind(kind),
+            }),
+        }
+    }
+
     /// Begins a foot.
     #[inline(always)]
     pub fn begin_foot(&mut self, alloc: Global, line: u32, class: u8)
@@ -135,13 +151,7 @@ impl Draft {
                 Ok(())
             }
             Content::Class(class) => self.classes.declare(class),
-            Content::Plain(kind) => match &mut self.foot {
-                Some(foot) => foot.leaves.push(Leaf { line, kind }),
-                None => self.items.push(Item {
-                    line,
-                    kind: item_kind(kind),
-                }),
-            },
+            Content::Plain(kind) => self.add_leaf(line, kind),
             Content::Item(kind) => self.add_item(line, kind),
             Content::Foot { class } => {
                 self.begin_foot(alloc, line, class);

@@ -1,5 +1,5 @@
 //! Reads a galley in pieces.
-ghost use Rattle.std.specs.Prelude.{◌≡◌, ◌<◌, ◌≤◌, ◌+◌, ◌++◌, ℕ, List, [], length, OnOk, OnErr, IfOk, IsErr};
+ghost use Rattle.std.specs.Prelude.{◌≡◌, ◌<◌, ◌≤◌, ◌+◌, ◌++◌, ◌∷◌, ◌⊎◌, ℕ, List, [], length, OnOk, OnErr, IfOk, IfSome, IsErr};
 ghost use Rattle.std.specs.List.{fold};
 ghost use Rattle.std.specs.Str.Lines.{strip_carriage_return};
 ghost use Rattle.tb_galley.specs.Grammar.{grammar};
@@ -83,10 +83,55 @@ fn read_piece(
     let mut rest = piece;
     'lines: while let Some((line, after)) = split_at_feed(rest) {
         end_line(alloc, lines, unfinished, line)?;
-        rest = after;
+        rest = past_more_bare_lines(lines, line, after);
     }
     unfinished.append(rest);
     Ok(())
+}
+
+// What follows a line, past the lines that say nothing if it is as short as they are: they often follow one another.
+#[inline(always)]
+fn past_more_bare_lines<'a>(lines: &mut LineReader, line: &[u8], text: &'a [u8]) -> &'a [u8]
+    requires lines { lines.old.lines + length text.now < 4294967295 }
+    ensures read { fold take_byte (Progress.Lines lines.new []) result.now ≡ fold take_byte (Progress.Lines lines.old []) text.now }
+    ensures lines { lines.new.lines + length result.now ≤ lines.old.lines + length text.now }
+    ensures count { lines.new.count ≡ lines.old.count }
+    ensures shorter { length result.now ≤ length text.now }
+{
+    if line.len() > 1 {
+        return text;
+    }
+    past_bare_lines(lines, text)
+}
+
+// What follows the empty lines, and those of `#` alone, with which a text begins. They only count, so they are taken in one
+// walk.
+#[inline(never)]
+fn past_bare_lines<'a>(lines: &mut LineReader, text: &'a [u8]) -> &'a [u8]
+    requires lines { lines.old.lines + length text.now < 4294967295 }
+    ensures read { fold take_byte (Progress.Lines lines.new []) result.now ≡ fold take_byte (Progress.Lines lines.old []) text.now }
+    ensures lines { lines.new.lines + length result.now ≤ lines.old.lines + length text.now }
+    ensures count { lines.new.count ≡ lines.old.count }
+    ensures shorter { length result.now ≤ length text.now }
+{
+    let mut rest = text;
+    'lines: while let Some(after) = after_bare_line(rest) {
+        lines.take_empty();
+        rest = after;
+    }
+    rest
+}
+
+// What follows the first line of a text, if that is empty or `#` alone and has no carriage return.
+#[inline(always)]
+fn after_bare_line(text: &[u8]) -> Option<&[u8]>
+    ensures { IfSome result (λ r. (text.now ≡ 10 ∷ r.now) ⊎ (text.now ≡ 35 ∷ 10 ∷ r.now)) }
+{
+    match text {
+        [b'\n', after @ ..] => Some(after),
+        [b'#', b'\n', after @ ..] => Some(after),
+        _ => None,
+    }
 }
 
 // Takes the line that ends with these bytes. It is called at one place only, so that the reading of a line is inlined into

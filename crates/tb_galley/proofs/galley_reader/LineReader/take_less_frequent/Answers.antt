@@ -1,0 +1,46 @@
+use Rattle.std.proofs.Common.{◌≡◌, ◌≤◌, ◌∙◌, ap, sym, subst, length, OnOk, true, rules, FitsSigned, w64, to_z, of_z, arith}
+use Rattle.std.proofs.lemmas.Int.{to_z-of_z}
+use Rattle.tb_galley.specs.declared.LeafKind.TheVariants as leaves
+use Rattle.tb_galley.specs.GalleyReader.{takes_leaf, with_leaf}
+use Rattle.tb_galley.proofs.BareLines.{skipped_step}
+use Rattle.tb_galley.proofs.FrequentLines.{kern_step, penalty_step, bare_step, set_step}
+use Rattle.tb_galley.proofs.galley_reader.LineReader.take_less_frequent.Goals as goal
+
+pub returns-then-says_nothing-clause-step : goal.returns-then-says_nothing-clause-step
+returns-then-says_nothing-clause-step c =
+    let few : length c.args.line.now ≤ 255 = omega arith in
+    skipped_step c.args.self.now c.requires.first c.args.line.now few (c.says_nothing.ensures c.if-says_nothing.true)
+
+pub returns-in-Some-clause-step : goal.returns-in-Some-clause-step
+returns-in-Some-clause-step c =
+    let s = c.args.self.now in
+    let free : takes_leaf s.phase s.count ≡ true = sym c.takes_leaf.ensures ∙ c.if-takes_leaf.true in
+    let few : length c.args.line.now ≤ 255 = omega arith in
+    let fits : FitsSigned w64 c.in-Some.width = search rules in
+    let same : to_z w64 (of_z w64 c.in-Some.width) ≡ c.in-Some.width = simp to_z-of_z in
+    subst (λ t. OnOk c.take_leaf.result (c.take_leaf.new.self ≡ t))
+    (ap (λ v. with_leaf s (leaves.Kern v)) same ∙ kern_step s c.requires.first free c.args.line.now few c.in-Some.width c.in-Some.ensures) c.take_leaf.ensures.step
+
+pub returns-in-Some-read_penalty-clause-step : goal.returns-in-Some-read_penalty-clause-step
+returns-in-Some-read_penalty-clause-step c =
+    let s = c.args.self.now in
+    let free : takes_leaf s.phase s.count ≡ true = sym c.takes_leaf.ensures ∙ c.if-takes_leaf.true in
+    let few : length c.args.line.now ≤ 255 = omega arith in
+    let fits : FitsSigned w64 c.in-Some-read_penalty.penalty = search rules in
+    let same : to_z w64 (of_z w64 c.in-Some-read_penalty.penalty) ≡ c.in-Some-read_penalty.penalty = simp to_z-of_z in
+    let taken = c.take_leaf-in-Some-read_penalty in
+    subst (λ t. OnOk taken.result (taken.new.self ≡ t))
+    (ap (λ v. with_leaf s (leaves.Penalty v)) same ∙ penalty_step s c.requires.first free c.args.line.now few c.in-Some-read_penalty.penalty c.in-Some-read_penalty.ensures) taken.ensures.step
+
+pub returns-in-Some-read_bare_item-clause-step : goal.returns-in-Some-read_bare_item-clause-step
+returns-in-Some-read_bare_item-clause-step c =
+    let s = c.args.self.now in
+    let free : takes_leaf s.phase s.count ≡ true = sym c.takes_leaf.ensures ∙ c.if-takes_leaf.true in
+    let bare = c.in-Some-read_bare_item.ensures in
+    subst (λ t. OnOk c.take_bare_item.result (c.take_bare_item.new.self ≡ t)) (bare_step s c.requires.first free c.args.line.now c.in-Some-read_bare_item.kind bare.phase bare.line) c.take_bare_item.ensures.step
+
+pub returns-in-Some-read_setting-clause-step : goal.returns-in-Some-read_setting-clause-step
+returns-in-Some-read_setting-clause-step c =
+    let few : length c.args.line.now ≤ 255 = omega arith in
+    let setting = c.in-Some-read_setting.ensures in
+    c.take_setting.ensures.step ∙ set_step c.args.self.now c.requires.first setting.phase c.args.line.now few c.in-Some-read_setting.field c.in-Some-read_setting.value setting.line

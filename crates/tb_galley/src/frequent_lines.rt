@@ -1,0 +1,233 @@
+//! Lines of the most frequent kinds, read by their first bytes. `None` or `false` says nothing of a line: it is then read by
+//! its word.
+ghost use Rattle.std.specs.Prelude.{◌≡◌, ◌≤◌, ◌∷◌, negsuc, pos, true, codes, length, IfSome, Ok};
+ghost use Rattle.tb_text.specs.Lines.{begins_with, fields_of, is_skipped};
+ghost use Rattle.tb_galley.specs.FieldReader.{left_of, finished, dimension_left, range_left, glue_left, sized_left, set_left};
+ghost use Rattle.tb_galley.specs.declared.contents.Content.TheVariants.{Set};
+ghost use Rattle.tb_galley.specs.GalleyReader.{takes_leaf, past_word, IsBoxLine, IsLineOf, IsBareItem};
+
+use crate::contents::{Content, set};
+use crate::fields::Fields;
+use crate::glue_words::begins_with_space;
+use crate::words::{MAX_ITEMS, Phase};
+use crate::{Cause, ItemKind};
+use tb_node::{Area, Name};
+use tb_param::{Field, Value};
+use tb_scaled::Glue;
+
+/// Whether a box or glue may come here, and leaves the phase as it is.
+pub(crate) fn takes_leaf(phase: Phase, count: u32) -> bool
+    ensures { result ≡ takes_leaf phase count }
+{
+    match phase {
+        Phase::Items | Phase::Inside => count < MAX_ITEMS,
+        _ => false,
+    }
+}
+
+// The fields of a line after a word that is no header.
+#[inline(always)]
+fn fields_after(rest: &[u8]) -> Fields<'_>
+    requires { length rest.now ≤ 255 }
+    ensures { left_of result ≡ past_word rest.now }
+{
+    Fields {
+        rest,
+        number: 2,
+        missing: Cause::MissingField,
+    }
+}
+
+// What follows `box` and a space.
+fn after_box(line: &[u8]) -> Option<&[u8]>
+    ensures { IfSome result (λ r. line.now ≡ 98 ∷ 111 ∷ 120 ∷ 32 ∷ r.now) }
+{
+    match line {
+        [b'b', b'o', b'x', b' ', rest @ ..] => Some(rest),
+        _ => None,
+    }
+}
+
+// What follows `glue`, which is a space and more.
+fn after_glue(line: &[u8]) -> Option<&[u8]>
+    ensures { IfSome result (λ r. (line.now ≡ 103 ∷ 108 ∷ 117 ∷ 101 ∷ r.now) × (begins_with 32 r.now ≡ true)) }
+{
+    match line {
+        [b'g', b'l', b'u', b'e', rest @ ..] if begins_with_space(rest) => Some(rest),
+        _ => None,
+    }
+}
+
+// What follows `kern`, which is a space and more.
+fn after_kern(line: &[u8]) -> Option<&[u8]>
+    ensures { IfSome result (λ r. (line.now ≡ 107 ∷ 101 ∷ 114 ∷ 110 ∷ r.now) × (begins_with 32 r.now ≡ true)) }
+{
+    match line {
+        [b'k', b'e', b'r', b'n', rest @ ..] if begins_with_space(rest) => Some(rest),
+        _ => None,
+    }
+}
+
+// What follows `penalty`, which is a space and more.
+fn after_penalty(line: &[u8]) -> Option<&[u8]>
+    ensures { IfSome result (λ r. (line.now ≡ 112 ∷ 101 ∷ 110 ∷ 97 ∷ 108 ∷ 116 ∷ 121 ∷ r.now) × (begins_with 32 r.now ≡ true)) }
+{
+    match line {
+        [b'p', b'e', b'n', b'a', b'l', b't', b'y', rest @ ..] if begins_with_space(rest) => Some(
+            rest,
+        ),
+        _ => None,
+    }
+}
+
+// What follows `set`, which is a space and more.
+fn after_set(line: &[u8]) -> Option<&[u8]>
+    ensures { IfSome result (λ r. (line.now ≡ 115 ∷ 101 ∷ 116 ∷ r.now) × (begins_with 32 r.now ≡ true)) }
+{
+    match line {
+        [b's', b'e', b't', rest @ ..] if begins_with_space(rest) => Some(rest),
+        _ => None,
+    }
+}
+
+/// The amounts of a box, if that is what the line says.
+#[inline(always)]
+pub(crate) fn read_box(line: &[u8]) -> Option<(Name, i64, i64)>
+    requires { length line.now ≤ 255 }
+    ensures { IfSome result (λ b. IsBoxLine line.now b) }
+{
+    let mut fields = fields_after(after_box(line)?);
+    match fields.sized() {
+        Ok(read) if fields.is_at_end() => Some(read),
+        _ => None,
+    }
+}
+
+/// Glue, if that is what the line says.
+#[inline(always)]
+pub(crate) fn read_glue(line: &[u8]) -> Option<Glue>
+    requires { length line.now ≤ 255 }
+    ensures { IfSome result (λ g. IsLineOf (codes "glue") (glue_left Cause.UnknownWord) line.now g) }
+{
+    let mut fields = fields_after(after_glue(line)?);
+    match fields.glue(Cause::UnknownWord) {
+        Ok(glue) if fields.is_at_end() => Some(glue),
+        _ => None,
+    }
+}
+
+/// The width of a kern, if that is what the line says.
+#[inline(always)]
+pub(crate) fn read_kern(line: &[u8]) -> Option<i64>
+    requires { length line.now ≤ 255 }
+    ensures { IfSome result (λ w. IsLineOf (codes "kern") dimension_left line.now w) }
+{
+    lone_dimension(after_kern(line)?)
+}
+
+// The dimension that is all that follows a word. It is kept out of the way of other lines, as those below are.
+#[inline(never)]
+fn lone_dimension(rest: &[u8]) -> Option<i64>
+    requires { length rest.now ≤ 255 }
+    ensures { IfSome result (λ w. finished (dimension_left (past_word rest.now)) ≡ Ok w) }
+{
+    let mut fields = fields_after(rest);
+    match fields.dimension() {
+        Ok(width) if fields.is_at_end() => Some(width),
+        _ => None,
+    }
+}
+
+/// A penalty, if that is what the line says.
+#[inline(always)]
+pub(crate) fn read_penalty(line: &[u8]) -> Option<i64>
+    requires { length line.now ≤ 255 }
+    ensures { IfSome result (λ p. IsLineOf (codes "penalty") (range_left (negsuc 9999) (pos 10000) Cause.Penalty) line.now p) }
+{
+    lone_penalty(after_penalty(line)?)
+}
+
+#[inline(never)]
+fn lone_penalty(rest: &[u8]) -> Option<i64>
+    requires { length rest.now ≤ 255 }
+    ensures { IfSome result (λ p. finished (range_left (negsuc 9999) (pos 10000) Cause.Penalty (past_word rest.now)) ≡ Ok p) }
+{
+    let mut fields = fields_after(rest);
+    match fields.integer_within(-10_000, 10_000, Cause::Penalty) {
+        Ok(penalty) if fields.is_at_end() => Some(penalty),
+        _ => None,
+    }
+}
+
+/// A parameter and its value, if settings may come here and the line is one.
+#[inline(always)]
+pub(crate) fn read_setting(phase: Phase, version: u8, line: &[u8]) -> Option<(Field, Value)>
+    requires { length line.now ≤ 255 }
+    ensures phase { IfSome result (λ r. phase ≡ Phase.Sets) }
+    ensures line { IfSome result (λ r. IsLineOf (codes "set") (set_left version) line.now (Set r.0 r.1)) }
+{
+    let Phase::Sets = phase else {
+        return None;
+    };
+    lone_setting(version, after_set(line)?)
+}
+
+#[inline(never)]
+fn lone_setting(version: u8, rest: &[u8]) -> Option<(Field, Value)>
+    requires { length rest.now ≤ 255 }
+    ensures { IfSome result (λ r. finished (set_left version (past_word rest.now)) ≡ Ok (Set r.0 r.1)) }
+{
+    let mut fields = fields_after(rest);
+    match set(version, &mut fields) {
+        Ok(Content::Set { field, value }) if fields.is_at_end() => Some((field, value)),
+        _ => None,
+    }
+}
+
+/// An item of one word, if it may come here and the word is all that the line says.
+#[inline(always)]
+pub(crate) fn read_bare_item(phase: Phase, line: &[u8]) -> Option<ItemKind>
+    ensures phase { IfSome result (λ k. phase ≡ Phase.Items) }
+    ensures line { IfSome result (λ k. IsBareItem line.now k) }
+{
+    let Phase::Items = phase else {
+        return None;
+    };
+    if line == b"newpage".as_slice() {
+        Some(ItemKind::NewPage)
+    } else if line == b"clearpage".as_slice() {
+        Some(ItemKind::ClearPage)
+    } else if line == b"onecolumn".as_slice() {
+        Some(ItemKind::OneColumn)
+    } else if line == b"twocolumn".as_slice() {
+        Some(ItemKind::TwoColumn)
+    } else if line == b"suppressfloats".as_slice() {
+        Some(ItemKind::Suppress(Area::All))
+    } else {
+        None
+    }
+}
+
+/// Whether a line is `foot` alone and begins a footnote.
+pub(crate) fn begins_foot(phase: Phase, line: &[u8]) -> bool
+    ensures { result ≡ true → (phase ≡ Phase.Items) × (line.now ≡ codes "foot") }
+{
+    matches!(phase, Phase::Items) && line == b"foot".as_slice()
+}
+
+/// Whether a line is `endfoot` alone and ends a footnote.
+pub(crate) fn ends_foot(phase: Phase, line: &[u8]) -> bool
+    ensures { result ≡ true → (phase ≡ Phase.Inside) × (line.now ≡ codes "endfoot") }
+{
+    matches!(phase, Phase::Inside) && line == b"endfoot".as_slice()
+}
+
+/// Whether a line is empty or begins with `#`, so that it says nothing.
+pub(crate) fn says_nothing(line: &[u8]) -> bool
+    ensures { result ≡ true → is_skipped (fields_of line.now) ≡ true }
+{
+    match line {
+        [] => true,
+        [first, ..] => *first == b'#',
+    }
+}
