@@ -86,6 +86,13 @@ fn item_count(p: &Params, two: bool, item: &Item) -> u64
 }
 
 impl<'a> ItemsLeft<'a> {
+    /// The items, in their order.
+    pub fn items(&self) -> &'a [Item]
+        ensures { result.now ≡ self.now.items.now }
+    {
+        self.items
+    }
+
     /// Hands over the nodes of the next items, and returns what is left then. If that is nothing, the nodes of the clear at
     /// the end wait too.
     pub fn hand_over(
