@@ -15,7 +15,7 @@ use tb_node::{Area, Name};
 use tb_param::{Field, Value};
 use tb_scaled::Glue;
 
-/// Whether a box or glue may come here, and leaves the phase as it is.
+/// Whether what may be in a footnote may come here, and leaves the phase as it is.
 pub(crate) fn takes_leaf(phase: Phase, count: u32) -> bool
     ensures { result ≡ takes_leaf phase count }
 {
