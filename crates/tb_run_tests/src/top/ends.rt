@@ -33,34 +33,59 @@ fn each_failing_read_is_reported(rt: HostRuntime) -> Result<(), Fail> {
     Ok(())
 }
 
-// A write that fails gives the status WriteFault and leaves a prefix of the report, the first one nothing.
+// Runs on an input, of which the write of this number fails.
+fn fail_write(alloc: Global, input: &[u8], call: u64) -> Result<Left, Fail> {
+    let calls = [call];
+    let failing = Failing {
+        writes: &calls,
+        ..NONE
+    };
+    run_on(alloc, input, &failing)
+}
+
+// A report that is not long is one write.
+#[test]
+fn report_is_written_at_once(rt: HostRuntime) -> Result<(), Fail> {
+    for (input, report, _) in runs() {
+        let unwritten = fail_write(rt.alloc(), input, 1)?;
+        assert_eq!(rt; unwritten.status, 9);
+        assert_eq!(rt; unwritten.out.held(), b"".as_slice());
+        assert_eq!(rt;
+            unwritten.err.held(),
+            b"galley_pages: write fault\n".as_slice()
+        );
+        let written = fail_write(rt.alloc(), input, 2)?;
+        assert_eq!(rt; written.status, 0);
+        assert_eq!(rt; written.out.held(), report);
+        assert_eq!(rt; written.err.held(), b"".as_slice());
+    }
+    Ok(())
+}
+
+// A write that fails gives the status WriteFault and leaves a prefix of the report: what was written before, in pieces of
+// more than 32768 bytes. A report of more than two pieces is three writes.
 #[test]
 fn each_failing_write_is_reported(rt: HostRuntime) -> Result<(), Fail> {
-    for (input, report, _) in runs() {
-        let mut writes = 0;
-        for call in 1..=16 {
-            let calls = [call];
-            let failing = Failing {
-                writes: &calls,
-                ..NONE
-            };
-            let left = run_on(rt.alloc(), input, &failing)?;
-            if left.status == 0 {
-                assert_eq!(rt; left.out.held(), report, "at write {call}");
-                assert_eq!(rt; left.err.held(), b"".as_slice());
-            } else {
-                assert_eq!(rt; writes, call - 1, "the calls that are made come first");
-                assert_eq!(rt; left.status, 9, "at write {call}");
-                assert!(rt; report.starts_with(left.out.held()), "at write {call}");
-                assert!(rt; left.out.held() != report, "at write {call}");
-                assert_eq!(rt; left.err.held(), b"galley_pages: write fault\n".as_slice());
-                writes = call;
-            }
-            if call == 1 {
-                assert_eq!(rt; left.out.held(), b"".as_slice());
-            }
+    let alloc = rt.alloc();
+    let input = galley_of_many(alloc)?;
+    let report = report_of_many(alloc)?;
+    for call in 1..=4 {
+        let left = fail_write(alloc, &input, call)?;
+        let held = left.out.held();
+        if call == 4 {
+            assert_eq!(rt; left.status, 0);
+            assert!(rt; held == report.as_slice());
+            assert_eq!(rt; left.err.held(), b"".as_slice());
+        } else {
+            let written = 32768 * (call as usize - 1);
+            assert_eq!(rt; left.status, 9, "at write {call}");
+            assert!(rt; report.starts_with(held), "at write {call}");
+            assert!(rt;
+                written <= held.len() && held.len() < written + 200,
+                "at write {call}"
+            );
+            assert_eq!(rt; left.err.held(), b"galley_pages: write fault\n".as_slice());
         }
-        assert!(rt; 1 < writes && writes < 16);
     }
     Ok(())
 }

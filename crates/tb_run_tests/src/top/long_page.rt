@@ -10,8 +10,13 @@ const FLOATS: u32 = 400;
 const SETS: &[u8] =
     b"galley 1\nset textheight 100000\nset topskip 10\nset maxdepth 0\nset baselineskip 0\nset bottom flush\nset skipfootins 0\nset footsplittop 10\nset intextsep 0\nset textfloatsep 0\nset floatsep 0\nset fptop 0\nset fpsep 0\nset fpbot 0\nset dbltextfloatsep 0\nset totalnumber 1000\nset pool 4096\nset maxdeadcycles 1000000\n";
 
-// Appends a text, a number and a text.
-fn put_line(out: &mut Vec<u8>, before: &[u8], number: u32, after: &[u8]) -> Result<(), AllocError> {
+/// Appends a text, a number and a text.
+pub fn put_line(
+    out: &mut Vec<u8>,
+    before: &[u8],
+    number: u32,
+    after: &[u8],
+) -> Result<(), AllocError> {
     out.extend_from_slice(before)?;
     put_number(out, i128::from(number))?;
     out.extend_from_slice(after)
