@@ -77,11 +77,11 @@ fail_input() {
 
 "$program" --mode dvi < "$galley" > "$work/dvi"
 
-for mode in report trace print dvi plain; do fail_output "$mode" "$galley"; done
+for mode in report trace rate print dvi plain; do fail_output "$mode" "$galley"; done
 fail_output lines "$text"
 fail_output dvilist "$work/dvi"
 fail_output gen /dev/null
-for mode in report trace print lines dvi dvilist plain; do fail_input "$mode"; done
+for mode in report trace rate print lines dvi dvilist plain; do fail_input "$mode"; done
 
 whole /dev/null --mode gen
 run --mode gen <&- > "$work/out" 2> "$work/err"

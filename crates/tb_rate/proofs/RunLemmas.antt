@@ -1,16 +1,15 @@
 -- A rating changes nothing, and the demerits of a run are those of its ratings.
-use Rattle.std.proofs.Common.{◌≡◌, refl, sym, ap, ◌∙◌, ℕ, zero, suc, ℤ, pos, Bool, true, false, List, [], ◌∷◌, ◌++◌, map, Option, Some, None, append-nil, arith}
-use Rattle.std.specs.Prelude.{◌+ℤ◌, ◌≤ℤ◌, int_lt, if◌then◌else◌}
-use Rattle.std.proofs.lemmas.Int.{ints}
+use Rattle.std.proofs.Common.{◌≡◌, refl, ap, ◌∙◌, ℕ, zero, suc, pos, Bool, true, false, List, [], ◌∷◌, ◌++◌, map, Option, Some, None, append-nil}
+use Rattle.std.specs.Prelude.{int_lt, if◌then◌else◌}
 use Rattle.tb_param.specs.declared.Params.{Params}
 use Rattle.tb_galley.specs.declared.Galley.{Galley}
 use Rattle.tb_output.specs.State.{State}
 use Rattle.tb_items.specs.RunEvents.{RunEvent}
-use Rattle.tb_steps.specs.Run.{End, done, node_limit, Step, ends, goes_on, step, step_events, Run, run_by, run_from, run_of, run_of_state, firings_left, held_count}
+use Rattle.tb_steps.specs.Run.{End, node_limit, Step, ends, goes_on, step, step_events, Run, run_by, run_from, run_of, firings_left, held_count}
 use Rattle.tb_rate.specs.declared.Rating.{Rating}
 use Rattle.tb_rate.specs.declared.PlacePenalty.{PlacePenalty}
 use Rattle.tb_rate.specs.Places.{place_penalties}
-use Rattle.tb_rate.specs.RatedRun.{Rated, happens, rates, if_rated, step_rating, step_rated, rated_after, rated_from, rated_of_state, start_of, rated_run, happened_among}
+use Rattle.tb_rate.specs.RatedRun.{Rated, happens, rates, if_rated, step_rating, step_rated, rated_after, rated_from, start_of, rated_run, happened_among}
 
 happened-append : (xs ys : List Rated) → happened_among (xs ++ ys) ≡ happened_among xs ++ happened_among ys
 happened-append [] ys = refl

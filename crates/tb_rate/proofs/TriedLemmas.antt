@@ -15,13 +15,13 @@ use Rattle.tb_insert.specs.Account.{terms_after}
 use Rattle.tb_sheet.specs.Sheet.{PlainSent, warned}
 use Rattle.tb_sheet.specs.declared.Warn.{Warn}
 use Rattle.tb_builder.specs.declared.Try.{Try}
-use Rattle.tb_builder.specs.Reach.{Reached, acted, tried, Reach, try_of, also_reached, page_place, reach_at, reach_node, reach_from, stopped_at, laid_out}
+use Rattle.tb_builder.specs.Reach.{Reached, acted, tried, Reach, also_reached, page_place, reach_at, reach_node, reach_from, stopped_at, laid_out}
 use Rattle.tb_builder.specs.FiredPages.{reach_of, fired_of, frozen_for}
-use Rattle.tb_output.specs.State.{State, Work, Recorded, ask_of, emptied}
+use Rattle.tb_output.specs.State.{State, Recorded, ask_of, emptied}
 use Rattle.tb_output.specs.Act.{Acted, went, full, act_on}
 use Rattle.tb_output.specs.Output.{out}
 use Rattle.tb_items.specs.RunEvents.{RunEvent, offered, sent}
-use Rattle.tb_steps.specs.Run.{End, done, dead_cycles, page_limit, node_limit, Progress, progress_by, progress, Step, ends, goes_on, step_events, held_count, after_firing, firing_step, fire, after_progress, step}
+use Rattle.tb_steps.specs.Run.{End, done, dead_cycles, page_limit, node_limit, Progress, progress_by, progress, Step, ends, goes_on, step_events, held_count, after_firing, fire, after_progress, step}
 use Rattle.tb_rate.specs.Rating.{IsTried}
 use Rattle.tb_rate.specs.Tries.{later_champion, champion_or, last_champion}
 

@@ -3,12 +3,12 @@ use Rattle.std.specs.Prelude.{ℕ, zero, suc, ◌+◌, ℤ, pos, ◌+ℤ◌, Lis
 use Rattle.tb_param.specs.declared.Params.{Params}
 use Rattle.tb_galley.specs.declared.Galley.{Galley}
 use Rattle.tb_galley.specs.GalleyNodes.{expanded}
-use Rattle.tb_node.specs.PlainNodes.{PlainKind, plain, ins, act, PlainNode, is_insertion_kind}
+use Rattle.tb_node.specs.PlainNodes.{PlainNode, is_insertion_kind}
 use Rattle.tb_float.specs.Lists.{FloatLists}
 use Rattle.tb_output.specs.State.{State, first_state}
 use Rattle.tb_items.specs.RunEvents.{RunEvent}
 use Rattle.tb_items.specs.Classes.{classes_of}
-use Rattle.tb_steps.specs.Run.{End, done, pool_full, dead_cycles, page_limit, node_limit, Step, ends, goes_on, step, step_events, firings_left, held_count}
+use Rattle.tb_steps.specs.Run.{End, done, Step, ends, goes_on, step, step_events, firings_left, held_count}
 use Rattle.tb_rate.specs.declared.Rating.{Rating}
 use Rattle.tb_rate.specs.declared.PlacePenalty.{PlacePenalty}
 use Rattle.tb_rate.specs.Places.{place_penalties}

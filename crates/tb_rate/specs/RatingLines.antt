@@ -1,5 +1,5 @@
 -- The lines of ratings.
-use Rattle.std.specs.Prelude.{ℕ, ℤ, List, [], ◌∷◌, ◌++◌, codes, Option, Some, None}
+use Rattle.std.specs.Prelude.{ℕ, ℤ, List, [], ◌++◌, codes, Option, Some, None}
 use Rattle.tb_text.specs.Fields.{and_number, and_count, line}
 use Rattle.tb_trace.specs.Lines.{and_cost}
 use Rattle.tb_rate.specs.declared.Rating.{Rating}

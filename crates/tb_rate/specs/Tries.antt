@@ -1,5 +1,5 @@
 -- The place at which a page broke, among what happened while it was made.
-use Rattle.std.specs.Prelude.{Bool, List, [], ◌∷◌, Option, Some, None, if◌then◌else◌}
+use Rattle.std.specs.Prelude.{List, [], ◌∷◌, Option, Some, None, if◌then◌else◌}
 use Rattle.tb_builder.specs.declared.Try.{Try}
 use Rattle.tb_items.specs.declared.happenings.Happening.{Happening}
 use Rattle.tb_items.specs.declared.happenings.Happening.TheVariants as happenings

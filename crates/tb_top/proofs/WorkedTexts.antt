@@ -5,5 +5,6 @@ pub mod WorkedRows
 pub mod FloatRowLemmas
 pub mod ColumnRowLemmas
 pub mod VersionRowLemmas
+pub mod RateRowLemmas
 pub mod LinesRowLemmas
 pub mod MakeupRowLemmas

@@ -1,5 +1,8 @@
 pub mod Report
 pub mod Pages
+pub mod RatedReport
+pub mod RatedPages
+pub mod RatedWritten
 pub mod Status
 pub mod Answer
 pub mod Outcome
@@ -9,6 +12,7 @@ pub mod Rows
 pub mod FloatRows
 pub mod ColumnRows
 pub mod VersionRows
+pub mod RateRows
 pub mod LinesRows
 pub mod MakeupRows
 pub mod MakeupTraceRows

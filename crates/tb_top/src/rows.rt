@@ -3,18 +3,20 @@ ghost use Rattle.tb_top.specs.Rows.{WorkedRows};
 ghost use Rattle.tb_top.specs.FloatRows.{FloatRows};
 ghost use Rattle.tb_top.specs.ColumnRows.{ColumnRows};
 ghost use Rattle.tb_top.specs.VersionRows.{VersionRows};
+ghost use Rattle.tb_top.specs.RateRows.{RateRows};
 ghost use Rattle.tb_top.specs.LinesRows.{LinesRows};
 ghost use Rattle.tb_top.specs.MakeupRows.{MakeupRows};
 ghost use Rattle.tb_top.specs.MakeupTraceRows.{MakeupTraceRows};
 
 /// The definitions against which [`run`](crate::run) is proved give the worked rows: from the bytes
-/// of each galley the status, the report and the line on `err`, and of one the trace of its run under plain TeX's page
+/// of each galley the status, the report and the line on `err`, of nine the ratings of their columns, and of one the trace of its run under plain TeX's page
 /// makeup.
 pub fn check_rows()
     ensures text { WorkedRows }
     ensures floats { FloatRows }
     ensures columns { ColumnRows }
     ensures versions { VersionRows }
+    ensures ratings { RateRows }
     ensures lines { LinesRows }
     ensures makeup { MakeupRows }
     ensures makeup_trace { MakeupTraceRows }

@@ -64,7 +64,7 @@ pub(crate) fn send<K: Sink>(
 }
 
 // Counts the pages and warnings that were sent.
-fn count_happened(store: &Lists<Node>, happened: &[Happening], totals: &mut Totals)
+pub(crate) fn count_happened(store: &Lists<Node>, happened: &[Happening], totals: &mut Totals)
     requires pages { ArePages store.now happened.now }
     requires room { AreCounts (with_events (events_of store.now happened.now) totals.old) }
     ensures { totals.new ≡ with_events (events_of store.now happened.now) totals.old }

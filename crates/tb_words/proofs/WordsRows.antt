@@ -11,6 +11,7 @@ words_rows = record {
   name_alone = refl;
   report = refl;
   trace = refl;
+  rate = refl;
   print = refl;
   lines = refl;
   dvi = refl;

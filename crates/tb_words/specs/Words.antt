@@ -46,6 +46,7 @@ abbrev pub mode_named : Text → ℕ → Option Mode
 mode_named name count =
     if bytes_eq name (codes "report") then Some modes.Report
     else if bytes_eq name (codes "trace") then Some modes.Trace
+    else if bytes_eq name (codes "rate") then Some modes.Rate
     else if bytes_eq name (codes "print") then Some modes.Print
     else if bytes_eq name (codes "lines") then Some modes.Lines
     else if bytes_eq name (codes "dvi") then Some modes.Dvi
@@ -71,6 +72,7 @@ pub record IsCount (n : ℕ) : Type 0 where
 abbrev pub IsServed : Mode → Type 0
 IsServed modes.Report = Unit {0}
 IsServed modes.Trace = Unit {0}
+IsServed modes.Rate = Unit {0}
 IsServed modes.Print = Unit {0}
 IsServed modes.Lines = Unit {0}
 IsServed modes.Dvi = Unit {0}

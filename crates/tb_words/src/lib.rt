@@ -25,6 +25,8 @@ pub enum Mode {
     Report,
     /// Reads a galley and writes its report, with a line for each place that was tried.
     Trace,
+    /// Reads a galley and writes its report, with a line for each text column that says how good it is, and their sum.
+    Rate,
     /// Reads a galley and writes its canonical text.
     Print,
     /// Reads a text of paragraphs and writes the galley of their lines.
@@ -132,6 +134,7 @@ fn mode_named(name: &str, count: u32) -> Option<Mode>
     match name {
         "report" => Some(Mode::Report),
         "trace" => Some(Mode::Trace),
+        "rate" => Some(Mode::Rate),
         "print" => Some(Mode::Print),
         "lines" => Some(Mode::Lines),
         "dvi" => Some(Mode::Dvi),

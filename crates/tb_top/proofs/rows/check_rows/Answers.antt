@@ -2,6 +2,7 @@ use Rattle.tb_top.proofs.WorkedTexts.WorkedRows.{worked_rows}
 use Rattle.tb_top.proofs.WorkedTexts.FloatRowLemmas.{float_rows}
 use Rattle.tb_top.proofs.WorkedTexts.ColumnRowLemmas.{column_rows}
 use Rattle.tb_top.proofs.WorkedTexts.VersionRowLemmas.{version_rows}
+use Rattle.tb_top.proofs.WorkedTexts.RateRowLemmas.{rate_rows}
 use Rattle.tb_top.proofs.WorkedTexts.LinesRowLemmas.{lines_rows}
 use Rattle.tb_top.proofs.WorkedTexts.MakeupRowLemmas.{makeup_rows, makeup_trace_rows}
 use Rattle.tb_top.proofs.rows.check_rows.Goals as goal
@@ -17,6 +18,9 @@ returns-clause-columns c = column_rows
 
 pub returns-clause-versions : goal.returns-clause-versions
 returns-clause-versions c = version_rows
+
+pub returns-clause-ratings : goal.returns-clause-ratings
+returns-clause-ratings c = rate_rows
 
 pub returns-clause-lines : goal.returns-clause-lines
 returns-clause-lines c = lines_rows

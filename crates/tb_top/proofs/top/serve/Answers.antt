@@ -16,6 +16,9 @@ returns-in-Report-clause-stands g c = rw (c.in_ok-mode.ensures.asked, c.in-Repor
 pub returns-in-Trace-clause-stands : goal.returns-in-Trace-clause-stands
 returns-in-Trace-clause-stands g c = rw (c.in_ok-mode.ensures.asked, c.in-Trace.is) c.write_trace.ensures.stands
 
+pub returns-in-Rate-clause-stands : goal.returns-in-Rate-clause-stands
+returns-in-Rate-clause-stands g c = rw (c.in_ok-mode.ensures.asked, c.in-Rate.is) c.write_rated.ensures.stands
+
 pub returns-in-Print-clause-stands : goal.returns-in-Print-clause-stands
 returns-in-Print-clause-stands g c = rw (c.in_ok-mode.ensures.asked, c.in-Print.is) c.write_canonical.ensures.stands
 

@@ -1,0 +1,3 @@
+pub mod RatedGoing
+pub mod RatedTurns
+pub mod RatedOutcomes

@@ -1,0 +1,66 @@
+use Rattle.std.proofs.Common.{◌∙◌, ap, sym, subst}
+use Rattle.std.proofs.lemmas.Result.{IfErr-weaker, IfOk-weaker}
+use Rattle.tb_output.specs.State.{State}
+use Rattle.std.specs.List.{AllByRecursion}
+use Rattle.tb_run.specs.Routine.{state_of}
+use Rattle.tb_rate.specs.Places.{place_penalties, IsMildPlace}
+use Rattle.tb_run.proofs.ServedAgain.GalleyRuns.{galley-classes}
+use Rattle.tb_items.proofs.GalleyItems.{galley-items}
+use Rattle.tb_items.proofs.GalleyNodeLemmas.{galley-nodes}
+use Rattle.tb_laws.proofs.Defined.RunParams.{params-runnable}
+use Rattle.tb_laws.proofs.Limits.LimitedRuns.{run-within}
+use Rattle.tb_top.proofs.Rated.RatedOutcomes.{rated-laws, not-for-cycles, rates-galley, refuses-galley}
+use Rattle.tb_top.proofs.rated_pages.rate_pages.Goals as goal
+
+pub new-requires-clause-params : goal.new-requires-clause-params
+new-requires-clause-params g c = params-runnable c.args.galley.now.params c.requires.valid.params
+
+pub new-requires-clause-items : goal.new-requires-clause-items
+new-requires-clause-items g c = galley-items c.args.galley.now c.requires.valid
+
+pub new-requires-clause-classes : goal.new-requires-clause-classes
+new-requires-clause-classes g c = galley-classes c.args.galley.now (params-runnable c.args.galley.now.params c.requires.valid.params) c.requires.valid
+
+pub new-requires-clause-nodes : goal.new-requires-clause-nodes
+new-requires-clause-nodes g c = galley-nodes c.args.galley.now (params-runnable c.args.galley.now.params c.requires.valid.params).foot c.requires.valid
+
+pub run_on-requires-clause-ranges : goal.run_on-requires-clause-ranges
+run_on-requires-clause-ranges g c = c.requires.valid.params
+
+pub run_on-requires-clause-mild : goal.run_on-requires-clause-mild
+run_on-requires-clause-mild g c = subst (AllByRecursion IsMildPlace) (sym (c.as_slice-2.ensures.value ∙ c.in_ok-places.ensures.places)) c.in_ok-places.ensures.mild
+
+pub run_on-requires-clause-page : goal.run_on-requires-clause-page
+run_on-requires-clause-page g c = ap (λ (s : State). s.page) c.in_ok-routine.ensures.state
+
+pub run_on-requires-clause-cycles : goal.run_on-requires-clause-cycles
+run_on-requires-clause-cycles g c = ap (λ (s : State). s.dead_cycles) c.in_ok-routine.ensures.state
+
+pub returns-clause-done : goal.returns-clause-done
+returns-clause-done g c =
+    let r = c.in_ok-routine.routine in
+    let placed = c.as_slice-2.ensures.value ∙ c.in_ok-places.ensures.places ∙ ap place_penalties c.as_slice.ensures in
+    IfOk-weaker c.run_on.result _ _ (λ d h. rates-galley c.args.galley.now (state_of r) c.in_ok-routine.ensures.state _ placed _ _ d h) c.run_on.ensures.done
+
+pub returns-clause-refused : goal.returns-clause-refused
+returns-clause-refused g c =
+    let r = c.in_ok-routine.routine in
+    let placed = c.as_slice-2.ensures.value ∙ c.in_ok-places.ensures.places ∙ ap place_penalties c.as_slice.ensures in
+    IfErr-weaker c.run_on.result _ _ (λ e h. refuses-galley c.args.galley.now (state_of r) c.in_ok-routine.ensures.state _ placed _ _ e h) c.run_on.ensures.refused
+
+pub returns-clause-laws : goal.returns-clause-laws
+returns-clause-laws g c = IfOk-weaker c.run_on.result _ _ (λ d h. rated-laws c.args.galley.now c.requires.valid _ _ _ d h) (returns-clause-done g c)
+
+pub returns-clause-limits : goal.returns-clause-limits
+returns-clause-limits g c = run-within c.args.galley.now
+
+pub returns-clause-cycles : goal.returns-clause-cycles
+returns-clause-cycles g c = λ room. IfErr-weaker c.run_on.result _ _ (not-for-cycles c.args.galley.now c.requires.valid room _ _ _) (returns-clause-refused g c)
+
+-- ---- there was no memory for the places or the routine
+
+pub returns-in_err-places-clause-limits : goal.returns-in_err-places-clause-limits
+returns-in_err-places-clause-limits g c = run-within c.args.galley.now
+
+pub returns-in_err-routine-clause-limits : goal.returns-in_err-routine-clause-limits
+returns-in_err-routine-clause-limits g c = run-within c.args.galley.now
