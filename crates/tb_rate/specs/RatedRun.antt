@@ -1,6 +1,9 @@
 -- A run with the ratings of its text columns, and its demerits.
-use Rattle.std.specs.Prelude.{ℕ, zero, suc, ◌+◌, ℤ, pos, ◌+ℤ◌, List, [], ◌∷◌, ◌++◌, map, length, Option, Some, None, int_lt, if◌then◌else◌}
+use Rattle.std.specs.Prelude.{ℕ, zero, suc, ◌+◌, ℤ, pos, ◌+ℤ◌, Bool, true, false, List, [], ◌∷◌, ◌++◌, map, length, Option, Some, None, int_lt, if◌then◌else◌}
 use Rattle.tb_param.specs.declared.Params.{Params}
+use Rattle.tb_galley.specs.declared.Item.{Item}
+use Rattle.tb_galley.specs.declared.ItemKind.{ItemKind}
+use Rattle.tb_galley.specs.declared.ItemKind.TheVariants as items
 use Rattle.tb_galley.specs.declared.Galley.{Galley}
 use Rattle.tb_galley.specs.GalleyNodes.{expanded}
 use Rattle.tb_node.specs.PlainNodes.{PlainNode, is_insertion_kind}
@@ -25,6 +28,16 @@ floats_waiting l = length l.deferred + length l.second
 abbrev pub insertions_first : List PlainNode → ℕ
 insertions_first [] = 0
 insertions_first (n ∷ ns) = if is_insertion_kind n.kind then suc (insertions_first ns) else 0
+
+-- an item is a footnote
+abbrev pub is_foot : ItemKind → Bool
+is_foot (items.Foot class ls) = true
+is_foot _ = false
+
+-- how many footnotes come first among items
+abbrev pub feet_first : List Item → ℕ
+feet_first [] = 0
+feet_first (n ∷ ns) = if is_foot n.kind then suc (feet_first ns) else 0
 
 -- the rating of the column that a step from this state put out; a step that ends the run puts out none, or one that does not count
 abbrev pub rating_by : Params → List PlacePenalty → State → Step → Option Rating

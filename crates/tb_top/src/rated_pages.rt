@@ -71,7 +71,7 @@ fn run_on<K: Sink>(
     alloc: Global,
     params: &Params,
     places: &[PlacePenalty],
-    routine: &mut Routine,
+    routine: &mut Routine<'_>,
     out: &mut K,
 ) -> Result<i128, PageFault>
     requires ready { IsReady routine.old }
@@ -119,7 +119,7 @@ fn rating_of(
     params: &Params,
     places: &[PlacePenalty],
     page: u64,
-    routine: &Routine,
+    routine: &Routine<'_>,
     happened: &[Happening],
     ending: Option<Ending>,
 ) -> Option<Rating>
@@ -132,7 +132,7 @@ fn rating_of(
     if let Some(_) = ending {
         return None;
     }
-    let held = insertions_first(&routine.store, routine.builder.waiting());
+    let held = insertions_first(&routine.store, routine.builder.waiting(), &routine.left);
     let waiting = routine.machine.floats_waiting();
     rate(params, places, page, last_champion(happened), waiting, held)
 }
@@ -213,7 +213,7 @@ fn put_rated(text: &mut Vec<u8>, rating: Option<Rating>) -> Result<(), AllocErro
 // The end of a run: the lines of what is left, the last line of the report and the demerits, if it ends well, or its refusal.
 fn finish<K: Sink>(
     alloc: Global,
-    routine: &Routine,
+    routine: &Routine<'_>,
     totals: &Totals,
     demerits: i128,
     ending: Ending,
