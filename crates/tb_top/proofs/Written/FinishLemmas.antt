@@ -215,12 +215,13 @@ limit-ready r q o ready same bounded within none =
         let old = ready.settled in
         record {
           settled = record {
-            whole = record { builder = old.whole.builder; machine = old.whole.machine; fault = old.whole.fault; apart = old.whole.apart };
+            whole = record { builder = old.whole.builder; machine = old.whole.machine; fault = old.whole.fault; apart = old.whole.apart; items = old.whole.items };
             params = old.params;
             classes = old.classes;
             between = old.between;
             served = old.served;
             bounded = k;
+            ends = old.ends;
           };
           events = ready.events;
         }
