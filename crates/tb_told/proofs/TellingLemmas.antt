@@ -16,7 +16,9 @@ use Rattle.tb_told.specs.declared.InText.{InText}
 use Rattle.tb_told.specs.declared.Entering.{Entering}
 use Rattle.tb_told.specs.declared.AboveBoth.{AboveBoth}
 use Rattle.tb_told.specs.Tested.{all_hold, is_yes}
-use Rattle.tb_told.specs.AreaTold.{Told, enter_tests, here_tests, top_tests, bottom_tests, wide_tests, enter_told, here_told, top_told, bottom_told, wide_told, told_bottom, told_areas, told_column, told_wide, goes}
+use Rattle.tb_told.specs.declared.Told.{Told}
+use Rattle.tb_told.specs.declared.Told.TheVariants.{Goes}
+use Rattle.tb_told.specs.AreaTold.{enter_tests, here_tests, top_tests, bottom_tests, wide_tests, enter_told, here_told, top_told, bottom_told, wide_told, told_bottom, told_areas, told_column, told_wide}
 use Rattle.tb_told.specs.Lines.{enter_line, here_line, top_line, bottom_line, wide_line, goes_line, told_line, told_lines}
 use Rattle.tb_told.proofs.TestedLemmas.{yes_is_all}
 
@@ -49,7 +51,7 @@ choose-second : (name : Name) (b : Bool) (x y : List Told) → b ≡ false → t
 choose-second name true x y e = cc
 choose-second name false x y e = refl
 
-goes-lines : (name : Name) (w : Where) → goes_line name (where_text w) ≡ told_lines name (goes w ∷ [])
+goes-lines : (name : Name) (w : Where) → goes_line name (where_text w) ≡ told_lines name (Goes w ∷ [])
 goes-lines name w = sym (append-nil _)
 
 -- the line of the top, and then that of the place
@@ -61,7 +63,7 @@ top-goes p l s r f t told passes =
     let low = if tries_top p l s f then above else r in
     let holds = sym (ap (λ u. is_yes u.failed) told ∙ yes_is_all (top_tests p l s above f)) ∙ passes in
     ap (λ u. top_line f.name u ++ goes_line f.name (where_text Top)) told
-    ∙ ap (λ z. top_line f.name (top_told p l s above f) ++ z) (goes-lines f.name Top ∙ choose-first f.name (all_hold (top_tests p l s above f)) (goes (where_of at_top) ∷ []) (told_bottom p l s low f) holds)
+    ∙ ap (λ z. top_line f.name (top_told p l s above f) ++ z) (goes-lines f.name Top ∙ choose-first f.name (all_hold (top_tests p l s above f)) (Goes (where_of at_top) ∷ []) (told_bottom p l s low f) holds)
 
 -- or those of the bottom
 pub top-fails : (p : Params) (l : FloatLists) (s : Suppress) (r low : ℤ) (f : Float) (t : AtTop) →
@@ -74,7 +76,7 @@ top-fails p l s r low f t told stops lower =
     let same : low ≡ below = lower ∙ ap (λ u. if tries_top p l s f then u.need else r) told in
     ap (λ u. top_line f.name u ++ told_lines f.name (told_bottom p l s low f)) told
     ∙ ap (λ z. top_line f.name (top_told p l s above f) ++ told_lines f.name (told_bottom p l s z f)) same
-    ∙ ap (λ z. top_line f.name (top_told p l s above f) ++ z) (choose-second f.name (all_hold (top_tests p l s above f)) (goes (where_of at_top) ∷ []) (told_bottom p l s below f) fails)
+    ∙ ap (λ z. top_line f.name (top_told p l s above f) ++ z) (choose-second f.name (all_hold (top_tests p l s above f)) (Goes (where_of at_top) ∷ []) (told_bottom p l s below f) fails)
 
 -- the line of the text, and then that of the place
 pub here-goes : (p : Params) (l : FloatLists) (s : Suppress) (r : ℤ) (f : Float) (t : InText) →
@@ -85,7 +87,7 @@ here-goes p l s r f t told passes =
     let tests = here_tests p l inside f in
     let holds = sym (ap (λ u. is_yes u.failed) told ∙ yes_is_all tests) ∙ passes in
     ap (λ u. here_line f.name u ++ goes_line f.name (where_text Here)) told
-    ∙ ap (λ z. here_line f.name (here_told p l inside f) ++ z) (goes-lines f.name Here ∙ choose-first f.name (all_hold tests) (goes Here ∷ []) _ holds)
+    ∙ ap (λ z. here_line f.name (here_told p l inside f) ++ z) (goes-lines f.name Here ∙ choose-first f.name (all_hold tests) (Goes Here ∷ []) _ holds)
 
 -- or those of the bottom alone
 pub here-bottom : (p : Params) (l : FloatLists) (s : Suppress) (r : ℤ) (f : Float) (t : InText) →
@@ -99,7 +101,7 @@ here-bottom p l s r f t told stops held =
     ap (λ u. here_line f.name u ++ told_lines f.name (told_bottom p l s r f)) told
     ∙ ap (λ z. here_line f.name (here_told p l inside f) ++ z)
     (choose-first f.name (has_class f.class l.bottom) (told_bottom p l s r f) (told_areas p l s to f) held
-    ∙ choose-second f.name (all_hold tests) (goes Here ∷ []) (if has_class f.class l.bottom then told_bottom p l s r f else told_areas p l s to f) fails)
+    ∙ choose-second f.name (all_hold tests) (Goes Here ∷ []) (if has_class f.class l.bottom then told_bottom p l s r f else told_areas p l s to f) fails)
 
 -- or those of the areas
 pub here-areas : (p : Params) (l : FloatLists) (s : Suppress) (r low : ℤ) (f : Float) (t : InText) →
@@ -115,26 +117,26 @@ here-areas p l s r low f t told stops free lower =
     ∙ ap (λ z. here_line f.name (here_told p l inside f) ++ told_lines f.name (told_areas p l s z f)) same
     ∙ ap (λ z. here_line f.name (here_told p l inside f) ++ z)
     (choose-second f.name (has_class f.class l.bottom) (told_bottom p l s r f) (told_areas p l s to f) free
-    ∙ choose-second f.name (all_hold tests) (goes Here ∷ []) (if has_class f.class l.bottom then told_bottom p l s r f else told_areas p l s to f) fails)
+    ∙ choose-second f.name (all_hold tests) (Goes Here ∷ []) (if has_class f.class l.bottom then told_bottom p l s r f else told_areas p l s to f) fails)
 
 -- what is told behind the line of a column as a whole, whatever it is: these lines if all its tests hold, else that it waits
 pub enters-on : (p : Params) (l : FloatLists) (s : Suppress) (before : List Float) (r : ℤ) (f : Float) (t : Entering) (later : List Told) →
     t ≡ enter_told p l s before r f → is_yes t.failed ≡ true →
-    enter_line f.name t ++ told_lines f.name later ≡ enter_line f.name (enter_told p l s before r f) ++ told_lines f.name (if all_hold (enter_tests p l s before r f) then later else goes Deferred ∷ [])
+    enter_line f.name t ++ told_lines f.name later ≡ enter_line f.name (enter_told p l s before r f) ++ told_lines f.name (if all_hold (enter_tests p l s before r f) then later else Goes Deferred ∷ [])
 enters-on p l s before r f t later told passes =
     let tests = enter_tests p l s before r f in
     let holds = sym (ap (λ u. is_yes u.failed) told ∙ yes_is_all tests) ∙ passes in
     ap (λ u. enter_line f.name u ++ told_lines f.name later) told
-    ∙ ap (λ z. enter_line f.name (enter_told p l s before r f) ++ z) (choose-first f.name (all_hold tests) later (goes Deferred ∷ []) holds)
+    ∙ ap (λ z. enter_line f.name (enter_told p l s before r f) ++ z) (choose-first f.name (all_hold tests) later (Goes Deferred ∷ []) holds)
 
 pub enters-not : (p : Params) (l : FloatLists) (s : Suppress) (before : List Float) (r : ℤ) (f : Float) (t : Entering) (later : List Told) →
     t ≡ enter_told p l s before r f → is_yes t.failed ≡ false →
-    enter_line f.name t ++ goes_line f.name (where_text Deferred) ≡ enter_line f.name (enter_told p l s before r f) ++ told_lines f.name (if all_hold (enter_tests p l s before r f) then later else goes Deferred ∷ [])
+    enter_line f.name t ++ goes_line f.name (where_text Deferred) ≡ enter_line f.name (enter_told p l s before r f) ++ told_lines f.name (if all_hold (enter_tests p l s before r f) then later else Goes Deferred ∷ [])
 enters-not p l s before r f t later told stops =
     let tests = enter_tests p l s before r f in
     let fails = sym (ap (λ u. is_yes u.failed) told ∙ yes_is_all tests) ∙ stops in
     ap (λ u. enter_line f.name u ++ goes_line f.name (where_text Deferred)) told
-    ∙ ap (λ z. enter_line f.name (enter_told p l s before r f) ++ z) (goes-lines f.name Deferred ∙ choose-second f.name (all_hold tests) later (goes Deferred ∷ []) fails)
+    ∙ ap (λ z. enter_line f.name (enter_told p l s before r f) ++ z) (goes-lines f.name Deferred ∙ choose-second f.name (all_hold tests) later (Goes Deferred ∷ []) fails)
 
 -- a wide float is not asked at the start of a column
 pub not-asked : (name : Name) (b : Bool) (x : List Told) → b ≡ true → [] ≡ told_lines name (if b then [] else x)

@@ -3,7 +3,8 @@ use Rattle.std.proofs.lemmas.Int.{to_z-of_z}
 use Rattle.tb_node.specs.declared.Where.TheVariants.{Top}
 use Rattle.tb_report.specs.Lines.{where_text}
 use Rattle.tb_text.proofs.FrontLemmas.{cut-in, fails, on_joined}
-use Rattle.tb_told.specs.AreaTold.{told_bottom, told_areas, tests_top}
+use Rattle.tb_told.specs.declared.Told.TheVariants.{TestsTop}
+use Rattle.tb_told.specs.AreaTold.{told_bottom, told_areas}
 use Rattle.tb_told.specs.Lines.{top_line, goes_line, told_lines}
 use Rattle.tb_told.proofs.TellingLemmas.{first-lines, top-goes, top-fails}
 use Rattle.tb_told.proofs.telling.put_areas.Goals as goal
@@ -42,4 +43,4 @@ pub returns-in_err-put_at_top : goal.returns-in_err-put_at_top
 returns-in_err-put_at_top c =
     let rr = c.ranges.required in
     let told = simp to_z-of_z at c.at_top-told.ensures.told in
-    fails _ _ _ _ c.from_residual.ensures.0 (cut-in _ _ (first-lines c.args.f.now.name _ _ _ (ap (λ t. tests_top t) told)) c.in_err-put_at_top.ensures)
+    fails _ _ _ _ c.from_residual.ensures.0 (cut-in _ _ (first-lines c.args.f.now.name _ _ _ (ap (λ t. TestsTop t) told)) c.in_err-put_at_top.ensures)

@@ -5,7 +5,8 @@ use Rattle.tb_area.specs.Area.{at_bottom, deferred, where_of, next_separator}
 use Rattle.tb_told.specs.Tested.{all_hold}
 use Rattle.tb_report.specs.Lines.{where_text}
 use Rattle.tb_text.proofs.FrontLemmas.{cut-in, fails, on_joined}
-use Rattle.tb_told.specs.AreaTold.{bottom_tests, told_bottom, tests_bottom, goes}
+use Rattle.tb_told.specs.declared.Told.TheVariants.{TestsBottom, Goes}
+use Rattle.tb_told.specs.AreaTold.{bottom_tests, told_bottom}
 use Rattle.tb_told.specs.Lines.{bottom_line, goes_line, told_lines}
 use Rattle.tb_told.proofs.TellingLemmas.{first-lines, bottom-lines}
 use Rattle.tb_told.proofs.telling.put_bottom.Goals as goal
@@ -29,4 +30,4 @@ returns-in_err-put_at_bottom c =
     let rr = c.ranges.required in
     let told = simp to_z-of_z at c.at_bottom-told.ensures in
     let passes = all_hold (bottom_tests p l c.args.s.now (c.args.required +ℤ next_separator p l.bottom) f) in
-    fails _ _ _ _ c.from_residual.ensures.0 (cut-in _ _ (first-lines f.name _ _ (goes (where_of (if passes then at_bottom else deferred)) ∷ []) (ap (λ t. tests_bottom t) told)) c.in_err-put_at_bottom.ensures)
+    fails _ _ _ _ c.from_residual.ensures.0 (cut-in _ _ (first-lines f.name _ _ (Goes (where_of (if passes then at_bottom else deferred)) ∷ []) (ap (λ t. TestsBottom t) told)) c.in_err-put_at_bottom.ensures)

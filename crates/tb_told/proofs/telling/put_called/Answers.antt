@@ -6,7 +6,8 @@ use Rattle.tb_node.specs.declared.Where.TheVariants.{Deferred}
 use Rattle.tb_report.specs.Lines.{where_text}
 use Rattle.tb_text.proofs.FrontLemmas.{cut-in, fails, on_joined}
 use Rattle.tb_area.specs.Area.{text_minimum}
-use Rattle.tb_told.specs.AreaTold.{told_column, told_call, enters}
+use Rattle.tb_told.specs.declared.Told.TheVariants.{Enters}
+use Rattle.tb_told.specs.AreaTold.{told_column, told_call}
 use Rattle.tb_told.specs.Lines.{enter_line, goes_line, told_lines}
 use Rattle.tb_told.proofs.TellingLemmas.{first-lines, enters-on, enters-not}
 use Rattle.tb_told.proofs.telling.put_called.Goals as goal
@@ -46,4 +47,4 @@ pub returns-in_err-put_entering : goal.returns-in_err-put_entering
 returns-in_err-put_entering c =
     let rr = c.ranges.page_height in
     let told = simp to_z-of_z at c.entering_current-told.ensures.told in
-    fails _ _ _ _ c.from_residual.ensures.0 (cut-in _ _ (first-lines c.args.f.now.name _ _ _ (ap (λ t. enters t) told)) c.in_err-put_entering.ensures)
+    fails _ _ _ _ c.from_residual.ensures.0 (cut-in _ _ (first-lines c.args.f.now.name _ _ _ (ap (λ t. Enters t) told)) c.in_err-put_entering.ensures)

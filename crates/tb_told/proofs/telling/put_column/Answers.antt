@@ -4,7 +4,8 @@ use Rattle.std.proofs.lemmas.Int.{to_z-of_z}
 use Rattle.tb_node.specs.declared.Where.TheVariants.{Here}
 use Rattle.tb_report.specs.Lines.{where_text}
 use Rattle.tb_text.proofs.FrontLemmas.{cut-in, fails, on_joined}
-use Rattle.tb_told.specs.AreaTold.{told_bottom, told_areas, told_column, tests_here}
+use Rattle.tb_told.specs.declared.Told.TheVariants.{TestsHere}
+use Rattle.tb_told.specs.AreaTold.{told_bottom, told_areas, told_column}
 use Rattle.tb_told.specs.Lines.{here_line, goes_line, told_lines}
 use Rattle.tb_told.proofs.TestedLemmas.{first_is}
 use Rattle.tb_told.proofs.TellingLemmas.{first-lines, here-goes, here-bottom, here-areas}
@@ -60,4 +61,4 @@ pub returns-in_err-put_in_text : goal.returns-in_err-put_in_text
 returns-in_err-put_in_text c =
     let rr = c.ranges.required in
     let told = simp to_z-of_z at c.in_text-told.ensures.told in
-    fails _ _ _ _ c.from_residual.ensures.0 (cut-in _ _ (first-lines c.args.f.now.name _ _ _ (ap (λ t. tests_here t) told)) c.in_err-put_in_text.ensures)
+    fails _ _ _ _ c.from_residual.ensures.0 (cut-in _ _ (first-lines c.args.f.now.name _ _ _ (ap (λ t. TestsHere t) told)) c.in_err-put_in_text.ensures)

@@ -5,7 +5,8 @@ use Rattle.tb_told.specs.Tested.{all_hold}
 use Rattle.tb_report.specs.Lines.{where_text}
 use Rattle.tb_text.proofs.FrontLemmas.{cut-in, fails, on_joined}
 use Rattle.tb_float.specs.Lists.{floats_of}
-use Rattle.tb_told.specs.AreaTold.{wide_tests, told_wide, tests_wide, goes}
+use Rattle.tb_told.specs.declared.Told.TheVariants.{TestsWide, Goes}
+use Rattle.tb_told.specs.AreaTold.{wide_tests, told_wide}
 use Rattle.tb_told.specs.Lines.{wide_line, goes_line, told_lines}
 use Rattle.tb_told.proofs.TellingLemmas.{first-lines, single-not-asked, wide-asked, wide-lines}
 use Rattle.tb_told.proofs.telling.put_double.Goals as goal
@@ -30,4 +31,4 @@ returns-in_err-put_above_both c = λ s.
     let f = c.args.f.now in
     let told = c.above_both-told.ensures s in
     let passes = all_hold (wide_tests c.args.p.now c.args.pool.now.lists s (take c.args.k (floats_of c.args.from c.args.pool.now.lists)) f) in
-    fails _ _ _ _ c.from_residual.ensures.0 (cut-in _ _ (first-lines f.name _ _ (goes (if passes then Double else Deferred) ∷ []) (ap (λ t. tests_wide t) told) ∙ wide-asked f.name f.wide _ c.if-not-f.false) c.in_err-put_above_both.ensures)
+    fails _ _ _ _ c.from_residual.ensures.0 (cut-in _ _ (first-lines f.name _ _ (Goes (if passes then Double else Deferred) ∷ []) (ap (λ t. TestsWide t) told) ∙ wide-asked f.name f.wide _ c.if-not-f.false) c.in_err-put_above_both.ensures)

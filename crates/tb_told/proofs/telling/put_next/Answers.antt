@@ -5,7 +5,8 @@ use Rattle.tb_node.specs.declared.Where.TheVariants.{Deferred}
 use Rattle.tb_report.specs.Lines.{where_text}
 use Rattle.tb_text.proofs.FrontLemmas.{cut-in, fails, on_joined}
 use Rattle.tb_area.specs.Area.{text_minimum}
-use Rattle.tb_told.specs.AreaTold.{told_areas, told_next, enters}
+use Rattle.tb_told.specs.declared.Told.TheVariants.{Enters}
+use Rattle.tb_told.specs.AreaTold.{told_areas, told_next}
 use Rattle.tb_told.specs.Lines.{enter_line, goes_line, told_lines}
 use Rattle.tb_told.proofs.TellingLemmas.{first-lines, enters-on, enters-not, not-asked, asked}
 use Rattle.tb_told.proofs.telling.put_next.Goals as goal
@@ -50,4 +51,4 @@ pub returns-in_err-put_entering : goal.returns-in_err-put_entering
 returns-in_err-put_entering c =
     let f = c.args.f.now in
     let told = c.entering_next-told.ensures.told in
-    fails _ _ _ _ c.from_residual.ensures.0 (cut-in _ _ (first-lines f.name _ _ _ (ap (λ t. enters t) told) ∙ asked f.name f.wide _ c.if-f.false) c.in_err-put_entering.ensures)
+    fails _ _ _ _ c.from_residual.ensures.0 (cut-in _ _ (first-lines f.name _ _ _ (ap (λ t. Enters t) told) ∙ asked f.name f.wide _ c.if-f.false) c.in_err-put_entering.ensures)
