@@ -11,8 +11,14 @@ use Rattle.tb_told.specs.declared.Told.{Told}
 use Rattle.tb_fpage.specs.declared.Wanted.{Wanted}
 use Rattle.tb_told.specs.ColumnTold.{told_column}
 use Rattle.tb_told.specs.declared.Spot.{Spot}
+use Rattle.tb_told.specs.declared.Piece.{Piece}
+use Rattle.tb_told.specs.declared.Piece.TheVariants.{Says}
 use Rattle.tb_told.specs.declared.Tale.{Tale}
 use Rattle.tb_told.specs.declared.Tale.TheVariants.{Decides, Begins, InColumn, Back, Stands}
+
+-- these tales, one after another
+abbrev pub tales : List Tale → List Piece
+tales ts = map (λ t. Says t) ts
 
 -- what is told of one float
 abbrev pub decisions : Float → List Told → List Tale

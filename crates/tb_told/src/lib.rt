@@ -24,7 +24,7 @@ pub use crate::filling::{put_doubled, put_filled};
 pub use crate::heads::alone_at;
 pub use crate::laws::{the_company_is_told, what_is_told_is_the_decision, yes_says_that_all_hold};
 pub use crate::places::{put_begins, put_beside, put_call, put_wait};
-pub use crate::tales::{Tale, Told, ToldColumn};
+pub use crate::tales::{Piece, Tale, Told, ToldColumn};
 pub use crate::telling::{put_called, put_double, put_next};
 use tb_node::Float;
 

@@ -57,3 +57,12 @@ pub enum Tale {
     /// A column is put out, or a wide page. It has no line of its own.
     PutOut,
 }
+
+/// A piece of what is told of a firing, between what the firing sends.
+#[derive(Clone, Copy)]
+pub enum Piece {
+    /// Something is told.
+    Says(Tale),
+    /// The place of what is sent next.
+    NextSent,
+}

@@ -44,9 +44,11 @@ use Rattle.tb_output.specs.Output.{is_int, hold, output_by, leave_column, next_g
 use Rattle.tb_told.specs.declared.Spot.{Spot}
 use Rattle.tb_told.specs.declared.Tale.{Tale}
 use Rattle.tb_told.specs.declared.Tale.TheVariants.{PutOut, InColumn, Stands}
-use Rattle.tb_told.specs.Tales.{decisions, has_width, column_tales, back_tales}
+use Rattle.tb_told.specs.Tales.{decisions, has_width, column_tales, back_tales, tales, stands_tales, here_lines}
 use Rattle.tb_why.specs.Firing
-use Rattle.tb_why.specs.Firing.{spot_of, Piece, tale, next_sent, tales, unless_over}
+use Rattle.tb_told.specs.declared.Piece.{Piece}
+use Rattle.tb_told.specs.declared.Piece.TheVariants.{Says, NextSent}
+use Rattle.tb_why.specs.Firing.{spot_of, unless_over}
 use Rattle.tb_why.specs.Placements.{placements_of, placement_if, placement_in, placements_told}
 
 -- ---- lists
@@ -59,8 +61,8 @@ placements-append (emptied l ∷ rs) qs = placements-append rs qs
 
 told-append : (ps qs : List Piece) → placements_told (ps ++ qs) ≡ placements_told ps ++ placements_told qs
 told-append [] qs = refl
-told-append (tale t ∷ ps) qs = ap (λ xs. placement_in t ++ xs) (told-append ps qs) ∙ sym (append_assoc (placement_in t) (placements_told ps) (placements_told qs))
-told-append (next_sent ∷ ps) qs = told-append ps qs
+told-append (Says t ∷ ps) qs = ap (λ xs. placement_in t ++ xs) (told-append ps qs) ∙ sym (append_assoc (placement_in t) (placements_told ps) (placements_told qs))
+told-append (NextSent ∷ ps) qs = told-append ps qs
 
 -- a step from one work to another tells of its placements
 abbrev Tells : Work → Work → List Piece → Type 0
@@ -232,7 +234,7 @@ double-told from p before (f ∷ rest) w =
 ship-told : (p : Params) (sheet : PlainSheet) (w : Work) → Tells w (ship p sheet w) (Firing.ship_pieces p w)
 ship-told p sheet w = quiet w (ship p sheet w) (Firing.ship_pieces p w) (ship-records p sheet w) (over_none w.refused _ (by_limit (int_lt p.maxpages (pos w.state.page))))
   where
-    by_limit : (b : Bool) → placements_told (if b then [] else next_sent ∷ []) ≡ []
+    by_limit : (b : Bool) → placements_told (if b then [] else NextSent ∷ []) ≡ []
     by_limit true = refl
     by_limit false = refl
 
@@ -250,8 +252,8 @@ wide-told p clearing (suc n) w =
     by_company again (Some cs) =
         let v = ship_wide p cs w in
         let c = wide_floats_column p p.textheight (chosen_floats cs) in
-        follows w w (wide_pages p clearing n v) (unless_over w (tale PutOut ∷ [])) (Firing.ship_pieces p w ++ Firing.wide_pieces p clearing n v)
-        (quiet w w (unless_over w (tale PutOut ∷ [])) refl (over_none w.refused (tale PutOut ∷ []) refl))
+        follows w w (wide_pages p clearing n v) (unless_over w (Says PutOut ∷ [])) (Firing.ship_pieces p w ++ Firing.wide_pieces p clearing n v)
+        (quiet w w (unless_over w (Says PutOut ∷ [])) refl (over_none w.refused (Says PutOut ∷ []) refl))
         (follows w v (wide_pages p clearing n v) (Firing.ship_pieces p w) (Firing.wide_pieces p clearing n v)
         (ship-told p (wide c) (with_floats (Rattle.tb_float.specs.Lists.with_wide_waiting p (left_floats cs) w.state.floats) w))
         (again v))
@@ -278,8 +280,8 @@ put_by-told p c w = by_columns w.state.two_columns w.state.first_column
 put_out-told : (p : Params) (c : PlainColumn) (w : Work) → Tells w (put_out p c w) (Firing.put_out_pieces p c w)
 put_out-told p c w =
     let v = records_also (output c) w in
-    follows w w (put_out p c w) (unless_over w (tale PutOut ∷ [])) (Firing.put_out_pieces_by p c v)
-    (quiet w w (unless_over w (tale PutOut ∷ [])) refl (over_none w.refused (tale PutOut ∷ []) refl))
+    follows w w (put_out p c w) (unless_over w (Says PutOut ∷ [])) (Firing.put_out_pieces_by p c v)
+    (quiet w w (unless_over w (Says PutOut ∷ [])) refl (over_none w.refused (Says PutOut ∷ []) refl))
     (put_by-told p c v ∙ ap (λ xs. xs ++ placements_told (Firing.put_out_pieces_by p c v)) (column-quiet c w))
 
 -- ---- columns

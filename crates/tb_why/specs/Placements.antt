@@ -8,7 +8,8 @@ use Rattle.tb_output.specs.State.{Recorded, placed, output, emptied}
 use Rattle.tb_output.specs.FloatMoves.{is_placed}
 use Rattle.tb_told.specs.declared.Tale.{Tale}
 use Rattle.tb_told.specs.declared.Tale.TheVariants.{Waits, Calls, Decides, Begins, InColumn, Back, Beside, Stands, PutOut}
-use Rattle.tb_why.specs.Firing.{Piece, tale, next_sent}
+use Rattle.tb_told.specs.declared.Piece.{Piece}
+use Rattle.tb_told.specs.declared.Piece.TheVariants.{Says, NextSent}
 
 -- a float and the place to which it goes
 pub record Placement : Type 0 where
@@ -48,5 +49,5 @@ placement_in PutOut = []
 -- the placements that are told
 abbrev pub placements_told : List Piece → List Placement
 placements_told [] = []
-placements_told (tale t ∷ ps) = placement_in t ++ placements_told ps
-placements_told (next_sent ∷ ps) = placements_told ps
+placements_told (Says t ∷ ps) = placement_in t ++ placements_told ps
+placements_told (NextSent ∷ ps) = placements_told ps
