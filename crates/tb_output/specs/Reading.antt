@@ -1,5 +1,5 @@
 -- What a page shows before it is served: its text, its insertions, and how the machine stands.
-use Rattle.std.specs.Prelude.{◌≡◌, ℕ, ◌+◌,  ◌+ℤ◌, ◌-ℤ◌, Bool, true, false, List, [], ◌∷◌, ◌++◌, map, length}
+use Rattle.std.specs.Prelude.{◌≡◌, ◌+ℤ◌, ◌-ℤ◌, Bool, true, false, List, [], ◌∷◌, ◌++◌, map}
 use Rattle.tb_pool.specs.Lists.{Lists}
 use Rattle.tb_scaled.specs.Amount.{IsAmount}
 use Rattle.tb_node.specs.declared.Node.{Node}
@@ -35,11 +35,6 @@ text_read w body = w.state.held_page ++ without_firing_box body
 abbrev pub any_notes : List Notes → Bool
 any_notes [] = false
 any_notes (n ∷ ns) = true
-
--- how many nodes these insertions have
-abbrev pub inner_count : List Notes → ℕ
-inner_count [] = 0
-inner_count (n ∷ ns) = length n.inner + inner_count ns
 
 -- the height of this text without its depth, that of the page with its depth and these insertions, and whether there are any; the heights are amounts
 pub record IsReading (z : Reading) (ns : List PlainNode) (notes : List Notes) : Type 0 where

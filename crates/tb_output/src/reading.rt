@@ -94,7 +94,7 @@ impl Machine {
         ensures { IsPageReading result self.now b.now store.now page.now }
     {
         let text = text_extent(store, self.held_page, page.body);
-        let classes = self.classes.items.as_slice();
+        let classes = self.classes.as_slice();
         Reading {
             height: difference(text.room, text.depth),
             page_height: sum(text.room, boxes_height(store, b, classes)),
@@ -115,7 +115,7 @@ fn text_extent(store: &Lists<Node>, held: ListId, body: ListId) -> Extent
     let mut left = store.len(body).saturating_sub(2);
     for node in store.iter(body) {
         if left == 0 {
-            break;
+            return extent;
         }
         left -= 1;
         extent = with_node(extent, node);
@@ -148,6 +148,8 @@ fn boxes_height(store: &Lists<Node>, b: &Builder, classes: &[Class]) -> i64
 {
     let mut height = 0;
     for class in classes {
+        // A class is below 256, so there are no more of them.
+        let _number = class.number;
         height = sum(height, box_height(store, b, class));
     }
     height

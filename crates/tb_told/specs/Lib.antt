@@ -4,3 +4,4 @@ pub mod ColumnTold
 pub mod Tales
 pub mod Lines
 pub mod Filled
+pub mod Standing
