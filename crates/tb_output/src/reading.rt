@@ -95,9 +95,10 @@ impl Machine {
     {
         let text = text_extent(store, self.held_page, page.body);
         let classes = self.classes.as_slice();
+        let notes = boxes_height(store, b, classes);
         Reading {
             height: difference(text.room, text.depth),
-            page_height: sum(text.room, boxes_height(store, b, classes)),
+            page_height: sum(text.room, notes),
             has_notes: any_boxes(b, classes),
         }
     }

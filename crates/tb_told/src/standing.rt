@@ -11,11 +11,7 @@ use tb_node::{Kind, Node, What, Where};
 use tb_pool::{ListId, Lists};
 
 /// The lines of the floats that stand in a text, in their order. It fails only if memory runs out.
-pub fn here_lines(
-    alloc: Global,
-    store: &Lists<Node>,
-    body: ListId,
-) -> Result<Vec<u32>, AllocError>
+pub fn here_lines(alloc: Global, store: &Lists<Node>, body: ListId) -> Result<Vec<u32>, AllocError>
     requires { IsLive store.now body }
     ensures { IfOk result (λ v. v.items ≡ here_lines (plain_list store.now body)) }
 {

@@ -1,6 +1,6 @@
 -- What is read of a page before it is served: the size of its text, and what the insertions in the builder's boxes take.
-use Rattle.std.proofs.Common.{◌≡◌, refl, sym, subst, ◌∙◌, ap, ℕ, zero, suc, ◌+◌, ◌-◌, ◌*◌, ◌<◌, ◌≤◌, ℤ, pos, ◌+ℤ◌, ◌-ℤ◌, List, [], ◌∷◌, ◌++◌, map, take, length, length-take, length-append, Bool, true, false, not, Option, Some, None, is_none, w64, to_z, of_z, arith}
-use Rattle.std.specs.Prelude.{◌==◌, All, if◌then◌else◌}
+use Rattle.std.proofs.Common.{◌≡◌, refl, sym, subst, ◌∙◌, ap, ℕ, zero, suc, ◌+◌, ◌-◌, ◌*◌, ◌<◌, ◌≤◌, ℤ, pos, ◌+ℤ◌, ◌-ℤ◌, List, [], ◌∷◌, ◌++◌, map, take, length, length-take, length-append, Bool, true, false, Option, Some, None, is_none, w64, to_z, of_z, rules, arith}
+use Rattle.std.specs.Prelude.{◌==◌, All, FitsSigned, if◌then◌else◌}
 use Rattle.std.proofs.lemmas.Int.{ints}
 use Rattle.std.proofs.lemmas.Bool.{true≢false}
 use Rattle.std.proofs.lemmas.List.{length-map, map-append, take-map}
@@ -18,12 +18,10 @@ use Rattle.tb_node.proofs.FitLemmas as fits
 use Rattle.tb_node.proofs.FitLemmas.{dimension_small}
 use Rattle.tb_node.proofs.ExtentLemmas.{Extending, extent-small, extent-goes_on}
 use Rattle.tb_insert.specs.declared.Class.{Class}
-use Rattle.tb_builder.specs.declared.Builder.{Builder}
 use Rattle.tb_builder.specs.FiredPages.{Boxed, content_of, box_content, box_size}
-use Rattle.tb_builder.specs.Contents.{contents_of, box_count}
+use Rattle.tb_builder.specs.Contents.{box_count}
 use Rattle.tb_builder.specs.SizedContents.{AreBoxesOf}
 use Rattle.tb_builder.specs.PageEvents.{SizesFit}
-use Rattle.tb_builder.proofs.Ownership.StoreSized.{boxes_of}
 use Rattle.tb_builder.proofs.Ranges.PageableLemmas.{sizes_fit}
 use Rattle.tb_float.specs.Ranges.{IsWithin}
 use Rattle.tb_column.specs.Column.{Notes}
@@ -265,14 +263,6 @@ read-all all bs k height h = (
 
 -- ---- whether there are any
 
-pub void-so : (b : Bool) (o : Option (List Leaf)) → b ≡ is_none o → not b ≡ false → is_none o ≡ true
-void-so true o e h = sym e
-void-so false o e h = absurd (true≢false h)
-
-pub full-so : (b : Bool) (o : Option (List Leaf)) → b ≡ is_none o → not b ≡ true → is_none o ≡ false
-full-so true o e h = absurd (true≢false (sym h))
-full-so false o e h = sym e
-
 pub any-later : (c : Class) (o : Option (List Leaf)) (ns : List Notes) → is_none o ≡ true → with_notes c o ns ≡ ns
 any-later c None ns h = refl
 any-later c (Some inner) ns h = absurd (true≢false (sym h))
@@ -282,6 +272,10 @@ any-own c None ns h = absurd (true≢false h)
 any-own c (Some inner) ns h = refl
 
 -- ---- the whole
+
+-- an amount fits 64 bits
+pub fits-amount : (z : ℤ) → IsAmount z → FitsSigned w64 z
+fits-amount z h = search (rules, ints, h.low, h.high)
 
 -- the text is short enough to be summed
 pub short : (store : Lists Node) (held body count : ℕ) → length (list_at store body) + length (list_at store held) + count ≤ 8355839 → length (list_at store body) + length (list_at store held) ≤ 8388608

@@ -93,11 +93,6 @@ depth-then : (d : ℤ) (ns : List Node) (n : Node) → depth_from d (map shape_o
 depth-then d [] n = refl
 depth-then d (m ∷ ns) n = depth-then (depth_after d (shape_of m)) ns n
 
--- the depth after a node is what the node tells, or that before it
-pub depth-told : (d : ℤ) (k : Kind) → unwrap_or (kind_depth k) d ≡ depth_after d (shape_of_kind k)
-depth-told d (kinds.Hbox what h x) = refl
-depth-told d k = refl
-
 -- no depth was found yet
 pub none-there : (o : Option ℤ) (b : Bool) → is_some o ≡ not b → b ≡ true → o ≡ None
 none-there None b e t = refl

@@ -7,7 +7,7 @@ use Rattle.tb_builder.specs.Ownership.{has_class}
 use Rattle.tb_output.specs.State.{notes_in}
 use Rattle.tb_output.specs.Reading.{any_notes}
 use Rattle.tb_output.proofs.Firings.VoidBoxes.{known-at}
-use Rattle.tb_output.proofs.Firings.ReadingLemmas.{past, void-so, full-so, any-later, any-own}
+use Rattle.tb_output.proofs.Firings.ReadingLemmas.{past, any-later, any-own}
 use Rattle.tb_output.proofs.reading.any_boxes.Goals as goal
 
 pub loop-class-init : goal.loop-class-init
@@ -29,9 +29,9 @@ loop-class-preserved c =
     let lt : k < length cs = omega arith in
     let left : drop k cs ≡ n ∷ drop (k + 1) cs = drop-cons cs k past lt ∙ (λ i. n ∷ drop (sym (add-one k) i) cs) in
     λ s.
-        let bs = (contents_of c.args.b.now s).boxes in
-        sym (any-later n (box_content bs n.number) (notes_in (drop (k + 1) cs) bs) (void-so c.is_void.result (box_content bs n.number) (c.is_void.ensures s) c.if-not-is_void.false))
-        ∙ sym (ap (λ xs. notes_in xs bs) left) ∙ c.loop-class.invariant s
+    let bs = (contents_of c.args.b.now s).boxes in
+    sym (any-later n (box_content bs n.number) (notes_in (drop (k + 1) cs) bs) (sym (c.is_void.ensures s) ∙ c.if-not-is_void.false))
+    ∙ sym (ap (λ xs. notes_in xs bs) left) ∙ c.loop-class.invariant s
 
 pub returns-then-not-is_void : goal.returns-then-not-is_void
 returns-then-not-is_void c =
@@ -41,9 +41,9 @@ returns-then-not-is_void c =
     let lt : k < length cs = omega arith in
     let left : drop k cs ≡ n ∷ drop (k + 1) cs = drop-cons cs k past lt ∙ (λ i. n ∷ drop (sym (add-one k) i) cs) in
     λ s.
-        let bs = (contents_of c.args.b.now s).boxes in
-        any-own n (box_content bs n.number) (notes_in (drop (k + 1) cs) bs) (full-so c.is_void.result (box_content bs n.number) (c.is_void.ensures s) c.if-not-is_void.true)
-        ∙ ap any_notes (sym (ap (λ xs. notes_in xs bs) left) ∙ c.loop-class.invariant s)
+    let bs = (contents_of c.args.b.now s).boxes in
+    any-own n (box_content bs n.number) (notes_in (drop (k + 1) cs) bs) (sym (c.is_void.ensures s) ∙ c.if-not-is_void.true)
+    ∙ ap any_notes (sym (ap (λ xs. notes_in xs bs) left) ∙ c.loop-class.invariant s)
 
 pub returns : goal.returns
 returns c =
