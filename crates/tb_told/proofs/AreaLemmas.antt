@@ -11,7 +11,8 @@ use Rattle.tb_float.specs.declared.Limit.TheVariants as limits
 use Rattle.tb_float.specs.Lists.{FloatLists, has_class}
 use Rattle.tb_told.specs.Tested.{all_hold}
 use Rattle.tb_area.specs.Area.{AreaPlace, at_top, at_bottom, deferred, where_of, may_come, only_page, is_first_of_class, fits_column, fits_top, fits_bottom, is_above_its_class, text_minimum, next_separator, fits_double, double_place, tries_top, bottom_or_deferred, top_or_bottom, by_class, current_place, next_place, may_enter}
-use Rattle.tb_told.specs.AreaTold.{enter_tests, here_tests, top_tests, Told, told_bottom, told_areas, told_column, told_call, told_next, told_wide, place_told}
+use Rattle.tb_told.specs.declared.Told.{Told}
+use Rattle.tb_told.specs.AreaTold.{enter_tests, here_tests, top_tests, told_bottom, told_areas, told_column, told_call, told_next, told_wide, place_told}
 
 -- ---- the tests of an area against its decision
 

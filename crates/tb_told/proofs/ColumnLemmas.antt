@@ -7,7 +7,9 @@ use Rattle.tb_float.specs.Lists.{has_class}
 use Rattle.tb_told.specs.Tested.{all_hold}
 use Rattle.tb_fpage.specs.declared.Wanted.{Wanted}
 use Rattle.tb_fpage.specs.Company.{Choice, passed_over, all_chosen, joins, company_of_head, is_head, is_made, company_from, company, chosen_floats}
-use Rattle.tb_told.specs.ColumnTold.{alone_tests, joins_tests, sum_with, ToldColumn, companied, takes, joining, joins_told, if_of_width, made_told, told_joins, told_made, told_head, told_float, told_from, told_column, floats_told, taken_floats}
+use Rattle.tb_told.specs.declared.ToldColumn.{ToldColumn}
+use Rattle.tb_told.specs.declared.ToldColumn.TheVariants.{Companied, Takes, Joins}
+use Rattle.tb_told.specs.ColumnTold.{alone_tests, joins_tests, sum_with, joins_told, if_of_width, made_told, told_joins, told_made, told_head, told_float, told_from, told_column, floats_told, taken_floats}
 
 -- ---- the tests are those of the definition
 
@@ -38,7 +40,7 @@ joins_if z before f wide =
 
 -- ---- the floats that are taken
 
-width_by : (b : Bool) (f : Float) (before : List Choice) (z : Wanted) (ts : List ToldColumn) → floats_told ((if b then joining f (joins_told z before f) ∷ [] else []) ++ ts) ≡ floats_told ts
+width_by : (b : Bool) (f : Float) (before : List Choice) (z : Wanted) (ts : List ToldColumn) → floats_told ((if b then Joins f (joins_told z before f) ∷ [] else []) ++ ts) ≡ floats_told ts
 width_by true f before z ts = refl
 width_by false f before z ts = refl
 
@@ -47,18 +49,18 @@ after_joins : (z : Wanted) (before : List Choice) (fs : List Float) (ts : List T
 after_joins z before [] ts = refl
 after_joins z before (f ∷ fs) ts =
     let later = told_joins z (before ++ record { float = f; chosen = joins z before f } ∷ []) fs in
-    ap floats_told (append_assoc (if_of_width z f (joining f (joins_told z before f))) later ts)
+    ap floats_told (append_assoc (if_of_width z f (Joins f (joins_told z before f))) later ts)
     ∙ width_by (beq f.wide z.wide) f before z (later ++ ts)
     ∙ after_joins z (before ++ record { float = f; chosen = joins z before f } ∷ []) fs ts
 
-all_taken : (fs : List Float) → floats_told (map (λ g. takes g) fs) ≡ fs
+all_taken : (fs : List Float) → floats_told (map (λ g. Takes g) fs) ≡ fs
 all_taken [] = refl
 all_taken (f ∷ fs) = ap (λ gs. f ∷ gs) (all_taken fs)
 
 made_takes : (z : Wanted) (before : List Float) (f : Float) (fs : List Float) → floats_told (told_made z before f fs) ≡ chosen_floats (company_of_head z before f fs)
 made_takes z before f fs =
     let cs = company_of_head z before f fs in
-    after_joins z (passed_over before ++ record { float = f; chosen = true } ∷ []) fs (companied f (made_told z cs) ∷ map (λ g. takes g) (chosen_floats cs))
+    after_joins z (passed_over before ++ record { float = f; chosen = true } ∷ []) fs (Companied f (made_told z cs) ∷ map (λ g. Takes g) (chosen_floats cs))
     ∙ all_taken (chosen_floats cs)
 
 head_by : (made : Bool) (t : ToldColumn) (x later : List ToldColumn) (cs : List Choice) (found : Option (List Choice)) → floats_told (t ∷ []) ≡ [] →
@@ -94,7 +96,7 @@ from_takes z before (f ∷ fs) =
     let rest = from_takes z (before ++ f ∷ []) fs in
     wide_by (beq f.wide z.wide) (told_float z before f fs later) later (taken_floats (if is_head z before f && is_made z cs then Some cs else found))
     (λ wide. float_by (all_hold (alone_tests z before f)) (is_head z before f) (is_made z cs) (told_head z before f fs later) later cs found (heads_if z before f wide)
-    (head_by (is_made z cs) (companied f (made_told z cs)) (told_made z before f fs) later cs found refl refl (made_takes z before f fs) rest) rest)
+    (head_by (is_made z cs) (Companied f (made_told z cs)) (told_made z before f fs) later cs found refl refl (made_takes z before f fs) rest) rest)
     (λ narrow. rest ∙ other_by (f.places.p || z.clearing) (beq f.wide z.wide) (int_le f.height z.height) (not (has_class f.class before)) (is_made z cs) cs found narrow)
 
 -- the floats that are told to be taken are those of the company that makes the column

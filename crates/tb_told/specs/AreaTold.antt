@@ -14,6 +14,8 @@ use Rattle.tb_float.specs.Rooms.{column_room_of, top_room_of, bottom_room_of, li
 use Rattle.tb_told.specs.declared.Test.{Test}
 use Rattle.tb_told.specs.declared.Test.TheVariants as tests
 use Rattle.tb_told.specs.Tested.{Tested, tested, first_failed, all_hold, first_of_class, first_float}
+use Rattle.tb_told.specs.declared.Told.{Told}
+use Rattle.tb_told.specs.declared.Told.TheVariants.{Enters, TestsHere, TestsTop, TestsBottom, TestsWide, Goes}
 use Rattle.tb_told.specs.declared.Counted.{Counted}
 use Rattle.tb_told.specs.declared.Entering.{Entering}
 use Rattle.tb_told.specs.declared.InText.{InText}
@@ -116,36 +118,27 @@ wide_told p l s before f = record {
 
 -- ---- what is told of a decision
 
--- what is told of an area, or where the float goes
-pub data Told : Type 0 where
-  enters : Entering → Told
-  tests_here : InText → Told
-  tests_top : AtTop → Told
-  tests_bottom : AtBottom → Told
-  tests_wide : AboveBoth → Told
-  goes : Where → Told
-
 -- of the bottom, which is tried last
 abbrev pub told_bottom : Params → FloatLists → Suppress → ℤ → Float → List Told
 told_bottom p l s required f =
     let below = required +ℤ next_separator p l.bottom in
-    tests_bottom (bottom_told p l s below f)
-    ∷ goes (where_of (if all_hold (bottom_tests p l s below f) then at_bottom else deferred)) ∷ []
+    TestsBottom (bottom_told p l s below f)
+    ∷ Goes (where_of (if all_hold (bottom_tests p l s below f) then at_bottom else deferred)) ∷ []
 
 -- of the top, and then of the bottom
 abbrev pub told_areas : Params → FloatLists → Suppress → ℤ → Float → List Told
 told_areas p l s required f =
     let above = required +ℤ next_separator p l.top in
-    tests_top (top_told p l s above f)
-    ∷ (if all_hold (top_tests p l s above f) then goes (where_of at_top) ∷ []
+    TestsTop (top_told p l s above f)
+    ∷ (if all_hold (top_tests p l s above f) then Goes (where_of at_top) ∷ []
     else told_bottom p l s (if tries_top p l s f then above else required) f)
 
 -- of the text, and then of the areas; of the bottom alone if a float of its class is there
 abbrev pub told_column : Params → FloatLists → Suppress → ℤ → Float → List Told
 told_column p l s required f =
     let inside = required +ℤ p.intextsep.width in
-    tests_here (here_told p l inside f)
-    ∷ (if all_hold (here_tests p l inside f) then goes Here ∷ []
+    TestsHere (here_told p l inside f)
+    ∷ (if all_hold (here_tests p l inside f) then Goes Here ∷ []
     else (if has_class f.class l.bottom then told_bottom p l s required f
     else told_areas p l s (if f.places.h then inside else required) f))
 
@@ -153,27 +146,27 @@ told_column p l s required f =
 abbrev pub told_call : Params → FloatLists → Suppress → ℤ → Float → List Told
 told_call p l s page_height f =
     let required = max_ℤ page_height (text_minimum p l f) +ℤ f.height in
-    enters (enter_told p l s l.deferred required f)
-    ∷ (if all_hold (enter_tests p l s l.deferred required f) then told_column p l s required f else goes Deferred ∷ [])
+    Enters (enter_told p l s l.deferred required f)
+    ∷ (if all_hold (enter_tests p l s l.deferred required f) then told_column p l s required f else Goes Deferred ∷ [])
 
 -- of a single float that waits, at the start of a column; a wide one is not asked
 abbrev pub told_next : Params → FloatLists → Suppress → List Float → Float → List Told
 told_next p l s before f =
     let required = f.height +ℤ text_minimum p l f in
     if f.wide then []
-    else enters (enter_told p l s before required f)
-    ∷ (if all_hold (enter_tests p l s before required f) then told_areas p l s required f else goes Deferred ∷ [])
+    else Enters (enter_told p l s before required f)
+    ∷ (if all_hold (enter_tests p l s before required f) then told_areas p l s required f else Goes Deferred ∷ [])
 
 -- of a wide float that waits, after a pair of columns; a single one is not asked
 abbrev pub told_wide : Params → FloatLists → Suppress → List Float → Float → List Told
 told_wide p l s before f =
-    if f.wide then tests_wide (wide_told p l s before f) ∷ goes (if all_hold (wide_tests p l s before f) then Double else Deferred) ∷ []
+    if f.wide then TestsWide (wide_told p l s before f) ∷ Goes (if all_hold (wide_tests p l s before f) then Double else Deferred) ∷ []
     else []
 
 -- where the last of it says that the float goes; a float that is not asked stays
 abbrev pub place_told : List Told → Where
 place_told [] = Deferred
-place_told (goes w ∷ []) = w
+place_told (Goes w ∷ []) = w
 place_told (t ∷ ts) = place_told ts
 
 -- ---- why a float stays
@@ -185,12 +178,12 @@ pub record Reason : Type 0 where
 
 -- the first test that failed in an area
 abbrev pub failed_in : Told → Option Test
-failed_in (enters t) = t.failed
-failed_in (tests_here t) = t.failed
-failed_in (tests_top t) = t.failed
-failed_in (tests_bottom t) = t.failed
-failed_in (tests_wide t) = t.failed
-failed_in (goes w) = None
+failed_in (Enters t) = t.failed
+failed_in (TestsHere t) = t.failed
+failed_in (TestsTop t) = t.failed
+failed_in (TestsBottom t) = t.failed
+failed_in (TestsWide t) = t.failed
+failed_in (Goes w) = None
 
 -- the float is kept back by its own places
 abbrev pub is_by_places : Test → Bool

@@ -6,6 +6,8 @@ use Rattle.tb_told.specs.declared.Test.TheVariants as tests
 use Rattle.tb_float.specs.Lists.{has_class}
 use Rattle.tb_told.specs.Tested.{Tested, tested, first_failed, all_hold, first_of_class}
 use Rattle.tb_fpage.specs.declared.Wanted.{Wanted}
+use Rattle.tb_told.specs.declared.ToldColumn.{ToldColumn}
+use Rattle.tb_told.specs.declared.ToldColumn.TheVariants.{Heads, Joins, Companied, Takes}
 use Rattle.tb_told.specs.declared.Alone.{Alone}
 use Rattle.tb_told.specs.declared.Joining.{Joining}
 use Rattle.tb_told.specs.declared.Made.{Made}
@@ -63,13 +65,6 @@ made_told z cs = record {
   failed = first_failed (made_tests z cs);
 }
 
--- what is told of a float, of a company by its head, or that a float is taken
-pub data ToldColumn : Type 0 where
-  heads : Float → Alone → ToldColumn
-  joining : Float → Joining → ToldColumn
-  companied : Float → Made → ToldColumn
-  takes : Float → ToldColumn
-
 -- something is told of a float only if it has the width of the column
 abbrev pub if_of_width : Wanted → Float → ToldColumn → List ToldColumn
 if_of_width z f t = if beq f.wide z.wide then t ∷ [] else []
@@ -78,25 +73,25 @@ if_of_width z f t = if beq f.wide z.wide then t ∷ [] else []
 abbrev pub told_joins : Wanted → List Choice → List Float → List ToldColumn
 told_joins z before [] = []
 told_joins z before (f ∷ fs) =
-    if_of_width z f (joining f (joins_told z before f)) ++ told_joins z (before ++ record { float = f; chosen = joins z before f } ∷ []) fs
+    if_of_width z f (Joins f (joins_told z before f)) ++ told_joins z (before ++ record { float = f; chosen = joins z before f } ∷ []) fs
 
 -- of a company that is made: the later floats, the company, and the floats that it takes
 abbrev pub told_made : Wanted → List Float → Float → List Float → List ToldColumn
 told_made z before f fs =
     let cs = company_of_head z before f fs in
     told_joins z (passed_over before ++ record { float = f; chosen = true } ∷ []) fs
-    ++ (companied f (made_told z cs) ∷ map (λ g. takes g) (chosen_floats cs))
+    ++ (Companied f (made_told z cs) ∷ map (λ g. Takes g) (chosen_floats cs))
 
 -- of a head, before what is told of later ones
 abbrev pub told_head : Wanted → List Float → Float → List Float → List ToldColumn → List ToldColumn
 told_head z before f fs later =
     let cs = company_of_head z before f fs in
-    if is_made z cs then told_made z before f fs else companied f (made_told z cs) ∷ later
+    if is_made z cs then told_made z before f fs else Companied f (made_told z cs) ∷ later
 
 -- of a float of the column's width
 abbrev pub told_float : Wanted → List Float → Float → List Float → List ToldColumn → List ToldColumn
 told_float z before f fs later =
-    heads f (alone_told z before f) ∷ (if all_hold (alone_tests z before f) then told_head z before f fs later else later)
+    Heads f (alone_told z before f) ∷ (if all_hold (alone_tests z before f) then told_head z before f fs later else later)
 
 -- of the floats after these, up to a company that is made
 abbrev pub told_from : Wanted → List Float → List Float → List ToldColumn
@@ -112,10 +107,10 @@ told_column z fs = told_from z [] fs
 -- the floats that are told to be taken
 abbrev pub floats_told : List ToldColumn → List Float
 floats_told [] = []
-floats_told (heads f t ∷ ts) = floats_told ts
-floats_told (joining f t ∷ ts) = floats_told ts
-floats_told (companied f t ∷ ts) = floats_told ts
-floats_told (takes f ∷ ts) = f ∷ floats_told ts
+floats_told (Heads f t ∷ ts) = floats_told ts
+floats_told (Joins f t ∷ ts) = floats_told ts
+floats_told (Companied f t ∷ ts) = floats_told ts
+floats_told (Takes f ∷ ts) = f ∷ floats_told ts
 
 -- the floats of a company, if there is one
 abbrev pub taken_floats : Option (List Choice) → List Float

@@ -13,17 +13,20 @@ use Rattle.tb_told.specs.declared.InText.{InText}
 use Rattle.tb_told.specs.declared.AtTop.{AtTop}
 use Rattle.tb_told.specs.declared.AtBottom.{AtBottom}
 use Rattle.tb_told.specs.declared.AboveBoth.{AboveBoth}
-use Rattle.tb_told.specs.AreaTold.{Told, enters, tests_here, tests_top, tests_bottom, tests_wide, goes}
+use Rattle.tb_told.specs.declared.Told.{Told}
+use Rattle.tb_told.specs.declared.Told.TheVariants.{Enters, TestsHere, TestsTop, TestsBottom, TestsWide, Goes}
 use Rattle.tb_fpage.specs.declared.Wanted.{Wanted}
 use Rattle.tb_told.specs.declared.Alone.{Alone}
 use Rattle.tb_told.specs.declared.Joining.{Joining}
 use Rattle.tb_told.specs.declared.Made.{Made}
-use Rattle.tb_told.specs.ColumnTold.{ToldColumn, heads, joining, companied, takes}
+use Rattle.tb_told.specs.declared.ToldColumn.{ToldColumn}
+use Rattle.tb_told.specs.declared.ToldColumn.TheVariants.{Heads, Joins, Companied, Takes}
 use Rattle.tb_margin.specs.declared.Placed.{Placed}
 use Rattle.tb_margin.specs.Margin.{note_height}
 use Rattle.tb_report.specs.Lines.{where_text, side_text}
 use Rattle.tb_told.specs.declared.Spot.{Spot}
-use Rattle.tb_told.specs.Tales.{Tale, waits, calls, decides, begins, in_column, back, beside, put_out}
+use Rattle.tb_told.specs.declared.Tale.{Tale}
+use Rattle.tb_told.specs.declared.Tale.TheVariants.{Waits, Calls, Decides, Begins, InColumn, Back, Beside, Stands, PutOut}
 
 -- ---- fields
 
@@ -111,12 +114,12 @@ abbrev pub goes_line : Name → List ℕ → List ℕ
 goes_line name place = line (codes "goes" ++ and_text name ++ and_text place)
 
 abbrev pub told_line : Name → Told → List ℕ
-told_line name (enters t) = enter_line name t
-told_line name (tests_here t) = here_line name t
-told_line name (tests_top t) = top_line name t
-told_line name (tests_bottom t) = bottom_line name t
-told_line name (tests_wide t) = wide_line name t
-told_line name (goes w) = goes_line name (where_text w)
+told_line name (Enters t) = enter_line name t
+told_line name (TestsHere t) = here_line name t
+told_line name (TestsTop t) = top_line name t
+told_line name (TestsBottom t) = bottom_line name t
+told_line name (TestsWide t) = wide_line name t
+told_line name (Goes w) = goes_line name (where_text w)
 
 -- the lines of a decision, one after another
 abbrev pub told_lines : Name → List Told → List ℕ
@@ -139,10 +142,10 @@ company_line name t = line (
     codes "company" ++ and_text name ++ codes " floats" ++ and_count t.floats ++ codes " sum" ++ and_number t.sum ++ codes " least" ++ and_number t.least ++ verdict_text t.failed)
 
 abbrev pub column_line : ToldColumn → List ℕ
-column_line (heads f t) = alone_line f.name t
-column_line (joining f t) = joins_line f.name t
-column_line (companied f t) = company_line f.name t
-column_line (takes f) = goes_line f.name (codes "page")
+column_line (Heads f t) = alone_line f.name t
+column_line (Joins f t) = joins_line f.name t
+column_line (Companied f t) = company_line f.name t
+column_line (Takes f) = goes_line f.name (codes "page")
 
 -- whether floats are cleared
 abbrev pub begins_word : Bool → List ℕ
@@ -165,11 +168,12 @@ beside_line at m height reach placed = line (
 -- ---- all lines
 
 abbrev pub tale_line : Tale → List ℕ
-tale_line (waits at f) = line (codes "wait" ++ float_text at f)
-tale_line (calls at f height) = line (codes "call" ++ float_text at f ++ codes " text" ++ and_number height)
-tale_line (decides f t) = told_line f.name t
-tale_line (begins at z) = begins_line at z
-tale_line (in_column t) = column_line t
-tale_line (back f place) = line (codes "back" ++ and_text f.name ++ and_text (where_text place))
-tale_line (beside at m height reach placed) = beside_line at m height reach placed
-tale_line (put_out c) = []
+tale_line (Waits at f) = line (codes "wait" ++ float_text at f)
+tale_line (Calls at f height) = line (codes "call" ++ float_text at f ++ codes " text" ++ and_number height)
+tale_line (Decides f t) = told_line f.name t
+tale_line (Begins at z) = begins_line at z
+tale_line (InColumn t) = column_line t
+tale_line (Back f place) = line (codes "back" ++ and_text f.name ++ and_text (where_text place))
+tale_line (Beside at m height reach placed) = beside_line at m height reach placed
+tale_line (Stands line) = []
+tale_line PutOut = []

@@ -20,11 +20,14 @@ use Rattle.tb_float.specs.Lists.{FloatLists, has_class, with_floats_of, wide_par
 use Rattle.tb_float.specs.Rooms.{column_height_of}
 use Rattle.tb_told.specs.Tested.{all_hold}
 use Rattle.tb_area.specs.Area.{AreaPlace, at_top, at_bottom, deferred, where_of, current_place, next_place, double_place, may_enter, top_or_bottom, bottom_or_deferred, text_minimum, next_separator, tries_top, fits_column}
-use Rattle.tb_told.specs.AreaTold.{Told, goes, told_bottom, told_areas, told_column, told_call, told_next, told_wide, place_told, enter_tests, here_tests, top_tests}
+use Rattle.tb_told.specs.declared.Told.{Told}
+use Rattle.tb_told.specs.declared.Told.TheVariants.{Goes}
+use Rattle.tb_told.specs.AreaTold.{told_bottom, told_areas, told_column, told_call, told_next, told_wide, place_told, enter_tests, here_tests, top_tests}
 use Rattle.tb_told.proofs.AreaLemmas.{call_decides, next_decides, wide_decides}
 use Rattle.tb_fpage.specs.declared.Wanted.{Wanted}
 use Rattle.tb_fpage.specs.Company.{Choice, company, chosen_floats, left_floats}
-use Rattle.tb_told.specs.ColumnTold.{ToldColumn, told_column as told_of_column}
+use Rattle.tb_told.specs.declared.ToldColumn.{ToldColumn}
+use Rattle.tb_told.specs.ColumnTold.{told_column as told_of_column}
 use Rattle.tb_margin.specs.declared.Placed.{Placed}
 use Rattle.tb_margin.specs.Margin.{placed_note}
 use Rattle.tb_column.specs.Column.{PlainColumn, Notes, text_column, single_floats_column, wide_floats_column}
@@ -39,9 +42,13 @@ use Rattle.tb_output.specs.Text.{without_firing_box, notes_height, list_back, pu
 use Rattle.tb_sheet.specs.Asked.{clear_penalty, par_penalty, vert_penalty, hold_penalty}
 use Rattle.tb_output.specs.Output.{is_int, hold, output_by, leave_column, next_goal, is_crowded, after_page, out}
 use Rattle.tb_told.specs.declared.Spot.{Spot}
-use Rattle.tb_told.specs.Tales.{Tale, put_out as puts_out, in_column, decisions, has_width, column_tales, back_tales}
+use Rattle.tb_told.specs.declared.Tale.{Tale}
+use Rattle.tb_told.specs.declared.Tale.TheVariants.{PutOut, InColumn, Stands}
+use Rattle.tb_told.specs.Tales.{decisions, has_width, column_tales, back_tales, tales, stands_tales, here_lines}
 use Rattle.tb_why.specs.Firing
-use Rattle.tb_why.specs.Firing.{spot_of, Piece, tale, next_sent, tales, unless_over}
+use Rattle.tb_told.specs.declared.Piece.{Piece}
+use Rattle.tb_told.specs.declared.Piece.TheVariants.{Says, NextSent}
+use Rattle.tb_why.specs.Firing.{spot_of, unless_over}
 use Rattle.tb_why.specs.Placements.{placements_of, placement_if, placement_in, placements_told}
 
 -- ---- lists
@@ -54,8 +61,8 @@ placements-append (emptied l ∷ rs) qs = placements-append rs qs
 
 told-append : (ps qs : List Piece) → placements_told (ps ++ qs) ≡ placements_told ps ++ placements_told qs
 told-append [] qs = refl
-told-append (tale t ∷ ps) qs = ap (λ xs. placement_in t ++ xs) (told-append ps qs) ∙ sym (append_assoc (placement_in t) (placements_told ps) (placements_told qs))
-told-append (next_sent ∷ ps) qs = told-append ps qs
+told-append (Says t ∷ ps) qs = ap (λ xs. placement_in t ++ xs) (told-append ps qs) ∙ sym (append_assoc (placement_in t) (placements_told ps) (placements_told qs))
+told-append (NextSent ∷ ps) qs = told-append ps qs
 
 -- a step from one work to another tells of its placements
 abbrev Tells : Work → Work → List Piece → Type 0
@@ -84,7 +91,7 @@ before-quiet w v next ps same x = ap placements_of same ∙ x
 abbrev One : Float → List Told → Type 0
 One f ts = placements_told (tales (decisions f ts)) ≡ placement_if f (place_told ts)
 
-one_goes : (f : Float) (w : Where) → One f (goes w ∷ [])
+one_goes : (f : Float) (w : Where) → One f (Goes w ∷ [])
 one_goes f w = append-nil (placement_if f w)
 
 one_by : (f : Float) (b : Bool) (x y : List Told) → One f x → One f y → One f (if b then x else y)
@@ -98,24 +105,24 @@ one_areas : (p : Params) (l : FloatLists) (s : Suppress) (r : ℤ) (f : Float) �
 one_areas p l s r f =
     let above = r +ℤ next_separator p l.top in
     let low = if tries_top p l s f then above else r in
-    one_by f (all_hold (top_tests p l s above f)) (goes (where_of at_top) ∷ []) (told_bottom p l s low f) (one_goes f places.Top) (one_bottom p l s low f)
+    one_by f (all_hold (top_tests p l s above f)) (Goes (where_of at_top) ∷ []) (told_bottom p l s low f) (one_goes f places.Top) (one_bottom p l s low f)
 
 one_column : (p : Params) (l : FloatLists) (s : Suppress) (r : ℤ) (f : Float) → One f (told_column p l s r f)
 one_column p l s r f =
     let inside = r +ℤ p.intextsep.width in
     let to = if f.places.h then inside else r in
-    one_by f (all_hold (here_tests p l inside f)) (goes places.Here ∷ []) (if has_class f.class l.bottom then told_bottom p l s r f else told_areas p l s to f) (one_goes f places.Here)
+    one_by f (all_hold (here_tests p l inside f)) (Goes places.Here ∷ []) (if has_class f.class l.bottom then told_bottom p l s r f else told_areas p l s to f) (one_goes f places.Here)
     (one_by f (has_class f.class l.bottom) (told_bottom p l s r f) (told_areas p l s to f) (one_bottom p l s r f) (one_areas p l s to f))
 
 one_call : (p : Params) (l : FloatLists) (s : Suppress) (h : ℤ) (f : Float) → One f (told_call p l s h f)
 one_call p l s h f =
     let r = max_ℤ h (text_minimum p l f) +ℤ f.height in
-    one_by f (all_hold (enter_tests p l s l.deferred r f)) (told_column p l s r f) (goes places.Deferred ∷ []) (one_column p l s r f) (one_goes f places.Deferred)
+    one_by f (all_hold (enter_tests p l s l.deferred r f)) (told_column p l s r f) (Goes places.Deferred ∷ []) (one_column p l s r f) (one_goes f places.Deferred)
 
 one_next : (p : Params) (l : FloatLists) (s : Suppress) (before : List Float) (f : Float) → One f (told_next p l s before f)
 one_next p l s before f =
     let r = f.height +ℤ text_minimum p l f in
-    one_by f f.wide [] _ refl (one_by f (all_hold (enter_tests p l s before r f)) (told_areas p l s r f) (goes places.Deferred ∷ []) (one_areas p l s r f) (one_goes f places.Deferred))
+    one_by f f.wide [] _ refl (one_by f (all_hold (enter_tests p l s before r f)) (told_areas p l s r f) (Goes places.Deferred ∷ []) (one_areas p l s r f) (one_goes f places.Deferred))
 
 one_wide : (p : Params) (l : FloatLists) (s : Suppress) (before : List Float) (f : Float) → One f (told_wide p l s before f)
 one_wide p l s before f = one_by f f.wide _ [] (append-nil _) refl
@@ -124,11 +131,11 @@ one_wide p l s before f = one_by f f.wide _ [] (append-nil _) refl
 column_none : (at : Spot) (z : Wanted) (fs : List Float) → placements_told (tales (column_tales at z fs)) ≡ []
 column_none at z fs = by_width (has_width z.wide fs)
   where
-    all_none : (ts : List ToldColumn) → placements_told (tales (map (λ t. in_column t) ts)) ≡ []
+    all_none : (ts : List ToldColumn) → placements_told (tales (map (λ t. InColumn t) ts)) ≡ []
     all_none [] = refl
     all_none (t ∷ ts) = all_none ts
 
-    by_width : (b : Bool) → placements_told (tales (if b then Rattle.tb_told.specs.Tales.begins at z ∷ map (λ t. in_column t) (told_of_column z fs) else [])) ≡ []
+    by_width : (b : Bool) → placements_told (tales (if b then Rattle.tb_told.specs.declared.Tale.TheVariants.Begins at z ∷ map (λ t. InColumn t) (told_of_column z fs) else [])) ≡ []
     by_width true = all_none (told_of_column z fs)
     by_width false = refl
 
@@ -227,7 +234,7 @@ double-told from p before (f ∷ rest) w =
 ship-told : (p : Params) (sheet : PlainSheet) (w : Work) → Tells w (ship p sheet w) (Firing.ship_pieces p w)
 ship-told p sheet w = quiet w (ship p sheet w) (Firing.ship_pieces p w) (ship-records p sheet w) (over_none w.refused _ (by_limit (int_lt p.maxpages (pos w.state.page))))
   where
-    by_limit : (b : Bool) → placements_told (if b then [] else next_sent ∷ []) ≡ []
+    by_limit : (b : Bool) → placements_told (if b then [] else NextSent ∷ []) ≡ []
     by_limit true = refl
     by_limit false = refl
 
@@ -245,8 +252,8 @@ wide-told p clearing (suc n) w =
     by_company again (Some cs) =
         let v = ship_wide p cs w in
         let c = wide_floats_column p p.textheight (chosen_floats cs) in
-        follows w w (wide_pages p clearing n v) (unless_over w (tale (puts_out c) ∷ [])) (Firing.ship_pieces p w ++ Firing.wide_pieces p clearing n v)
-        (quiet w w (unless_over w (tale (puts_out c) ∷ [])) refl (over_none w.refused (tale (puts_out c) ∷ []) refl))
+        follows w w (wide_pages p clearing n v) (unless_over w (Says PutOut ∷ [])) (Firing.ship_pieces p w ++ Firing.wide_pieces p clearing n v)
+        (quiet w w (unless_over w (Says PutOut ∷ [])) refl (over_none w.refused (Says PutOut ∷ []) refl))
         (follows w v (wide_pages p clearing n v) (Firing.ship_pieces p w) (Firing.wide_pieces p clearing n v)
         (ship-told p (wide c) (with_floats (Rattle.tb_float.specs.Lists.with_wide_waiting p (left_floats cs) w.state.floats) w))
         (again v))
@@ -273,14 +280,23 @@ put_by-told p c w = by_columns w.state.two_columns w.state.first_column
 put_out-told : (p : Params) (c : PlainColumn) (w : Work) → Tells w (put_out p c w) (Firing.put_out_pieces p c w)
 put_out-told p c w =
     let v = records_also (output c) w in
-    follows w w (put_out p c w) (unless_over w (tale (puts_out c) ∷ [])) (Firing.put_out_pieces_by p c v)
-    (quiet w w (unless_over w (tale (puts_out c) ∷ [])) refl (over_none w.refused (tale (puts_out c) ∷ []) refl))
+    follows w w (put_out p c w) (unless_over w (Says PutOut ∷ [])) (Firing.put_out_pieces_by p c v)
+    (quiet w w (unless_over w (Says PutOut ∷ [])) refl (over_none w.refused (Says PutOut ∷ []) refl))
     (put_by-told p c v ∙ ap (λ xs. xs ++ placements_told (Firing.put_out_pieces_by p c v)) (column-quiet c w))
 
 -- ---- columns
 
 text_column-told : (p : Params) (body : List PlainNode) (w : Work) → Tells w (put_out_text p body w) (Firing.text_pieces p body w)
-text_column-told p body w = put_out-told p (text_column p w.state.floats body (footnotes w.state)) (without_column_floats w)
+text_column-told p body w =
+    let c = text_column p w.state.floats body (footnotes w.state) in
+    let stands = tales (stands_tales body) in
+    follows w w (put_out_text p body w) (unless_over w stands) (Firing.put_out_pieces p c (without_column_floats w))
+    (quiet w w (unless_over w stands) refl (over_none w.refused stands (stand_none (here_lines body))))
+    (put_out-told p c (without_column_floats w))
+  where
+    stand_none : (ls : List ℕ) → placements_told (tales (map (λ l. Stands l) ls)) ≡ []
+    stand_none [] = refl
+    stand_none (l ∷ ls) = stand_none ls
 
 columns-told : (p : Params) (clearing : Bool) (n : ℕ) (w : Work) → Tells w (float_columns p clearing n w) (Firing.float_pieces p clearing n w)
 columns-told p clearing zero w = quiet w w [] refl refl

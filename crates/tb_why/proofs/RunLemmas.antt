@@ -15,8 +15,10 @@ use Rattle.tb_output.specs.Output.{out}
 use Rattle.tb_items.specs.RunEvents.{RunEvent, sent}
 use Rattle.tb_steps.specs.Run.{End, done, dead_cycles, page_limit, node_limit, Progress, progress, Step, ends, goes_on, step, step_of, after_progress, fire, firing_step, after_firing, Run, run_by, run_from, run_of, firings_left, held_count, step_events}
 use Rattle.tb_items.specs.Classes.{classes_of}
-use Rattle.tb_told.specs.Tales.{Tale}
-use Rattle.tb_why.specs.Firing.{Piece, tale, next_sent, firing_pieces, all_sent, woven}
+use Rattle.tb_told.specs.declared.Tale.{Tale}
+use Rattle.tb_told.specs.declared.Piece.{Piece}
+use Rattle.tb_told.specs.declared.Piece.TheVariants.{Says, NextSent}
+use Rattle.tb_why.specs.Firing.{firing_pieces, all_sent, woven}
 use Rattle.tb_why.specs.ShownLines.{all_event_lines}
 use Rattle.tb_why.specs.WhyRun.{Shown, happens, tells, all_happen, all_shown, happened_among, wait_tales, firing_shown, fired_shown, shown_by, step_shown, shown_after, shown_from, shown_run}
 
@@ -45,9 +47,9 @@ rest_sent (e ∷ es) = ap (λ fs. sent e ∷ fs) (rest_sent es)
 -- all that is sent stands among what is told, in its order
 pub woven_sends : (ps : List Piece) (es : List PlainSent) → happened_among (all_shown (woven ps es)) ≡ map sent es
 woven_sends [] es = rest_sent es
-woven_sends (tale t ∷ ps) es = woven_sends ps es
-woven_sends (next_sent ∷ ps) [] = woven_sends ps []
-woven_sends (next_sent ∷ ps) (e ∷ es) = ap (λ fs. sent e ∷ fs) (woven_sends ps es)
+woven_sends (Says t ∷ ps) es = woven_sends ps es
+woven_sends (NextSent ∷ ps) [] = woven_sends ps []
+woven_sends (NextSent ∷ ps) (e ∷ es) = ap (λ fs. sent e ∷ fs) (woven_sends ps es)
 
 -- ---- a step
 

@@ -30,20 +30,15 @@ use Rattle.tb_sheet.specs.Asked.{clear_penalty, par_penalty, vert_penalty}
 use Rattle.tb_output.specs.Output.{is_int, after_page}
 use Rattle.tb_float.specs.Rooms.{column_height_of}
 use Rattle.tb_told.specs.declared.Spot.{Spot}
-use Rattle.tb_told.specs.Tales.{Tale, calls, beside, put_out as puts_out, decisions, column_tales, back_tales}
+use Rattle.tb_told.specs.declared.Tale.{Tale}
+use Rattle.tb_told.specs.declared.Tale.TheVariants.{Calls, Beside, PutOut}
+use Rattle.tb_told.specs.declared.Piece.{Piece}
+use Rattle.tb_told.specs.declared.Piece.TheVariants.{Says, NextSent}
+use Rattle.tb_told.specs.Tales.{tales, decisions, column_tales, back_tales, stands_tales}
 
 -- where a state stands
 abbrev pub spot_of : State → Spot
 spot_of s = record { page = s.page; second = s.two_columns && not s.first_column }
-
--- a tale, or the place of what is sent next
-pub data Piece : Type 0 where
-  tale : Tale → Piece
-  next_sent : Piece
-
--- these tales
-abbrev pub tales : List Tale → List Piece
-tales ts = map (λ t. tale t) ts
 
 -- nothing is told once the page limit was met
 abbrev pub unless_over : Work → List Piece → List Piece
@@ -53,13 +48,13 @@ unless_over w ps = if w.refused then [] else ps
 
 -- a page is shipped, unless the page limit is met
 abbrev pub ship_pieces : Params → Work → List Piece
-ship_pieces p w = unless_over w (if int_lt p.maxpages (pos w.state.page) then [] else next_sent ∷ [])
+ship_pieces p w = unless_over w (if int_lt p.maxpages (pos w.state.page) then [] else NextSent ∷ [])
 
 -- wide pages, by their company
 abbrev pub wide_pieces_by : (Work → List Piece) → Params → Work → Option (List Choice) → List Piece
 wide_pieces_by again p w None = []
 wide_pieces_by again p w (Some cs) =
-    unless_over w (tale (puts_out (wide_floats_column p p.textheight (chosen_floats cs))) ∷ []) ++ (ship_pieces p w ++ again (ship_wide p cs w))
+    unless_over w (Says PutOut ∷ []) ++ (ship_pieces p w ++ again (ship_wide p cs w))
 
 -- wide pages while there is a company
 abbrev pub wide_pieces : Params → Bool → ℕ → Work → List Piece
@@ -95,13 +90,15 @@ put_out_pieces_by p c w =
     if not w.state.two_columns then ship_pieces p w else (if w.state.first_column then [] else pair_pieces p c w)
 
 abbrev pub put_out_pieces : Params → PlainColumn → Work → List Piece
-put_out_pieces p c w = unless_over w (tale (puts_out c) ∷ []) ++ put_out_pieces_by p c (records_also (output c) w)
+put_out_pieces p c w = unless_over w (Says PutOut ∷ []) ++ put_out_pieces_by p c (records_also (output c) w)
 
 -- ---- columns
 
 -- a text column with this body is put out
 abbrev pub text_pieces : Params → List PlainNode → Work → List Piece
-text_pieces p body w = put_out_pieces p (text_column p w.state.floats body (footnotes w.state)) (without_column_floats w)
+text_pieces p body w =
+    unless_over w (tales (stands_tales body))
+    ++ put_out_pieces p (text_column p w.state.floats body (footnotes w.state)) (without_column_floats w)
 
 -- a column of the company is put out
 abbrev pub company_pieces : Params → List Choice → Work → List Piece
@@ -174,13 +171,13 @@ clear_pieces p body w = clear_pieces_by p body w (footnotes w.state)
 -- a note goes to its place
 abbrev pub note_tale : Params → ℤ → Margin → State → Tale
 note_tale p height m s =
-    beside (spot_of s) m height s.note_bottom (placed_note p s.page s.two_columns s.first_column height s.note_bottom m)
+    Beside (spot_of s) m height s.note_bottom (placed_note p s.page s.two_columns s.first_column height s.note_bottom m)
 
 -- the first float or note of the current list, after a list of this height without its depth; with its insertions the page
 -- is `page_height` high
 abbrev pub first_tales : Params → ℤ → ℤ → List Entry → State → List Tale
 first_tales p height page_height (entries.Float f ∷ es) s =
-    calls (spot_of s) f page_height ∷ decisions f (told_call p s.floats s.suppress page_height f)
+    Calls (spot_of s) f page_height ∷ decisions f (told_call p s.floats s.suppress page_height f)
 first_tales p height page_height (entries.Left m ∷ es) s = note_tale p height m s ∷ []
 first_tales p height page_height (entries.Right m ∷ es) s = []
 first_tales p height page_height [] s = []
@@ -226,6 +223,6 @@ all_sent es = map (λ e. sends e) es
 -- what is sent stands at its places between the tales, and the rest of it behind them
 abbrev pub woven : List Piece → List PlainSent → List WhyEvent
 woven [] es = all_sent es
-woven (tale t ∷ ps) es = told t ∷ woven ps es
-woven (next_sent ∷ ps) [] = woven ps []
-woven (next_sent ∷ ps) (e ∷ es) = sends e ∷ woven ps es
+woven (Says t ∷ ps) es = told t ∷ woven ps es
+woven (NextSent ∷ ps) [] = woven ps []
+woven (NextSent ∷ ps) (e ∷ es) = sends e ∷ woven ps es

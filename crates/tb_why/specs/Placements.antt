@@ -2,11 +2,14 @@
 use Rattle.std.specs.Prelude.{List, [], ◌∷◌, ◌++◌, if◌then◌else◌}
 use Rattle.tb_node.specs.declared.Float.{Float}
 use Rattle.tb_node.specs.declared.Where.{Where}
-use Rattle.tb_told.specs.AreaTold.{Told, enters, tests_here, tests_top, tests_bottom, tests_wide, goes}
+use Rattle.tb_told.specs.declared.Told.{Told}
+use Rattle.tb_told.specs.declared.Told.TheVariants.{Enters, TestsHere, TestsTop, TestsBottom, TestsWide, Goes}
 use Rattle.tb_output.specs.State.{Recorded, placed, output, emptied}
 use Rattle.tb_output.specs.FloatMoves.{is_placed}
-use Rattle.tb_told.specs.Tales.{Tale, waits, calls, decides, begins, in_column, back, beside, put_out}
-use Rattle.tb_why.specs.Firing.{Piece, tale, next_sent}
+use Rattle.tb_told.specs.declared.Tale.{Tale}
+use Rattle.tb_told.specs.declared.Tale.TheVariants.{Waits, Calls, Decides, Begins, InColumn, Back, Beside, Stands, PutOut}
+use Rattle.tb_told.specs.declared.Piece.{Piece}
+use Rattle.tb_told.specs.declared.Piece.TheVariants.{Says, NextSent}
 
 -- a float and the place to which it goes
 pub record Placement : Type 0 where
@@ -25,25 +28,26 @@ abbrev pub placement_if : Float → Where → List Placement
 placement_if f w = if is_placed w then record { float = f; place = w } ∷ [] else []
 
 abbrev pub placement_told : Float → Told → List Placement
-placement_told f (enters t) = []
-placement_told f (tests_here t) = []
-placement_told f (tests_top t) = []
-placement_told f (tests_bottom t) = []
-placement_told f (tests_wide t) = []
-placement_told f (goes w) = placement_if f w
+placement_told f (Enters t) = []
+placement_told f (TestsHere t) = []
+placement_told f (TestsTop t) = []
+placement_told f (TestsBottom t) = []
+placement_told f (TestsWide t) = []
+placement_told f (Goes w) = placement_if f w
 
 abbrev pub placement_in : Tale → List Placement
-placement_in (waits at f) = []
-placement_in (calls at f height) = []
-placement_in (decides f t) = placement_told f t
-placement_in (begins at z) = []
-placement_in (in_column t) = []
-placement_in (back f place) = []
-placement_in (beside at m height reach p) = []
-placement_in (put_out c) = []
+placement_in (Waits at f) = []
+placement_in (Calls at f height) = []
+placement_in (Decides f t) = placement_told f t
+placement_in (Begins at z) = []
+placement_in (InColumn t) = []
+placement_in (Back f place) = []
+placement_in (Beside at m height reach p) = []
+placement_in (Stands line) = []
+placement_in PutOut = []
 
 -- the placements that are told
 abbrev pub placements_told : List Piece → List Placement
 placements_told [] = []
-placements_told (tale t ∷ ps) = placement_in t ++ placements_told ps
-placements_told (next_sent ∷ ps) = placements_told ps
+placements_told (Says t ∷ ps) = placement_in t ++ placements_told ps
+placements_told (NextSent ∷ ps) = placements_told ps

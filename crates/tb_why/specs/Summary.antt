@@ -1,5 +1,5 @@
 -- The summary: one story of each float that was called or waits, as the tales and the shipped pages tell it.
-use Rattle.std.specs.Prelude.{ℕ, ℤ, pos, ◌+◌, ◌-◌, ◌+ℤ◌, ◌-ℤ◌, Bool, true, false, ◌&&◌, ◌||◌, ◌==◌, List, [], ◌∷◌, ◌++◌, map, codes, Option, Some, None, if◌then◌else◌}
+use Rattle.std.specs.Prelude.{ℕ, ℤ, pos, ◌+◌, ◌-◌, ◌+ℤ◌, ◌-ℤ◌, Bool, true, false, ◌&&◌, ◌==◌, List, [], ◌∷◌, ◌++◌, map, codes, Option, Some, None, if◌then◌else◌}
 use Rattle.std.specs.Str.{bytes_eq}
 use Rattle.tb_text.specs.Fields.{and_number, and_count, and_text, line}
 use Rattle.tb_node.specs.declared.Float.{Float}
@@ -9,17 +9,20 @@ use Rattle.tb_node.specs.declared.Where.TheVariants as places
 use Rattle.tb_node.specs.PlainNodes.{hbox, PlainKind, plain, PlainNode}
 use Rattle.tb_told.specs.declared.Test.{Test}
 use Rattle.tb_told.specs.declared.Test.TheVariants as tests
-use Rattle.tb_told.specs.AreaTold.{Told, enters, tests_here, tests_top, tests_bottom, tests_wide, goes, failed_in}
+use Rattle.tb_told.specs.declared.Told.{Told}
+use Rattle.tb_told.specs.declared.Told.TheVariants.{Enters, TestsHere, TestsTop, TestsBottom, TestsWide, Goes}
+use Rattle.tb_told.specs.AreaTold.{failed_in}
 use Rattle.tb_told.specs.declared.Alone.{Alone}
 use Rattle.tb_told.specs.declared.Joining.{Joining}
 use Rattle.tb_told.specs.declared.Made.{Made}
-use Rattle.tb_told.specs.ColumnTold.{ToldColumn, heads, joining, companied, takes}
-use Rattle.tb_column.specs.Column.{PlainColumn}
+use Rattle.tb_told.specs.declared.ToldColumn.{ToldColumn}
+use Rattle.tb_told.specs.declared.ToldColumn.TheVariants.{Heads, Joins, Companied, Takes}
 use Rattle.tb_sheet.specs.Sheet.{PlainSheet, one, wide, two, warned, shipped}
 use Rattle.tb_report.specs.Lines.{where_text}
 use Rattle.tb_items.specs.RunEvents.{RunEvent, offered, sent}
 use Rattle.tb_told.specs.Lines.{test_text}
-use Rattle.tb_told.specs.Tales.{Tale, waits, calls, decides, begins, in_column, back, beside, put_out}
+use Rattle.tb_told.specs.declared.Tale.{Tale}
+use Rattle.tb_told.specs.declared.Tale.TheVariants.{Waits, Calls, Decides, Begins, InColumn, Back, Beside, Stands, PutOut}
 use Rattle.tb_why.specs.WhyRun.{Shown, happens, tells}
 
 -- why a float was kept back: the area and the test, the float at the root, and what must be gained
@@ -117,12 +120,12 @@ lack need has = need -ℤ has +ℤ pos 1
 
 -- why an area did not take the float
 abbrev pub kept_in : Float → Told → Test → List Story → Kept
-kept_in f (enters t) w ss = kept_by (codes "enter") w f (gain w (lack t.need t.room) (pos 0)) t.blocker [] [] ss
-kept_in f (tests_here t) w ss = kept_by (codes "here") w f (gain w (lack t.need t.room) (pos 0)) None [] [] ss
-kept_in f (tests_top t) w ss = kept_by (codes "top") w f (gain w (lack t.need t.room) (lack t.high t.share)) None [] [] ss
-kept_in f (tests_bottom t) w ss = kept_by (codes "bottom") w f (gain w (lack t.need t.room) (lack t.high t.share)) None [] [] ss
-kept_in f (tests_wide t) w ss = kept_by (codes "wide") w f (gain w (lack t.high t.room) (pos 0)) t.blocker [] [] ss
-kept_in f (goes p) w ss = kept_by (codes "goes") w f (pos 0) None [] [] ss
+kept_in f (Enters t) w ss = kept_by (codes "enter") w f (gain w (lack t.need t.room) (pos 0)) t.blocker [] [] ss
+kept_in f (TestsHere t) w ss = kept_by (codes "here") w f (gain w (lack t.need t.room) (pos 0)) None [] [] ss
+kept_in f (TestsTop t) w ss = kept_by (codes "top") w f (gain w (lack t.need t.room) (lack t.high t.share)) None [] [] ss
+kept_in f (TestsBottom t) w ss = kept_by (codes "bottom") w f (gain w (lack t.need t.room) (lack t.high t.share)) None [] [] ss
+kept_in f (TestsWide t) w ss = kept_by (codes "wide") w f (gain w (lack t.high t.room) (pos 0)) t.blocker [] [] ss
+kept_in f (Goes p) w ss = kept_by (codes "goes") w f (pos 0) None [] [] ss
 
 -- the first reason that is not by places
 abbrev pub own_reason : List Kept → Option Kept
@@ -183,7 +186,7 @@ found_with None f t m = m
 found_with (Some w) f t m = record m { found = m.found ++ kept_in f t w m.stories ∷ [] }
 
 abbrev pub after_told : Float → Told → Summary → Summary
-after_told f (goes w) m = decided f w m
+after_told f (Goes w) m = decided f w m
 after_told f t m = found_with (failed_in t) f t m
 
 -- ---- columns of floats
@@ -213,25 +216,12 @@ after_company f t None m = keep_all m.passed (keep_all m.alone m)
 after_company f t (Some w) m = not_alone f (record { area = codes "company"; word = codes "sum"; root = f; by = lack t.least t.sum }) m
 
 abbrev pub after_column : ToldColumn → Summary → Summary
-after_column (heads f t) m = after_heads f t t.failed m
-after_column (joining f t) m = after_joining f t t.failed m
-after_column (companied f t) m = after_company f t t.failed m
-after_column (takes f) m = put_at f (codes "page") m
+after_column (Heads f t) m = after_heads f t t.failed m
+after_column (Joins f t) m = after_joining f t t.failed m
+after_column (Companied f t) m = after_company f t t.failed m
+after_column (Takes f) m = put_at f (codes "page") m
 
 -- ---- sheets
-
--- the line of the float whose box a node is, at this place
-abbrev pub is_float_node : (Where → Bool) → Float → PlainKind → Bool
-is_float_node at f (plain (hbox (what.Float name class place item) h d)) = at place && (f.line == item)
-is_float_node at f k = false
-
-abbrev pub has_float : (Where → Bool) → Float → List PlainNode → Bool
-has_float at f [] = false
-has_float at f (n ∷ ns) = is_float_node at f n.kind || has_float at f ns
-
-abbrev pub is_here : Where → Bool
-is_here places.Here = true
-is_here w = false
 
 -- a float that a break carried in the text missed the sheets since its decision
 abbrev pub carried : ℕ → Story → Story
@@ -239,12 +229,13 @@ carried sheets s =
     if s.put == sheets then s
     else record (missed (sheets - s.put) (Some (record { area = codes "here"; word = codes "carried"; root = s.float; by = pos 0 })) s) { put = sheets }
 
-abbrev pub on_column : ℕ → PlainColumn → Story → Story
-on_column sheets c s = if has_float is_here s.float c.nodes then carried sheets s else missed_sheet s
+-- the float of a line stands in the text of the column that is put out
+abbrev pub after_stands : ℕ → Summary → Summary
+after_stands line m = record m { stories = map (λ s. if s.float.line == line then carried m.sheets s else s) m.stories }
 
 -- a column is put out: what waits misses it
-abbrev pub after_output : PlainColumn → Summary → Summary
-after_output c m = record m { stories = map (on_column m.sheets c) m.stories; sheets = m.sheets + 1 }
+abbrev pub after_output : Summary → Summary
+after_output m = record m { stories = map missed_sheet m.stories; sheets = m.sheets + 1 }
 
 -- the word of the place of a float whose box a node is
 abbrev pub place_of_node : Float → PlainKind → Option (List ℕ) → Option (List ℕ)
@@ -272,14 +263,15 @@ after_page page sheet m = record m { stories = map (λ s. landed_at page (place_
 -- ---- the summary of a run
 
 abbrev pub after_tale : Tale → Summary → Summary
-after_tale (waits at f) m = begun_story f at.page (Some (record { area = codes "wait"; word = codes "wide"; root = f; by = pos 0 })) m
-after_tale (calls at f h) m = begun_story f at.page None (record m { found = []; alone = [] })
-after_tale (decides f t) m = after_told f t m
-after_tale (begins at z) m = record m { clearing = z.clearing; alone = []; passed = []; found = [] }
-after_tale (in_column t) m = after_column t m
-after_tale (back f place) m = keep f (record { area = codes "clear"; word = codes "back"; root = f; by = pos 0 }) m
-after_tale (beside at n height reach placed) m = m
-after_tale (put_out c) m = after_output c m
+after_tale (Waits at f) m = begun_story f at.page (Some (record { area = codes "wait"; word = codes "wide"; root = f; by = pos 0 })) m
+after_tale (Calls at f h) m = begun_story f at.page None (record m { found = []; alone = [] })
+after_tale (Decides f t) m = after_told f t m
+after_tale (Begins at z) m = record m { clearing = z.clearing; alone = []; passed = []; found = [] }
+after_tale (InColumn t) m = after_column t m
+after_tale (Back f place) m = keep f (record { area = codes "clear"; word = codes "back"; root = f; by = pos 0 }) m
+after_tale (Beside at n height reach placed) m = m
+after_tale (Stands line) m = after_stands line m
+after_tale PutOut m = after_output m
 
 abbrev pub after_event : RunEvent → Summary → Summary
 after_event (offered t) m = m

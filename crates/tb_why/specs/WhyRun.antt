@@ -11,7 +11,8 @@ use Rattle.tb_output.specs.Output.{out}
 use Rattle.tb_items.specs.RunEvents.{RunEvent, sent}
 use Rattle.tb_steps.specs.Run.{Progress, progress, Step, ends, goes_on, step, firings_left, held_count}
 use Rattle.tb_items.specs.Classes.{classes_of}
-use Rattle.tb_told.specs.Tales.{Tale, waits}
+use Rattle.tb_told.specs.declared.Tale.{Tale}
+use Rattle.tb_told.specs.declared.Tale.TheVariants.{Waits}
 use Rattle.tb_why.specs.Firing.{spot_of, firing_pieces, WhyEvent, told, sends, woven}
 
 -- an event of the run, or a tale
@@ -48,7 +49,7 @@ told_among (tells t ∷ xs) = t ∷ told_among xs
 
 -- the wide floats of release 2014 that came into their list while the page was filled
 abbrev pub wait_tales : State → State → List Shown
-wait_tales s now = map (λ f. tells (waits (spot_of now) f)) (drop (length s.floats.second) now.floats.second)
+wait_tales s now = map (λ f. tells (Waits (spot_of now) f)) (drop (length s.floats.second) now.floats.second)
 
 -- a firing, if it is allowed
 abbrev pub firing_shown : Params → State → Fired → List Shown
