@@ -4,19 +4,25 @@
 
 mod amounts;
 mod areas;
+mod choices;
 mod columns;
+mod company;
+mod copies;
 mod decisions;
 mod fields;
 mod filling;
 mod heads;
 mod laws;
 mod places;
+mod taken;
 mod tales;
 mod telling;
 mod tested;
 
 pub use crate::areas::{above_both, at_bottom, at_top, entering_current, entering_next, in_text};
 pub use crate::columns::{put_alone, put_company, put_joining};
+pub use crate::company::tell_column;
+pub use crate::copies::copied;
 pub use crate::decisions::{
     put_above_both, put_at_bottom, put_at_top, put_back, put_entering, put_goes, put_in_text,
 };
@@ -24,6 +30,7 @@ pub use crate::filling::{put_doubled, put_filled};
 pub use crate::heads::alone_at;
 pub use crate::laws::{the_company_is_told, what_is_told_is_the_decision, yes_says_that_all_hold};
 pub use crate::places::{put_begins, put_beside, put_call, put_wait};
+pub use crate::taken::take_company;
 pub use crate::tales::{Piece, Tale, Told, ToldColumn};
 pub use crate::telling::{put_called, put_double, put_next};
 use tb_node::Float;
