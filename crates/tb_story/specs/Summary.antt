@@ -22,7 +22,7 @@ use Rattle.tb_story.specs.declared.Area.TheVariants as areas
 use Rattle.tb_story.specs.declared.Cause.TheVariants as causes
 use Rattle.tb_story.specs.declared.Kept.{Kept}
 use Rattle.tb_story.specs.declared.Noted.{Noted}
-use Rattle.tb_story.specs.Story.{StoryView, is_by_places, or_else, begun, kept_back, placed_at, landed_at, missed_sheet, carried, with_story, last_of}
+use Rattle.tb_story.specs.Story.{StoryView, is_by_places, is_deferred, or_else, begun, kept_back, placed_at, landed_at, missed_sheet, carried, with_story, last_of}
 
 -- the stories in their order, how many sheets there were, what failed in the areas at this decision, whether floats are
 -- cleared, why floats head no column at this start, and why they stay behind a company
@@ -131,8 +131,7 @@ nothing_found m = record m { found = None }
 
 -- a float goes somewhere, or is kept
 abbrev pub decided : Float → Where → SummaryView → SummaryView
-decided f places.Deferred m = nothing_found (keep_if f (reason_of f.line m) m)
-decided f w m = nothing_found (put_at f w m)
+decided f place m = nothing_found (if is_deferred place then keep_if f (reason_of f.line m) m else put_at f place m)
 
 -- an area was tested: with what must be gained for its room and for its share
 abbrev pub tested_in : Area → Float → Option Float → ℤ → ℤ → Option Test → SummaryView → SummaryView

@@ -8,7 +8,8 @@ use crate::{Group, Kept, Story};
 use std::alloc::{AllocError, Global};
 use tb_node::{Float, Where};
 
-fn is_deferred(place: Where) -> bool
+/// Whether a float has no place yet.
+pub(crate) fn is_deferred(place: Where) -> bool
     ensures { result ≡ is_deferred place }
 {
     matches!(place, Where::Deferred)
