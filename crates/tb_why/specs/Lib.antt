@@ -1,4 +1,5 @@
 pub mod Firing
+pub mod Seen
 pub mod WhyRun
 pub mod Summary
 pub mod ShownLines
