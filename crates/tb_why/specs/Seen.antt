@@ -2,7 +2,6 @@
 -- page before. Each definition is that of `Firing`, or of a step of the work, over what is seen.
 use Rattle.std.specs.Prelude.{ℕ, zero, suc, ℤ, pos, ◌+◌, ◌+ℤ◌, ◌-ℤ◌, Bool, true, false, not, ◌&&◌, List, [], ◌∷◌, ◌++◌, length, map, Option, Some, None, int_le, int_lt, if◌then◌else◌}
 use Rattle.tb_scaled.specs.Scaled.{eject_penalty}
-use Rattle.tb_node.specs.declared.Float.{Float}
 use Rattle.tb_node.specs.declared.Margin.{Margin}
 use Rattle.tb_node.specs.declared.Where.TheVariants as places
 use Rattle.tb_node.specs.PlainNodes.{node_shape}
@@ -11,11 +10,9 @@ use Rattle.tb_param.specs.declared.Params.{Params}
 use Rattle.tb_builder.specs.FiredPages.{Fired}
 use Rattle.tb_float.specs.declared.Entry.{Entry}
 use Rattle.tb_float.specs.declared.Entry.TheVariants as entries
-use Rattle.tb_float.specs.declared.Part.{Part}
 use Rattle.tb_float.specs.declared.Suppress.{Suppress}
 use Rattle.tb_float.specs.Lists.{FloatLists, wide_part, wide_waiting, with_wide_waiting}
-use Rattle.tb_area.specs.Area.{next_area_place, goes_double}
-use Rattle.tb_area.specs.Deferred.{gone_to, still_before, filled, gone_double, still_single, doubled}
+use Rattle.tb_area.specs.Deferred.{filled, doubled}
 use Rattle.tb_fpage.specs.Company.{Choice, company, left_floats}
 use Rattle.tb_margin.specs.Margin.{placed_note}
 use Rattle.tb_column.specs.Column.{Notes}
@@ -31,8 +28,8 @@ use Rattle.tb_told.specs.declared.Tale.{Tale}
 use Rattle.tb_told.specs.declared.Tale.TheVariants.{Calls, Beside, PutOut, Stands}
 use Rattle.tb_told.specs.declared.Piece.{Piece}
 use Rattle.tb_told.specs.declared.Piece.TheVariants.{Says, NextSent}
-use Rattle.tb_told.specs.AreaTold.{told_call, told_next, told_wide}
-use Rattle.tb_told.specs.Filled.{none_suppressed}
+use Rattle.tb_told.specs.AreaTold.{told_call}
+use Rattle.tb_told.specs.Filled.{filled_pieces, none_suppressed, doubled_pieces}
 use Rattle.tb_told.specs.Tales.{tales, decisions, column_tales, back_tales, here_lines}
 
 -- what the tales of a firing depend on: the floats, the page and the column that are being made, the suppress flags, how far
@@ -100,20 +97,6 @@ abbrev pub with_lists : FloatLists → Seen → Seen
 with_lists l v = record v { floats = l }
 
 -- ---- floats that wait are tried
-
--- what is told of each float that waits, as it is tried for the next column; those before it are those that stay
-abbrev pub filled_pieces : Params → Suppress → List Float → List Float → FloatLists → List Piece
-filled_pieces p s before [] l = []
-filled_pieces p s before (f ∷ rest) l =
-    let place = next_area_place p l s before f in
-    tales (decisions f (told_next p l s before f)) ++ filled_pieces p s (still_before place f before) rest (gone_to place f before rest l)
-
--- what is told of each float of a list, as it is tried for the space above the next two columns
-abbrev pub doubled_pieces : Part → Params → List Float → List Float → FloatLists → List Piece
-doubled_pieces from p before [] l = []
-doubled_pieces from p before (f ∷ rest) l =
-    let goes = goes_double p l none_suppressed before f in
-    tales (decisions f (told_wide p l none_suppressed before f)) ++ doubled_pieces from p (still_single goes f before) rest (gone_double from goes f before rest l)
 
 -- each float that waits is told of, as it is tried for the next column
 abbrev pub fill_told : Params → Seen → List Piece
