@@ -1,26 +1,17 @@
-use Rattle.std.proofs.Common.{◌≤◌, [], length, subst, refl, ◌∙◌, arith}
-use Rattle.tb_text.proofs.FrontLemmas.{PutSoFar, put-begins, put-ends, cut-after, fails}
-use Rattle.tb_told.specs.Filled.{filled_lines}
-use Rattle.tb_told.proofs.FillingLemmas.{turn-lines, lines-over}
-use Rattle.tb_told.proofs.filling.put_filled.Goals as goal
+use Rattle.std.proofs.Common.{◌≤◌, length, refl, ◌∙◌, arith}
+use Rattle.tb_told.proofs.FillingLemmas.{told-last, pieces-over}
+use Rattle.tb_told.proofs.filling.tell_filled.Goals as goal
 
 pub loop-turn-init : goal.loop-turn-init
-loop-turn-init c = record { lists = refl; lines = put-begins _ _; left = refl }
+loop-turn-init c = record { lists = refl; told = refl; left = refl }
 
 pub loop-turn-preserved : goal.loop-turn-preserved
 loop-turn-preserved c =
-    let t = c.in_ok-kept.ensures.ok in
-    record { lists = c.loop-turn.invariant.lists ∙ t.lists; lines = turn-lines c.loop-turn.invariant.lines t; left = omega (arith, t.left, c.loop-turn.invariant.left) }
+    let t = c.in_ok-kept.ensures in
+    record { lists = c.loop-turn.invariant.lists ∙ t.lists; told = t.pieces ∙ c.loop-turn.invariant.told; left = omega (arith, t.left, c.loop-turn.invariant.left) }
 
-pub returns-in_err-kept-clause-lines : goal.returns-in_err-kept-clause-lines
-returns-in_err-kept-clause-lines c =
-    let so_far = c.loop-turn.invariant.lines in
-    fails _ _ _ _ c.from_residual.ensures.0 (cut-after so_far.put _ so_far.front so_far.appended c.in_err-kept.ensures.err)
-
-pub returns-clause-lines : goal.returns-clause-lines
-returns-clause-lines c =
-    let p = c.args.p.now in
-    let s = c.args.s.now in
-    let l = c.args.pool.now.lists in
-    let over : length c.loop-turn.pool.lists.deferred ≤ c.loop-turn.kept = omega (arith, c.loop-turn.invariant.left, c.loop-turn-test.false) in
-    put-ends (subst (PutSoFar c.args.out.now.items (filled_lines p s [] l.deferred l) c.loop-turn.out.items) (lines-over p s c.loop-turn.kept c.loop-turn.pool.lists over) c.loop-turn.invariant.lines)
+pub returns-clause-told : goal.returns-clause-told
+returns-clause-told c =
+    let m = c.loop-turn.pool.lists in
+    let over : length m.deferred ≤ c.loop-turn.kept = omega (arith, c.loop-turn.invariant.left, c.loop-turn-test.false) in
+    told-last c.args.pieces.now.items c.loop-turn.pieces.items _ _ (pieces-over c.args.p.now c.args.s.now c.loop-turn.kept m over) c.loop-turn.invariant.told

@@ -1,16 +1,13 @@
-use Rattle.std.proofs.Common.{sym, ap, ◌∙◌, FitsSigned, w64, rules}
+use Rattle.std.proofs.Common.{[], ◌∷◌, sym, ap, ◌∙◌, FitsSigned, w64, rules}
 use Rattle.std.specs.Prelude.{◌+ℤ◌}
 use Rattle.std.proofs.lemmas.Int.{to_z-of_z}
 use Rattle.tb_scaled.specs.Scaled.{max_ℤ}
 use Rattle.tb_node.specs.declared.Where.TheVariants.{Deferred}
-use Rattle.tb_report.specs.Lines.{where_text}
-use Rattle.tb_text.proofs.FrontLemmas.{cut-in, fails, on_joined}
 use Rattle.tb_area.specs.Area.{text_minimum}
-use Rattle.tb_told.specs.declared.Told.TheVariants.{Enters}
+use Rattle.tb_told.specs.declared.Told.TheVariants.{Enters, Goes}
 use Rattle.tb_told.specs.AreaTold.{told_column, told_call}
-use Rattle.tb_told.specs.Lines.{enter_line, goes_line, told_lines}
-use Rattle.tb_told.proofs.TellingLemmas.{first-lines, enters-on, enters-not}
-use Rattle.tb_told.proofs.telling.put_called.Goals as goal
+use Rattle.tb_told.proofs.TellingLemmas.{told-on, enters-on, enters-not}
+use Rattle.tb_told.proofs.telling.tell_called.Goals as goal
 
 pub returns-then-is_yes : goal.returns-then-is_yes
 returns-then-is_yes c =
@@ -24,10 +21,9 @@ returns-then-is_yes c =
     let told = simp to_z-of_z at c.entering_current-told.ensures.told in
     let passes = sym c.is_yes.ensures ∙ c.if-is_yes.true in
     let need = ap (λ u. u.need) told in
-    let back = rw need at (simp to_z-of_z at c.put_column.ensures) in
-    on_joined c.put_column.result c.args.out.now.items c.put_entering.new.out.items c.put_column.new.out.items
-    (enter_line f.name c.entering_current-told.result) (told_lines f.name (told_column p l s r f)) (told_lines f.name (told_call p l s c.args.page_height f))
-    (enters-on p l s l.deferred r f c.entering_current-told.result (told_column p l s r f) told passes) c.in_ok-put_entering.ensures back
+    let back = rw need at (simp to_z-of_z at c.tell_column.ensures) in
+    told-on c.tell_column.result f c.args.pieces.now.items c.tell.new.pieces.items c.tell_column.new.pieces.items (Enters c.entering_current-told.result) (told_column p l s r f) (told_call p l s c.args.page_height f)
+    (enters-on p l s l.deferred r f c.entering_current-told.result (told_column p l s r f) told passes) c.in_ok-tell.ensures back
 
 pub returns-else-is_yes : goal.returns-else-is_yes
 returns-else-is_yes c =
@@ -39,12 +35,5 @@ returns-else-is_yes c =
     let rr = c.ranges.page_height in
     let told = simp to_z-of_z at c.entering_current-told.ensures.told in
     let stops = sym c.is_yes.ensures ∙ c.if-is_yes.false in
-    on_joined c.put_goes.result c.args.out.now.items c.put_entering.new.out.items c.put_goes.new.out.items
-    (enter_line f.name c.entering_current-told.result) (goes_line f.name (where_text Deferred)) (told_lines f.name (told_call p l s c.args.page_height f))
-    (enters-not p l s l.deferred r f c.entering_current-told.result (told_column p l s r f) told stops) c.in_ok-put_entering.ensures c.put_goes.ensures
-
-pub returns-in_err-put_entering : goal.returns-in_err-put_entering
-returns-in_err-put_entering c =
-    let rr = c.ranges.page_height in
-    let told = simp to_z-of_z at c.entering_current-told.ensures.told in
-    fails _ _ _ _ c.from_residual.ensures.0 (cut-in _ _ (first-lines c.args.f.now.name _ _ _ (ap (λ t. Enters t) told)) c.in_err-put_entering.ensures)
+    told-on c.tell-2.result f c.args.pieces.now.items c.tell.new.pieces.items c.tell-2.new.pieces.items (Enters c.entering_current-told.result) (Goes Deferred ∷ []) (told_call p l s c.args.page_height f)
+    (enters-not p l s l.deferred r f c.entering_current-told.result (told_column p l s r f) told stops) c.in_ok-tell.ensures c.tell-2.ensures

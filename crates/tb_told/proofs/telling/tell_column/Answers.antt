@@ -1,15 +1,12 @@
-use Rattle.std.proofs.Common.{sym, ap, ◌∙◌, FitsSigned, w64, rules}
+use Rattle.std.proofs.Common.{[], ◌∷◌, sym, ap, ◌∙◌, FitsSigned, w64, rules}
 use Rattle.std.specs.Prelude.{is_some}
 use Rattle.std.proofs.lemmas.Int.{to_z-of_z}
 use Rattle.tb_node.specs.declared.Where.TheVariants.{Here}
-use Rattle.tb_report.specs.Lines.{where_text}
-use Rattle.tb_text.proofs.FrontLemmas.{cut-in, fails, on_joined}
-use Rattle.tb_told.specs.declared.Told.TheVariants.{TestsHere}
+use Rattle.tb_told.specs.declared.Told.TheVariants.{TestsHere, Goes}
 use Rattle.tb_told.specs.AreaTold.{told_bottom, told_areas, told_column}
-use Rattle.tb_told.specs.Lines.{here_line, goes_line, told_lines}
 use Rattle.tb_told.proofs.TestedLemmas.{first_is}
-use Rattle.tb_told.proofs.TellingLemmas.{first-lines, here-goes, here-bottom, here-areas}
-use Rattle.tb_told.proofs.telling.put_column.Goals as goal
+use Rattle.tb_told.proofs.TellingLemmas.{told-on, here-goes, here-bottom, here-areas}
+use Rattle.tb_told.proofs.telling.tell_column.Goals as goal
 
 pub returns-then-is_yes : goal.returns-then-is_yes
 returns-then-is_yes c =
@@ -17,12 +14,12 @@ returns-then-is_yes c =
     let l = c.args.pool.now.lists in
     let s = c.args.s.now in
     let f = c.args.f.now in
+    let r = c.args.required in
     let rr = c.ranges.required in
     let told = simp to_z-of_z at c.in_text-told.ensures.told in
     let passes = sym c.is_yes.ensures ∙ c.if-is_yes.true in
-    on_joined c.put_goes.result c.args.out.now.items c.put_in_text.new.out.items c.put_goes.new.out.items
-    (here_line f.name c.in_text-told.result) (goes_line f.name (where_text Here)) (told_lines f.name (told_column p l s c.args.required f))
-    (here-goes p l s c.args.required f c.in_text-told.result told passes) c.in_ok-put_in_text.ensures c.put_goes.ensures
+    told-on c.tell-2.result f c.args.pieces.now.items c.tell.new.pieces.items c.tell-2.new.pieces.items (TestsHere c.in_text-told.result) (Goes Here ∷ []) (told_column p l s r f)
+    (here-goes p l s r f c.in_text-told.result told passes) c.in_ok-tell.ensures c.tell-2.ensures
 
 pub returns-then-is_some : goal.returns-then-is_some
 returns-then-is_some c =
@@ -30,14 +27,14 @@ returns-then-is_some c =
     let l = c.args.pool.now.lists in
     let s = c.args.s.now in
     let f = c.args.f.now in
+    let r = c.args.required in
     let rr = c.ranges.required in
     let told = simp to_z-of_z at c.in_text-told.ensures.told in
     let stops = sym c.is_yes.ensures ∙ c.if-is_yes.false in
-    let back = simp to_z-of_z at c.put_bottom.ensures in
+    let back = simp to_z-of_z at c.tell_bottom.ensures in
     let held = sym (first_is f.class l.bottom) ∙ sym (ap (λ u. is_some u.blocker) told) ∙ sym c.is_some.ensures ∙ c.if-is_some.true in
-    on_joined c.put_bottom.result c.args.out.now.items c.put_in_text.new.out.items c.put_bottom.new.out.items
-    (here_line f.name c.in_text-told.result) (told_lines f.name (told_bottom p l s c.args.required f)) (told_lines f.name (told_column p l s c.args.required f))
-    (here-bottom p l s c.args.required f c.in_text-told.result told stops held) c.in_ok-put_in_text.ensures back
+    told-on c.tell_bottom.result f c.args.pieces.now.items c.tell.new.pieces.items c.tell_bottom.new.pieces.items (TestsHere c.in_text-told.result) (told_bottom p l s r f) (told_column p l s r f)
+    (here-bottom p l s r f c.in_text-told.result told stops held) c.in_ok-tell.ensures back
 
 pub returns-else-is_some : goal.returns-else-is_some
 returns-else-is_some c =
@@ -45,20 +42,14 @@ returns-else-is_some c =
     let l = c.args.pool.now.lists in
     let s = c.args.s.now in
     let f = c.args.f.now in
+    let r = c.args.required in
     let rr = c.ranges.required in
     let n : FitsSigned w64 c.in_text-told.result.need = search rules in
     let d : FitsSigned w64 c.after_text-low.result = search rules in
     let told = simp to_z-of_z at c.in_text-told.ensures.told in
     let stops = sym c.is_yes.ensures ∙ c.if-is_yes.false in
     let low = simp to_z-of_z at c.after_text-low.ensures.value in
-    let back = simp to_z-of_z at c.put_areas.ensures in
+    let back = simp to_z-of_z at c.tell_areas.ensures in
     let free = sym (first_is f.class l.bottom) ∙ sym (ap (λ u. is_some u.blocker) told) ∙ sym c.is_some.ensures ∙ c.if-is_some.false in
-    on_joined c.put_areas.result c.args.out.now.items c.put_in_text.new.out.items c.put_areas.new.out.items
-    (here_line f.name c.in_text-told.result) (told_lines f.name (told_areas p l s c.after_text-low.result f)) (told_lines f.name (told_column p l s c.args.required f))
-    (here-areas p l s c.args.required c.after_text-low.result f c.in_text-told.result told stops free low) c.in_ok-put_in_text.ensures back
-
-pub returns-in_err-put_in_text : goal.returns-in_err-put_in_text
-returns-in_err-put_in_text c =
-    let rr = c.ranges.required in
-    let told = simp to_z-of_z at c.in_text-told.ensures.told in
-    fails _ _ _ _ c.from_residual.ensures.0 (cut-in _ _ (first-lines c.args.f.now.name _ _ _ (ap (λ t. TestsHere t) told)) c.in_err-put_in_text.ensures)
+    told-on c.tell_areas.result f c.args.pieces.now.items c.tell.new.pieces.items c.tell_areas.new.pieces.items (TestsHere c.in_text-told.result) (told_areas p l s c.after_text-low.result f) (told_column p l s r f)
+    (here-areas p l s r c.after_text-low.result f c.in_text-told.result told stops free low) c.in_ok-tell.ensures back

@@ -1,20 +1,17 @@
-use Rattle.std.proofs.Common.{◌++◌, take, sym, ap, ◌∙◌, append-nil, FitsSigned, w64, rules}
+use Rattle.std.proofs.Common.{[], ◌∷◌, take, sym, ap, ◌∙◌, FitsSigned, w64, rules}
 use Rattle.std.specs.Prelude.{◌+ℤ◌}
 use Rattle.std.proofs.lemmas.Int.{to_z-of_z}
 use Rattle.tb_node.specs.declared.Where.TheVariants.{Deferred}
-use Rattle.tb_report.specs.Lines.{where_text}
-use Rattle.tb_text.proofs.FrontLemmas.{cut-in, fails, on_joined}
 use Rattle.tb_area.specs.Area.{text_minimum}
-use Rattle.tb_told.specs.declared.Told.TheVariants.{Enters}
+use Rattle.tb_told.specs.declared.Told.TheVariants.{Enters, Goes}
 use Rattle.tb_told.specs.AreaTold.{told_areas, told_next}
-use Rattle.tb_told.specs.Lines.{enter_line, goes_line, told_lines}
-use Rattle.tb_told.proofs.TellingLemmas.{first-lines, enters-on, enters-not, not-asked, asked}
-use Rattle.tb_told.proofs.telling.put_next.Goals as goal
+use Rattle.tb_told.proofs.TellingLemmas.{told-on, told-none, enters-on, enters-not, not-asked, asked}
+use Rattle.tb_told.proofs.telling.tell_next.Goals as goal
 
 pub returns-then-f : goal.returns-then-f
 returns-then-f c =
     let f = c.args.f.now in
-    sym (ap (λ z. c.args.out.now.items ++ z) (sym (not-asked f.name f.wide _ c.if-f.true)) ∙ append-nil _)
+    told-none f c.args.pieces.now.items _ (not-asked f.wide _ c.if-f.true)
 
 pub returns-then-is_yes : goal.returns-then-is_yes
 returns-then-is_yes c =
@@ -28,10 +25,9 @@ returns-then-is_yes c =
     let told = c.entering_next-told.ensures.told in
     let passes = sym c.is_yes.ensures ∙ c.if-is_yes.true in
     let need = ap (λ u. u.need) told in
-    let back = rw need at (simp to_z-of_z at c.put_areas.ensures) in
-    on_joined c.put_areas.result c.args.out.now.items c.put_entering.new.out.items c.put_areas.new.out.items
-    (enter_line f.name c.entering_next-told.result) (told_lines f.name (told_areas p l s r f)) (told_lines f.name (told_next p l s before f))
-    (enters-on p l s before r f c.entering_next-told.result (told_areas p l s r f) told passes ∙ asked f.name f.wide _ c.if-f.false) c.in_ok-put_entering.ensures back
+    let back = rw need at (simp to_z-of_z at c.tell_areas.ensures) in
+    told-on c.tell_areas.result f c.args.pieces.now.items c.tell.new.pieces.items c.tell_areas.new.pieces.items (Enters c.entering_next-told.result) (told_areas p l s r f) (told_next p l s before f)
+    (enters-on p l s before r f c.entering_next-told.result (told_areas p l s r f) told passes ∙ asked f.wide _ c.if-f.false) c.in_ok-tell.ensures back
 
 pub returns-else-is_yes : goal.returns-else-is_yes
 returns-else-is_yes c =
@@ -43,12 +39,5 @@ returns-else-is_yes c =
     let r = f.height +ℤ text_minimum p l f in
     let told = c.entering_next-told.ensures.told in
     let stops = sym c.is_yes.ensures ∙ c.if-is_yes.false in
-    on_joined c.put_goes.result c.args.out.now.items c.put_entering.new.out.items c.put_goes.new.out.items
-    (enter_line f.name c.entering_next-told.result) (goes_line f.name (where_text Deferred)) (told_lines f.name (told_next p l s before f))
-    (enters-not p l s before r f c.entering_next-told.result (told_areas p l s r f) told stops ∙ asked f.name f.wide _ c.if-f.false) c.in_ok-put_entering.ensures c.put_goes.ensures
-
-pub returns-in_err-put_entering : goal.returns-in_err-put_entering
-returns-in_err-put_entering c =
-    let f = c.args.f.now in
-    let told = c.entering_next-told.ensures.told in
-    fails _ _ _ _ c.from_residual.ensures.0 (cut-in _ _ (first-lines f.name _ _ _ (ap (λ t. Enters t) told) ∙ asked f.name f.wide _ c.if-f.false) c.in_err-put_entering.ensures)
+    told-on c.tell-2.result f c.args.pieces.now.items c.tell.new.pieces.items c.tell-2.new.pieces.items (Enters c.entering_next-told.result) (Goes Deferred ∷ []) (told_next p l s before f)
+    (enters-not p l s before r f c.entering_next-told.result (told_areas p l s r f) told stops ∙ asked f.wide _ c.if-f.false) c.in_ok-tell.ensures c.tell-2.ensures
