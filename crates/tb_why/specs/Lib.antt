@@ -1,4 +1,6 @@
 pub mod Firing
+pub mod Seen
+pub mod SeenSteps
 pub mod WhyRun
 pub mod Summary
 pub mod ShownLines
