@@ -5,3 +5,4 @@ pub mod ValueLemmas
 pub mod TellingLemmas
 pub mod FillingLemmas
 pub mod DoublingLemmas
+pub mod StandingLemmas

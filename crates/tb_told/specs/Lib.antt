@@ -5,3 +5,4 @@ pub mod Tales
 pub mod ColumnPieces
 pub mod Lines
 pub mod Filled
+pub mod Standing

@@ -22,10 +22,11 @@ use Rattle.tb_output.specs.Act.{went, full, act_on}
 use Rattle.tb_sheet.specs.Asked.{IsSizedAct}
 use Rattle.tb_items.specs.GalleyNodes.{IsGalleyNode}
 use Rattle.tb_items.specs.RunEvents.{offered, sent}
-use Rattle.tb_steps.specs.Run.{done, pool_full, Progress, after_events, progress_by, progress, ends, after_progress, step, firing_step}
+use Rattle.tb_steps.specs.Run.{done, pool_full, Progress, after_events, progress_by, progress, ends, after_progress, step}
 use Rattle.tb_steps.specs.Runnable.{AreRunnable}
 use Rattle.tb_run.specs.ServedStates.{notes_waiting, notes_left, IsServed}
 use Rattle.tb_run.specs.Routine.{between_pages}
+use Rattle.tb_run.specs.FilledPages.{reach_in, progress_in, page_in}
 use Rattle.tb_run.proofs.ServedAgain.FiredNodes.{served-pruned, nodes-both, nodes-sized, nodes-served, notes-pruned}
 use Rattle.tb_run.proofs.Filled.ActedStates.{ActKeeps, keeps-same, keeps-then, act-sized, act-keeps, act-served, without-count}
 use Rattle.tb_run.proofs.Filled.ProgressLemmas.{progress-tried, progress-acted, progress-stuck}
@@ -143,17 +144,26 @@ module _ (p : Params) (s : State) where
           keeps = keeps-then p s t u h.keeps (act-keeps p a (laid c ask) (laid d ask) t u ws qs runs n.whole h.served e);
         }
 
-      -- it found no room: the run ends
-      pub step-full : (line live : ℕ) → act_on p t a ≡ full line live → step p s ≡ ends (so_far rs).events (so_far rs).records (pool_full line live)
-      unfolding step
-      step-full line live e =
+      -- it found no room
+      pub full-progress : (line live : ℕ) → act_on p t a ≡ full line live → progress_in p s ≡ record { state = (so_far rs).state; events = (so_far rs).events; records = (so_far rs).records; fault = Some (line, live) }
+      full-progress line live e =
           let more = (reach_ahead d ask).reached in
           let reached : (page_reach start ask).reached ≡ rs ++ acted a ∷ more = (ap (λ (v : Reach). v.reached) (n.come.goes n.stop).reach ∙ append_assoc rs (acted a ∷ []) more) in
-          let q : progress p (page_reach start ask).reached awful_bad s ≡ record { state = (so_far rs).state; events = (so_far rs).events; records = (so_far rs).records; fault = Some (line, live) } =
-          (ap so_far reached ∙ progress-stuck p rs s h.none a more line live (of-state ∙ e)) in
-          ap (λ (q : Progress). after_progress p (page_reach start ask) q q.fault) q
+          ap so_far reached ∙ progress-stuck p rs s h.none a more line live (of-state ∙ e)
+
+      -- the run ends
+      pub step-full : (line live : ℕ) → act_on p t a ≡ full line live → step p s ≡ ends (so_far rs).events (so_far rs).records (pool_full line live)
+      unfolding step
+      step-full line live e = ap (λ (q : Progress). after_progress p (page_reach start ask) q q.fault) (full-progress line live e)
 
     -- ---- nothing waits any more
+
+    -- this is all of the page, which does not fire
+    pub over-progress : ComesToEnd start rs c ask d → progress_in p s ≡ so_far rs
+    over-progress n = ap (λ (x : Reach). so_far x.reached) n.reach
+
+    pub over-fires : ComesToEnd start rs c ask d → (reach_in p s).fires ≡ false
+    over-fires n = ap (λ (x : Reach). x.fires) n.reach
 
     pub step-over : ComesToEnd start rs c ask d → step p s ≡ ends (so_far rs).events ((so_far rs).records ++ emptied (so_far rs).state.floats ∷ []) (done d.page)
     unfolding step
@@ -175,13 +185,18 @@ module _ (p : Params) (s : State) where
     pub fired-is : page_fired start ask ≡ fired_of ask s.classes s.boxes last
     fired-is = ap (fired_of ask s.classes s.boxes) stop.reach
 
-    pub step-fires : step p s ≡ firing_step p (so_far rs).events (so_far rs).records t (page_fired start ask)
-    unfolding step
-    step-fires =
-        ap (λ (x : Reach). let q = progress p x.reached awful_bad s in after_progress p x q q.fault) stop.reach
-        ∙ ap (after_progress p last (so_far rs)) h.none
-        ∙ (λ i. firing_step p (so_far rs).events (so_far rs).records (so_far rs).state (fired_last i))
-        ∙ (λ i. firing_step p (so_far rs).events (so_far rs).records (h.state i) (page_fired start ask))
-      where
-        fired_last : fired_of (ask_of p (so_far rs).state) (so_far rs).state.classes (so_far rs).state.boxes last ≡ page_fired start ask
-        fired_last = (λ i. fired_of (ask_of p (h.state i)) (h.state i).classes (h.state i).boxes last) ∙ (λ i. fired_of (h.keeps.asks i) (h.keeps.classes i) (h.keeps.boxes i) last) ∙ sym fired-is
+    -- this is all of the page, which fires
+    pub fires-progress : progress_in p s ≡ so_far rs
+    fires-progress = ap (λ (x : Reach). so_far x.reached) stop.reach
+
+    pub fires-is : (reach_in p s).fires ≡ true
+    fires-is = ap (λ (x : Reach). x.fires) stop.reach
+
+    pub fires-state : (progress_in p s).state ≡ t
+    fires-state = ap (λ (q : Progress). q.state) fires-progress ∙ h.state
+
+    -- the page that fires is that of the state after the acts
+    pub fires-page : page_in p s ≡ page_fired start ask
+    fires-page =
+        (λ i. fired_of (ask_of p (fires-state i)) (fires-state i).classes (fires-state i).boxes (reach_in p s))
+        ∙ (λ i. fired_of (h.keeps.asks i) (h.keeps.classes i) (h.keeps.boxes i) (reach_in p s))

@@ -34,16 +34,17 @@ use Rattle.tb_items.specs.declared.happenings.Happening.{Happening}
 use Rattle.tb_run.specs.declared.routine.Routine.{Routine}
 use Rattle.tb_run.specs.declared.routine.Ending.TheVariants as endings
 use Rattle.tb_items.specs.RunEvents.{RunEvent, offered, sent}
-use Rattle.tb_steps.specs.Run.{held_count, step_events}
+use Rattle.tb_steps.specs.Run.{held_count, Progress}
 use Rattle.tb_items.specs.declared.items_left.ItemsLeft.{ItemsLeft}
 use Rattle.tb_items.specs.ItemsLeft.{nodes_left, pieces_left, AreItemsLeft, with_more, IsOpen}
 use Rattle.tb_items.specs.Happenings.{noted_try, noted}
 use Rattle.tb_run.specs.Routine.{built_in, held_in, state_of, with_events, IsConsistent, IsReady, EndsAs}
-use Rattle.tb_run.specs.RoutinePages.{sent_happenings, HasDone, HasActed, HasNotActed, AreQuiet, IsFilledLast}
+use Rattle.tb_run.specs.FilledPages.{sent_happenings, with_page, IsFilledLast}
+use Rattle.tb_run.specs.RoutinePages.{HasDone, HasActed, HasNotActed, AreQuiet}
 use Rattle.tb_run.proofs.Turns.WholeLemmas.{built-shown, built-whole}
 use Rattle.tb_items.proofs.HappenedLemmas.{lists-append, events-append, noted-append, noted-warned, try-noted, try-lists}
 use Rattle.tb_run.proofs.Turns.HappenedLemmas.{warned-events, warned-lists}
-use Rattle.tb_run.proofs.Filled.ComingLemmas.{IsComing, start, so_far, coming-start, after, tried-events, coming-tried, acted-sized, acted-events, coming-acted, step-full, step-over}
+use Rattle.tb_run.proofs.Filled.ComingLemmas.{IsComing, start, so_far, coming-start, after, tried-events, coming-tried, acted-sized, acted-events, coming-acted, full-progress, step-full, over-progress, over-fires, step-over}
 use Rattle.tb_run.proofs.Behind.EventLemmas.{open-start}
 use Rattle.tb_run.proofs.Filled.MoreLemmas.{IsOpenFor, fits-front}
 use Rattle.tb_run.proofs.Filled.ComingPages.{coming-fits}
@@ -63,7 +64,7 @@ taken-whole q w = record { builder = w.builder; machine = taken-machine q.machin
 
 -- the state, with these boxes and nodes at the start of the page
 abbrev pub state_now : Routine → Routine → State
-state_now r q = state_shown q.store (state_of r).boxes (state_of r).waiting q.machine
+state_now r q = with_page (state_of r) q
 
 -- this much of the page was reached, and these are its happenings
 pub record IsUnderway (wanted : Bool) (r q : Routine) (hs : List Happening) : Type 0 where
@@ -226,21 +227,34 @@ module _ (wanted : Bool) (r q d : Routine) (hs : List Happening) (ready : IsRead
       filled-full now live k =
           let e = sym of-act ∙ k.full_pool s.boxes s.waiting in
           let is_step = step-full p s h.rs (held_in q) (held_in d) (state_now r q) h.coming a acts (line_of a) live e in
+          let all = full-progress p s h.rs (held_in q) (held_in d) (state_now r q) h.coming a acts (line_of a) live e in
           record {
-            quiet = subst (λ st. AreQuiet wanted hs (step_events st)) (sym is_step) h.quiet;
+            filled = record {
+              state = ap (state_now r) k.same ∙ next-state ∙ sym (ap (λ (x : Progress). x.state) all ∙ h.coming.state);
+              events = λ store. h.quiet.events store ∙ ap (λ (x : Progress). noted wanted x.events) (sym all);
+              lists = h.quiet.lists;
+              params = ap (λ (x : Routine). x.machine.params) k.same ∙ next-params;
+            };
+            none = λ none. let no : Some (line_of a, live) ≡ None = sym (ap (λ (x : Progress). x.fault) all) ∙ none in cc;
             ended = subst (EndsAs now (Some (endings.PoolFull (line_of a) live))) (sym is_step) refl;
             whole = subst IsConsistent (sym k.same) next-whole;
-            params = ap (λ (x : Routine). x.machine.params) k.same ∙ next-params;
           }
 
     -- ---- nothing waits any more
 
     pub filled-over : e ≡ events.Empty → IsFilledLast wanted r endings.Done d hs
     filled-over is =
-        let is_step = step-over p s h.rs (held_in q) (held_in d) (state_now r q) h.coming (next-is events.Empty is) in
+        let over = next-is events.Empty is in
+        let is_step = step-over p s h.rs (held_in q) (held_in d) (state_now r q) h.coming over in
+        let all = over-progress p s h.rs (held_in q) (held_in d) (state_now r q) h.coming over in
         record {
-          quiet = subst (λ st. AreQuiet wanted hs (step_events st)) (sym is_step) h.quiet;
+          filled = record {
+            state = next-state ∙ sym (ap (λ (x : Progress). x.state) all ∙ h.coming.state);
+            events = λ store. h.quiet.events store ∙ ap (λ (x : Progress). noted wanted x.events) (sym all);
+            lists = h.quiet.lists;
+            params = next-params;
+          };
+          none = λ none. over-fires p s h.rs (held_in q) (held_in d) (state_now r q) h.coming over;
           ended = subst (EndsAs d (Some endings.Done)) (sym is_step) refl;
           whole = next-whole;
-          params = next-params;
         }

@@ -44,14 +44,15 @@ use Rattle.tb_output.proofs.FiringWork.StandLemmas.{machine-live}
 use Rattle.tb_items.specs.declared.happenings.Happening.{Happening}
 use Rattle.tb_run.specs.declared.routine.Routine.{Routine}
 use Rattle.tb_items.specs.RunEvents.{RunEvent}
-use Rattle.tb_steps.specs.Run.{held_count, firing_step}
-use Rattle.tb_steps.specs.Runnable.{AreRunClasses}
+use Rattle.tb_steps.specs.Run.{held_count, Progress, firing_step}
+use Rattle.tb_steps.specs.Runnable.{AreRunnable, AreRunClasses}
 use Rattle.tb_run.specs.ServedStates.{IsTextKind, notes_left, IsServedPage}
 use Rattle.tb_run.specs.Routine.{built_in, held_in, state_of, IsConsistent, IsBetweenFirings, IsReady}
-use Rattle.tb_run.specs.RoutinePages.{fired_whole, IsBoundedPage, IsFiring}
+use Rattle.tb_items.specs.Happenings.{noted}
+use Rattle.tb_run.specs.FilledPages.{fired_whole, IsBoundedPage, IsFiring}
 use Rattle.tb_run.proofs.ServedAgain.ServedFirings.{reach_where}
 use Rattle.tb_run.proofs.Turns.CountedLemmas.{leaves-count}
-use Rattle.tb_run.proofs.Filled.ComingLemmas.{start, so_far, step-fires}
+use Rattle.tb_run.proofs.Filled.ComingLemmas.{start, fires-progress, fires-is, fires-state, fires-page}
 use Rattle.tb_run.proofs.Filled.ComingPages.{fired-mild, fired-few, fired-served}
 use Rattle.tb_run.proofs.Filled.FillingLemmas.{state_now, IsUnderway, next-is, next-whole, next-state, next-params, next-taken}
 
@@ -80,7 +81,7 @@ reach-within : (n : ℕ) (z : ℤ) → IsWithin (reach_where n) z → IsReach z
 reach-within n z h = let l = h.low in let u = h.high in record { low = omega (arith, ints, l); high = omega (arith, ints, u) }
 
 -- what waits and what is in boxes is of no account to a firing
-firing-same : (p : Params) (es : List RunEvent) (rs : List Recorded) (store : Lists Node) (bs cs : List Boxed) (ns ms : List PlainNode) (m : MachineView) (f : Fired)
+pub firing-same : (p : Params) (es : List RunEvent) (rs : List Recorded) (store : Lists Node) (bs cs : List Boxed) (ns ms : List PlainNode) (m : MachineView) (f : Fired)
     → firing_step p es rs (state_shown store bs ns m) f ≡ firing_step p es rs (state_shown store cs ms m) f
 unfolding out
 firing-same p es rs store bs cs ns ms m f = refl
@@ -111,6 +112,9 @@ module _ (wanted : Bool) (r q d : Routine) (hs : List Happening) (ready : IsRead
 
   whole : IsConsistent d
   whole = next-whole wanted r q d hs ready h ask asked e of_page sound keeps same most d_left kept
+
+  params-now : d.machine.params ≡ p
+  params-now = next-params wanted r q d hs ready h ask asked e of_page sound keeps same most d_left kept
 
   t-now : state_now r d ≡ state_now r q
   t-now = next-state wanted r q d hs ready h ask asked e of_page sound keeps same most d_left kept
@@ -191,23 +195,29 @@ module _ (wanted : Bool) (r q d : Routine) (hs : List Happening) (ready : IsRead
   }
 
   pub filled-fires : IsFiring wanted r page d hs
-  filled-fires = record {
-    events = (so_far p s h.rs).events;
-    records = (so_far p s h.rs).records;
-    quiet = h.quiet;
-    step_is =
-        step-fires p s h.rs (held_in q) (state_now r q) h.coming fires.stopped
-        ∙ (λ i. firing_step p (so_far p s h.rs).events (so_far p s h.rs).records (sym t-now i) (sym fired-same i))
-        ∙ firing-same p (so_far p s h.rs).events (so_far p s h.rs).records d.store s.boxes (held_in d).boxes s.waiting (held_in d).waiting d.machine (fired_whole d page);
-    whole = whole;
-    can = can-fire;
-    room = subst (λ x. TellsRoom x d.builder d.store) is told ∙ ap size_of (shapes-held (list_at d.store) (list_at d.store page.body));
-    taken = next-taken wanted r q d hs ready h ask asked e of_page sound keeps same most d_left kept;
-    params = next-params wanted r q d hs ready h ask asked e of_page sound keeps same most d_left kept;
-    classes = classes-now;
-    known = subst AreRunClasses (sym classes-now) set.classes;
-    served = served-now;
-    bounded = bounded;
-    most = most ∙ h.most;
-    ends = open_so fires.stopped;
-  }
+  filled-fires =
+      let all = fires-progress p s h.rs (held_in q) (state_now r q) h.coming fires.stopped in
+      record {
+        filled = record {
+          state = t-now ∙ sym (fires-state p s h.rs (held_in q) (state_now r q) h.coming fires.stopped);
+          events = λ store. h.quiet.events store ∙ ap (λ (x : Progress). noted wanted x.events) (sym all);
+          lists = h.quiet.lists;
+          params = params-now;
+        };
+        fires = record {
+          none = ap (λ (x : Progress). x.fault) all ∙ h.coming.none;
+          fires = fires-is p s h.rs (held_in q) (state_now r q) h.coming fires.stopped;
+          fired = fired-same ∙ sym (fires-page p s h.rs (held_in q) (state_now r q) h.coming fires.stopped);
+        };
+        can = record {
+          whole = whole;
+          can = can-fire;
+          room = subst (λ x. TellsRoom x d.builder d.store) is told ∙ ap size_of (shapes-held (list_at d.store) (list_at d.store page.body));
+          taken = next-taken wanted r q d hs ready h ask asked e of_page sound keeps same most d_left kept;
+          params = subst AreRunnable (sym params-now) set.params;
+          classes = subst AreRunClasses (sym classes-now) set.classes;
+          served = served-now;
+          bounded = bounded;
+          ends = open_so fires.stopped;
+        };
+      }

@@ -18,7 +18,8 @@ use Rattle.tb_run.specs.declared.routine.Routine.{Routine}
 use Rattle.tb_run.specs.declared.routine.Ending.TheVariants as endings
 use Rattle.tb_items.specs.Happenings.{noted_try}
 use Rattle.tb_run.specs.Routine.{built_in, held_in, state_of, with_events, IsConsistent, IsReady}
-use Rattle.tb_run.specs.RoutinePages.{HasComeTo, sent_happenings, HasActed, HasNotActed, IsFilledLast, IsFiring}
+use Rattle.tb_run.specs.FilledPages.{sent_happenings, IsFilledLast, IsFiring}
+use Rattle.tb_run.specs.RoutinePages.{HasComeTo, HasActed, HasNotActed}
 use Rattle.tb_run.proofs.Filled.FillingLemmas.{IsUnderway, left_of_page, turns_left, underway-tried, fewer-tried, act-fits, underway-acted, fewer-acted, filled-full, filled-over}
 use Rattle.tb_items.specs.ItemsLeft.{pieces_left, AreItemsLeft}
 use Rattle.tb_run.proofs.Turns.WholeLemmas.{built-whole}
