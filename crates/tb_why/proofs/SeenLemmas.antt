@@ -1,12 +1,11 @@
 -- What is told of a firing depends on what is seen of it alone: each definition of `Firing` is that of `Seen` over what is seen.
-use Rattle.std.proofs.Common.{◌≡◌, ℕ, zero, suc, pos, Bool, true, false, List, [], ◌∷◌, ◌++◌, append_assoc, length, map, Some, None, refl, sym, ap, ◌∙◌}
-use Rattle.std.specs.Prelude.{ℤ, ◌+◌, ◌+ℤ◌, ◌-ℤ◌, not, Option, int_le, int_lt, if◌then◌else◌}
+use Rattle.std.proofs.Common.{◌≡◌, ℕ, zero, suc, pos, Bool, true, false, List, [], ◌∷◌, ◌++◌, length, Some, None, refl, ap, ◌∙◌}
+use Rattle.std.specs.Prelude.{ℤ, ◌+◌, not, Option, int_le, int_lt, if◌then◌else◌}
 use Rattle.tb_scaled.specs.Scaled.{eject_penalty}
 use Rattle.tb_scaled.specs.Glue.{filling_glue}
 use Rattle.tb_node.specs.declared.Float.{Float}
 use Rattle.tb_node.specs.declared.Where.TheVariants as places
-use Rattle.tb_node.specs.PlainNodes.{PlainNode, PlainKind, node_shape, skip, made, blank_box}
-use Rattle.tb_node.specs.Sums.{size_of, last_depth}
+use Rattle.tb_node.specs.PlainNodes.{PlainNode, skip, made}
 use Rattle.tb_param.specs.declared.Params.{Params}
 use Rattle.tb_builder.specs.FiredPages.{Fired}
 use Rattle.tb_float.specs.declared.Entry.{Entry}
@@ -18,7 +17,7 @@ use Rattle.tb_float.specs.Lists.{FloatLists, IsWaiting, wide_part, wide_waiting,
 use Rattle.tb_float.specs.Rooms.{column_height_of}
 use Rattle.tb_float.proofs.WaitingLemmas.{wide-waits}
 use Rattle.tb_area.specs.Area.{AreaPlace, at_top, at_bottom, deferred, where_of, next_area_place, goes_double}
-use Rattle.tb_area.specs.Deferred.{gone_to, still_before, filled, gone_double, still_single, doubled}
+use Rattle.tb_area.specs.Deferred.{gone_to, still_before, gone_double, still_single, doubled}
 use Rattle.tb_fpage.specs.Company.{Choice, company, chosen_floats, left_floats}
 use Rattle.tb_column.specs.Column.{PlainColumn, Notes, text_column, single_floats_column, wide_floats_column}
 use Rattle.tb_sheet.specs.Sheet.{PlainSheet, PlainSent, shipped, one, wide, pair_sheet}
@@ -28,16 +27,13 @@ use Rattle.tb_output.specs.FloatMoves
 use Rattle.tb_output.specs.Pages
 use Rattle.tb_output.specs.Columns
 use Rattle.tb_output.specs.Clear
-use Rattle.tb_output.specs.Text.{without_firing_box, notes_height, list_back}
+use Rattle.tb_output.specs.Text.{without_firing_box, list_back}
 use Rattle.tb_output.specs.Output.{is_int, after_page}
-use Rattle.tb_output.proofs.ColumnPages.FillLemmas.{HasLists, fill_column-lists, fill_double-lists}
+use Rattle.tb_output.proofs.ColumnPages.FillLemmas.{HasLists, fill_double-lists}
 use Rattle.tb_told.specs.declared.Piece.{Piece}
-use Rattle.tb_told.specs.declared.Piece.TheVariants.{Says, NextSent}
-use Rattle.tb_told.specs.declared.Tale.{Tale}
-use Rattle.tb_told.specs.declared.Tale.TheVariants.{PutOut}
 use Rattle.tb_told.specs.AreaTold.{told_next, told_wide}
 use Rattle.tb_told.specs.Filled.{filled_pieces, none_suppressed, doubled_pieces}
-use Rattle.tb_told.specs.Tales.{tales, decisions, column_tales, back_tales, stands_tales, and_here, here_lines}
+use Rattle.tb_told.specs.Tales.{tales, decisions, back_tales, and_here, here_lines}
 use Rattle.tb_why.specs.Firing
 use Rattle.tb_why.specs.Firing.{spot_of, unless_over}
 use Rattle.tb_why.specs.Seen
