@@ -112,9 +112,9 @@ next-told p before (f ∷ rest) w =
     let gone = gone_to a f before rest l in
     let now = tales (decisions f (told_next p l s before f)) in
     ap (λ xs. unless_over w now ++ xs)
-        (next-told p still rest u
-        ∙ ap (λ (v : Seen.Seen). next_told p still rest v) (gone-seen p a f before rest w)
-        ∙ ap (λ fs. next_told p fs rest (Seen.with_lists gone (Seen.seen_of w))) (still-seen a f before))
+    (next-told p still rest u
+    ∙ ap (λ (v : Seen.Seen). next_told p still rest v) (gone-seen p a f before rest w)
+    ∙ ap (λ fs. next_told p fs rest (Seen.with_lists gone (Seen.seen_of w))) (still-seen a f before))
     ∙ told_both w.refused now (filled_pieces p s (still_before a f before) rest gone)
 
 fill-told : (p : Params) (w : Work) → Firing.fill_pieces p w ≡ Seen.fill_told p (Seen.seen_of w)
@@ -155,9 +155,9 @@ double-told from q p before (f ∷ rest) w =
     let gone = gone_double from goes f before rest l in
     let now = tales (decisions f (told_wide p l none_suppressed before f)) in
     ap (λ xs. unless_over w now ++ xs)
-        (double-told from q p still rest u
-        ∙ ap (λ (v : Seen.Seen). double_told from p still rest v) (gone_double-seen from q p goes f before rest w)
-        ∙ ap (λ fs. double_told from p fs rest (Seen.with_lists gone (Seen.seen_of w))) (still_double-seen goes f before))
+    (double-told from q p still rest u
+    ∙ ap (λ (v : Seen.Seen). double_told from p still rest v) (gone_double-seen from q p goes f before rest w)
+    ∙ ap (λ fs. double_told from p fs rest (Seen.with_lists gone (Seen.seen_of w))) (still_double-seen goes f before))
     ∙ told_both w.refused now (doubled_pieces from p (still_single goes f before) rest gone)
 
 fill_double-told : (p : Params) (w : Work) → Firing.fill_double_pieces p w ≡ Seen.fill_double_told p (Seen.seen_of w)
