@@ -1,6 +1,7 @@
 //! What is told of a start, and of the space above both columns: each float that waits is told of and goes to its place, one after another.
 ghost use Rattle.std.specs.Prelude.{◌≡◌, ◌<◌, ◌+◌, [], ◌++◌, length, slice_get, Some, OnOk, IfOk};
 ghost use Rattle.tb_float.specs.Lists.{HasFloatAt, IsWaiting, entries_of, floats_of};
+ghost use Rattle.tb_float.specs.Pool.{HasNoMarks};
 ghost use Rattle.tb_float.specs.Ranges.{AreFloatParams, IsExtent};
 ghost use Rattle.tb_area.specs.Deferred.{filled, doubled};
 ghost use Rattle.tb_told.specs.Filled.{filled_pieces, IsTurn, doubled_pieces, none_suppressed, IsDoubleTurn};
@@ -25,6 +26,7 @@ pub fn tell_filled(
     requires { AreFloatParams p.now }
     ensures told { OnOk result (pieces.new.items ≡ pieces.old.items ++ filled_pieces p.now s.now [] pool.old.lists.deferred pool.old.lists) }
     ensures lists { OnOk result (pool.new.lists ≡ filled p.now s.now [] pool.old.lists.deferred pool.old.lists) }
+    ensures unmarked { HasNoMarks pool.old → HasNoMarks pool.new }
 {
     let mut kept = 0;
     for _turn in 0..pool.len(Part::Deferred) {
@@ -43,7 +45,8 @@ fn tell_turn(
 ) -> Result<usize, AllocError>
     requires params { AreFloatParams p.now }
     requires within { kept < length pool.old.lists.deferred }
-    ensures { IfOk result (λ j. IsTurn p.now s.now kept j pool.old.lists pool.new.lists pieces.old.items pieces.new.items) }
+    ensures turn { IfOk result (λ j. IsTurn p.now s.now kept j pool.old.lists pool.new.lists pieces.old.items pieces.new.items) }
+    ensures unmarked { HasNoMarks pool.old → HasNoMarks pool.new }
 {
     let f = waiting(pool, kept);
     tell_next(pieces, pool, p, s, kept, &f)?;
@@ -103,6 +106,7 @@ pub fn tell_doubled(
     requires waiting { IsWaiting from }
     ensures told { OnOk result (pieces.new.items ≡ pieces.old.items ++ doubled_pieces from p.now [] (floats_of from pool.old.lists) pool.old.lists) }
     ensures lists { OnOk result (pool.new.lists ≡ doubled from p.now none_suppressed [] (floats_of from pool.old.lists) pool.old.lists) }
+    ensures unmarked { HasNoMarks pool.old → HasNoMarks pool.new }
 {
     let mut kept = 0;
     for _turn in 0..pool.len(from) {
@@ -122,7 +126,8 @@ fn tell_double_turn(
     requires params { AreFloatParams p.now }
     requires waiting { IsWaiting from }
     requires within { kept < length (floats_of from pool.old.lists) }
-    ensures { IfOk result (λ j. IsDoubleTurn from p.now kept j pool.old.lists pool.new.lists pieces.old.items pieces.new.items) }
+    ensures turn { IfOk result (λ j. IsDoubleTurn from p.now kept j pool.old.lists pool.new.lists pieces.old.items pieces.new.items) }
+    ensures unmarked { HasNoMarks pool.old → HasNoMarks pool.new }
 {
     let f = wide_waiting(pool, from, kept);
     tell_double(pieces, pool, p, from, kept, &f)?;

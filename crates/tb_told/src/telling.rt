@@ -42,7 +42,8 @@ fn is_yes(failed: Option<Test>) -> bool
 fn tell(pieces: &mut Vec<Piece>, f: &Float, told: Told) -> Result<(), AllocError>
     ensures { OnOk result (pieces.new.items ≡ pieces.old.items ++ tales (decisions f.now (told ∷ []))) }
 {
-    pieces.push(Piece::Says(Tale::Decides(*f, told)))
+    pieces.push(Piece::Says(Tale::Decides(*f, told)))?;
+    Ok(())
 }
 
 // What is told of the bottom, which is tried last, and where the float goes.

@@ -66,7 +66,8 @@ impl Seen {
         if self.over {
             return Ok(());
         }
-        pieces.push(Piece::Says(tale))
+        pieces.push(Piece::Says(tale))?;
+        Ok(())
     }
 
     /// Appends that the floats of these lines stand in the text of the next column. Fails only if memory runs out.

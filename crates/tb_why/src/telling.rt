@@ -272,7 +272,7 @@ impl Seen {
         }
         match self.first() {
             Some(Entry::Float(f)) => self.call(pieces, p, reading.page_height, &f),
-            Some(Entry::Left(m)) => self.note(pieces, p, reading.height, &m),
+            Some(Entry::Left(m)) => self.say(pieces, self.beside(p, reading.height, &m)),
             Some(Entry::Right(_)) => Ok(()),
             None => Ok(()),
         }

@@ -10,8 +10,8 @@ use Rattle.tb_told.proofs.filling.tell_double_turn.Goals as goal
 pub move_to-requires-clause-float : goal.move_to-requires-clause-float
 move_to-requires-clause-float c = waiting_stands c.args.from c.requires.waiting c.args.pool.now.lists c.args.kept c.requires.within
 
-pub returns-in-Double : goal.returns-in-Double
-returns-in-Double c =
+pub returns-in-Double-clause-turn : goal.returns-in-Double-clause-turn
+returns-in-Double-clause-turn c =
     let from = c.args.from in
     let p = c.args.p.now in
     let v = c.args.pool.now in
@@ -23,8 +23,8 @@ returns-in-Double c =
     (is_double (goes_double p v.lists none_suppressed (take k (floats_of from v.lists)) f) (c.in-Double.ensures.place none_suppressed f there))
     (ap (λ u. u.lists) moved ∙ gone-double from c.requires.waiting k f v) (c.in_ok-tell_double.ensures none_suppressed)
 
-pub returns-in_default : goal.returns-in_default
-returns-in_default c =
+pub returns-in_default-clause-turn : goal.returns-in_default-clause-turn
+returns-in_default-clause-turn c =
     let from = c.args.from in
     let p = c.args.p.now in
     let l = c.args.pool.now.lists in

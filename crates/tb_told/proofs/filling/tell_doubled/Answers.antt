@@ -6,12 +6,12 @@ use Rattle.tb_told.proofs.DoublingLemmas.{doubled-over}
 use Rattle.tb_told.proofs.filling.tell_doubled.Goals as goal
 
 pub loop-turn-init : goal.loop-turn-init
-loop-turn-init c = record { lists = refl; told = refl; left = refl }
+loop-turn-init c = record { lists = refl; told = refl; left = refl; unmarked = λ h. h }
 
 pub loop-turn-preserved : goal.loop-turn-preserved
 loop-turn-preserved c =
-    let t = c.in_ok-kept.ensures in
-    record { lists = c.loop-turn.invariant.lists ∙ t.lists; told = t.pieces ∙ c.loop-turn.invariant.told; left = omega (arith, t.left, c.loop-turn.invariant.left) }
+    let t = c.in_ok-kept.ensures.turn in
+    record { lists = c.loop-turn.invariant.lists ∙ t.lists; told = t.pieces ∙ c.loop-turn.invariant.told; left = omega (arith, t.left, c.loop-turn.invariant.left); unmarked = λ h. c.in_ok-kept.ensures.unmarked (c.loop-turn.invariant.unmarked h) }
 
 pub returns-clause-told : goal.returns-clause-told
 returns-clause-told c =

@@ -6,8 +6,8 @@ use Rattle.tb_area.proofs.DeferredWalks.{moved-top, moved-bottom}
 use Rattle.tb_told.proofs.FillingLemmas.{is-kept, turn-moved, turn-kept}
 use Rattle.tb_told.proofs.filling.tell_turn.Goals as goal
 
-pub returns-in-Top : goal.returns-in-Top
-returns-in-Top c =
+pub returns-in-Top-clause-turn : goal.returns-in-Top-clause-turn
+returns-in-Top-clause-turn c =
     let p = c.args.p.now in
     let s = c.args.s.now in
     let v = c.args.pool.now in
@@ -18,8 +18,8 @@ returns-in-Top c =
     turn-moved p s k f at_top v c.move_to.new.self c.args.pieces.now.items c.tell_next.new.pieces.items
     (moved-top p s k f v c.move_to.new.self there (c.in-Top.ensures.place f there) moved c.move_to.ensures.unmarked) c.in_ok-tell_next.ensures
 
-pub returns-in-Bottom : goal.returns-in-Bottom
-returns-in-Bottom c =
+pub returns-in-Bottom-clause-turn : goal.returns-in-Bottom-clause-turn
+returns-in-Bottom-clause-turn c =
     let p = c.args.p.now in
     let s = c.args.s.now in
     let v = c.args.pool.now in
@@ -30,8 +30,8 @@ returns-in-Bottom c =
     turn-moved p s k f at_bottom v c.move_to-in-Bottom.new.self c.args.pieces.now.items c.tell_next.new.pieces.items
     (moved-bottom p s k f v c.move_to-in-Bottom.new.self there (c.in-Bottom.ensures.place f there) moved c.move_to-in-Bottom.ensures.unmarked) c.in_ok-tell_next.ensures
 
-pub returns-in_default : goal.returns-in_default
-returns-in_default c =
+pub returns-in_default-clause-turn : goal.returns-in_default-clause-turn
+returns-in_default-clause-turn c =
     let p = c.args.p.now in
     let s = c.args.s.now in
     let l = c.args.pool.now.lists in
