@@ -1,4 +1,5 @@
 pub mod RunLemmas
 pub mod PlacementLemmas
+pub mod SeenLemmas
 pub mod AllWords
 pub mod Rows
