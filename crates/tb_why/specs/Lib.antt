@@ -2,4 +2,5 @@ pub mod Firing
 pub mod WhyRun
 pub mod Summary
 pub mod ShownLines
+pub mod ShownOf
 pub mod Placements
