@@ -11,19 +11,15 @@ mod filling;
 mod heads;
 mod laws;
 mod places;
+mod tale_lines;
 mod telling;
 mod tested;
 
-pub use crate::areas::{above_both, at_bottom, at_top, entering_current, entering_next, in_text};
-pub use crate::columns::{put_alone, put_company, put_joining};
-pub use crate::decisions::{
-    put_above_both, put_at_bottom, put_at_top, put_back, put_entering, put_goes, put_in_text,
-};
-pub use crate::filling::{put_doubled, put_filled};
+pub use crate::filling::{tell_doubled, tell_filled};
 pub use crate::heads::alone_at;
 pub use crate::laws::{the_company_is_told, what_is_told_is_the_decision, yes_says_that_all_hold};
-pub use crate::places::{put_begins, put_beside, put_call, put_wait};
-pub use crate::telling::{put_called, put_double, put_next};
+pub use crate::tale_lines::put_tale;
+pub use crate::telling::{tell_called, tell_double, tell_next};
 use tb_fpage::Wanted;
 use tb_margin::Placed;
 use tb_node::{Float, Margin, Where};
