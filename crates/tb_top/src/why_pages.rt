@@ -11,7 +11,7 @@ ghost use Rattle.tb_steps.specs.Run.{run_of};
 ghost use Rattle.tb_run.specs.Routine.{IsReady, state_of};
 ghost use Rattle.tb_laws.specs.Laws.{KeepsLaws, WithinLimits};
 ghost use Rattle.tb_laws.specs.DeadCycles.{HasRoomForCycles};
-ghost use Rattle.tb_story.specs.Summary.{story_lines};
+ghost use Rattle.tb_story.specs.StoryLines.{story_lines};
 ghost use Rattle.tb_why.specs.ShownLines.{all_shown_lines};
 ghost use Rattle.tb_why.specs.ShownOf.{all_shown_of, AreShownPages};
 ghost use Rattle.tb_why.specs.Summary.{summed};

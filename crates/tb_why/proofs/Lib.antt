@@ -1,4 +1,5 @@
 pub mod RunLemmas
 pub mod PlacementLemmas
+pub mod PrintablePages
 pub mod AllWords
 pub mod Rows

@@ -4,8 +4,8 @@ use Rattle.std.specs.List.{AllByRecursion}
 use Rattle.tb_pool.specs.Lists.{Lists}
 use Rattle.tb_node.specs.declared.Node.{Node}
 use Rattle.tb_items.specs.Happenings.{event_of, IsPage}
-use Rattle.tb_why.specs.declared.Showing.{Showing}
-use Rattle.tb_why.specs.declared.Showing.TheVariants as showings
+use Rattle.tb_why.specs.declared.shown.Showing.{Showing}
+use Rattle.tb_why.specs.declared.shown.Showing.TheVariants as showings
 use Rattle.tb_why.specs.WhyRun.{Shown, happens, tells}
 
 -- an event of the run, or a tale

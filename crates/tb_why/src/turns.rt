@@ -1,6 +1,6 @@
 //! A turn of the routine with what is told of it.
 
-ghost use Rattle.std.specs.Prelude.{◌≡◌, IfNone, IfOk, OnOk};
+ghost use Rattle.std.specs.Prelude.{◌≡◌, true, IfNone, IfOk, OnOk};
 ghost use Rattle.tb_items.specs.Happenings.{ArePages};
 ghost use Rattle.tb_run.specs.Routine.{AreHappened, IsEnded, IsReady, IsTurned, state_of};
 ghost use Rattle.tb_why.specs.ShownOf.{all_shown_of, AreShownPages};

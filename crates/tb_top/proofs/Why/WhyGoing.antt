@@ -9,7 +9,8 @@ use Rattle.tb_param.specs.declared.Params.{Params}
 use Rattle.tb_output.specs.State.{State, Recorded}
 use Rattle.tb_items.specs.RunEvents.{RunEvent}
 use Rattle.tb_steps.specs.Run.{Run, End, node_limit, Step, ends, goes_on, step, run_from, run_of_state, firings_left, held_count}
-use Rattle.tb_story.specs.Summary.{Summary, no_stories, story_lines}
+use Rattle.tb_story.specs.Summary.{SummaryView, no_stories}
+use Rattle.tb_story.specs.StoryLines.{story_lines}
 use Rattle.tb_why.specs.WhyRun.{Shown, step_shown, shown_after, shown_from}
 use Rattle.tb_why.specs.ShownLines.{shown_lines, all_shown_lines}
 use Rattle.tb_why.specs.Summary.{after_shown, summed}
@@ -23,7 +24,7 @@ lines-append : (xs ys : List Shown) → all_shown_lines (xs ++ ys) ≡ all_shown
 lines-append [] ys = refl
 lines-append (x ∷ xs) ys = ap (λ ls. shown_lines x ++ ls) (lines-append xs ys) ∙ sym (append_assoc (shown_lines x) (all_shown_lines xs) (all_shown_lines ys))
 
-summed-append : (xs ys : List Shown) (m : Summary) → summed (xs ++ ys) m ≡ summed ys (summed xs m)
+summed-append : (xs ys : List Shown) (m : SummaryView) → summed (xs ++ ys) m ≡ summed ys (summed xs m)
 summed-append [] ys m = refl
 summed-append (x ∷ xs) ys m = summed-append xs ys (after_shown x m)
 
@@ -31,12 +32,12 @@ summed-append (x ∷ xs) ys m = summed-append xs ys (after_shown x m)
 
 module _ (p : Params) where
   -- the lines that are left after this summary, if the whole run has these events
-  abbrev pub rest_text : List RunEvent → ℕ → Summary → State → List ℕ
+  abbrev pub rest_text : List RunEvent → ℕ → SummaryView → State → List ℕ
   rest_text all fuel m s =
       all_shown_lines (shown_from p fuel s) ++ (story_lines (summed (shown_from p fuel s) m).stories ++ closing_lines (run_from p fuel s).end all)
 
   -- so much was written or kept and summed up in this state, and the rest follows from it
-  pub record WhyGoing (s : State) (old now : Option (List ℕ)) (m : Summary) (all : List RunEvent) (whole : List ℕ) : Type 0 where
+  pub record WhyGoing (s : State) (old now : Option (List ℕ)) (m : SummaryView) (all : List RunEvent) (whole : List ℕ) : Type 0 where
     pub written : List ℕ
     pub fuel : ℕ
     pub appended : Appends old now written
@@ -44,11 +45,11 @@ module _ (p : Params) where
     pub text : whole ≡ written ++ rest_text all fuel m s
 
   -- the summary and the lines after the last step of a run that ends so
-  abbrev pub last_text : List RunEvent → Summary → End → List ℕ
+  abbrev pub last_text : List RunEvent → SummaryView → End → List ℕ
   last_text all m e = story_lines m.stories ++ closing_lines e all
 
   -- nothing is left but the summary and the end
-  pub record WhyClosing (e : End) (old now : Option (List ℕ)) (m : Summary) (all : List RunEvent) (whole : List ℕ) : Type 0 where
+  pub record WhyClosing (e : End) (old now : Option (List ℕ)) (m : SummaryView) (all : List RunEvent) (whole : List ℕ) : Type 0 where
     pub written : List ℕ
     pub appended : Appends old now written
     pub text : whole ≡ written ++ last_text all m e
@@ -62,11 +63,11 @@ module _ (p : Params) where
   lines-by : (s : State) (fuel : ℕ) (xs : List Shown) → shown_from p (suc fuel) s ≡ step_shown p s ++ xs → all_shown_lines (shown_from p (suc fuel) s) ≡ all_shown_lines (step_shown p s) ++ all_shown_lines xs
   lines-by s fuel xs is = ap all_shown_lines is ∙ lines-append (step_shown p s) xs
 
-  stories-by : (s : State) (fuel : ℕ) (m : Summary) (xs : List Shown) → shown_from p (suc fuel) s ≡ step_shown p s ++ xs
+  stories-by : (s : State) (fuel : ℕ) (m : SummaryView) (xs : List Shown) → shown_from p (suc fuel) s ≡ step_shown p s ++ xs
       → story_lines (summed (shown_from p (suc fuel) s) m).stories ≡ story_lines (summed xs (summed (step_shown p s) m)).stories
-  stories-by s fuel m xs is = ap (λ ys. story_lines (summed ys m).stories) is ∙ ap (λ (n : Summary). story_lines n.stories) (summed-append (step_shown p s) xs m)
+  stories-by s fuel m xs is = ap (λ ys. story_lines (summed ys m).stories) is ∙ ap (λ (n : SummaryView). story_lines n.stories) (summed-append (step_shown p s) xs m)
 
-  module _ (s : State) (all : List RunEvent) (m : Summary) (fuel : ℕ) (es : List RunEvent) (rs : List Recorded) where
+  module _ (s : State) (all : List RunEvent) (m : SummaryView) (fuel : ℕ) (es : List RunEvent) (rs : List Recorded) where
     rest-on : (u : State) → 1 ≤ s.page → step p s ≡ goes_on es rs u → rest_text all (suc fuel) m s ≡ all_shown_lines (step_shown p s) ++ rest_text all fuel (summed (step_shown p s) m) u
     rest-on u page is =
         let xs = shown_from p fuel u in
@@ -81,7 +82,7 @@ module _ (p : Params) where
         let closing = ap (λ y. closing_lines y all) ((stops p s e es rs is).later fuel).1 in
         λ i. (lines-by s fuel [] shown ∙ append-nil (all_shown_lines (step_shown p s))) i ++ (stories-by s fuel m [] shown i ++ closing i)
 
-  module _ (old now new : Option (List ℕ)) (m : Summary) (all : List RunEvent) (whole : List ℕ) (s : State) where
+  module _ (old now new : Option (List ℕ)) (m : SummaryView) (all : List RunEvent) (whole : List ℕ) (s : State) where
     goes-by : (fuel : ℕ) (u : State) (es : List RunEvent) (rs : List Recorded) (written : List ℕ) → 1 ≤ s.page → step p s ≡ goes_on es rs u → firings_left p s < fuel → Appends old now written
         → whole ≡ written ++ rest_text all fuel m s → Appends now new (all_shown_lines (step_shown p s)) → WhyGoing u old new (summed (step_shown p s) m) all whole
     goes-by zero u es rs written page is enough a text b = absurd (omega arith)

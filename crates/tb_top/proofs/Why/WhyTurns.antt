@@ -18,7 +18,8 @@ use Rattle.tb_run.specs.declared.routine.Ending.{Ending}
 use Rattle.tb_run.specs.declared.routine.Ending.TheVariants as endings
 use Rattle.tb_steps.specs.Run.{Run, End, done, pool_full, dead_cycles, page_limit, node_limit, Step, ends, goes_on, step, held_count, run_of_state}
 use Rattle.tb_run.specs.Routine.{held_in, state_of, IsFaultEnd, IsEnd, EndsAs, over_limit}
-use Rattle.tb_story.specs.Summary.{Summary, no_stories, story_lines}
+use Rattle.tb_story.specs.Summary.{SummaryView, no_stories}
+use Rattle.tb_story.specs.StoryLines.{story_lines}
 use Rattle.tb_why.specs.WhyRun.{Shown, step_shown}
 use Rattle.tb_why.specs.ShownLines.{all_shown_lines}
 use Rattle.tb_why.specs.Summary.{summed}
@@ -40,12 +41,12 @@ use Rattle.tb_top.proofs.Why.WhyGoing.{last_text, WhyGoing, WhyClosing, why-goes
 -- ---- a turn
 
 -- the run ends as this ending says, and its summary and last lines are left
-pub record WhyClosesAt (p : Params) (r : Routine) (ending : Ending) (old now : Option (List ℕ)) (m : Summary) (all : List RunEvent) (whole : List ℕ) : Type 0 where
+pub record WhyClosesAt (p : Params) (r : Routine) (ending : Ending) (old now : Option (List ℕ)) (m : SummaryView) (all : List RunEvent) (whole : List ℕ) : Type 0 where
   pub end : End
   pub is : IsEnd r ending end
   pub closing : WhyClosing p end old now m all whole
 
-module _ (p : Params) (s : State) (old now mid : Option (List ℕ)) (m : Summary) (all : List RunEvent) (whole : List ℕ) (going : WhyGoing p s old now m all whole) (page : 1 ≤ s.page)
+module _ (p : Params) (s : State) (old now mid : Option (List ℕ)) (m : SummaryView) (all : List RunEvent) (whole : List ℕ) (going : WhyGoing p s old now m all whole) (page : 1 ≤ s.page)
     (q : Routine) (hs : List Happening) (o : Option Ending) (shows : ShowsStep p true s q hs o) (xs : List Shown) (shown : xs ≡ step_shown p s) where
   -- writing what is shown was cut short
   pub turn-cut : AppendsPrefix now mid (all_shown_lines xs) → AppendsPrefix old mid whole
@@ -56,7 +57,7 @@ module _ (p : Params) (s : State) (old now mid : Option (List ℕ)) (m : Summary
   goes-by-step (goes_on es rs u) is h b = subst (λ y. WhyGoing p y old mid (summed (step_shown p s) m) all whole) (sym h) (why-goes p old now mid m all whole s u es rs page is going b)
 
   -- the lists of what was sent were closed since
-  pub turn-goes : (n : Summary) (after : State) → after ≡ state_of q → n ≡ summed xs m → o ≡ None → Appends now mid (all_shown_lines xs) → WhyGoing p after old mid n all whole
+  pub turn-goes : (n : SummaryView) (after : State) → after ≡ state_of q → n ≡ summed xs m → o ≡ None → Appends now mid (all_shown_lines xs) → WhyGoing p after old mid n all whole
   turn-goes n after is sum none b =
       subst (λ y. WhyGoing p y old mid n all whole) (sym is)
       (subst (λ k. WhyGoing p (state_of q) old mid k all whole) (sym (sum ∙ ap (λ ys. summed ys m) shown))
@@ -66,7 +67,7 @@ module _ (p : Params) (s : State) (old now mid : Option (List ℕ)) (m : Summary
   closes-by-step ending (goes_on es rs u) is h b = absurd h
   closes-by-step ending (ends es rs e) is h b = record { end = e; is = h; closing = why-closes p old now mid m all whole s e es rs is going b }
 
-  pub turn-closes : (n : Summary) (ending : Ending) → n ≡ summed xs m → o ≡ Some ending → Appends now mid (all_shown_lines xs) → WhyClosesAt p q ending old mid n all whole
+  pub turn-closes : (n : SummaryView) (ending : Ending) → n ≡ summed xs m → o ≡ Some ending → Appends now mid (all_shown_lines xs) → WhyClosesAt p q ending old mid n all whole
   turn-closes n ending sum some b =
       subst (λ k. WhyClosesAt p q ending old mid k all whole) (sym (sum ∙ ap (λ ys. summed ys m) shown))
       (closes-by-step ending (step p s) refl (subst (λ x. EndsAs q x (step p s)) some shows.ended) (subst (λ ys. Appends now mid (all_shown_lines ys)) shown b))
@@ -74,7 +75,7 @@ module _ (p : Params) (s : State) (old now mid : Option (List ℕ)) (m : Summary
 -- ---- the beginning
 
 -- a run from its first state, which the routine shows
-module _ (p : Params) (first : State) (r : Routine) (old now : Option (List ℕ)) (m : Summary) (o : Option Ending) (is : state_of r ≡ first) (a : Appends old now header) (nothing : m ≡ no_stories) (over : o ≡ over_limit p (held_count (state_of r))) where
+module _ (p : Params) (first : State) (r : Routine) (old now : Option (List ℕ)) (m : SummaryView) (o : Option Ending) (is : state_of r ≡ first) (a : Appends old now header) (nothing : m ≡ no_stories) (over : o ≡ over_limit p (held_count (state_of r))) where
   pub start-goes : o ≡ None → WhyGoing p (state_of r) old now m (run_of_state p first).events (why_text p first)
   start-goes none =
       subst (λ k. WhyGoing p (state_of r) old now k (run_of_state p first).events (why_text p first)) (sym nothing)
@@ -92,7 +93,7 @@ module _ (p : Params) (first : State) (r : Routine) (old now : Option (List ℕ)
 -- ---- the end
 
 -- a text is kept behind what out holds, and the summary and the last lines are left
-module _ (p : Params) (q : Routine) (t : Totals) (m : Summary) (ending : Ending) (old held new : Option (List ℕ)) (kept : List ℕ) (run : Run) (whole : List ℕ)
+module _ (p : Params) (q : Routine) (t : Totals) (m : SummaryView) (ending : Ending) (old held new : Option (List ℕ)) (kept : List ℕ) (run : Run) (whole : List ℕ)
     (at : ClosesAt views.Trace q ending None None t run) (why : WhyClosesAt p q ending old (append_known held kept) m run.events whole) where
   abbrev stories : List ℕ
   stories = story_lines m.stories
