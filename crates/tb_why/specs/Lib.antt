@@ -4,4 +4,5 @@ pub mod SeenSteps
 pub mod WhyRun
 pub mod Summary
 pub mod ShownLines
+pub mod ShownOf
 pub mod Placements

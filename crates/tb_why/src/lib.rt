@@ -1,14 +1,19 @@
-//! What is told of a run, along its steps: why each float went where it went. Definitions, and the laws that what is told
-//! changes nothing, and that each float is placed where it is told to go; and what is told of a firing, in pieces.
+//! What is told of a run, along its steps: why each float went where it went. What is told of a firing, in pieces; a turn with
+//! what is shown of it, its lines and what they add to the summary; and the laws that what is told changes nothing, and that
+//! each float is placed where it is told to go.
 #![tactic(auto)]
 
 mod laws;
 mod lists;
+mod shown;
 mod steps;
 mod telling;
+mod turns;
 
 pub use crate::laws::{floats_go_where_told, what_is_told_changes_nothing};
+pub use crate::shown::{Showing, note_shown, put_shown};
 pub use crate::telling::tell_firing;
+pub use crate::turns::told_turn;
 use std::marker::Model;
 use tb_float::{Pool, Suppress};
 
