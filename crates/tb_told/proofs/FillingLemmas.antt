@@ -1,5 +1,5 @@
--- One float of a start is told of and goes to its place: what is left of the walk, and of its lines.
-use Rattle.std.proofs.Common.{◌≡◌, ◌≢◌, ℕ, suc, ◌<◌, ◌≤◌, List, [], ◌∷◌, ◌++◌, length, take, drop, Some, Result, Ok, Err, OnErr, slice_get, refl, sym, ap, subst, ◌∙◌, arith}
+-- One float of a start is told of and goes to its place: what is left of the walk, and of its pieces.
+use Rattle.std.proofs.Common.{◌≡◌, ◌≢◌, ℕ, suc, ◌<◌, ◌≤◌, List, [], ◌∷◌, ◌++◌, append_assoc, append-nil, length, take, drop, Some, slice_get, refl, sym, ap, ◌∙◌, arith}
 use Rattle.std.proofs.Math.ListN.{drop_of_length-le}
 use Rattle.std.proofs.lemmas.List.{length-append}
 use Rattle.std.proofs.lemmas.Option.{slice_get_within}
@@ -15,16 +15,10 @@ use Rattle.tb_area.specs.Area.{AreaPlace, at_top, at_bottom, deferred, where_of,
 use Rattle.tb_area.specs.Deferred.{gone_to, still_before, filled}
 use Rattle.tb_area.proofs.OrderLemmas.{gone-deferred}
 use Rattle.tb_area.proofs.DeferredWalks.{IsMoved}
-use Rattle.tb_text.specs.Fronts.{PutsFront}
-use Rattle.tb_text.proofs.FrontLemmas.{PutSoFar, put-more, cut-in}
+use Rattle.tb_told.specs.declared.Piece.{Piece}
 use Rattle.tb_told.specs.AreaTold.{told_next}
-use Rattle.tb_told.specs.Lines.{told_lines}
-use Rattle.tb_told.specs.Filled.{filled_lines, IsTurn}
-
--- what holds anyway holds if a call fails
-pub on-failed : {T E P : Type 0} (r : Result T E) → P → OnErr r P
-on-failed (Ok v) h = tt
-on-failed (Err e) h = h
+use Rattle.tb_told.specs.Tales.{tales, decisions}
+use Rattle.tb_told.specs.Filled.{filled_pieces, IsTurn}
 
 -- a float that goes neither to the top nor to the bottom stays
 pub is-kept : (w : Where) (a : AreaPlace) → w ≡ where_of a → w ≢ Top → w ≢ Bottom → a ≡ deferred
@@ -32,16 +26,24 @@ is-kept w at_top e top bottom = absurd (top e)
 is-kept w at_bottom e top bottom = absurd (bottom e)
 is-kept w deferred e top bottom = refl
 
+-- these pieces are appended, and what follows is the rest
+pub told-next : (old new told rest all : List Piece) → new ≡ old ++ told → all ≡ told ++ rest → new ++ rest ≡ old ++ all
+told-next old new told rest all appended is = ap (λ z. z ++ rest) appended ∙ append_assoc old told rest ∙ ap (λ z. old ++ z) (sym is)
+
+-- nothing is left to tell
+pub told-last : (old new rest all : List Piece) → rest ≡ [] → new ++ rest ≡ old ++ all → new ≡ old ++ all
+told-last old new rest all over is = sym (append-nil new) ∙ ap (λ z. new ++ z) (sym over) ∙ is
+
 -- the float went to an area
-pub turn-moved : (p : Params) (s : Suppress) (k : ℕ) (f : Float) (a : AreaPlace) (v u : FloatPool) (old new : List ℕ) → IsMoved p s k f a v u →
-    new ≡ old ++ told_lines f.name (told_next p v.lists s (take k v.lists.deferred) f) → IsTurn p s k k v.lists u.lists old new
-turn-moved p s k f a v u old new m told =
+pub turn-moved : (p : Params) (s : Suppress) (k : ℕ) (f : Float) (a : AreaPlace) (v u : FloatPool) (old new : List Piece) → IsMoved p s k f a v u →
+    new ≡ old ++ tales (decisions f (told_next p v.lists s (take k v.lists.deferred) f)) → IsTurn p s k k v.lists u.lists old new
+turn-moved p s k f a v u old new m appended =
     let l = v.lists in
     let d = l.deferred in
     let before = take k d in
     let rest = drop (suc k) d in
     let gone = gone_to a f before rest l in
-    let text = told_lines f.name (told_next p l s before f) in
+    let told = tales (decisions f (told_next p l s before f)) in
     let within : k < length d = slice_get_within d k f m.there in
     let few : k ≤ length d = omega arith in
     let whole = whole-at d k f m.there in
@@ -56,55 +58,37 @@ turn-moved p s k f a v u old new m told =
           ∙ ap (λ n. filled p s before rest n) (sym m.lists)
           ∙ ap (λ b. filled p s b rest u.lists) (sym front)
           ∙ ap (λ left. filled p s (take k u.lists.deferred) left u.lists) (sym back);
-      text = text;
-      lines = sym (ap (λ left. filled_lines p s before left l) next
-          ∙ ap (λ c. text ++ filled_lines p s (still_before c f before) rest (gone_to c f before rest l)) m.decided
-          ∙ ap (λ b. text ++ filled_lines p s b rest gone) (m.still before)
-          ∙ ap (λ n. text ++ filled_lines p s before rest n) (sym m.lists)
-          ∙ ap (λ b. text ++ filled_lines p s b rest u.lists) (sym front)
-          ∙ ap (λ left. text ++ filled_lines p s (take k u.lists.deferred) left u.lists) (sym back));
-      appended = told;
+      pieces = told-next old new told (filled_pieces p s (take k u.lists.deferred) (drop k u.lists.deferred) u.lists) (filled_pieces p s before (drop k d) l) appended
+          (ap (λ left. filled_pieces p s before left l) next
+          ∙ ap (λ c. told ++ filled_pieces p s (still_before c f before) rest (gone_to c f before rest l)) m.decided
+          ∙ ap (λ b. told ++ filled_pieces p s b rest gone) (m.still before)
+          ∙ ap (λ n. told ++ filled_pieces p s before rest n) (sym m.lists)
+          ∙ ap (λ b. told ++ filled_pieces p s b rest u.lists) (sym front)
+          ∙ ap (λ left. told ++ filled_pieces p s (take k u.lists.deferred) left u.lists) (sym back));
       left = omega (arith, ap length are, length-append before rest, ap length whole, length-append before (f ∷ rest));
     }
 
 -- the float stays
-pub turn-kept : (p : Params) (s : Suppress) (k : ℕ) (f : Float) (l : FloatLists) (old new : List ℕ) → slice_get l.deferred k ≡ Some f →
-    next_area_place p l s (take k l.deferred) f ≡ deferred → new ≡ old ++ told_lines f.name (told_next p l s (take k l.deferred) f) → IsTurn p s k (suc k) l l old new
-turn-kept p s k f l old new there stays told =
+pub turn-kept : (p : Params) (s : Suppress) (k : ℕ) (f : Float) (l : FloatLists) (old new : List Piece) → slice_get l.deferred k ≡ Some f →
+    next_area_place p l s (take k l.deferred) f ≡ deferred → new ≡ old ++ tales (decisions f (told_next p l s (take k l.deferred) f)) → IsTurn p s k (suc k) l l old new
+turn-kept p s k f l old new there stays appended =
     let d = l.deferred in
     let before = take k d in
     let rest = drop (suc k) d in
-    let text = told_lines f.name (told_next p l s before f) in
+    let told = tales (decisions f (told_next p l s before f)) in
     let next = slice_get-drop k d f there in
     let front : take (suc k) d ≡ before ++ f ∷ [] = take-at d k f there in
     record {
       lists = ap (λ left. filled p s before left l) next
           ∙ ap (λ c. filled p s (still_before c f before) rest (gone_to c f before rest l)) stays
           ∙ ap (λ b. filled p s b rest l) (sym front);
-      text = text;
-      lines = sym (ap (λ left. filled_lines p s before left l) next
-          ∙ ap (λ c. text ++ filled_lines p s (still_before c f before) rest (gone_to c f before rest l)) stays
-          ∙ ap (λ b. text ++ filled_lines p s b rest l) (sym front));
-      appended = told;
+      pieces = told-next old new told (filled_pieces p s (take (suc k) d) rest l) (filled_pieces p s before (drop k d) l) appended
+          (ap (λ left. filled_pieces p s before left l) next
+          ∙ ap (λ c. told ++ filled_pieces p s (still_before c f before) rest (gone_to c f before rest l)) stays
+          ∙ ap (λ b. told ++ filled_pieces p s b rest l) (sym front));
       left = omega arith;
     }
 
--- its lines are there, after those of others
-pub turn-lines : {p : Params} {s : Suppress} {k j : ℕ} {l m : FloatLists} {begun all mid new : List ℕ} → PutSoFar begun all mid (filled_lines p s (take k l.deferred) (drop k l.deferred) l) →
-    IsTurn p s k j l m mid new → PutSoFar begun all new (filled_lines p s (take j m.deferred) (drop j m.deferred) m)
-turn-lines {p} {s} {k} {j} {l} {m} {begun} {all} {mid} {new} q t =
-    put-more new t.text (filled_lines p s (take j m.deferred) (drop j m.deferred) m) (subst (PutSoFar begun all mid) (sym t.lines) q) t.appended
-
--- it stops within the lines of the float
-pub turn-stopped : (p : Params) (s : Suppress) (k : ℕ) (f : Float) (l : FloatLists) (old new : List ℕ) → slice_get l.deferred k ≡ Some f →
-    PutsFront old (told_lines f.name (told_next p l s (take k l.deferred) f)) new → PutsFront old (filled_lines p s (take k l.deferred) (drop k l.deferred) l) new
-turn-stopped p s k f l old new there q =
-    let before = take k l.deferred in
-    let rest = drop (suc k) l.deferred in
-    let place = next_area_place p l s before f in
-    cut-in (filled_lines p s (still_before place f before) rest (gone_to place f before rest l)) (filled_lines p s before (drop k l.deferred) l)
-    (sym (ap (λ left. filled_lines p s before left l) (slice_get-drop k l.deferred f there))) q
-
 -- at the end no float is left to try
-pub lines-over : (p : Params) (s : Suppress) (k : ℕ) (l : FloatLists) → length l.deferred ≤ k → filled_lines p s (take k l.deferred) (drop k l.deferred) l ≡ []
-lines-over p s k l over = ap (λ left. filled_lines p s (take k l.deferred) left l) (drop_of_length-le l.deferred over)
+pub pieces-over : (p : Params) (s : Suppress) (k : ℕ) (l : FloatLists) → length l.deferred ≤ k → filled_pieces p s (take k l.deferred) (drop k l.deferred) l ≡ []
+pieces-over p s k l over = ap (λ left. filled_pieces p s (take k l.deferred) left l) (drop_of_length-le l.deferred over)

@@ -1,12 +1,13 @@
-//! The lines of a start, and of the space above both columns: each float that waits is told of and goes to its place, one after another.
-ghost use Rattle.std.specs.Prelude.{◌≡◌, ◌<◌, ◌+◌, [], length, take, drop, slice_get, Some, OnOk, OnErr, IfOk};
-ghost use Rattle.tb_text.specs.Fronts.{PutsFront, PutsAfter};
+//! What is told of a start, and of the space above both columns: each float that waits is told of and goes to its place, one after another.
+ghost use Rattle.std.specs.Prelude.{◌≡◌, ◌<◌, ◌+◌, [], ◌++◌, length, slice_get, Some, OnOk, IfOk};
 ghost use Rattle.tb_float.specs.Lists.{HasFloatAt, IsWaiting, entries_of, floats_of};
+ghost use Rattle.tb_float.specs.Pool.{HasNoMarks};
 ghost use Rattle.tb_float.specs.Ranges.{AreFloatParams, IsExtent};
 ghost use Rattle.tb_area.specs.Deferred.{filled, doubled};
-ghost use Rattle.tb_told.specs.Filled.{filled_lines, IsTurn, doubled_lines, none_suppressed, IsDoubleTurn};
+ghost use Rattle.tb_told.specs.Filled.{filled_pieces, IsTurn, doubled_pieces, none_suppressed, IsDoubleTurn};
 
-use crate::telling::{put_double, put_next};
+use crate::Piece;
+use crate::telling::{tell_double, tell_next};
 use std::alloc::AllocError;
 use tb_area::{add_double, add_next};
 use tb_float::{Entry, Part, Pool, Suppress};
@@ -15,27 +16,28 @@ use tb_param::Params;
 
 /// Appends what is told of each float that waits, as it is tried for the next column, and moves it to its place.
 ///
-/// If memory runs out, what stood in `out` is still there, and a front of all these lines may follow.
-pub fn put_filled(
-    out: &mut Vec<u8>,
+/// It fails if memory runs out; then only a part of this may be told, and a part of the floats moved.
+pub fn tell_filled(
+    pieces: &mut Vec<Piece>,
     pool: &mut Pool,
     p: &Params,
     s: &Suppress,
 ) -> Result<(), AllocError>
     requires { AreFloatParams p.now }
-    ensures lines { PutsAfter result out.old.items (filled_lines p.now s.now [] pool.old.lists.deferred pool.old.lists) out.new.items }
+    ensures told { OnOk result (pieces.new.items ≡ pieces.old.items ++ filled_pieces p.now s.now [] pool.old.lists.deferred pool.old.lists) }
     ensures lists { OnOk result (pool.new.lists ≡ filled p.now s.now [] pool.old.lists.deferred pool.old.lists) }
+    ensures unmarked { HasNoMarks pool.old → HasNoMarks pool.new }
 {
     let mut kept = 0;
     for _turn in 0..pool.len(Part::Deferred) {
-        kept = put_turn(out, pool, p, s, kept)?;
+        kept = tell_turn(pieces, pool, p, s, kept)?;
     }
     Ok(())
 }
 
 // The float behind those that stay is told of, and goes to its place; returns how many stay.
-fn put_turn(
-    out: &mut Vec<u8>,
+fn tell_turn(
+    pieces: &mut Vec<Piece>,
     pool: &mut Pool,
     p: &Params,
     s: &Suppress,
@@ -43,11 +45,11 @@ fn put_turn(
 ) -> Result<usize, AllocError>
     requires params { AreFloatParams p.now }
     requires within { kept < length pool.old.lists.deferred }
-    ensures ok { IfOk result (λ j. IsTurn p.now s.now kept j pool.old.lists pool.new.lists out.old.items out.new.items) }
-    ensures err { OnErr result (PutsFront out.old.items (filled_lines p.now s.now (take kept pool.old.lists.deferred) (drop kept pool.old.lists.deferred) pool.old.lists) out.new.items) }
+    ensures turn { IfOk result (λ j. IsTurn p.now s.now kept j pool.old.lists pool.new.lists pieces.old.items pieces.new.items) }
+    ensures unmarked { HasNoMarks pool.old → HasNoMarks pool.new }
 {
     let f = waiting(pool, kept);
-    put_next(out, pool, p, s, kept, &f)?;
+    tell_next(pieces, pool, p, s, kept, &f)?;
     match add_next(pool, p, s, kept) {
         Where::Top => {
             pool.move_to(Part::Deferred, kept, Part::Top);
@@ -93,28 +95,29 @@ fn float_at(pool: &Pool, k: usize) -> Float
 /// Appends what is told of each float of a list in which floats wait, as it is tried for the space above the next two
 /// columns, and moves it there if it goes.
 ///
-/// If memory runs out, what stood in `out` is still there, and a front of all these lines may follow.
-pub fn put_doubled(
-    out: &mut Vec<u8>,
+/// It fails if memory runs out; then only a part of this may be told, and a part of the floats moved.
+pub fn tell_doubled(
+    pieces: &mut Vec<Piece>,
     pool: &mut Pool,
     p: &Params,
     from: Part,
 ) -> Result<(), AllocError>
     requires params { AreFloatParams p.now }
     requires waiting { IsWaiting from }
-    ensures lines { PutsAfter result out.old.items (doubled_lines from p.now [] (floats_of from pool.old.lists) pool.old.lists) out.new.items }
+    ensures told { OnOk result (pieces.new.items ≡ pieces.old.items ++ doubled_pieces from p.now [] (floats_of from pool.old.lists) pool.old.lists) }
     ensures lists { OnOk result (pool.new.lists ≡ doubled from p.now none_suppressed [] (floats_of from pool.old.lists) pool.old.lists) }
+    ensures unmarked { HasNoMarks pool.old → HasNoMarks pool.new }
 {
     let mut kept = 0;
     for _turn in 0..pool.len(from) {
-        kept = put_double_turn(out, pool, p, from, kept)?;
+        kept = tell_double_turn(pieces, pool, p, from, kept)?;
     }
     Ok(())
 }
 
 // The float behind those that stay is told of, and goes above both columns, or stays; returns how many stay.
-fn put_double_turn(
-    out: &mut Vec<u8>,
+fn tell_double_turn(
+    pieces: &mut Vec<Piece>,
     pool: &mut Pool,
     p: &Params,
     from: Part,
@@ -123,11 +126,11 @@ fn put_double_turn(
     requires params { AreFloatParams p.now }
     requires waiting { IsWaiting from }
     requires within { kept < length (floats_of from pool.old.lists) }
-    ensures ok { IfOk result (λ j. IsDoubleTurn from p.now kept j pool.old.lists pool.new.lists out.old.items out.new.items) }
-    ensures err { OnErr result (PutsFront out.old.items (doubled_lines from p.now (take kept (floats_of from pool.old.lists)) (drop kept (floats_of from pool.old.lists)) pool.old.lists) out.new.items) }
+    ensures turn { IfOk result (λ j. IsDoubleTurn from p.now kept j pool.old.lists pool.new.lists pieces.old.items pieces.new.items) }
+    ensures unmarked { HasNoMarks pool.old → HasNoMarks pool.new }
 {
     let f = wide_waiting(pool, from, kept);
-    put_double(out, pool, p, from, kept, &f)?;
+    tell_double(pieces, pool, p, from, kept, &f)?;
     match add_double(pool, p, from, kept) {
         Where::Double => {
             pool.move_to(from, kept, Part::Double);

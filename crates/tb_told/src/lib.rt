@@ -4,7 +4,10 @@
 
 mod amounts;
 mod areas;
+mod choices;
 mod columns;
+mod company;
+mod copies;
 mod decisions;
 mod fields;
 mod filling;
@@ -12,23 +15,23 @@ mod heads;
 mod laws;
 mod places;
 mod standing;
-mod tales;
+mod taken;
+mod tale_lines;
 mod telling;
 mod tested;
 
-pub use crate::areas::{above_both, at_bottom, at_top, entering_current, entering_next, in_text};
-pub use crate::columns::{put_alone, put_company, put_joining};
-pub use crate::decisions::{
-    put_above_both, put_at_bottom, put_at_top, put_back, put_entering, put_goes, put_in_text,
-};
-pub use crate::filling::{put_doubled, put_filled};
+pub use crate::company::tell_column;
+pub use crate::copies::copied;
+pub use crate::filling::{tell_doubled, tell_filled};
 pub use crate::heads::alone_at;
 pub use crate::laws::{the_company_is_told, what_is_told_is_the_decision, yes_says_that_all_hold};
-pub use crate::places::{put_begins, put_beside, put_call, put_wait};
 pub use crate::standing::here_lines;
-pub use crate::tales::{Piece, Tale, Told, ToldColumn};
-pub use crate::telling::{put_called, put_double, put_next};
-use tb_node::Float;
+pub use crate::taken::take_company;
+pub use crate::tale_lines::put_tale;
+pub use crate::telling::{tell_called, tell_double, tell_next};
+use tb_fpage::Wanted;
+use tb_margin::Placed;
+use tb_node::{Float, Margin, Where};
 
 /// A test that a decision about a float makes, by the word with which it is told.
 #[derive(Clone, Copy, Debug, PartialEq, Eq)]
@@ -193,4 +196,66 @@ pub struct Spot {
     pub page: u64,
     /// Whether it is the second of two columns.
     pub second: bool,
+}
+
+/// What is told of an area, or where the float goes.
+#[derive(Clone, Copy)]
+pub enum Told {
+    /// Of the column as a whole.
+    Enters(Entering),
+    /// Of the text.
+    TestsHere(InText),
+    /// Of the top.
+    TestsTop(AtTop),
+    /// Of the bottom.
+    TestsBottom(AtBottom),
+    /// Of the space above both columns.
+    TestsWide(AboveBoth),
+    /// Where the float goes.
+    Goes(Where),
+}
+
+/// What is told where a column of floats is looked for.
+#[derive(Clone, Copy)]
+pub enum ToldColumn {
+    /// Of a float that may head a column.
+    Heads(Float, Alone),
+    /// Of a later float that may join the company.
+    Joins(Float, Joining),
+    /// Of the company of this head.
+    Companied(Float, Made),
+    /// The float is taken.
+    Takes(Float),
+}
+
+/// One thing that is told of a run. Amounts are in scaled points.
+#[derive(Clone, Copy)]
+pub enum Tale {
+    /// A wide float of release 2014 waits from now on, without a call.
+    Waits(Spot, Float),
+    /// A float is called at a text of this height.
+    Calls(Spot, Float, i64),
+    /// What is told of a decision about the float.
+    Decides(Float, Told),
+    /// A column or a wide page is looked for, while floats of its width wait.
+    Begins(Spot, Wanted),
+    /// What is told of the floats that may make a column of their own.
+    InColumn(ToldColumn),
+    /// A clear takes the float back from its place.
+    Back(Float, Where),
+    /// A note goes beside a text of this height, where notes reached this far down.
+    Beside(Spot, Margin, i64, i64, Placed),
+    /// The float of this line stands in the text of the column that is put out next. It has no line of its own.
+    Stands(u32),
+    /// A column is put out, or a wide page. It has no line of its own.
+    PutOut,
+}
+
+/// A piece of what is told of a firing, between what the firing sends.
+#[derive(Clone, Copy)]
+pub enum Piece {
+    /// Something is told.
+    Says(Tale),
+    /// The place of what is sent next.
+    NextSent,
 }

@@ -1,7 +1,6 @@
-//! The lines of a whole decision: each area that is tried, and where the float goes.
-ghost use Rattle.std.specs.Prelude.{◌≡◌, take, if◌then◌else◌};
+//! What is told of a whole decision: each area that is tried, and where the float goes.
+ghost use Rattle.std.specs.Prelude.{◌≡◌, [], ◌∷◌, ◌++◌, take, if◌then◌else◌, OnOk};
 ghost use Rattle.tb_node.specs.SmallAmounts.{IsAmount};
-ghost use Rattle.tb_text.specs.Fronts.{PutsAfter};
 ghost use Rattle.tb_float.specs.declared.Suppress.{Suppress as SuppressFlags};
 ghost use Rattle.tb_float.specs.Lists.{IsWaiting, floats_of};
 ghost use Rattle.tb_float.specs.Ranges.{AreFloatParams, IsExtent};
@@ -9,14 +8,11 @@ ghost use Rattle.tb_area.specs.Area.{tries_top};
 ghost use Rattle.tb_area.specs.RequiredRoom.{IsRequired};
 ghost use Rattle.tb_told.specs.Tested.{is_yes};
 ghost use Rattle.tb_told.specs.AreaTold.{told_bottom, told_areas, told_column, told_call, told_next, told_wide};
-ghost use Rattle.tb_told.specs.Lines.{told_lines};
+ghost use Rattle.tb_told.specs.Tales.{tales, decisions};
 
-use crate::Test;
 use crate::areas::{above_both, at_bottom, at_top, entering_current, entering_next, in_text};
-use crate::decisions::{
-    put_above_both, put_at_bottom, put_at_top, put_entering, put_goes, put_in_text,
-};
 use crate::tested::may_come;
+use crate::{Piece, Tale, Test, Told};
 use std::alloc::AllocError;
 use tb_float::{Limit, Part, Pool, Suppress};
 use tb_node::{Float, Where};
@@ -42,9 +38,17 @@ fn is_yes(failed: Option<Test>) -> bool
     }
 }
 
+// One thing that is told of a decision about this float.
+fn tell(pieces: &mut Vec<Piece>, f: &Float, told: Told) -> Result<(), AllocError>
+    ensures { OnOk result (pieces.new.items ≡ pieces.old.items ++ tales (decisions f.now (told ∷ []))) }
+{
+    pieces.push(Piece::Says(Tale::Decides(*f, told)))?;
+    Ok(())
+}
+
 // What is told of the bottom, which is tried last, and where the float goes.
-fn put_bottom(
-    out: &mut Vec<u8>,
+fn tell_bottom(
+    pieces: &mut Vec<Piece>,
     pool: &Pool,
     p: &Params,
     s: &Suppress,
@@ -53,16 +57,17 @@ fn put_bottom(
 ) -> Result<(), AllocError>
     requires params { AreFloatParams p.now }
     requires required { IsRequired 2 required }
-    ensures { PutsAfter result out.old.items (told_lines f.now.name (told_bottom p.now pool.now.lists s.now required f.now)) out.new.items }
+    ensures { OnOk result (pieces.new.items ≡ pieces.old.items ++ tales (decisions f.now (told_bottom p.now pool.now.lists s.now required f.now))) }
 {
     let told = at_bottom(pool, p, s, required, f);
-    put_at_bottom(out, &f.name, &told)?;
-    put_goes(out, &f.name, place_if(told.failed, Where::Bottom))
+    let failed = told.failed;
+    tell(pieces, f, Told::TestsBottom(told))?;
+    tell(pieces, f, Told::Goes(place_if(failed, Where::Bottom)))
 }
 
 // What is told of the top, and then of the bottom, and where the float goes.
-fn put_areas(
-    out: &mut Vec<u8>,
+fn tell_areas(
+    pieces: &mut Vec<Piece>,
     pool: &Pool,
     p: &Params,
     s: &Suppress,
@@ -71,15 +76,17 @@ fn put_areas(
 ) -> Result<(), AllocError>
     requires params { AreFloatParams p.now }
     requires required { IsRequired 1 required }
-    ensures { PutsAfter result out.old.items (told_lines f.now.name (told_areas p.now pool.now.lists s.now required f.now)) out.new.items }
+    ensures { OnOk result (pieces.new.items ≡ pieces.old.items ++ tales (decisions f.now (told_areas p.now pool.now.lists s.now required f.now))) }
 {
     let told = at_top(pool, p, s, required, f);
-    put_at_top(out, &f.name, &told)?;
-    if is_yes(told.failed) {
-        put_goes(out, &f.name, Where::Top)
+    let need = told.need;
+    let failed = told.failed;
+    tell(pieces, f, Told::TestsTop(told))?;
+    if is_yes(failed) {
+        tell(pieces, f, Told::Goes(Where::Top))
     } else {
-        let low = after_top(pool, p, s, required, told.need, f);
-        put_bottom(out, pool, p, s, low, f)
+        let low = after_top(pool, p, s, required, need, f);
+        tell_bottom(pieces, pool, p, s, low, f)
     }
 }
 
@@ -106,8 +113,8 @@ fn tries_top(pool: &Pool, p: &Params, s: &Suppress, f: &Float) -> bool
 }
 
 // What is told of the text, and then of the areas, and where the float goes.
-fn put_column(
-    out: &mut Vec<u8>,
+fn tell_column(
+    pieces: &mut Vec<Piece>,
     pool: &Pool,
     p: &Params,
     s: &Suppress,
@@ -116,17 +123,20 @@ fn put_column(
 ) -> Result<(), AllocError>
     requires params { AreFloatParams p.now }
     requires required { IsRequired 0 required }
-    ensures { PutsAfter result out.old.items (told_lines f.now.name (told_column p.now pool.now.lists s.now required f.now)) out.new.items }
+    ensures { OnOk result (pieces.new.items ≡ pieces.old.items ++ tales (decisions f.now (told_column p.now pool.now.lists s.now required f.now))) }
 {
     let told = in_text(pool, p, required, f);
-    put_in_text(out, &f.name, &told)?;
-    if is_yes(told.failed) {
-        put_goes(out, &f.name, Where::Here)
-    } else if told.blocker.is_some() {
-        put_bottom(out, pool, p, s, required, f)
+    let need = told.need;
+    let failed = told.failed;
+    let blocked = told.blocker.is_some();
+    tell(pieces, f, Told::TestsHere(told))?;
+    if is_yes(failed) {
+        tell(pieces, f, Told::Goes(Where::Here))
+    } else if blocked {
+        tell_bottom(pieces, pool, p, s, required, f)
     } else {
-        let low = after_text(required, told.need, f);
-        put_areas(out, pool, p, s, low, f)
+        let low = after_text(required, need, f);
+        tell_areas(pieces, pool, p, s, low, f)
     }
 }
 
@@ -141,9 +151,9 @@ fn after_text(required: i64, need: i64, f: &Float) -> i64
 }
 
 /// Appends what is told of a float that is called, whose text is `page_height` high so far, in scaled points, and where it
-/// goes. If memory runs out, what stood in `out` is still there, and a front of the lines may follow.
-pub fn put_called(
-    out: &mut Vec<u8>,
+/// goes. It fails if memory runs out; then only a part of it may be there.
+pub fn tell_called(
+    pieces: &mut Vec<Piece>,
     pool: &Pool,
     p: &Params,
     s: &Suppress,
@@ -153,21 +163,23 @@ pub fn put_called(
     requires params { AreFloatParams p.now }
     requires height { IsAmount page_height }
     requires extent { IsExtent f.now.height }
-    ensures { PutsAfter result out.old.items (told_lines f.now.name (told_call p.now pool.now.lists s.now page_height f.now)) out.new.items }
+    ensures { OnOk result (pieces.new.items ≡ pieces.old.items ++ tales (decisions f.now (told_call p.now pool.now.lists s.now page_height f.now))) }
 {
     let told = entering_current(pool, p, s, page_height, f);
-    put_entering(out, &f.name, &told)?;
-    if is_yes(told.failed) {
-        put_column(out, pool, p, s, told.need, f)
+    let need = told.need;
+    let failed = told.failed;
+    tell(pieces, f, Told::Enters(told))?;
+    if is_yes(failed) {
+        tell_column(pieces, pool, p, s, need, f)
     } else {
-        put_goes(out, &f.name, Where::Deferred)
+        tell(pieces, f, Told::Goes(Where::Deferred))
     }
 }
 
 /// Appends what is told of the `k`-th float that waits at the start of a column, and where it goes; nothing of a wide one.
-/// If memory runs out, what stood in `out` is still there, and a front of the lines may follow.
-pub fn put_next(
-    out: &mut Vec<u8>,
+/// It fails if memory runs out; then only a part of it may be there.
+pub fn tell_next(
+    pieces: &mut Vec<Piece>,
     pool: &Pool,
     p: &Params,
     s: &Suppress,
@@ -176,24 +188,26 @@ pub fn put_next(
 ) -> Result<(), AllocError>
     requires params { AreFloatParams p.now }
     requires extent { IsExtent f.now.height }
-    ensures { PutsAfter result out.old.items (told_lines f.now.name (told_next p.now pool.now.lists s.now (take k pool.now.lists.deferred) f.now)) out.new.items }
+    ensures { OnOk result (pieces.new.items ≡ pieces.old.items ++ tales (decisions f.now (told_next p.now pool.now.lists s.now (take k pool.now.lists.deferred) f.now))) }
 {
     if f.wide {
         return Ok(());
     }
     let told = entering_next(pool, p, s, k, f);
-    put_entering(out, &f.name, &told)?;
-    if is_yes(told.failed) {
-        put_areas(out, pool, p, s, told.need, f)
+    let need = told.need;
+    let failed = told.failed;
+    tell(pieces, f, Told::Enters(told))?;
+    if is_yes(failed) {
+        tell_areas(pieces, pool, p, s, need, f)
     } else {
-        put_goes(out, &f.name, Where::Deferred)
+        tell(pieces, f, Told::Goes(Where::Deferred))
     }
 }
 
 /// Appends what is told of the `k`-th float of a list in which floats wait, after a pair of columns, and where it goes;
-/// nothing of a single one. If memory runs out, what stood in `out` is still there, and a front of the lines may follow.
-pub fn put_double(
-    out: &mut Vec<u8>,
+/// nothing of a single one. It fails if memory runs out; then only a part of it may be there.
+pub fn tell_double(
+    pieces: &mut Vec<Piece>,
     pool: &Pool,
     p: &Params,
     from: Part,
@@ -202,12 +216,13 @@ pub fn put_double(
 ) -> Result<(), AllocError>
     requires params { AreFloatParams p.now }
     requires waiting { IsWaiting from }
-    ensures { (s : SuppressFlags) → PutsAfter result out.old.items (told_lines f.now.name (told_wide p.now pool.now.lists s (take k (floats_of from pool.now.lists)) f.now)) out.new.items }
+    ensures { (s : SuppressFlags) → OnOk result (pieces.new.items ≡ pieces.old.items ++ tales (decisions f.now (told_wide p.now pool.now.lists s (take k (floats_of from pool.now.lists)) f.now))) }
 {
     if !f.wide {
         return Ok(());
     }
     let told = above_both(pool, p, from, k, f);
-    put_above_both(out, &f.name, &told)?;
-    put_goes(out, &f.name, place_if(told.failed, Where::Double))
+    let failed = told.failed;
+    tell(pieces, f, Told::TestsWide(told))?;
+    tell(pieces, f, Told::Goes(place_if(failed, Where::Double)))
 }

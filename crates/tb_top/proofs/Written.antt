@@ -1,7 +1,7 @@
 -- A run is written, in reading order.
 pub mod EventCounts
 pub mod TallyLemmas
-pub mod PrintablePages
+pub mod SentPages
 pub mod KeptLemmas
 pub mod GoingLemmas
 pub mod TurnLemmas

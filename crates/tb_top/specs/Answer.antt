@@ -28,6 +28,7 @@ use Rattle.tb_top.specs.declared.status.Status.TheVariants as answers
 use Rattle.tb_steps.specs.Run.{Run, End, done, pool_full, dead_cycles, page_limit, node_limit, run_of}
 use Rattle.tb_top.specs.Report.{report, trace}
 use Rattle.tb_top.specs.RatedReport.{rated_report}
+use Rattle.tb_top.specs.WhyReport.{why_report}
 use Rattle.tb_laws.specs.Totals.{totals_of}
 use Rattle.tb_laws.specs.DviPages.{run_pages}
 use Rattle.tb_laws.specs.DviFiles.{is_done, dvi_file}
@@ -210,6 +211,7 @@ abbrev pub reply_to : Mode → List ℕ → Reply
 reply_to modes.Report input = galley_reply (λ g. run_reply (report (run_of g)) (run_of g)) (grammar input)
 reply_to modes.Trace input = galley_reply (λ g. run_reply (trace (run_of g)) (run_of g)) (grammar input)
 reply_to modes.Rate input = galley_reply (λ g. run_reply (rated_report g) (run_of g)) (grammar input)
+reply_to modes.Why input = galley_reply (λ g. run_reply (why_report g) (run_of g)) (grammar input)
 reply_to modes.Print input = galley_reply (λ g. text_reply (printed g)) (grammar input)
 reply_to modes.Lines input = lines_reply (lines_galley input)
 reply_to modes.Dvi input = galley_reply (λ g. dvi_reply g.params.textheight (run_of g)) (grammar input)

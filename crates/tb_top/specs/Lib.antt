@@ -3,6 +3,8 @@ pub mod Pages
 pub mod RatedReport
 pub mod RatedPages
 pub mod RatedWritten
+pub mod WhyReport
+pub mod WhyPages
 pub mod Status
 pub mod Answer
 pub mod Outcome

@@ -53,3 +53,17 @@ IsNoCycleFault (faults.PageLimit n) = Unit {0}
 IsNoCycleFault (faults.NodeLimit n) = Unit {0}
 IsNoCycleFault faults.WriteFault = Unit {0}
 IsNoCycleFault faults.Memory = Unit {0}
+
+-- a run with this end was refused so, and this text, which is that of the run up to there, was written
+pub record StopsText (end : End) (text : List ℕ) (old new : Option (List ℕ)) (e : PageFault) : Type 0 where
+  pub ended : end_fault end ≡ Some e
+  pub written : Appends old new text
+
+-- what holds after each refusal of a run with this text: after a failed write or lack of memory a prefix of it was written
+abbrev pub RefusesText : End → List ℕ → Option (List ℕ) → Option (List ℕ) → PageFault → Type 0
+RefusesText end text old new (faults.PoolFull line live) = StopsText end text old new (faults.PoolFull line live)
+RefusesText end text old new (faults.DeadCycles n) = StopsText end text old new (faults.DeadCycles n)
+RefusesText end text old new (faults.PageLimit n) = StopsText end text old new (faults.PageLimit n)
+RefusesText end text old new (faults.NodeLimit n) = StopsText end text old new (faults.NodeLimit n)
+RefusesText end text old new faults.WriteFault = AppendsPrefix old new text
+RefusesText end text old new faults.Memory = AppendsPrefix old new text

@@ -1,4 +1,4 @@
-//! From words and an input to what is written: a report, a trace, a canonical text, a galley of lines, a DVI file or its
+//! From words and an input to what is written: a report, a trace, what is told of a run, a canonical text, a galley of lines, a DVI file or its
 //! listing, or a line of totals.
 //!
 //! [`run`] is the whole program over any ends: it reads the words and the input, makes the pages of a galley by [`paginate`]
@@ -19,6 +19,7 @@ mod status;
 mod summary;
 mod top;
 mod views;
+mod why_pages;
 
 pub use laws::each_makes_up_once;
 pub use makeup_pages::{PlainRunFault, paginate_plain};
@@ -35,6 +36,7 @@ pub use tb_laws::{
 pub use tb_makeup::first_unsuited;
 pub use tb_report::Totals;
 pub use top::run;
+pub use why_pages::why_pages;
 
 /// What `paginate` and `paginate_plain` write of a run: its report, with the places that were tried or without, or nothing.
 #[derive(Clone, Copy, Debug, PartialEq, Eq)]

@@ -114,7 +114,7 @@ fn run_on<K: Sink>(
 
 // The end of a run: what is kept is written, and behind it the lines of what is left and the last line, if the run ends well;
 // else its refusal is returned.
-fn finish<K: Sink>(
+pub(crate) fn finish<K: Sink>(
     alloc: Global,
     routine: &Routine,
     view: View,

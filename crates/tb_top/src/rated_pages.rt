@@ -18,10 +18,10 @@ ghost use Rattle.tb_rate.specs.Rating.{rating, IsTried};
 ghost use Rattle.tb_rate.specs.RatedRun.{demerits, demerits_if, demerits_of_state, floats_waiting, insertions_first};
 ghost use Rattle.tb_rate.specs.RatingLines.{rating_lines};
 ghost use Rattle.tb_rate.specs.Tries.{last_champion};
-ghost use Rattle.tb_top.specs.Pages.{IsNoCycleFault};
+ghost use Rattle.tb_top.specs.Pages.{IsNoCycleFault, RefusesText};
 ghost use Rattle.tb_top.specs.Report.{all_lines, event_lines};
 ghost use Rattle.tb_top.specs.RatedReport.{rated_report, rated_text};
-ghost use Rattle.tb_top.specs.RatedPages.{Rates, RefusesRating};
+ghost use Rattle.tb_top.specs.RatedPages.{Rates};
 ghost use Rattle.tb_top.specs.RatedWritten.{unless_ended, last_rated_lines, EndsWell, StopsWith, IsRated};
 ghost use Rattle.tb_top.specs.Views.{Shows, with_events};
 
@@ -56,7 +56,7 @@ pub fn rate_pages<K: Sink>(alloc: Global, galley: &Galley, out: &mut K) -> Resul
     ensures laws { IfOk result (λ d. KeepsLaws galley.now (totals_of (run_of galley.now).events)) }
     ensures limits { WithinLimits galley.now.params (run_of galley.now) }
     ensures cycles { HasRoomForCycles galley.now → IfErr result IsNoCycleFault }
-    ensures refused { IfErr result (RefusesRating (run_of galley.now).end (rated_report galley.now) (K.held out.old) (K.held out.new)) }
+    ensures refused { IfErr result (RefusesText (run_of galley.now).end (rated_report galley.now) (K.held out.old) (K.held out.new)) }
 
     ensures cause { result ≡ Err PageFault.WriteFault → Rose (K.faults out.old) (K.faults out.new) }
     ensures later { K.faults out.old ≤ K.faults out.new }
@@ -82,7 +82,7 @@ fn run_on<K: Sink>(
     requires mild { AllByRecursion IsMildPlace places.now }
 
     ensures done { IfOk result (Rates (run_of_state params.now (state_of routine.old)).end (demerits_of_state params.now places.now (state_of routine.old)) (rated_text params.now places.now (state_of routine.old)) (K.held out.old) (K.held out.new)) }
-    ensures refused { IfErr result (RefusesRating (run_of_state params.now (state_of routine.old)).end (rated_text params.now places.now (state_of routine.old)) (K.held out.old) (K.held out.new)) }
+    ensures refused { IfErr result (RefusesText (run_of_state params.now (state_of routine.old)).end (rated_text params.now places.now (state_of routine.old)) (K.held out.old) (K.held out.new)) }
     ensures cause { result ≡ Err PageFault.WriteFault → Rose (K.faults out.old) (K.faults out.new) }
     ensures later { K.faults out.old ≤ K.faults out.new }
 {

@@ -1,4 +1,6 @@
 pub mod RunLemmas
 pub mod PlacementLemmas
+pub mod SeenLemmas
+pub mod PrintablePages
 pub mod AllWords
 pub mod Rows

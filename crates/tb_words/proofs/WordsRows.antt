@@ -12,6 +12,7 @@ words_rows = record {
   report = refl;
   trace = refl;
   rate = refl;
+  why = refl;
   print = refl;
   lines = refl;
   dvi = refl;

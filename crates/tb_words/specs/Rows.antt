@@ -2,7 +2,7 @@
 use Rattle.std.specs.Prelude.{◌≡◌, List, [], ◌∷◌, codes, Some, None}
 use Rattle.clap.specs.Words.{Text}
 use Rattle.tb_words.specs.Words.{asked}
-use Rattle.tb_words.specs.declared.Mode.TheVariants.{Report, Trace, Rate, Print, Lines, Dvi, DviList, Plain, Generate}
+use Rattle.tb_words.specs.declared.Mode.TheVariants.{Report, Trace, Rate, Why, Print, Lines, Dvi, DviList, Plain, Generate}
 
 -- the words after the program's name
 abbrev pub named : List Text → List Text
@@ -17,6 +17,7 @@ pub record WordsRows : Type 0 where
   pub report : asked (named (codes "--mode" ∷ codes "report" ∷ [])) ≡ Some Report
   pub trace : asked (named (codes "--mode" ∷ codes "trace" ∷ [])) ≡ Some Trace
   pub rate : asked (named (codes "--mode" ∷ codes "rate" ∷ [])) ≡ Some Rate
+  pub why : asked (named (codes "--mode" ∷ codes "why" ∷ [])) ≡ Some Why
   pub print : asked (named (codes "--mode" ∷ codes "print" ∷ [])) ≡ Some Print
   pub lines : asked (named (codes "--mode" ∷ codes "lines" ∷ [])) ≡ Some Lines
   pub dvi : asked (named (codes "--mode" ∷ codes "dvi" ∷ [])) ≡ Some Dvi

@@ -47,6 +47,7 @@ mode_named name count =
     if bytes_eq name (codes "report") then Some modes.Report
     else if bytes_eq name (codes "trace") then Some modes.Trace
     else if bytes_eq name (codes "rate") then Some modes.Rate
+    else if bytes_eq name (codes "why") then Some modes.Why
     else if bytes_eq name (codes "print") then Some modes.Print
     else if bytes_eq name (codes "lines") then Some modes.Lines
     else if bytes_eq name (codes "dvi") then Some modes.Dvi
@@ -73,6 +74,7 @@ abbrev pub IsServed : Mode → Type 0
 IsServed modes.Report = Unit {0}
 IsServed modes.Trace = Unit {0}
 IsServed modes.Rate = Unit {0}
+IsServed modes.Why = Unit {0}
 IsServed modes.Print = Unit {0}
 IsServed modes.Lines = Unit {0}
 IsServed modes.Dvi = Unit {0}

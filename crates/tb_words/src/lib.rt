@@ -27,6 +27,9 @@ pub enum Mode {
     Trace,
     /// Reads a galley and writes its report, with a line for each text column that says how good it is, and their sum.
     Rate,
+    /// Reads a galley and writes its report as a trace, with lines between that tell why each float and marginal note goes where
+    /// it goes, and a line for each float at the end.
+    Why,
     /// Reads a galley and writes its canonical text.
     Print,
     /// Reads a text of paragraphs and writes the galley of their lines.
@@ -135,6 +138,7 @@ fn mode_named(name: &str, count: u32) -> Option<Mode>
         "report" => Some(Mode::Report),
         "trace" => Some(Mode::Trace),
         "rate" => Some(Mode::Rate),
+        "why" => Some(Mode::Why),
         "print" => Some(Mode::Print),
         "lines" => Some(Mode::Lines),
         "dvi" => Some(Mode::Dvi),

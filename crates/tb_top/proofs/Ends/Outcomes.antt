@@ -40,6 +40,7 @@ use Rattle.tb_steps.specs.Run.{Run, End, done, pool_full, dead_cycles, page_limi
 use Rattle.tb_top.specs.Pages.{view_text, end_fault, EndsWith, Paginates, Refuses}
 use Rattle.tb_top.specs.Report.{report, trace}
 use Rattle.tb_top.specs.RatedReport.{rated_report}
+use Rattle.tb_top.specs.WhyReport.{why_report}
 use Rattle.tb_laws.specs.Totals.{totals_of}
 use Rattle.tb_laws.specs.Laws.{KeepsLaws}
 use Rattle.tb_top.specs.Answer.{Reply, dvi_reply, makeup_reply, listing_reply, summary_line, summary_at, answer_at, line_at, answer_for_cause, err_line, bare_text, fault_reply, no_lines_reply, lines_reply, galley_reply, run_reply, text_reply, reply_to}
@@ -151,6 +152,9 @@ trace_reads = record { reads = λ s input g. g; unread = λ s f. f; replies = λ
 
 pub rate_reads : ReadsGalleys modes.Rate (λ g. run_reply (rated_report g) (run_of g))
 rate_reads = record { reads = λ s input g. g; unread = λ s f. f; replies = λ input. refl }
+
+pub why_reads : ReadsGalleys modes.Why (λ g. run_reply (why_report g) (run_of g))
+why_reads = record { reads = λ s input g. g; unread = λ s f. f; replies = λ input. refl }
 
 pub print_reads : ReadsGalleys modes.Print (λ g. text_reply (printed g))
 print_reads = record { reads = λ s input g. g; unread = λ s f. f; replies = λ input. refl }
@@ -380,6 +384,7 @@ IsAnswer-given : (m : Mode) (status : Status) (source : Stream) (input : List �
 IsAnswer-given modes.Report status source input g is = galley_answer (λ g. run_reply (report (run_of g)) (run_of g)) status source.before source.after input g is
 IsAnswer-given modes.Trace status source input g is = galley_answer (λ g. run_reply (trace (run_of g)) (run_of g)) status source.before source.after input g is
 IsAnswer-given modes.Rate status source input g is = galley_answer (λ g. run_reply (rated_report g) (run_of g)) status source.before source.after input g is
+IsAnswer-given modes.Why status source input g is = galley_answer (λ g. run_reply (why_report g) (run_of g)) status source.before source.after input g is
 IsAnswer-given modes.Print status source input g is = galley_answer (λ g. text_reply (printed g)) status source.before source.after input g is
 IsAnswer-given modes.Lines status source input g is = lines_answer status source.before source.after input g is
 IsAnswer-given modes.Dvi status source input g is = galley_answer (λ g. dvi_reply g.params.textheight (run_of g)) status source.before source.after input g is

@@ -12,7 +12,6 @@ use Rattle.tb_items.specs.Classes.{classes_of}
 use Rattle.tb_steps.specs.Run.{run_of, run_of_state}
 use Rattle.tb_laws.specs.Laws.{KeepsLaws}
 use Rattle.tb_laws.specs.Totals.{totals_of}
-use Rattle.tb_laws.specs.DeadCycles.{HasRoomForCycles}
 use Rattle.tb_rate.specs.declared.PlacePenalty.{PlacePenalty}
 use Rattle.tb_rate.specs.Places.{place_penalties}
 use Rattle.tb_rate.specs.RatedRun.{demerits, demerits_of_state}
@@ -22,11 +21,11 @@ use Rattle.tb_top.specs.declared.View.TheVariants as views
 use Rattle.tb_top.specs.declared.status.Status.TheVariants as answers
 use Rattle.tb_top.specs.Answer.{err_line, run_reply, reply_to}
 use Rattle.tb_top.specs.Outcome.{Stream, Failed, Gives, HasLawfulRun, LacksRoomForCycles, Decided, Finished, OutOfCycles, StandsAfter}
-use Rattle.tb_top.specs.Pages.{end_fault, IsNoCycleFault}
+use Rattle.tb_top.specs.Pages.{end_fault, StopsText, RefusesText}
 use Rattle.tb_top.specs.RatedReport.{rated_report, rated_text}
-use Rattle.tb_top.specs.RatedPages.{Rates, StopsRating, RefusesRating}
+use Rattle.tb_top.specs.RatedPages.{Rates}
 use Rattle.tb_top.specs.Refusal.{page_status, page_text}
-use Rattle.tb_top.proofs.Ends.CycleAnswers.{no-room}
+use Rattle.tb_top.proofs.Ends.CycleAnswers.{no-room-for-text}
 use Rattle.tb_top.proofs.Ends.Outcomes.{answer_at-well, line_at-well, page_status-ended, page_text-ended, decided_by, shown_by, cut_off_by, galley_with, replies_to, rate_reads}
 use Rattle.tb_top.proofs.Joined.LawfulRuns.{keeps-laws}
 
@@ -35,14 +34,6 @@ use Rattle.tb_top.proofs.Joined.LawfulRuns.{keeps-laws}
 -- a run that ended well kept the laws
 pub rated-laws : (g : Galley) → IsValid g → (text : List ℕ) (old new : Option (List ℕ)) (d : ℤ) → Rates (run_of g).end (demerits g) text old new d → KeepsLaws g (totals_of (run_of g).events)
 rated-laws g valid text old new d h = keeps-laws g valid views.Silent None None (totals_of (run_of g).events) (record { ended = h.ended; totals = refl; written = tt })
-
--- a run that was refused for its dead cycles had no room for them
-pub rated-room : (g : Galley) → IsValid g → (text : List ℕ) (old new : Option (List ℕ)) (n : ℕ) → StopsRating (run_of g).end text old new (pages.DeadCycles n) → HasRoomForCycles g → ⊥
-rated-room g valid text old new n h room = no-room g valid views.Silent None None n (record { ended = h.ended; written = tt }) room
-
-pub not-for-cycles : (g : Galley) → IsValid g → HasRoomForCycles g → (text : List ℕ) (old new : Option (List ℕ)) (f : PageFault) → RefusesRating (run_of g).end text old new f → IsNoCycleFault f
-not-for-cycles g valid room text old new (pages.DeadCycles n) h = absurd (rated-room g valid text old new n h room)
-not-for-cycles g valid room text old new f h = tt
 
 -- ---- the run of a galley
 
@@ -63,10 +54,10 @@ module _ (g : Galley) (s : State) (is : s ≡ first_state g.params (classes_of g
   pub rates-galley : (d : ℤ) → Rates (run_of_state g.params s).end (demerits_of_state g.params places s) (rated_text g.params places s) old new d → Rates (run_of g).end (demerits g) (rated_report g) old new d
   rates-galley d h = record { ended = ap end_fault (sym end-is) ∙ h.ended; demerits = sym sum-is ∙ h.demerits; written = subst (Appends old new) text-is h.written }
 
-  stops-galley : (e : PageFault) → StopsRating (run_of_state g.params s).end (rated_text g.params places s) old new e → StopsRating (run_of g).end (rated_report g) old new e
+  stops-galley : (e : PageFault) → StopsText (run_of_state g.params s).end (rated_text g.params places s) old new e → StopsText (run_of g).end (rated_report g) old new e
   stops-galley e h = record { ended = ap end_fault (sym end-is) ∙ h.ended; written = subst (Appends old new) text-is h.written }
 
-  pub refuses-galley : (e : PageFault) → RefusesRating (run_of_state g.params s).end (rated_text g.params places s) old new e → RefusesRating (run_of g).end (rated_report g) old new e
+  pub refuses-galley : (e : PageFault) → RefusesText (run_of_state g.params s).end (rated_text g.params places s) old new e → RefusesText (run_of g).end (rated_report g) old new e
   refuses-galley (pages.PoolFull line live) h = stops-galley (pages.PoolFull line live) h
   refuses-galley (pages.DeadCycles n) h = stops-galley (pages.DeadCycles n) h
   refuses-galley (pages.PageLimit n) h = stops-galley (pages.PageLimit n) h
@@ -86,16 +77,16 @@ module _ (input : List ℕ) (source out : Stream) (read : Gives source.before so
       shown_by modes.Rate input source out read HasLawfulRun (galley_with input g is HasLawfulRun laws) answers.Done [] (run_reply (rated_report g) (run_of g)) replied
       (answer_at-well (run_of g).end p.ended) (line_at-well (run_of g).end p.ended) p.written
 
-  ended : (f : PageFault) → StopsRating (run_of g).end (rated_report g) out.before out.after f → Decided (Some modes.Rate) (page_status f) source out (err_line (page_text f))
+  ended : (f : PageFault) → StopsText (run_of g).end (rated_report g) out.before out.after f → Decided (Some modes.Rate) (page_status f) source out (err_line (page_text f))
   ended f r = decided_by modes.Rate input source out read _ _ (run_reply (rated_report g) (run_of g)) replied (page_status-ended (run_of g).end f r.ended) (page_text-ended (run_of g).end f r.ended) r.written
 
-  out-of-cycles : IsValid g → (n : ℕ) → StopsRating (run_of g).end (rated_report g) out.before out.after (pages.DeadCycles n) → OutOfCycles (Some modes.Rate) source out (err_line (page_text (pages.DeadCycles n)))
+  out-of-cycles : IsValid g → (n : ℕ) → StopsText (run_of g).end (rated_report g) out.before out.after (pages.DeadCycles n) → OutOfCycles (Some modes.Rate) source out (err_line (page_text (pages.DeadCycles n)))
   out-of-cycles valid n r =
-      shown_by modes.Rate input source out read LacksRoomForCycles (galley_with input g is LacksRoomForCycles (rated-room g valid (rated_report g) out.before out.after n r)) answers.DeadCycles (err_line (page_text (pages.DeadCycles n)))
+      shown_by modes.Rate input source out read LacksRoomForCycles (galley_with input g is LacksRoomForCycles (no-room-for-text g valid (rated_report g) out.before out.after n r)) answers.DeadCycles (err_line (page_text (pages.DeadCycles n)))
       (run_reply (rated_report g) (run_of g)) replied (page_status-ended (run_of g).end (pages.DeadCycles n) r.ended) (page_text-ended (run_of g).end (pages.DeadCycles n) r.ended) r.written
 
   -- what holds after a refusal of `rate_pages`
-  pub left-by-rating : IsValid g → (f : PageFault) → RefusesRating (run_of g).end (rated_report g) out.before out.after f → (f ≡ pages.WriteFault → Failed out) → StandsAfter (Some modes.Rate) (page_status f) source out (err_line (page_text f))
+  pub left-by-rating : IsValid g → (f : PageFault) → RefusesText (run_of g).end (rated_report g) out.before out.after f → (f ≡ pages.WriteFault → Failed out) → StandsAfter (Some modes.Rate) (page_status f) source out (err_line (page_text f))
   left-by-rating valid (pages.PoolFull line live) r rose = ended (pages.PoolFull line live) r
   left-by-rating valid (pages.DeadCycles n) r rose = out-of-cycles valid n r
   left-by-rating valid (pages.PageLimit n) r rose = ended (pages.PageLimit n) r

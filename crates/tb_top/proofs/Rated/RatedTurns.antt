@@ -7,8 +7,6 @@ use Rattle.std.proofs.lemmas.Int.{ints}
 use Rattle.std.proofs.lemmas.Nat.{mul-le}
 use Rattle.tb_io.specs.Faults.{Rose}
 use Rattle.tb_io.specs.Sink.{AppendsPrefix}
-use Rattle.tb_io.specs.declared.sink.SinkFault.{SinkFault}
-use Rattle.tb_io.specs.declared.sink.SinkFault.TheVariants as outputs
 use Rattle.tb_io.proofs.Appended.{prefix_on}
 use Rattle.tb_param.specs.declared.Params.{Params}
 use Rattle.tb_builder.specs.Contents.{kind_count, node_count}
@@ -37,12 +35,12 @@ use Rattle.tb_rate.proofs.TriedLemmas.{step-tried, last-tried}
 use Rattle.tb_top.specs.declared.View.TheVariants as views
 use Rattle.tb_top.specs.declared.PageFault.{PageFault}
 use Rattle.tb_top.specs.declared.PageFault.TheVariants as faults
-use Rattle.tb_top.specs.Pages.{end_fault}
-use Rattle.tb_top.specs.PagesWritten.{IsFaultRefusal, IsRefusalOf, write_fault}
+use Rattle.tb_top.specs.Pages.{end_fault, StopsText, RefusesText}
+use Rattle.tb_top.specs.PagesWritten.{IsFaultRefusal, IsRefusalOf}
 use Rattle.tb_top.specs.RatedReport.{rated_text}
-use Rattle.tb_top.specs.RatedPages.{Rates, StopsRating, RefusesRating}
+use Rattle.tb_top.specs.RatedPages.{Rates}
 use Rattle.tb_top.specs.RatedWritten.{unless_ended, last_rated_lines, EndsWell, StopsWith, IsRated}
-use Rattle.tb_top.proofs.Written.GoingLemmas.{header, failed-write}
+use Rattle.tb_top.proofs.Written.GoingLemmas.{header, refuses-text, failed-write}
 use Rattle.tb_top.proofs.Written.FinishLemmas.{ClosesAt, over-some, over-none}
 use Rattle.tb_top.proofs.Written.TurnLemmas.{ShowsStep}
 use Rattle.tb_top.proofs.Rated.RatedGoing.{step_lines, turn_lines, last_text, RatedGoing, RatedClosing, rated-goes, rated-closes, rated-cut, rated-begins, rated-over}
@@ -186,11 +184,6 @@ module _ (p : Params) (places : List PlacePenalty) (first : State) (r : Routine)
 
 -- ---- the end
 
--- a failed write, or no memory, after a prefix
-pub refuses-rated : (end : End) (whole : List ℕ) (old new : Option (List ℕ)) (fault : SinkFault) → AppendsPrefix old new whole → RefusesRating end whole old new (write_fault fault)
-refuses-rated end whole old new outputs.Failed b = b
-refuses-rated end whole old new outputs.Memory b = b
-
 sum-of-all : (d : ℤ) → d +ℤ pos 0 ≡ d
 sum-of-all d = omega (arith, ints)
 
@@ -220,27 +213,27 @@ module _ (p : Params) (places : List PlacePenalty) (q : Routine) (t : Totals) (d
   cut-rated : ending ≡ endings.Done → AppendsPrefix mid new (last_rated_lines q t d) → AppendsPrefix old new whole
   cut-rated is b = prefix_on old mid new whole rated.closing.written (last_rated_lines q t d) [] rated.closing.appended b (text-is is ∙ ap (λ ls. rated.closing.written ++ ls) (sym (append-nil (last_rated_lines q t d))))
 
-  refused-end : (e : End) (f : PageFault) → at.end ≡ e → rated.end ≡ e → end_fault e ≡ Some f → last_text p places run.events d e ≡ [] → new ≡ mid → StopsRating run.end whole old new f
+  refused-end : (e : End) (f : PageFault) → at.end ≡ e → rated.end ≡ e → end_fault e ≡ Some f → last_text p places run.events d e ≡ [] → new ≡ mid → StopsText run.end whole old new f
   refused-end e f is same fault none kept = record {
     ended = ap end_fault (at.closing.end ∙ is) ∙ fault;
     written = subst (λ x. Appends old x whole) (sym kept)
         (subst (Appends old mid) (sym (rated.closing.text ∙ ap (λ x. rated.closing.written ++ last_text p places run.events d x) same ∙ ap (λ ls. rated.closing.written ++ ls) none ∙ append-nil rated.closing.written)) rated.closing.appended);
   }
 
-  by-fault : (x : RunFault) (f : PageFault) → IsFaultEnd x at.end → IsFaultEnd x rated.end → IsFaultRefusal x f → new ≡ mid → RefusesRating run.end whole old new f
+  by-fault : (x : RunFault) (f : PageFault) → IsFaultEnd x at.end → IsFaultEnd x rated.end → IsFaultRefusal x f → new ≡ mid → RefusesText run.end whole old new f
   by-fault (refused.DeadCycles n) f is same h kept = rw h (refused-end (dead_cycles n) (faults.DeadCycles n) is same refl refl kept)
   by-fault (refused.PageLimit n) f is same h kept = rw h (refused-end (page_limit n) (faults.PageLimit n) is same refl refl kept)
   by-fault refused.Memory f is same h kept = absurd is
 
-  by-ending : (x : Ending) (f : PageFault) → IsEnd q x at.end → IsEnd q x rated.end → IsRefusalOf x f → new ≡ mid → RefusesRating run.end whole old new f
+  by-ending : (x : Ending) (f : PageFault) → IsEnd q x at.end → IsEnd q x rated.end → IsRefusalOf x f → new ≡ mid → RefusesText run.end whole old new f
   by-ending endings.Done f is same h kept = absurd h
   by-ending (endings.PoolFull line live) f is same h kept = rw h (refused-end (pool_full line live) (faults.PoolFull line live) is same refl refl kept)
   by-ending (endings.Fault x) f is same h kept = by-fault x f is same h kept
   by-ending (endings.NodeLimit n) f is same h kept = rw h (refused-end (node_limit n) (faults.NodeLimit n) is same refl refl kept)
 
-  pub stops-rated : (before later : ℕ) (f : PageFault) → StopsWith q t d ending mid new before later f → RefusesRating run.end whole old new f
+  pub stops-rated : (before later : ℕ) (f : PageFault) → StopsWith q t d ending mid new before later f → RefusesText run.end whole old new f
   stops-rated before later f (inl h) = by-ending ending f at.is rated.is h.0 h.1
-  stops-rated before later f (inr h) = rw h.1.is (refuses-rated run.end whole old new h.1.fault (cut-rated h.0 h.1.part))
+  stops-rated before later f (inr h) = rw h.1.is (refuses-text run.end whole old new h.1.fault (cut-rated h.0 h.1.part))
 
 -- ---- a refusal for a failed write
 

@@ -22,7 +22,7 @@ use Rattle.tb_steps.specs.Run.{Run, End, done, node_limit, Step, ends, goes_on, 
 use Rattle.tb_items.specs.RunEvents.{RunEvent, offered, sent}
 use Rattle.tb_laws.specs.Totals.{totals_of}
 use Rattle.tb_top.specs.Report.{event_lines, traced_lines, all_lines, closing_lines, report, trace}
-use Rattle.tb_top.specs.Pages.{view_text, end_fault, Paginates, EndsWith, Refuses}
+use Rattle.tb_top.specs.Pages.{view_text, end_fault, Paginates, EndsWith, Refuses, RefusesText}
 use Rattle.tb_items.specs.Happenings.{noted}
 use Rattle.tb_top.specs.PagesWritten.{write_fault}
 use Rattle.tb_top.specs.Views.{viewed, is_traced, with_events, IsShown}
@@ -306,6 +306,10 @@ module _ (v : View) (old mid new : Option (List ℕ)) (t : Totals) (whole : Run)
 pub refuses-cut : (v : View) (whole : Run) (old new : Option (List ℕ)) (fault : SinkFault) → AppendsPrefix old new (view_text v whole) → Refuses v whole old new (write_fault fault)
 refuses-cut v whole old new outputs.Failed b = b
 refuses-cut v whole old new outputs.Memory b = b
+
+pub refuses-text : (end : End) (whole : List ℕ) (old new : Option (List ℕ)) (fault : SinkFault) → AppendsPrefix old new whole → RefusesText end whole old new (write_fault fault)
+refuses-text end whole old new outputs.Failed b = b
+refuses-text end whole old new outputs.Memory b = b
 
 -- a failed write is that of a failed sink
 pub failed-write : (fault : SinkFault) → faults.WriteFault ≡ write_fault fault → fault ≡ outputs.Failed

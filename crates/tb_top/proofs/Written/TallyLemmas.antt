@@ -22,7 +22,7 @@ use Rattle.tb_top.specs.PagesWritten.{node_total}
 use Rattle.tb_laws.specs.DviPages.{sent_among}
 use Rattle.tb_top.specs.Views.{with_events}
 use Rattle.tb_top.proofs.Written.EventCounts.{SendsIn}
-use Rattle.tb_top.proofs.Written.PrintablePages.{few-sent}
+use Rattle.tb_top.proofs.Written.SentPages.{few-sent}
 use Rattle.tb_laws.proofs.Defined.RunParams.{AreFewFirings}
 
 -- ---- the totals of events

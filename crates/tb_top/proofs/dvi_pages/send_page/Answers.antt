@@ -7,7 +7,7 @@ use Rattle.tb_dvi.specs.File.{Page, sheet_page, page_bytes}
 use Rattle.tb_dvi.specs.Progress.{with_page}
 use Rattle.tb_top.specs.DviWritten.{HoldsPages, FailsAmong}
 use Rattle.tb_top.proofs.Written.KeptLemmas.{more-kept, keeps-longer, keeps-appends}
-use Rattle.tb_top.proofs.Written.PrintablePages.{printable-sheet}
+use Rattle.tb_why.proofs.PrintablePages.{printable-sheet}
 use Rattle.tb_top.proofs.DviFiles.DviSending.{holds-more, holds-short, holds-written, short-before, short-written, misses-page, as-before}
 use Rattle.tb_top.proofs.dvi_pages.send_page.Goals as goal
 

@@ -1,7 +1,7 @@
 use Rattle.std.proofs.Common.{sym, subst}
 use Rattle.tb_report.specs.Printable.{IsPrintableSent}
 use Rattle.tb_items.specs.Happenings.{IsPage}
-use Rattle.tb_top.proofs.Written.PrintablePages.{printable-sent}
+use Rattle.tb_why.proofs.PrintablePages.{printable-sent}
 use Rattle.tb_top.proofs.rated_pages.put_report.Goals as goal
 
 pub put_sent-requires : goal.put_sent-requires

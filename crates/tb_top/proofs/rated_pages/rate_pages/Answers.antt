@@ -9,7 +9,8 @@ use Rattle.tb_items.proofs.GalleyItems.{galley-items}
 use Rattle.tb_items.proofs.GalleyNodeLemmas.{galley-nodes}
 use Rattle.tb_laws.proofs.Defined.RunParams.{params-runnable}
 use Rattle.tb_laws.proofs.Limits.LimitedRuns.{run-within}
-use Rattle.tb_top.proofs.Rated.RatedOutcomes.{rated-laws, not-for-cycles, rates-galley, refuses-galley}
+use Rattle.tb_top.proofs.Ends.CycleAnswers.{text-not-for-cycles}
+use Rattle.tb_top.proofs.Rated.RatedOutcomes.{rated-laws, rates-galley, refuses-galley}
 use Rattle.tb_top.proofs.rated_pages.rate_pages.Goals as goal
 
 pub new-requires-clause-params : goal.new-requires-clause-params
@@ -55,7 +56,7 @@ pub returns-clause-limits : goal.returns-clause-limits
 returns-clause-limits g c = run-within c.args.galley.now
 
 pub returns-clause-cycles : goal.returns-clause-cycles
-returns-clause-cycles g c = λ room. IfErr-weaker c.run_on.result _ _ (not-for-cycles c.args.galley.now c.requires.valid room _ _ _) (returns-clause-refused g c)
+returns-clause-cycles g c = λ room. IfErr-weaker c.run_on.result _ _ (text-not-for-cycles c.args.galley.now c.requires.valid room _ _ _) (returns-clause-refused g c)
 
 -- ---- there was no memory for the places or the routine
 

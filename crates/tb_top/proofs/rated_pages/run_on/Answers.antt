@@ -21,10 +21,11 @@ use Rattle.tb_laws.proofs.Defined.RunParams.{few-firings}
 use Rattle.tb_top.specs.declared.View.TheVariants as views
 use Rattle.tb_top.specs.RatedReport.{rated_text}
 use Rattle.tb_top.specs.Views.{with_events}
+use Rattle.tb_top.proofs.Written.GoingLemmas.{refuses-text}
 use Rattle.tb_top.proofs.Written.FinishLemmas.{ClosesAt, start-closing, start-going, start-tally, turn-closing, turn-going, turn-counts, turn-tally, limit-ready, few-wait}
 use Rattle.tb_top.proofs.Written.TurnLemmas.{ShowsStep, shows-step, turn-fewer}
 use Rattle.tb_top.proofs.Rated.RatedGoing.{turn_lines, RatedGoing, rated-first, rated-now}
-use Rattle.tb_top.proofs.Rated.RatedTurns.{IsSum, RatedClosesAt, start-goes, start-closes, rating_now, break-tried, sum-first, sum-next, sum-high, turn-cut, turn-goes, turn-closes, refuses-rated, ends-rated, stops-rated, stops-cause}
+use Rattle.tb_top.proofs.Rated.RatedTurns.{IsSum, RatedClosesAt, start-goes, start-closes, rating_now, break-tried, sum-first, sum-next, sum-high, turn-cut, turn-goes, turn-closes, ends-rated, stops-rated, stops-cause}
 use Rattle.tb_top.proofs.rated_pages.run_on.Given.{Over}
 use Rattle.tb_top.proofs.rated_pages.run_on.Goals.{In-Some, In_ok-ending, In_ok-send}
 use Rattle.tb_top.proofs.rated_pages.run_on.Goals as goal
@@ -32,7 +33,7 @@ use Rattle.tb_top.proofs.rated_pages.run_on.Goals as goal
 pub returns-in_err-show-clause-refused : goal.returns-in_err-show-clause-refused
 returns-in_err-show-clause-refused g c =
     let p = err_from_is_err_and c.from_residual.result c.from_residual.ensures.1 in
-    rw (p.1, p.2) (refuses-rated _ _ _ _ c.in_err-show.field-0.0 (rated-first c.args.params.now c.args.places.now (state_of c.args.routine.now) _ _ c.in_err-show.ensures.part))
+    rw (p.1, p.2) (refuses-text _ _ _ _ c.in_err-show.field-0.0 (rated-first c.args.params.now c.args.places.now (state_of c.args.routine.now) _ _ c.in_err-show.ensures.part))
 
 -- ---- more nodes wait at the start than may be
 
@@ -128,7 +129,7 @@ returns-in_err-send-clause-refused g c =
     let value = c.rating_of-rating.ensures.value ∙ ap (λ hs. rating_now p c.args.places.now s q (c.firing.totals.pages + 1) c.in_ok-ending.ending (events_of q.store hs)) c.deref.ensures.value in
     let part = subst (λ hs. AppendsPrefix (g.K.Sink.held c.firing.out) (g.K.Sink.held c.send.new.out) (turn_lines (events_of q.store hs) c.rating_of-rating.result)) c.deref-in-firing.ensures.value c.in_err-send.ensures.shown.part in
     rw (failed.1, failed.2)
-    (refuses-rated _ _ _ _ c.in_err-send.field-0.0
+    (refuses-text _ _ _ _ c.in_err-send.field-0.0
     (turn-cut p c.args.places.now s _ _ _ _ _ _ _ c.firing.invariant.rated c.firing.invariant.going.page q c.turn.new.happened.items c.in_ok-ending.ending shows (c.firing.totals.pages + 1) c.firing.invariant.tally.pages c.rating_of-rating.result value part))
 
 -- ---- the turn was the last

@@ -19,6 +19,9 @@ returns-in-Trace-clause-stands g c = rw (c.in_ok-mode.ensures.asked, c.in-Trace.
 pub returns-in-Rate-clause-stands : goal.returns-in-Rate-clause-stands
 returns-in-Rate-clause-stands g c = rw (c.in_ok-mode.ensures.asked, c.in-Rate.is) c.write_rated.ensures.stands
 
+pub returns-in-Why-clause-stands : goal.returns-in-Why-clause-stands
+returns-in-Why-clause-stands g c = rw (c.in_ok-mode.ensures.asked, c.in-Why.is) c.write_told.ensures.stands
+
 pub returns-in-Print-clause-stands : goal.returns-in-Print-clause-stands
 returns-in-Print-clause-stands g c = rw (c.in_ok-mode.ensures.asked, c.in-Print.is) c.write_canonical.ensures.stands
 

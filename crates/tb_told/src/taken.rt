@@ -1,0 +1,43 @@
+//! A company leaves the list in which its floats wait.
+ghost use Rattle.std.specs.Prelude.{◌≡◌, [], length, None, true, false};
+ghost use Rattle.tb_float.specs.Lists.{IsWaiting, floats_of};
+ghost use Rattle.tb_float.specs.Pool.{HasNoMarks, marks_of};
+ghost use Rattle.tb_float.specs.MarkedFloats.{without_marked};
+ghost use Rattle.tb_fpage.specs.Company.{company};
+ghost use Rattle.tb_told.specs.ColumnPieces.{IsTaken};
+
+use tb_float::{Part, Pool};
+use tb_fpage::{Wanted, choose};
+
+/// The floats of the company that makes a column leave a list in which floats wait. Returns false exactly if there is
+/// none; nothing changes then.
+pub fn take_company(pool: &mut Pool, from: Part, wanted: &Wanted) -> bool
+    requires waiting { IsWaiting from }
+    requires unmarked { HasNoMarks pool.old }
+    ensures taken { result ≡ true → IsTaken wanted.now from pool.old pool.new }
+    ensures none { result ≡ false → company wanted.now (floats_of from pool.old.lists) ≡ None }
+    ensures unchanged { result ≡ false → pool.new ≡ pool.old }
+    ensures unmarked { HasNoMarks pool.new }
+{
+    let found = choose(
+        pool,
+        wanted.height,
+        wanted.minimum,
+        wanted.sep,
+        wanted.clearing,
+        wanted.wide,
+        from,
+    );
+    if found {
+        drop_marked(pool, from);
+    }
+    found
+}
+
+// The marked floats of a list leave the pool.
+fn drop_marked(pool: &mut Pool, from: Part)
+    requires waiting { IsWaiting from }
+    ensures { pool.new ≡ without_marked from pool.old }
+{
+    'floats: while let Some(_float) = pool.retire_marked(from) {}
+}

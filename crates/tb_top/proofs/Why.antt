@@ -1,0 +1,3 @@
+pub mod WhyGoing
+pub mod WhyTurns
+pub mod WhyOutcomes
