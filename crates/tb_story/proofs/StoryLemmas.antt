@@ -166,9 +166,9 @@ last_over line zero ss o = refl
 last_over line (suc n) [] o = refl
 last_over line (suc n) (s ∷ ss) o = passed (is_open s) (s.float.line == line) o.0 ∙ last_over line n ss o.1
   where
-  passed : (b c : Bool) → b ≡ false → (if (b && c) then s.last else last_of line ss) ≡ last_of line ss
-  passed false c e = refl
-  passed true c e = cc
+    passed : (b c : Bool) → b ≡ false → (if (b && c) then s.last else last_of line ss) ≡ last_of line ss
+    passed false c e = refl
+    passed true c e = cc
 
 module _ {X : Type 0} where
   if_false : (b : Bool) (x y : X) → b ≡ false → (if b then x else y) ≡ y

@@ -1,6 +1,7 @@
 -- The summary: one story of each float that was called or waits, as the tales and the shipped pages tell it.
 use Rattle.std.specs.Prelude.{ℕ, ℤ, pos, negsuc, ◌+◌, ◌-ℤ◌, ◌+ℤ◌, Bool, true, false, not, ◌&&◌, ◌==◌, List, [], ◌∷◌, ◌++◌, map, Option, Some, None, int_lt, if◌then◌else◌}
 use Rattle.tb_node.specs.declared.Float.{Float}
+use Rattle.tb_node.specs.declared.What.{What}
 use Rattle.tb_node.specs.declared.What.TheVariants as what
 use Rattle.tb_node.specs.declared.Where.{Where}
 use Rattle.tb_node.specs.declared.Where.TheVariants as places
@@ -234,9 +235,14 @@ after_tale PutOut m = after_output m
 
 -- ---- pages that are shipped
 
+-- the story of the float that a box holds
+abbrev pub after_box : ℕ → What → List StoryView → List StoryView
+after_box page (what.Float name class place item) ss = with_story item (landed_at page place) ss
+after_box page w ss = ss
+
 -- the story of the float whose box a node is
 abbrev pub after_node : ℕ → PlainKind → List StoryView → List StoryView
-after_node page (plain (hbox (what.Float name class place item) h d)) ss = with_story item (landed_at page place) ss
+after_node page (plain (hbox w h d)) ss = after_box page w ss
 after_node page k ss = ss
 
 -- the stories of the floats among nodes

@@ -34,13 +34,7 @@ pub(crate) fn keep_story(stories: &mut [Story], over: usize, line: u32, k: &Kept
 }
 
 /// The float of this line is placed, after so many sheets.
-pub(crate) fn place_story(
-    stories: &mut [Story],
-    over: usize,
-    line: u32,
-    place: Where,
-    sheets: u64,
-)
+pub(crate) fn place_story(stories: &mut [Story], over: usize, line: u32, place: Where, sheets: u64)
     requires { AreOver over stories.old }
     ensures { stories.new ≡ with_story line (placed_at place sheets) stories.old }
 {
@@ -81,11 +75,7 @@ pub(crate) fn carry_story(
 }
 
 /// Each float that waits misses a sheet, after so many. If memory runs out, the counts hold for one sheet more.
-pub(crate) fn miss_sheet(
-    stories: &mut [Story],
-    over: usize,
-    sheets: u64,
-) -> Result<(), AllocError>
+pub(crate) fn miss_sheet(stories: &mut [Story], over: usize, sheets: u64) -> Result<(), AllocError>
     requires few { sheets < 2 ^ 63 }
     requires sound { IsSound over sheets stories.old }
     ensures missed { OnOk result (stories.new ≡ map missed_sheet stories.old) }
