@@ -215,6 +215,9 @@ next_counted change n a i now ss d e lt h =
 pub sound_now : (n a b i : ℕ) (change : StoryView → StoryView) (now ss : List StoryView) → LeavesOver change → KeepsCounts a b change → a ≤ b → IsSound n a ss → now ≡ changed_front change i ss → IsSound n b now
 sound_now n a b i change now ss l k le h e = subst (λ t. IsSound n b t) (sym e) (sound_front n a b i change ss l k le h)
 
+pub over_now : (n i : ℕ) (change : StoryView → StoryView) (now ss : List StoryView) → LeavesOver change → AreOver n ss → now ≡ changed_front change i ss → AreOver n now
+over_now n i change now ss l o e = subst (λ t. AreOver n t) (sym e) (over_changed change l n i ss o)
+
 pub over_next : (n : ℕ) (ss : List StoryView) (d : StoryView) → AreOver n ss → n < length ss → is_open (get_or ss n d) ≡ false → AreOver (n + 1) ss
 over_next n ss d o lt e = subst (λ k. AreOver k ss) (one_more n) (over_more n ss d o lt e)
 

@@ -1,7 +1,7 @@
 //! What columns of floats change in the summary.
-ghost use Rattle.std.specs.Prelude.{◌≡◌, ◌-ℤ◌, ◌+ℤ◌, pos, OnOk};
+ghost use Rattle.std.specs.Prelude.{◌≡◌, ◌-ℤ◌, ◌+ℤ◌, ◌≤ℤ◌, pos, negsuc, OnOk};
 ghost use Rattle.tb_story.specs.Summary.{capped, way_of_head, way_of_joining, heads_none, not_alone, stays_behind, kept_all, keep_all, none_behind, after_heads, after_joining, after_company, after_column, after_start};
-ghost use Rattle.tb_story.specs.Counts.{AreOver};
+ghost use Rattle.tb_story.specs.Counts.{AreOver, StaysSound};
 
 use crate::deciding::gain;
 use crate::notes::{noted_of, or_else};
@@ -17,7 +17,9 @@ const MOST: i128 = 85070591730234615865843651857942052864;
 
 // A sum of heights as it is told here: at most `MOST` either way.
 fn capped(sum: i128) -> i128
-    ensures { result ≡ capped sum }
+    ensures value { result ≡ capped sum }
+    ensures low { negsuc 85070591730234615865843651857942052863 ≤ℤ result }
+    ensures high { result ≤ℤ pos 85070591730234615865843651857942052864 }
 {
     if sum > MOST {
         MOST
@@ -42,17 +44,28 @@ fn over_sum(sum: i128, most: i64) -> i128
     capped(sum) - i128::from(most)
 }
 
+// One more than what is lacked, of a sum that is no more than `MOST` either way.
+fn lack_of(least: i64, has: i128) -> i128
+    requires low { negsuc 85070591730234615865843651857942052863 ≤ℤ has }
+    requires high { has ≤ℤ pos 85070591730234615865843651857942052864 }
+    ensures { result ≡ least -ℤ has +ℤ pos 1 }
+{
+    i128::from(least) - has + 1
+}
+
 // One more than what a company lacks.
 fn lack_of_sum(least: i64, sum: i128) -> i128
     ensures { result ≡ least -ℤ capped sum +ℤ pos 1 }
 {
-    i128::from(least) - capped(sum) + 1
+    lack_of(least, capped(sum))
 }
 
 /// Each of these floats is kept back for the reason that is noted.
 fn keep_noted(stories: &mut [Story], over: usize, notes: &[Noted])
     requires { AreOver over stories.old }
-    ensures { stories.new ≡ kept_all notes.now stories.old }
+    ensures kept { stories.new ≡ kept_all notes.now stories.old }
+    ensures over { AreOver over stories.new }
+    ensures sound { StaysSound over stories.old stories.new }
 {
     for n in notes {
         keep_story(stories, over, n.float.line, &n.kept);

@@ -6,7 +6,7 @@ ghost use Rattle.tb_node.specs.declared.Node.{Node as Stored};
 ghost use Rattle.tb_node.specs.PlainNodes.{plain_kind, plain_list};
 ghost use Rattle.tb_sheet.specs.StoredSheets.{sheet_shown, sent_shown, IsLiveSheet, IsLiveSent};
 ghost use Rattle.tb_story.specs.Summary.{after_box, after_node, after_nodes, after_sheet, after_page, after_sent};
-ghost use Rattle.tb_story.specs.Counts.{AreOver};
+ghost use Rattle.tb_story.specs.Counts.{AreOver, StaysSound};
 
 use crate::stories::{count_over, land_story};
 use crate::{Story, Summary};
@@ -17,7 +17,9 @@ use tb_sheet::{Sent, Sheet};
 // The story of the float whose box a node is.
 fn land_node(stories: &mut [Story], over: usize, page: u64, node: &Node)
     requires { AreOver over stories.old }
-    ensures { (held : Id → List Stored) → stories.new ≡ after_node page (plain_kind held node.now.kind) stories.old }
+    ensures landed { (held : Id → List Stored) → stories.new ≡ after_node page (plain_kind held node.now.kind) stories.old }
+    ensures over { AreOver over stories.new }
+    ensures sound { StaysSound over stories.old stories.new }
 {
     match node.kind {
         Kind::Hbox { what, .. } => land_box(stories, over, page, &what),
@@ -36,7 +38,9 @@ fn land_node(stories: &mut [Story], over: usize, page: u64, node: &Node)
 // The story of the float that a box holds.
 fn land_box(stories: &mut [Story], over: usize, page: u64, what: &What)
     requires { AreOver over stories.old }
-    ensures { stories.new ≡ after_box page what.now stories.old }
+    ensures landed { stories.new ≡ after_box page what.now stories.old }
+    ensures over { AreOver over stories.new }
+    ensures sound { StaysSound over stories.old stories.new }
 {
     match what {
         What::Float { place, item, .. } => land_story(stories, over, *item, page, *place),
@@ -52,6 +56,7 @@ fn land_list(stories: &mut [Story], over: usize, page: u64, store: &Lists<Node>,
     requires live { IsLive store.now list }
     ensures landed { stories.new ≡ after_nodes page (plain_list store.now list) stories.old }
     ensures over { AreOver over stories.new }
+    ensures sound { StaysSound over stories.old stories.new }
 {
     for node in store.iter(list) {
         land_node(stories, over, page, node);
@@ -62,7 +67,9 @@ fn land_list(stories: &mut [Story], over: usize, page: u64, store: &Lists<Node>,
 fn land_sheet(stories: &mut [Story], over: usize, page: u64, store: &Lists<Node>, sheet: &Sheet)
     requires over { AreOver over stories.old }
     requires live { IsLiveSheet store.now sheet.now }
-    ensures { stories.new ≡ after_sheet page (sheet_shown store.now sheet.now) stories.old }
+    ensures landed { stories.new ≡ after_sheet page (sheet_shown store.now sheet.now) stories.old }
+    ensures over { AreOver over stories.new }
+    ensures sound { StaysSound over stories.old stories.new }
 {
     match sheet {
         Sheet::One(column) => land_list(stories, over, page, store, column.list),
