@@ -1,6 +1,6 @@
 //! What columns of floats change in the summary.
 ghost use Rattle.std.specs.Prelude.{◌≡◌, ◌-ℤ◌, ◌+ℤ◌, ◌≤ℤ◌, pos, negsuc, OnOk};
-ghost use Rattle.tb_story.specs.Summary.{capped, way_of_head, way_of_joining, heads_none, not_alone, stays_behind, kept_all, keep_all, none_behind, after_heads, after_joining, after_company, after_column, after_start};
+ghost use Rattle.tb_story.specs.Summary.{capped, way_of_head, way_of_joining, heads_none, not_alone, stays_behind, kept_all, keep_noted, keep_all, none_behind, no_head_by, behind_by, after_heads, after_joining, after_company, after_column, after_start};
 ghost use Rattle.tb_story.specs.Counts.{AreOver, StaysSound};
 
 use crate::deciding::gain;
@@ -61,7 +61,7 @@ fn lack_of_sum(least: i64, sum: i128) -> i128
 }
 
 /// Each of these floats is kept back for the reason that is noted.
-fn keep_noted(stories: &mut [Story], over: usize, notes: &[Noted])
+fn keep_notes(stories: &mut [Story], over: usize, notes: &[Noted])
     requires { AreOver over stories.old }
     ensures kept { stories.new ≡ kept_all notes.now stories.old }
     ensures over { AreOver over stories.new }
@@ -133,12 +133,26 @@ impl Summary {
         Ok(())
     }
 
+    // Those that head no column are kept back.
+    fn keep_alone(&mut self)
+        ensures { self.new ≡ keep_noted self.old.alone self.old }
+    {
+        keep_notes(&mut self.stories, self.over, &self.alone);
+    }
+
+    // Those that stay behind are kept back.
+    fn keep_passed(&mut self)
+        ensures { self.new ≡ keep_noted self.old.passed self.old }
+    {
+        keep_notes(&mut self.stories, self.over, &self.passed);
+    }
+
     // Those that head no column, and those that stay behind, are kept back.
     fn keep_all(&mut self)
         ensures { self.new ≡ keep_all self.old }
     {
-        keep_noted(&mut self.stories, self.over, &self.alone);
-        keep_noted(&mut self.stories, self.over, &self.passed);
+        self.keep_alone();
+        self.keep_passed();
     }
 
     // No float stays behind yet.
@@ -148,6 +162,14 @@ impl Summary {
         self.passed.clear();
     }
 
+    // Why a float heads no column.
+    fn no_head_by(&self, f: &Float, t: &Alone, test: Test) -> Kept
+        ensures { result ≡ no_head_by f.now t.now test self.now }
+    {
+        let by = gain(test, over_height(t.high, t.most), 0);
+        kept_by(Area::Alone, test, f, by, self.way_of_head(&t.blocker))
+    }
+
     fn note_head(&mut self, f: &Float, t: &Alone) -> Result<(), AllocError>
         ensures { OnOk result (self.new ≡ after_heads f.now t.now t.now.failed self.old) }
     {
@@ -155,9 +177,16 @@ impl Summary {
             self.none_behind();
             return Ok(());
         };
-        let by = gain(test, over_height(t.high, t.most), 0);
-        let k = kept_by(Area::Alone, test, f, by, self.way_of_head(&t.blocker));
+        let k = self.no_head_by(f, t, test);
         self.not_alone(f, &k)
+    }
+
+    // Why a float stays behind the company of a head.
+    fn behind_by(&self, f: &Float, t: &Joining, test: Test) -> Kept
+        ensures { result ≡ behind_by f.now t.now test self.now }
+    {
+        let by = gain(test, over_height(t.high, t.most), over_sum(t.sum, t.most));
+        kept_by(Area::Joins, test, f, by, self.way_of_joining(&t.blocker))
     }
 
     fn note_joining(&mut self, f: &Float, t: &Joining) -> Result<(), AllocError>
@@ -166,8 +195,7 @@ impl Summary {
         let Some(test) = t.failed else {
             return Ok(());
         };
-        let by = gain(test, over_height(t.high, t.most), over_sum(t.sum, t.most));
-        let k = kept_by(Area::Joins, test, f, by, self.way_of_joining(&t.blocker));
+        let k = self.behind_by(f, t, test);
         self.stays_behind(f, &k)
     }
 

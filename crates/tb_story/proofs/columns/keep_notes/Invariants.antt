@@ -1,7 +1,7 @@
 use Rattle.std.proofs.Common.{◌≡◌, drop}
 use Rattle.tb_story.specs.Summary.{kept_all}
 use Rattle.tb_story.specs.Counts.{AreOver, StaysSound}
-use Rattle.tb_story.proofs.columns.keep_noted.Given as goal
+use Rattle.tb_story.proofs.columns.keep_notes.Given as goal
 
 abbrev pub invariant-loop-n : goal.invariant-loop-n
 invariant-loop-n l = record {
