@@ -78,7 +78,12 @@ impl Summary {
     }
 
     /// A story begins. If memory runs out, the summary is as it was.
-    pub(crate) fn begin(&mut self, f: &Float, page: u64, last: Option<Kept>) -> Result<(), AllocError>
+    pub(crate) fn begin(
+        &mut self,
+        f: &Float,
+        page: u64,
+        last: Option<Kept>,
+    ) -> Result<(), AllocError>
         ensures { OnOk result (self.new ≡ begun_story f.now page last self.old) }
     {
         let story = Story::new(self.alloc, f, page, last, self.sheets);
@@ -149,7 +154,14 @@ impl Summary {
     {
         match told {
             Told::Enters(t) => {
-                self.try_area(Area::Enter, f, &t.blocker, lack(t.need, t.room), 0, t.failed)
+                self.try_area(
+                    Area::Enter,
+                    f,
+                    &t.blocker,
+                    lack(t.need, t.room),
+                    0,
+                    t.failed,
+                )
             }
             Told::TestsHere(t) => {
                 self.try_area(Area::Here, f, &None, lack(t.need, t.room), 0, t.failed)
@@ -160,7 +172,14 @@ impl Summary {
             }
             Told::TestsBottom(t) => {
                 let share = lack(t.high, t.share);
-                self.try_area(Area::Bottom, f, &None, lack(t.need, t.room), share, t.failed)
+                self.try_area(
+                    Area::Bottom,
+                    f,
+                    &None,
+                    lack(t.need, t.room),
+                    share,
+                    t.failed,
+                )
             }
             Told::TestsWide(t) => {
                 self.try_area(Area::Wide, f, &t.blocker, lack(t.high, t.room), 0, t.failed)
