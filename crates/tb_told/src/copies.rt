@@ -87,9 +87,10 @@ fn copy_current(copy: &mut Pool, pool: &Pool) -> Result<(), AllocError>
 {
     let mut left = None;
     for k in 0..pool.len(Part::Current) {
-        if let Some(entry) = pool.entry(Part::Current, k) {
-            left = copy_entry(copy, entry, left)?;
-        }
+        let Some(entry) = pool.entry(Part::Current, k) else {
+            return Err(AllocError);
+        };
+        left = copy_entry(copy, entry, left)?;
     }
     if left.is_some() {
         return Err(AllocError);
