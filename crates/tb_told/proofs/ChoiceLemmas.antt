@@ -1,11 +1,11 @@
 -- The choices of a company: its height, its floats, those that stay behind, and the tests of a float that may join.
-use Rattle.std.proofs.Common.{◌≡◌, ℕ, zero, suc, ◌+◌, ◌-◌, ◌≢◌, ◌*◌, ◌<◌, ◌≤◌, Bool, true, false, List, [], ◌∷◌, ◌++◌, length, take, drop, map, Some, drop-cons, add-one, slice_index_or, slice_get, refl, sym, ap, ◌∙◌, append_assoc, append-nil, arith}
+use Rattle.std.proofs.Common.{◌≡◌, ℕ, zero, suc, ◌+◌, ◌-◌, ◌≢◌, ◌*◌, ◌<◌, ◌≤◌, Bool, true, false, List, [], ◌∷◌, ◌++◌, length, take, drop, map, Some, Result, Ok, Err, OnOk, drop-cons, add-one, slice_index_or, slice_get, refl, sym, ap, ◌∙◌, append_assoc, append-nil, arith}
 use Rattle.std.specs.Prelude.{ℤ, pos, ◌+ℤ◌, ◌-ℤ◌, not, ◌&&◌, ◌||◌, ◌==◌, Option, None, is_some, int_le, if◌then◌else◌}
 use Rattle.std.specs.Bool.{beq}
 use Rattle.std.proofs.lemmas.Int.{ints}
 use Rattle.std.proofs.lemmas.List.{length-append, length-map, length-take-le}
 use Rattle.std.proofs.lemmas.Option.{slice_get_within}
-use Rattle.tb_float.proofs.ListLemmas.{whole-at}
+use Rattle.tb_float.proofs.ListLemmas.{whole-at, slice_get-front}
 use Rattle.tb_node.specs.declared.Float.{Float}
 use Rattle.tb_float.specs.Lists.{has_class}
 use Rattle.tb_fpage.specs.declared.Wanted.{Wanted}
@@ -63,6 +63,14 @@ left-step k c cs = by_choice c.chosen
     by_choice true = refl
     by_choice false = refl
 
+-- the choice at a place is the first of those from there on
+pub at-index : (cs : List Choice) (i : ℕ) (c : Choice) → i < length cs → c ≡ slice_index_or cs i c → drop i cs ≡ c ∷ drop (i + 1) cs
+at-index cs i c lt is = drop-cons cs i c lt ∙ (λ j. sym is j ∷ drop (sym (add-one i) j) cs)
+
+-- the choice is at the place
+pub there-at : (cs : List Choice) (k : ℕ) (c : Choice) → k < length cs → c ≡ slice_index_or cs k c → slice_get cs k ≡ Some c
+there-at cs k c lt is = slice_get-front k cs c (ap (λ ds. slice_get ds 0) (at-index cs k c lt is))
+
 -- how many are in the company
 pub count-step : (c : Choice) (cs : List Choice) → length (chosen_floats (c ∷ cs)) ≡ (if c.chosen then 1 else 0) + length (chosen_floats cs)
 count-step c cs = by_choice c.chosen
@@ -78,10 +86,6 @@ separated-step sep c cs = by_choice c.chosen
     by_choice : (b : Bool) → (if b then sep +ℤ c.float.height +ℤ separated sep cs else separated sep cs) ≡ (if b then sep +ℤ c.float.height else pos 0) +ℤ separated sep cs
     by_choice true = refl
     by_choice false = omega (arith, ints)
-
--- the choice at a place is the first of those from there on
-pub at-index : (cs : List Choice) (i : ℕ) (c : Choice) → i < length cs → c ≡ slice_index_or cs i c → drop i cs ≡ c ∷ drop (i + 1) cs
-at-index cs i c lt is = drop-cons cs i c lt ∙ (λ j. sym is j ∷ drop (sym (add-one i) j) cs)
 
 -- one of the class is found exactly if not all of the class are in the company
 pub found-is : (k : ℕ) (cs : List Choice) → is_some (first_of_class k (left_floats cs)) ≡ not (all_chosen k cs)
@@ -169,6 +173,17 @@ company-length z all place f there =
     let parts = ap length (whole-at all place f there) in
     omega (arith, length-choices z before (drop (suc place) all), head-length (take place all) f, parts, length-append (take place all) (f ∷ drop (suc place) all))
 
+-- one call appends what is to be appended
+pub ok-then : {E X : Type 0} (r : Result (Unit {0}) E) (x a b : X) → a ≡ b → OnOk r (x ≡ a) → OnOk r (x ≡ b)
+ok-then (Ok v) x a b e h = h ∙ e
+ok-then (Err v) x a b e h = tt
+
 -- how many are before it
 pub place-is : (all : List Float) (place : ℕ) (f : Float) → slice_get all place ≡ Some f → length (take place all) ≡ place
 place-is all place f there = length-take-le place all (omega (arith, slice_get_within all place f there))
+
+-- how many are behind it
+pub rest-length : (all : List Float) (place : ℕ) (f : Float) → slice_get all place ≡ Some f → place + 1 + length (drop (place + 1) all) ≡ length all
+rest-length all place f there =
+    let one : length (drop (place + 1) all) ≡ length (drop (suc place) all) = ap (λ n. length (drop n all)) (add-one place) in
+    omega (arith, one, ap length (whole-at all place f there), length-append (take place all) (f ∷ drop (suc place) all), place-is all place f there)

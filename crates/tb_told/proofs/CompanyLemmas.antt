@@ -1,5 +1,5 @@
 -- What is told of a company, in pieces: appended one after another, and read off its choices.
-use Rattle.std.proofs.Common.{◌≡◌, ℕ, zero, suc, ◌+◌, Bool, true, false, List, [], ◌∷◌, ◌++◌, length, take, drop, map, Some, slice_get, refl, sym, ap, ◌∙◌, append_assoc, append-nil, Result, Ok, Err, OnOk, arith}
+use Rattle.std.proofs.Common.{◌≡◌, ℕ, zero, suc, ◌+◌, Bool, true, false, List, [], ◌∷◌, ◌++◌, length, take, drop, map, Some, slice_get, refl, sym, ap, ◌∙◌, append_assoc, append-nil, Result, Ok, Err, OnOk, IfOk, arith}
 use Rattle.std.specs.Prelude.{Option, None, is_some, if◌then◌else◌}
 use Rattle.std.specs.Bool.{beq}
 use Rattle.tb_node.specs.declared.Float.{Float}
@@ -12,9 +12,11 @@ use Rattle.tb_told.specs.declared.Alone.{Alone}
 use Rattle.tb_told.specs.declared.Made.{Made}
 use Rattle.tb_told.specs.declared.Piece.{Piece}
 use Rattle.tb_told.specs.declared.Piece.TheVariants.{Says}
-use Rattle.tb_told.specs.declared.Tale.TheVariants.{InColumn}
-use Rattle.tb_told.specs.ColumnTold.{joins_told, if_of_width, alone_told, alone_tests, made_told, told_joins, told_made, told_head, told_float, told_from}
+use Rattle.tb_told.specs.declared.Tale.TheVariants.{Begins, InColumn}
+use Rattle.tb_told.specs.ColumnTold.{joins_told, if_of_width, alone_told, alone_tests, made_told, told_joins, told_made, told_head, told_float, told_from, told_column}
 use Rattle.tb_told.specs.ColumnPieces.{in_column, unless_made, told_at, told_choices, taken_told}
+use Rattle.tb_told.specs.declared.Spot.{Spot}
+use Rattle.tb_told.specs.Tales.{tales, has_width, column_tales}
 use Rattle.tb_told.specs.Tested.{all_hold, is_yes}
 use Rattle.tb_told.specs.declared.Test.{Test}
 use Rattle.tb_told.specs.declared.Test.TheVariants as tests
@@ -149,7 +151,7 @@ no-head-told z before f fs later old new t wide told failed is =
     ∙ sym (ap (λ b. old ++ in_column (if b then told_float z before f fs later else later)) wide)
 
 -- a head
-pub head-told : (z : Wanted) (before : List Float) (f : Float) (fs : List Float) (later : List ToldColumn) (old mid new : List Piece) (t : Alone) (made : Bool) → beq f.wide z.wide ≡ true → t ≡ alone_told z before f → is_some t.failed ≡ false →
+head-told : (z : Wanted) (before : List Float) (f : Float) (fs : List Float) (later : List ToldColumn) (old mid new : List Piece) (t : Alone) (made : Bool) → beq f.wide z.wide ≡ true → t ≡ alone_told z before f → is_some t.failed ≡ false →
     mid ≡ old ++ in_column (Heads f t ∷ []) → new ++ in_column (unless_made made later) ≡ mid ++ in_column (told_head z before f fs later) → new ++ in_column (unless_made made later) ≡ old ++ in_column (told_at z before f fs later)
 head-told z before f fs later old mid new t made wide told none is so =
     let all : all_hold (alone_tests z before f) ≡ true = sym (yes_is_all (alone_tests z before f)) ∙ ap (λ (u : Alone). is_yes u.failed) (sym told) ∙ none-yes t.failed none in
@@ -158,6 +160,12 @@ head-told z before f fs later old mid new t made wide told none is so =
     ∙ ap (λ u. old ++ in_column (Heads f u ∷ told_head z before f fs later)) told
     ∙ sym (ap (λ b. old ++ in_column (Heads f (alone_told z before f) ∷ (if b then told_head z before f fs later else later))) all)
     ∙ sym (ap (λ b. old ++ in_column (if b then told_float z before f fs later else later)) wide)
+
+pub head-ok : {E : Type 0} (r : Result Bool E) (z : Wanted) (before : List Float) (f : Float) (fs : List Float) (old mid new : List Piece) (t : Alone) → beq f.wide z.wide ≡ true → t ≡ alone_told z before f → is_some t.failed ≡ false →
+    mid ≡ old ++ in_column (Heads f t ∷ []) → IfOk r (λ made. (later : List ToldColumn) → new ++ in_column (unless_made made later) ≡ mid ++ in_column (told_head z before f fs later)) →
+    IfOk r (λ made. (later : List ToldColumn) → new ++ in_column (unless_made made later) ≡ old ++ in_column (told_at z before f fs later))
+head-ok (Ok made) z before f fs old mid new t wide told none is so = λ later. head-told z before f fs later old mid new t made wide told none is (so later)
+head-ok (Err e) z before f fs old mid new t wide told none is so = tt
 
 -- ---- the company of a head
 
@@ -214,3 +222,18 @@ last-float-told z all k f start old new there so is =
     ∙ is (told_from z (take k all ++ f ∷ []) (drop (suc k) all))
     ∙ ap (λ fs. old ++ in_column (told_from z (take k all) fs)) (sym (slice_get-drop k all f there))
     ∙ so
+
+-- ---- a column
+
+-- no float has its width
+pub no-column : (at : Spot) (z : Wanted) (fs : List Float) (old : List Piece) → has_width z.wide fs ≡ false → old ≡ old ++ tales (column_tales at z fs)
+no-column at z fs old none = sym (append-nil old) ∙ sym (ap (λ b. old ++ tales (if b then Begins at z ∷ map (λ t. InColumn t) (told_column z fs) else [])) none)
+
+-- one has
+pub column-ok : {E : Type 0} (r : Result (Unit {0}) E) (at : Spot) (z : Wanted) (fs : List Float) (old mid new : List Piece) → has_width z.wide fs ≡ true → mid ≡ old ++ Says (Begins at z) ∷ [] →
+    OnOk r (new ≡ mid ++ in_column (told_column z fs)) → OnOk r (new ≡ old ++ tales (column_tales at z fs))
+column-ok (Ok v) at z fs old mid new some first h =
+    h ∙ ap (λ ps. ps ++ in_column (told_column z fs)) first
+    ∙ append_assoc old (Says (Begins at z) ∷ []) (in_column (told_column z fs))
+    ∙ sym (ap (λ b. old ++ tales (if b then Begins at z ∷ map (λ t. InColumn t) (told_column z fs) else [])) some)
+column-ok (Err e) at z fs old mid new some first h = tt

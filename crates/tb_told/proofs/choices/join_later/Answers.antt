@@ -1,4 +1,4 @@
-use Rattle.std.proofs.Common.{◌≡◌, ◌++◌, ◌∷◌, [], length, drop, refl, sym, ap, ◌∙◌, arith}
+use Rattle.std.proofs.Common.{◌≡◌, ◌+◌, Bool, List, ◌++◌, ◌∷◌, [], length, drop, refl, sym, ap, ◌∙◌, arith}
 use Rattle.std.proofs.lemmas.List.{length-append}
 use Rattle.tb_float.specs.Lists.{floats_of}
 use Rattle.tb_float.proofs.EntryLemmas.{next-is_float, drop-entries}
@@ -22,10 +22,25 @@ float-f-requires c =
     next-is_float c.in-Some.entry.now c.next.new.self way.0 (sym c.in-Some.ensures.steps ∙ way.1)
 
 pub joins-chosen-requires : goal.joins-chosen-requires
-joins-chosen-requires c = ?
+joins-chosen-requires c =
+    let way = c.loop-entry.invariant.way in
+    omega (arith, ap length c.deref.ensures.value, way.3)
 
 pub loop-entry-preserved : goal.loop-entry-preserved
-loop-entry-preserved c = ?
+loop-entry-preserved c =
+    let way = c.loop-entry.invariant.way in
+    let z = c.args.wanted.now in
+    let old = c.loop-entry.choices.items in
+    let f = c.float-f.result.now in
+    let next = next-float c.in-Some.entry.now c.next.new.self way.0 f (sym c.in-Some.ensures.steps ∙ way.1) c.float-f.ensures in
+    let more : Bool → List Choice = λ b. record { float = f; chosen = b } ∷ [] in
+    let decided : c.joins-chosen.result ≡ joins z old f = c.joins-chosen.ensures ∙ ap (λ ds. joins z ds f) c.deref.ensures.value in
+    let items : c.push.new.self.items ≡ old ++ more (joins z old f) = c.in_ok-push.ensures.items ∙ ap (λ b. old ++ more b) decided in
+    record {
+      can_next = tt;
+      is_finite = tt;
+      way = (next.0, next.1, ap (λ ds. choices_from z ds next.0) items ∙ ap (choices_from z old) (sym next.2) ∙ way.2, omega (arith, way.3, ap length next.2, ap length items, length-append old (more (joins z old f))));
+    }
 
 pub returns : goal.returns
 returns c =

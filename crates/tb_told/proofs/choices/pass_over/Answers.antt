@@ -21,7 +21,7 @@ loop-entry-preserved c =
     record {
       can_next = tt;
       is_finite = tt;
-      way = (next.0, next.1, pass-next c.loop-entry.choices.items c.push.new.choices.items _ c.loop-entry.left c.float.result.now way.0 next.0 next.2 c.if-left-eq0.false c.in_ok-push.ensures.items way.2);
+      way = (next.0, next.1, pass-next c.loop-entry.choices.items c.push.new.self.items _ c.loop-entry.left c.float.result.now way.0 next.0 next.2 c.if-left-eq0.false c.in_ok-push.ensures.items way.2);
     }
 
 pub returns : goal.returns
