@@ -2,3 +2,4 @@ pub mod RunLemmas
 pub mod PlacementLemmas
 pub mod AllWords
 pub mod Rows
+pub mod LeavingLemmas

@@ -1,5 +1,5 @@
 //! Single steps of a firing, as they are seen: each changes one thing, or tells of one.
-ghost use Rattle.std.specs.Prelude.{◌≡◌, ℕ, [], ◌∷◌, ◌++◌, map, slice_get, OnOk, IfSome, MatchBool};
+ghost use Rattle.std.specs.Prelude.{◌≡◌, false, [], ◌∷◌, ◌++◌, map, slice_get, OnOk, IfSome, MatchBool};
 ghost use Rattle.tb_scaled.specs.Amount.{IsAmount};
 ghost use Rattle.tb_float.specs.Lists.{IsWaiting, floats_of, entry_count};
 ghost use Rattle.tb_float.specs.Ranges.{AreFloatParams, IsSizedEntry, IsSizedMargin};
