@@ -4,3 +4,4 @@ pub mod SeenLemmas
 pub mod PrintablePages
 pub mod AllWords
 pub mod Rows
+pub mod LeavingLemmas
