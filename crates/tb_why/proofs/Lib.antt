@@ -3,5 +3,9 @@ pub mod PlacementLemmas
 pub mod SeenLemmas
 pub mod PrintablePages
 pub mod AllWords
+pub mod TextLines
+pub mod EventLines
+pub mod TaleLines
+pub mod ShownTexts
 pub mod Rows
 pub mod LeavingLemmas

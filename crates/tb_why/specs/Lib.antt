@@ -6,3 +6,5 @@ pub mod Summary
 pub mod ShownLines
 pub mod ShownOf
 pub mod Placements
+pub mod Told
+pub mod PlainNames

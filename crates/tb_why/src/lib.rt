@@ -3,6 +3,7 @@
 //! each float is placed where it is told to go.
 #![tactic(auto)]
 
+mod byte_law;
 mod laws;
 mod lists;
 mod shown;
@@ -10,6 +11,7 @@ mod steps;
 mod telling;
 mod turns;
 
+pub use crate::byte_law::without_told_lines_the_events_are_left;
 pub use crate::laws::{floats_go_where_told, what_is_told_changes_nothing};
 pub use crate::shown::{Showing, note_shown, put_shown};
 pub use crate::telling::tell_firing;
