@@ -6,5 +6,7 @@ pub mod FloatRowLemmas
 pub mod ColumnRowLemmas
 pub mod VersionRowLemmas
 pub mod RateRowLemmas
+pub mod WhyRowLemmas
+pub mod WhyWideRowLemmas
 pub mod LinesRowLemmas
 pub mod MakeupRowLemmas

@@ -64,12 +64,12 @@ module _ (g : Over) (c : In-Some g) where
 pub returns-in-Some-clause-done : goal.returns-in-Some-clause-done
 returns-in-Some-clause-done g c =
     let w = goal.at.returns-in-Some-clause-done g c in
-    IfOk-weaker c.sum_up.result _ _ (λ u h. ends-why c.args.routine.now.machine.params c.node_limit.new.self c.new-totals.result c.new-summary.result c.in-Some.ending _ _ _ c.put.new.out.items (run_on c.args.routine.now) _ (ends-at-start g w.In-Some) (told-at-start g w.In-Some (begun g w.In_ok-put)) u h) c.sum_up.ensures.done
+    IfOk-weaker c.sum_up.result _ _ (λ u h. ends-why c.args.routine.now.machine.params c.node_limit.new.self c.new-totals.result c.new-summary.result c.in-Some.ending _ _ _ c.put.new.out.items (run_on c.args.routine.now) (why_text c.args.routine.now.machine.params (state_of c.args.routine.now)) (ends-at-start g w.In-Some) (told-at-start g w.In-Some (begun g w.In_ok-put)) u h) c.sum_up.ensures.done
 
 pub returns-in-Some-clause-refused : goal.returns-in-Some-clause-refused
 returns-in-Some-clause-refused g c =
     let w = goal.at.returns-in-Some-clause-refused g c in
-    IfErr-weaker c.sum_up.result _ _ (λ f h. stops-why c.args.routine.now.machine.params c.node_limit.new.self c.new-totals.result c.new-summary.result c.in-Some.ending _ _ _ c.put.new.out.items (run_on c.args.routine.now) _ (ends-at-start g w.In-Some) (told-at-start g w.In-Some (begun g w.In_ok-put)) _ _ f (grows-nothing (g.K.Sink.held c.args.out.now)) h) c.sum_up.ensures.refused
+    IfErr-weaker c.sum_up.result _ _ (λ f h. stops-why c.args.routine.now.machine.params c.node_limit.new.self c.new-totals.result c.new-summary.result c.in-Some.ending _ _ _ c.put.new.out.items (run_on c.args.routine.now) (why_text c.args.routine.now.machine.params (state_of c.args.routine.now)) (ends-at-start g w.In-Some) (told-at-start g w.In-Some (begun g w.In_ok-put)) _ _ f (grows-nothing (g.K.Sink.held c.args.out.now)) h) c.sum_up.ensures.refused
 
 pub returns-in-Some-clause-cause : goal.returns-in-Some-clause-cause
 returns-in-Some-clause-cause g c = λ is. stops-cause views.Trace c.node_limit.new.self c.new-totals.result c.in-Some.ending _ _ _ _ _ _ (omega arith) (IfErr-at_err _ is c.sum_up.ensures.refused)
@@ -116,9 +116,6 @@ count_happened-requires-clause-room g c =
     let shows = turn g (goal.at.count_happened-requires-clause-room g c).In_ok-ending in
     subst (λ hs. AreCounts (with_events (events_of c.told_turn.new.routine.store hs) c.firing.totals)) (sym c.deref.ensures.value)
     (turn-counts p views.Trace (state_of c.firing.routine) None None c.firing.totals (run_on c.args.routine.now) c.firing.invariant.going c.told_turn.new.routine c.told_turn.new.happened.items c.in_ok-ending.ending shows (few-firings p c.requires.params) c.firing.invariant.tally (few-wait c.firing.routine c.firing.invariant.ready) c.in_ok-ending.ensures.pages)
-
-pub send-requires : goal.send-requires
-send-requires g c = subst (AreShownPages c.told_turn.new.routine.store) (sym c.deref-in-firing.ensures.value) c.in_ok-ending.ensures.shown_pages
 
 pub returns-in_err-send-clause-refused : goal.returns-in_err-send-clause-refused
 returns-in_err-send-clause-refused g c =
@@ -175,7 +172,7 @@ returns-in-Some-ending-clause-done g c =
     let shows = turn g w.In_ok-ending in
     let e = c.in-Some-ending.ending in
     IfOk-weaker c.sum_up-in-Some-ending.result _ _
-    (λ u h. ends-why c.args.routine.now.machine.params c.told_turn.new.routine c.count_happened.new.totals c.send.new.summary e _ _ _ c.send.new.kept.items (run_on c.args.routine.now) _ (ends-here g w.In_ok-send e shows c.in-Some-ending.is) (told-here g w.In_ok-send e shows (told g w.In_ok-ending) c.in-Some-ending.is) u h)
+    (λ u h. ends-why c.args.routine.now.machine.params c.told_turn.new.routine c.count_happened.new.totals c.send.new.summary e _ _ _ c.send.new.kept.items (run_on c.args.routine.now) (why_text c.args.routine.now.machine.params (state_of c.args.routine.now)) (ends-here g w.In_ok-send e shows c.in-Some-ending.is) (told-here g w.In_ok-send e shows (told g w.In_ok-ending) c.in-Some-ending.is) u h)
     c.sum_up-in-Some-ending.ensures.done
 
 pub returns-in-Some-ending-clause-refused : goal.returns-in-Some-ending-clause-refused
@@ -184,7 +181,7 @@ returns-in-Some-ending-clause-refused g c =
     let shows = turn g w.In_ok-ending in
     let e = c.in-Some-ending.ending in
     IfErr-weaker c.sum_up-in-Some-ending.result _ _
-    (λ f h. stops-why c.args.routine.now.machine.params c.told_turn.new.routine c.count_happened.new.totals c.send.new.summary e _ _ _ c.send.new.kept.items (run_on c.args.routine.now) _ (ends-here g w.In_ok-send e shows c.in-Some-ending.is) (told-here g w.In_ok-send e shows (told g w.In_ok-ending) c.in-Some-ending.is) _ _ f (grown g w.In_ok-send) h)
+    (λ f h. stops-why c.args.routine.now.machine.params c.told_turn.new.routine c.count_happened.new.totals c.send.new.summary e _ _ _ c.send.new.kept.items (run_on c.args.routine.now) (why_text c.args.routine.now.machine.params (state_of c.args.routine.now)) (ends-here g w.In_ok-send e shows c.in-Some-ending.is) (told-here g w.In_ok-send e shows (told g w.In_ok-ending) c.in-Some-ending.is) _ _ f (grown g w.In_ok-send) h)
     c.sum_up-in-Some-ending.ensures.refused
 
 pub returns-in-Some-ending-clause-cause : goal.returns-in-Some-ending-clause-cause
