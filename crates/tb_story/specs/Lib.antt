@@ -1,3 +1,4 @@
 pub mod Story
 pub mod Summary
 pub mod StoryLines
+pub mod Counts

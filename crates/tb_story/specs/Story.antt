@@ -140,9 +140,13 @@ at_end s = if waits s then missed_by 0 s.last s else s
 
 -- ---- all stories
 
+-- a story, changed if it is that of this line's float and the float was not shipped
+abbrev pub if_of : ℕ → (StoryView → StoryView) → StoryView → StoryView
+if_of line change s = if is_story_of line s then change s else s
+
 -- the story of the float of this line, changed, unless the float was shipped
 abbrev pub with_story : ℕ → (StoryView → StoryView) → List StoryView → List StoryView
-with_story line change ss = map (λ s. if is_story_of line s then change s else s) ss
+with_story line change ss = map (if_of line change) ss
 
 -- the last reason of a float that was not shipped
 abbrev pub last_of : ℕ → List StoryView → Option Kept

@@ -1,7 +1,19 @@
 //! The summary of a run: one story of each float that was called or waits, with what kept it back, for how many sheets.
 #![tactic(auto)]
 
-use tb_node::Float;
+mod columns;
+mod deciding;
+mod lines;
+mod notes;
+mod one_story;
+mod reasons;
+mod sheets;
+mod stories;
+mod telling;
+
+use std::alloc::Global;
+use std::marker::Model;
+use tb_node::{Float, Where};
 use tb_told::Test;
 
 /// Where a float was kept back, by the word with which it is told.
@@ -69,4 +81,66 @@ pub struct Noted {
     pub float: Float,
     /// Its reason.
     pub kept: Kept,
+}
+
+/// The story of one float: what became of it so far.
+#[derive(Drop)]
+pub struct Story {
+    float: Float,
+    called: u64,
+    place: Where,
+    landed: Option<u64>,
+    last: Option<Kept>,
+    groups: Vec<Group>,
+    group: Option<Group>,
+    put: u64,
+}
+
+impl Model for Story {
+    ghost use Rattle.tb_story.specs.Story.{StoryView};
+
+    ghost Value = { StoryView };
+
+    ghost view = { λ s. record {
+      float = s.float;
+      called = s.called;
+      place = s.place;
+      landed = s.landed;
+      last = s.last;
+      groups = s.groups.items;
+      group = s.group;
+      put = s.put;
+    } };
+}
+
+/// The stories of the floats of a run, as they are told.
+#[derive(Drop)]
+pub struct Summary {
+    alloc: Global,
+    stories: Vec<Story>,
+    // So many stories at the front are over: their floats were shipped.
+    over: usize,
+    sheets: u64,
+    found: Option<Kept>,
+    clearing: bool,
+    alone: Vec<Noted>,
+    passed: Vec<Noted>,
+}
+
+impl Model for Summary {
+    ghost use Rattle.tb_story.specs.Summary.{SummaryView};
+    ghost use Rattle.tb_story.specs.Counts.{IsSound};
+
+    ghost Value = { SummaryView };
+
+    ghost view = { λ m. record {
+      stories = m.stories.items;
+      sheets = m.sheets;
+      found = m.found;
+      clearing = m.clearing;
+      alone = m.alone.items;
+      passed = m.passed.items;
+    } };
+
+    ghost invariant = { λ m. IsSound m.over m.sheets m.stories.items };
 }

@@ -1,0 +1,7 @@
+use Rattle.std.proofs.Common.{◌≡◌}
+use Rattle.tb_story.specs.Story.{kept_back, if_of}
+use Rattle.tb_story.specs.Counts.{changed_front}
+use Rattle.tb_story.proofs.stories.keep_story.Given as goal
+
+abbrev pub invariant-loop-i : goal.invariant-loop-i
+invariant-loop-i l = l.stories ≡ changed_front (if_of l.line (kept_back l.fn.k)) l.i l.fn.stories
