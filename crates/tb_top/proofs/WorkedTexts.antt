@@ -1,6 +1,5 @@
 -- Worked rows, in reading order.
 mod Texts
-mod AllWords
 pub mod WorkedRows
 pub mod FloatRowLemmas
 pub mod ColumnRowLemmas
