@@ -15,22 +15,22 @@ use tb_run::{Ending, Routine};
 /// happened with what is told between it. Both vectors are cleared first. It fails only if memory runs out; the routine may
 /// not be used again then.
 pub fn told_turn(
-    _alloc: Global,
-    _routine: &mut Routine<'_>,
-    _happened: &mut Vec<Happening>,
-    _shown: &mut Vec<Showing>,
+    alloc: Global,
+    routine: &mut Routine<'_>,
+    happened: &mut Vec<Happening>,
+    shown: &mut Vec<Showing>,
 ) -> Result<Option<Ending>, AllocError>
-    requires { IsReady _routine.old }
+    requires { IsReady routine.old }
 
-    ensures turned { IfOk result (λ o. IsTurned true _routine.old _happened.new.items o _routine.new) }
-    ensures ready { IfOk result (λ o. IfNone o (IsReady _routine.new)) }
-    ensures params { OnOk result (_routine.new.machine.params ≡ _routine.old.machine.params) }
-    ensures ended { OnOk result (IsEnded _routine.new) }
-    ensures pages { OnOk result (ArePages _routine.new.store _happened.new.items) }
-    ensures lists { IfOk result (λ o. IfNone o (AreHappened _routine.new _happened.new.items)) }
+    ensures turned { IfOk result (λ o. IsTurned true routine.old happened.new.items o routine.new) }
+    ensures ready { IfOk result (λ o. IfNone o (IsReady routine.new)) }
+    ensures params { OnOk result (routine.new.machine.params ≡ routine.old.machine.params) }
+    ensures ended { OnOk result (IsEnded routine.new) }
+    ensures pages { OnOk result (ArePages routine.new.store happened.new.items) }
+    ensures lists { IfOk result (λ o. IfNone o (AreHappened routine.new happened.new.items)) }
 
-    ensures shown { OnOk result (all_shown_of _routine.new.store _shown.new.items ≡ step_shown _routine.old.machine.params (state_of _routine.old)) }
-    ensures shown_pages { OnOk result (AreShownPages _routine.new.store _shown.new.items) }
+    ensures shown { OnOk result (all_shown_of routine.new.store shown.new.items ≡ step_shown routine.old.machine.params (state_of routine.old)) }
+    ensures shown_pages { OnOk result (AreShownPages routine.new.store shown.new.items) }
 {
     Err(AllocError)
 }

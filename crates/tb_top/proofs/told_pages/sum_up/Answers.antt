@@ -2,7 +2,7 @@ use Rattle.std.proofs.Common.{◌≡◌, refl, inl}
 use Rattle.std.proofs.KnownBytes.{Appends-nil}
 use Rattle.std.proofs.lemmas.Result.{err_from_is_err_and}
 use Rattle.tb_io.specs.declared.sink.SinkFault.TheVariants as outputs
-use Rattle.tb_top.proofs.why_pages.sum_up.Goals as goal
+use Rattle.tb_top.proofs.told_pages.sum_up.Goals as goal
 
 -- nothing was written, for there was no memory
 pub returns-in_err-put_lines-clause-refused : goal.returns-in_err-put_lines-clause-refused

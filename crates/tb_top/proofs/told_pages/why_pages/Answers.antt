@@ -12,7 +12,7 @@ use Rattle.tb_top.specs.WhyReport.{why_report}
 use Rattle.tb_top.proofs.Written.FirstRuns.{none-yet}
 use Rattle.tb_top.proofs.Ends.CycleAnswers.{text-not-for-cycles}
 use Rattle.tb_top.proofs.Why.WhyOutcomes.{why-laws, explains-galley, refuses-galley}
-use Rattle.tb_top.proofs.why_pages.why_pages.Goals as goal
+use Rattle.tb_top.proofs.told_pages.why_pages.Goals as goal
 
 pub new-requires-clause-params : goal.new-requires-clause-params
 new-requires-clause-params g c = params-runnable c.args.galley.now.params c.requires.valid.params

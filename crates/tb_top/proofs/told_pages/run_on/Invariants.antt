@@ -9,7 +9,7 @@ use Rattle.tb_top.specs.WhyReport.{why_text}
 use Rattle.tb_top.proofs.Written.GoingLemmas.{Going}
 use Rattle.tb_top.proofs.Written.TallyLemmas.{IsTally}
 use Rattle.tb_top.proofs.Why.WhyGoing.{WhyGoing}
-use Rattle.tb_top.proofs.why_pages.run_on.Given as goal
+use Rattle.tb_top.proofs.told_pages.run_on.Given as goal
 
 abbrev pub invariant-firing : goal.invariant-firing
 invariant-firing g l = record {
