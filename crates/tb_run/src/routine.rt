@@ -245,6 +245,7 @@ impl<'a> Routine<'a> {
     /// Serves the page that [`Self::fill`] returned: it is shipped, or its penalty asks for something else
     /// (ltoutput.dtx, \output). What the firing sent is appended to `happened`, which has no pages before. Returns how the
     /// run ends with it, if it does. If memory runs out, the run cannot go on.
+    #[inline(always)]
     pub fn serve_page(
         &mut self,
         page: Page,

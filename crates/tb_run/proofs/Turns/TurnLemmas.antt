@@ -39,8 +39,8 @@ use Rattle.tb_run.specs.RoutinePages.{work_of, IsServedOn, IsOverLimit, IsFaultO
 use Rattle.tb_items.proofs.HappenedLemmas.{lists-append, events-append, noted-append, noted-sent}
 use Rattle.tb_run.proofs.Turns.HappenedLemmas.{sent-events, sent-lists, sent-pages}
 use Rattle.tb_items.proofs.PageNumbers.{pred-is}
-use Rattle.tb_run.proofs.Filled.FillingLemmas.{taken-machine, taken-whole}
-use Rattle.tb_run.proofs.Filled.FiringLemmas.{firing-same}
+use Rattle.tb_run.proofs.Filling.FillingLemmas.{taken-machine, taken-whole}
+use Rattle.tb_run.proofs.Filling.FiringLemmas.{firing-same}
 use Rattle.tb_run.proofs.Turns.ServingLemmas.{sound-ended}
 
 -- what follows from what holds of the value of a result

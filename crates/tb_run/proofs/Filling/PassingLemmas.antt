@@ -20,11 +20,11 @@ use Rattle.tb_items.specs.Happenings.{noted_try}
 use Rattle.tb_run.specs.Routine.{built_in, held_in, state_of, with_events, IsConsistent, IsReady}
 use Rattle.tb_run.specs.FilledPages.{sent_happenings, IsFilledLast, IsFiring}
 use Rattle.tb_run.specs.RoutinePages.{HasComeTo, HasActed, HasNotActed}
-use Rattle.tb_run.proofs.Filled.FillingLemmas.{IsUnderway, left_of_page, turns_left, underway-tried, fewer-tried, act-fits, underway-acted, fewer-acted, filled-full, filled-over}
+use Rattle.tb_run.proofs.Filling.FillingLemmas.{IsUnderway, left_of_page, turns_left, underway-tried, fewer-tried, act-fits, underway-acted, fewer-acted, filled-full, filled-over}
 use Rattle.tb_items.specs.ItemsLeft.{pieces_left, AreItemsLeft}
 use Rattle.tb_run.proofs.Turns.WholeLemmas.{built-whole}
-use Rattle.tb_run.proofs.Filled.MoreLemmas.{IsOpenFor, IsMetBy, next-page, next-going, next-kept, next-open, fired-open, met-try, met-act, met-page}
-use Rattle.tb_run.proofs.Filled.FiringLemmas.{filled-fires}
+use Rattle.tb_run.proofs.Filling.MoreLemmas.{IsOpenFor, IsMetBy, next-page, next-going, next-kept, next-open, fired-open, met-try, met-act, met-page}
+use Rattle.tb_run.proofs.Filling.FiringLemmas.{filled-fires}
 
 -- the routine before the last call of the builder, which came to the event: as much of the page is left there at most
 pub record IsLastCall (wanted : Bool) (r : Routine) (ask : Ask) (e : Event) (d : Routine) (hs : List Happening) (most_left : ℕ) : Type 0 where

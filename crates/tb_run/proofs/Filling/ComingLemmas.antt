@@ -28,8 +28,8 @@ use Rattle.tb_run.specs.ServedStates.{notes_waiting, notes_left, IsServed}
 use Rattle.tb_run.specs.Routine.{between_pages}
 use Rattle.tb_run.specs.FilledPages.{reach_in, progress_in, page_in}
 use Rattle.tb_run.proofs.ServedAgain.FiredNodes.{served-pruned, nodes-both, nodes-sized, nodes-served, notes-pruned}
-use Rattle.tb_run.proofs.Filled.ActedStates.{ActKeeps, keeps-same, keeps-then, act-sized, act-keeps, act-served, without-count}
-use Rattle.tb_run.proofs.Filled.ProgressLemmas.{progress-tried, progress-acted, progress-stuck}
+use Rattle.tb_run.proofs.Filling.ActedStates.{ActKeeps, keeps-same, keeps-then, act-sized, act-keeps, act-served, without-count}
+use Rattle.tb_run.proofs.Filling.ProgressLemmas.{progress-tried, progress-acted, progress-stuck}
 use Rattle.tb_float.specs.Ranges.{IsWithin}
 use Rattle.tb_run.proofs.ServedAgain.ServedFirings.{reach_where}
 

@@ -33,7 +33,7 @@ use Rattle.tb_run.specs.ServedStates.{notes_waiting, notes_left, IsTextKind, IsS
 use Rattle.tb_run.specs.Routine.{between_pages}
 use Rattle.tb_run.proofs.ServedAgain.FiredNodes.{no_acts-take, text-body, served-spent, mild-break, known-labels, held-known, nodes-both, nodes-sized, nodes-served, notes-append, notes-drop, notes-spent, notes-held}
 use Rattle.tb_run.proofs.ServedAgain.ServedFirings.{reach_where, within-more}
-use Rattle.tb_run.proofs.Filled.ComingLemmas.{IsComing, start, fired-is}
+use Rattle.tb_run.proofs.Filling.ComingLemmas.{IsComing, start, fired-is}
 
 extent-zero : IsExtent (pos 0)
 extent-zero = record { low = omega (arith, ints); high = omega (arith, ints) }

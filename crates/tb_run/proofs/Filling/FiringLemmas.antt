@@ -52,9 +52,9 @@ use Rattle.tb_items.specs.Happenings.{noted}
 use Rattle.tb_run.specs.FilledPages.{fired_whole, IsBoundedPage, IsFiring}
 use Rattle.tb_run.proofs.ServedAgain.ServedFirings.{reach_where}
 use Rattle.tb_run.proofs.Turns.CountedLemmas.{leaves-count}
-use Rattle.tb_run.proofs.Filled.ComingLemmas.{start, fires-progress, fires-is, fires-state, fires-page}
-use Rattle.tb_run.proofs.Filled.ComingPages.{fired-mild, fired-few, fired-served}
-use Rattle.tb_run.proofs.Filled.FillingLemmas.{state_now, IsUnderway, next-is, next-whole, next-state, next-params, next-taken}
+use Rattle.tb_run.proofs.Filling.ComingLemmas.{start, fires-progress, fires-is, fires-state, fires-page}
+use Rattle.tb_run.proofs.Filling.ComingPages.{fired-mild, fired-few, fired-served}
+use Rattle.tb_run.proofs.Filling.FillingLemmas.{state_now, IsUnderway, next-is, next-whole, next-state, next-params, next-taken}
 
 -- ---- nodes of a page
 

@@ -21,10 +21,10 @@ use Rattle.tb_run.specs.Routine.{built_in, held_in, state_of, IsReady}
 use Rattle.tb_run.specs.RoutinePages.{HasComeTo, IsSupplied}
 use Rattle.tb_run.proofs.Turns.WholeLemmas.{built-shown}
 use Rattle.tb_run.proofs.Behind.EventLemmas.{IsOpenPage, ahead-supplied, laid-supplied, come-supplied, open-supplied, may-take}
-use Rattle.tb_run.proofs.Filled.ComingLemmas.{IsComing, start, coming-same}
-use Rattle.tb_run.proofs.Filled.FillingLemmas.{IsUnderway, state_now, left_of_page, turns_left}
-use Rattle.tb_run.proofs.Filled.MoreLemmas.{IsOpenFor}
-use Rattle.tb_run.proofs.Filled.PassingLemmas.{IsLastCall, last-call}
+use Rattle.tb_run.proofs.Filling.ComingLemmas.{IsComing, start, coming-same}
+use Rattle.tb_run.proofs.Filling.FillingLemmas.{IsUnderway, state_now, left_of_page, turns_left}
+use Rattle.tb_run.proofs.Filling.MoreLemmas.{IsOpenFor}
+use Rattle.tb_run.proofs.Filling.PassingLemmas.{IsLastCall, last-call}
 
 -- a call that found nothing more: with nothing behind, all is on the page
 module _ (wanted : Bool) (r b d : Routine) (hs : List Happening) (u : IsUnderway wanted r b hs) (n : IsNext b.builder b.store (ask_of r.machine.params (state_of r)) events.Empty d.builder d.store) (same : d.machine ≡ b.machine) (most : d.most ≡ b.most)
