@@ -1,6 +1,6 @@
 //! What is read of the machine and of a page that the builder fired, before the page is served. Nothing changes.
 
-ghost use Rattle.std.specs.Prelude.{◌≡◌, ◌≤◌, ◌+◌, ◌-◌, ◌+ℤ◌, ◌∷◌, [], ◌++◌, length, map, take, true};
+ghost use Rattle.std.specs.Prelude.{◌≡◌, ◌≤◌, ◌+◌, ◌-◌, ◌+ℤ◌, ◌∷◌, [], ◌++◌, length, map, take, true, int_lt, pos};
 ghost use Rattle.tb_scaled.specs.Amount.{IsAmount};
 ghost use Rattle.tb_pool.specs.Lists.{Lists as ListMap, list_at};
 ghost use Rattle.tb_node.specs.declared.Node.{Node as NodeValue};
@@ -25,7 +25,7 @@ use tb_builder::{Builder, Page};
 use tb_float::{Pool, Suppress};
 use tb_insert::Class;
 use tb_node::{Extent, Node, list_extent, room_of};
-use tb_param::Params;
+use tb_param::{Params, is_below};
 use tb_pool::{ListId, Lists};
 use tb_scaled::{difference, sum};
 
@@ -69,6 +69,13 @@ impl Machine {
         ensures { result.now ≡ self.now.pool }
     {
         &self.pool
+    }
+
+    /// Whether `maxdeadcycles` allows one more firing without a page.
+    pub fn may_fire(&self) -> bool
+        ensures { result ≡ int_lt (pos self.now.dead_cycles) self.now.params.maxdeadcycles }
+    {
+        is_below(self.dead_cycles, self.params.maxdeadcycles)
     }
 
     /// How the machine stands.
