@@ -5,4 +5,5 @@ pub mod WhyRun
 pub mod Summary
 pub mod ShownLines
 pub mod ShownOf
+pub mod ShownTurns
 pub mod Placements

@@ -3,12 +3,14 @@
 //! each float is placed where it is told to go.
 #![tactic(auto)]
 
+mod firings;
 mod laws;
 mod lists;
 mod shown;
 mod steps;
 mod telling;
 mod turns;
+mod weaving;
 
 pub use crate::laws::{floats_go_where_told, what_is_told_changes_nothing};
 pub use crate::shown::{Showing, note_shown, put_shown};
