@@ -29,18 +29,18 @@ fn put_words(out: &mut Vec<u8>, k: &Kept) -> Result<(), AllocError>
 }
 
 // What must be gained, and for how many sheets it was told.
-fn put_gain(out: &mut Vec<u8>, by: i128, times: u64) -> Result<(), AllocError>
-    ensures { PutsAfter result out.old.items (and_number by ++ and_count times) out.new.items }
+fn put_gain(out: &mut Vec<u8>, g: &Group) -> Result<(), AllocError>
+    ensures { PutsAfter result out.old.items (and_number g.now.kept.by ++ and_count g.now.times) out.new.items }
 {
-    put_field(out, by)?;
-    put_count(out, times)
+    put_field(out, g.kept.by)?;
+    put_count(out, g.times)
 }
 
 fn put_group(out: &mut Vec<u8>, g: &Group) -> Result<(), AllocError>
     ensures { PutsAfter result out.old.items (group_text g.now) out.new.items }
 {
     put_words(out, &g.kept)?;
-    put_gain(out, g.kept.by, g.times)
+    put_gain(out, g)
 }
 
 // Reasons, one after another.
