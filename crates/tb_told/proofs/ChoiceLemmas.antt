@@ -1,5 +1,5 @@
 -- The choices of a company: its height, its floats, those that stay behind, and the tests of a float that may join.
-use Rattle.std.proofs.Common.{◌≡◌, ℕ, zero, suc, ◌+◌, ◌-◌, ◌≢◌, ◌*◌, ◌<◌, ◌≤◌, Bool, true, false, List, [], ◌∷◌, ◌++◌, length, take, drop, map, Some, Result, Ok, Err, OnOk, drop-cons, add-one, slice_index_or, slice_get, refl, sym, ap, ◌∙◌, append_assoc, append-nil, arith}
+use Rattle.std.proofs.Common.{◌≡◌, ℕ, zero, suc, ◌+◌, ◌-◌, ◌≢◌, ◌<◌, Bool, true, false, List, [], ◌∷◌, ◌++◌, length, take, drop, Some, Result, Ok, Err, OnOk, drop-cons, add-one, slice_index_or, slice_get, refl, sym, ap, ◌∙◌, append_assoc, append-nil, arith}
 use Rattle.std.specs.Prelude.{ℤ, pos, ◌+ℤ◌, ◌-ℤ◌, not, ◌&&◌, ◌||◌, ◌==◌, Option, None, is_some, int_le, if◌then◌else◌}
 use Rattle.std.specs.Bool.{beq}
 use Rattle.std.proofs.lemmas.Int.{ints}
@@ -12,7 +12,7 @@ use Rattle.tb_fpage.specs.declared.Wanted.{Wanted}
 use Rattle.tb_fpage.specs.Company.{Choice, passed_over, all_chosen, separated, company_height, joins, choices_from, company_of_head, chosen_floats, left_floats}
 use Rattle.tb_fpage.proofs.WalkLemmas.{all-chosen}
 use Rattle.tb_told.specs.declared.Test.{Test}
-use Rattle.tb_told.specs.Tested.{first_of_class, all_hold, is_yes, first_failed}
+use Rattle.tb_told.specs.Tested.{first_of_class, is_yes, first_failed}
 use Rattle.tb_told.specs.ColumnTold.{joins_tests, sum_with}
 use Rattle.tb_told.proofs.ColumnLemmas.{joins_if}
 use Rattle.tb_told.proofs.TestedLemmas.{first_is, yes_is_all}
@@ -28,6 +28,7 @@ separated-last sep (c ∷ cs) f = by_choice c.chosen _ _ (separated-last sep cs 
     by_choice : (b : Bool) (x y : ℤ) → sep +ℤ x +ℤ f.height ≡ y → sep +ℤ (if b then sep +ℤ c.float.height +ℤ x else x) +ℤ f.height ≡ (if b then sep +ℤ c.float.height +ℤ y else y)
     by_choice true x y is = omega (arith, ints, is)
     by_choice false x y is = is
+
 pub sum-is : (sep : ℤ) (cs : List Choice) (f : Float) → company_height sep (cs ++ record { float = f; chosen = true } ∷ []) ≡ separated sep cs +ℤ f.height
 sum-is sep [] f = omega (arith, ints)
 sum-is sep (c ∷ cs) f = by_choice c.chosen _ _ _ (separated-last sep cs f) (sum-is sep cs f)

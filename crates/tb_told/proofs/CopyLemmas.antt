@@ -1,5 +1,5 @@
 -- A company leaves a list, and the lists of a pool are put into another pool.
-use Rattle.std.proofs.Common.{◌≡◌, refl, sym, ap, ◌∙◌, ℕ, zero, suc, ◌<◌, Bool, true, false, List, [], ◌∷◌, ◌++◌, length, take, Some, slice_get, append_assoc, append-nil, arith}
+use Rattle.std.proofs.Common.{◌≡◌, refl, sym, ap, ◌∙◌, ℕ, zero, suc, false, List, [], ◌∷◌, ◌++◌, length, take, Some, slice_get, append_assoc, append-nil, arith}
 use Rattle.std.specs.Prelude.{Option, None, is_some}
 use Rattle.tb_node.specs.declared.Float.{Float}
 use Rattle.tb_node.specs.declared.Margin.{Margin}
@@ -7,8 +7,8 @@ use Rattle.tb_float.specs.declared.Entry.{Entry}
 use Rattle.tb_float.specs.declared.Entry.TheVariants as entries
 use Rattle.tb_float.specs.declared.Part.{Part}
 use Rattle.tb_float.specs.declared.Part.TheVariants as parts
-use Rattle.tb_float.specs.Lists.{FloatLists, IsWaiting, no_floats, holds_notes, floats_of, entries_of, float_entries, with_floats_of, without_place, HasFloatAt}
-use Rattle.tb_float.specs.Pool.{FloatPool, HasNoMarks, marked_among, marked_floats, unmarked_floats, with_current, moved_float}
+use Rattle.tb_float.specs.Lists.{FloatLists, IsWaiting, no_floats, holds_notes, floats_of, entries_of, float_entries, with_floats_of, without_place}
+use Rattle.tb_float.specs.Pool.{FloatPool, HasNoMarks, marked_among, unmarked_floats, with_current, moved_float}
 use Rattle.tb_float.specs.MarkedFloats.{without_marked}
 use Rattle.tb_float.proofs.ListLemmas.{take-at}
 use Rattle.tb_float.proofs.MarkLemmas.{marked-false}

@@ -1,11 +1,11 @@
 //! The company of a head: for each float of the list, whether it is in it.
-ghost use Rattle.std.specs.Prelude.{◌≡◌, ◌≤◌, ◌≢◌, ◌+◌, [], ◌∷◌, ◌++◌, ◌+ℤ◌, ◌-ℤ◌, ◌&&◌, ◌||◌, ◌==◌, not, pos, suc, int_le, int_lt, if◌then◌else◌, length, slice_get, Some, take, drop, true, OnOk, IfOk};
+ghost use Rattle.std.specs.Prelude.{◌≡◌, ◌≤◌, ◌+◌, [], ◌∷◌, ◌+ℤ◌, ◌-ℤ◌, ◌&&◌, ◌||◌, ◌==◌, not, pos, suc, int_le, int_lt, if◌then◌else◌, length, slice_get, Some, take, drop, OnOk, IfOk};
 ghost use Rattle.std.specs.Bool.{beq};
 ghost use Rattle.tb_float.specs.Lists.{IsWaiting, floats_of};
 ghost use Rattle.tb_float.specs.Ranges.{IsWithin};
 ghost use Rattle.tb_fpage.specs.Company.{company_height, separated, joins, choices_from, company_of_head, passed_over, chosen_floats, left_floats};
 ghost use Rattle.tb_told.specs.Tested.{first_of_class};
-ghost use Rattle.tb_told.specs.ColumnTold.{joins_told, made_told, sum_with};
+ghost use Rattle.tb_told.specs.ColumnTold.{joins_told, made_told};
 
 use crate::heads::{is_no_higher, may_be_alone};
 use crate::tested::failing;

@@ -1,4 +1,4 @@
-use Rattle.std.proofs.Common.{◌≡◌, ◌+◌, ◌++◌, ◌∷◌, [], true, List, length, take, drop, sym, ap, ◌∙◌, add-one, arith}
+use Rattle.std.proofs.Common.{◌≡◌, ◌+◌, ◌++◌, ◌∷◌, [], true, List, length, take, drop, ap, ◌∙◌, add-one, arith}
 use Rattle.tb_float.specs.Lists.{floats_of}
 use Rattle.tb_fpage.specs.Company.{Choice, passed_over, choices_from}
 use Rattle.tb_told.proofs.ChoiceLemmas.{head-length, place-is, rest-length, ok-then}

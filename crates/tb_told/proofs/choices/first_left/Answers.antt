@@ -1,4 +1,4 @@
-use Rattle.std.proofs.Common.{◌+◌, drop, Some, sym, ap, ◌∙◌, arith}
+use Rattle.std.proofs.Common.{◌+◌, drop, Some, sym, ap, ◌∙◌}
 use Rattle.std.specs.Prelude.{if◌then◌else◌}
 use Rattle.std.proofs.Math.ListN.{drop_of_length-le}
 use Rattle.tb_fpage.specs.Company.{Choice, left_floats}
@@ -13,10 +13,10 @@ returns-then-is_left c =
     let i = c.loop-choice.choice-index in
     let x = c.choice-item.result in
     ap (λ (y : Choice). Some y.float) c.choice.view_is ∙ sym (
-      sym c.loop-choice.invariant
-      ∙ ap (λ ds. first_of_class k (left_floats ds)) (at-index cs i x c.loop-choice-test.true c.choice-item.is)
-      ∙ left-step k x (drop (i + 1) cs)
-      ∙ ap (λ b. if b then Some x.float else first_of_class k (left_floats (drop (i + 1) cs))) (sym c.is_left.ensures ∙ c.if-is_left.true)
+    sym c.loop-choice.invariant
+    ∙ ap (λ ds. first_of_class k (left_floats ds)) (at-index cs i x c.loop-choice-test.true c.choice-item.is)
+    ∙ left-step k x (drop (i + 1) cs)
+    ∙ ap (λ b. if b then Some x.float else first_of_class k (left_floats (drop (i + 1) cs))) (sym c.is_left.ensures ∙ c.if-is_left.true)
     )
 
 pub loop-choice-preserved : goal.loop-choice-preserved
@@ -26,9 +26,9 @@ loop-choice-preserved c =
     let i = c.loop-choice.choice-index in
     let x = c.choice-item.result in
     sym (
-      ap (λ ds. first_of_class k (left_floats ds)) (at-index cs i x c.loop-choice-test.true c.choice-item.is)
-      ∙ left-step k x (drop (i + 1) cs)
-      ∙ ap (λ b. if b then Some x.float else first_of_class k (left_floats (drop (i + 1) cs))) (sym c.is_left.ensures ∙ c.if-is_left.false)
+    ap (λ ds. first_of_class k (left_floats ds)) (at-index cs i x c.loop-choice-test.true c.choice-item.is)
+    ∙ left-step k x (drop (i + 1) cs)
+    ∙ ap (λ b. if b then Some x.float else first_of_class k (left_floats (drop (i + 1) cs))) (sym c.is_left.ensures ∙ c.if-is_left.false)
     ) ∙ c.loop-choice.invariant
 
 pub returns : goal.returns

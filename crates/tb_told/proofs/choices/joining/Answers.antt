@@ -1,6 +1,6 @@
 use mir.Syntax.{w128}
 use Rattle.std.proofs.Common.{◌≡◌, [], ◌∷◌, ap, sym, ◌∙◌, FitsSigned, w64, rules}
-use Rattle.std.specs.Prelude.{not, ◌||◌, is_some, int_le}
+use Rattle.std.specs.Prelude.{◌||◌, is_some, int_le}
 use Rattle.std.proofs.lemmas.Int.{to_z-of_z}
 use Rattle.tb_fpage.specs.Company.{all_chosen}
 use Rattle.tb_told.proofs.ChoiceLemmas.{found-is, free-is, sum-is}

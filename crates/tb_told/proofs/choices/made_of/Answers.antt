@@ -1,5 +1,5 @@
 use mir.Syntax.{w128}
-use Rattle.std.proofs.Common.{◌≡◌, Some, sym, ap, ◌∙◌, FitsSigned, w64, rules}
+use Rattle.std.proofs.Common.{◌≡◌, Some, ap, ◌∙◌, FitsSigned, w64, rules}
 use Rattle.std.specs.Prelude.{None, ◌||◌, int_lt, if◌then◌else◌}
 use Rattle.std.proofs.lemmas.Int.{to_z-of_z}
 use Rattle.tb_fpage.specs.Company.{company_height, is_made}

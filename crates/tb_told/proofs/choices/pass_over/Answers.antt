@@ -1,4 +1,4 @@
-use Rattle.std.proofs.Common.{◌≡◌, sym, ◌∙◌}
+use Rattle.std.proofs.Common.{sym, ◌∙◌}
 use Rattle.tb_float.proofs.EntryLemmas.{next-is_float}
 use Rattle.tb_fpage.proofs.WalkLemmas.{next-float, no-float}
 use Rattle.tb_told.proofs.ChoiceLemmas.{pass-next, pass-all, pass-end}

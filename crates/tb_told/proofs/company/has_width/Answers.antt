@@ -1,4 +1,4 @@
-use Rattle.std.proofs.Common.{◌≡◌, sym, ap, ◌∙◌}
+use Rattle.std.proofs.Common.{sym, ap, ◌∙◌}
 use Rattle.std.specs.Prelude.{◌||◌}
 use Rattle.tb_float.proofs.EntryLemmas.{next-is_float}
 use Rattle.tb_fpage.proofs.WalkLemmas.{next-float, no-float}

@@ -1,4 +1,4 @@
-use Rattle.std.proofs.Common.{◌≡◌, ◌++◌, ◌+◌, suc, Some, slice_get, take, drop, refl, sym, ap, subst, ◌∙◌, add-one, append-nil, arith}
+use Rattle.std.proofs.Common.{◌≡◌, ◌++◌, suc, Some, slice_get, take, drop, sym, ap, ◌∙◌, add-one, append-nil, arith}
 use Rattle.std.proofs.lemmas.Option.{slice_get_within}
 use Rattle.tb_float.specs.Lists.{float_entries, floats_of}
 use Rattle.tb_float.proofs.EntryLemmas.{next-is_float, next-entry}

@@ -1,4 +1,4 @@
-use Rattle.std.proofs.Common.{◌≡◌, ◌++◌, take, drop, sym, ap, ◌∙◌, append-nil, add-one, arith}
+use Rattle.std.proofs.Common.{◌++◌, take, drop, sym, ap, ◌∙◌, append-nil, add-one, arith}
 use Rattle.std.proofs.lemmas.List.{length-take-le}
 use Rattle.std.proofs.Math.ListN.{drop_of_length-le}
 use Rattle.tb_told.specs.ColumnPieces.{in_column, told_choices}

@@ -11,7 +11,7 @@ pub returns-clause-lists : goal.returns-clause-lists
 returns-clause-lists c =
     ok-then c.copy_current.result _ _ _
     (
-      all-copied c.args.pool.now.lists c.args.copy.now.lists c.copy_floats.new.copy.lists c.copy_floats-2.new.copy.lists c.copy_floats-3.new.copy.lists c.copy_floats-4.new.copy.lists c.copy_floats-5.new.copy.lists c.copy_floats-6.new.copy.lists _
-      c.requires.empty c.in_ok-copy_floats.ensures.lists c.in_ok-copy_floats-2.ensures.lists c.in_ok-copy_floats-3.ensures.lists c.in_ok-copy_floats-4.ensures.lists c.in_ok-copy_floats-5.ensures.lists c.in_ok-copy_floats-6.ensures.lists refl
+    all-copied c.args.pool.now.lists c.args.copy.now.lists c.copy_floats.new.copy.lists c.copy_floats-2.new.copy.lists c.copy_floats-3.new.copy.lists c.copy_floats-4.new.copy.lists c.copy_floats-5.new.copy.lists c.copy_floats-6.new.copy.lists _
+    c.requires.empty c.in_ok-copy_floats.ensures.lists c.in_ok-copy_floats-2.ensures.lists c.in_ok-copy_floats-3.ensures.lists c.in_ok-copy_floats-4.ensures.lists c.in_ok-copy_floats-5.ensures.lists c.in_ok-copy_floats-6.ensures.lists refl
     )
     c.copy_current.ensures.lists
