@@ -6,5 +6,6 @@ pub mod AllWords
 pub mod TextLines
 pub mod EventLines
 pub mod TaleLines
+pub mod StoryTexts
 pub mod ShownTexts
 pub mod Rows

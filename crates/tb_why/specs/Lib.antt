@@ -8,3 +8,4 @@ pub mod ShownOf
 pub mod Placements
 pub mod Told
 pub mod PlainNames
+pub mod PlainStories
