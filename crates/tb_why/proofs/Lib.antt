@@ -8,6 +8,7 @@ pub mod AllWords
 pub mod TextLines
 pub mod EventLines
 pub mod TaleLines
+pub mod StoryTexts
 pub mod ShownTexts
 pub mod Rows
 pub mod LeavingLemmas

@@ -27,7 +27,7 @@ use Rattle.tb_why.proofs.EventLines.{where-plain, side-plain}
 
 -- ---- fields
 
-test-plain : (t : Test) → IsUnended (test_text t)
+pub test-plain : (t : Test) → IsUnended (test_text t)
 test-plain tests.Places = refl
 test-plain t = refl
 

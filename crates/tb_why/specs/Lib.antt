@@ -9,3 +9,4 @@ pub mod ShownTurns
 pub mod Placements
 pub mod Told
 pub mod PlainNames
+pub mod PlainStories
