@@ -12,3 +12,6 @@ pub mod StoryTexts
 pub mod ShownTexts
 pub mod Rows
 pub mod LeavingLemmas
+pub mod MovingLemmas
+pub mod LandingLemmas
+pub mod TimeLemmas
