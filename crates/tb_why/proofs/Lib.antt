@@ -15,3 +15,4 @@ pub mod LeavingLemmas
 pub mod MovingLemmas
 pub mod LandingLemmas
 pub mod TimeLemmas
+pub mod FaultLemmas
