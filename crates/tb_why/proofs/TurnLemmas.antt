@@ -1,6 +1,6 @@
 -- What is shown of a turn is what the definition shows of a step.
 use Rattle.std.proofs.Common.{◌≡◌, refl, sym, subst, ◌∙◌, ap, ℕ, pos, Bool, true, false, List, [], ◌∷◌, ◌++◌, length, drop, map, Option, Some, None, append_assoc, append-nil}
-use Rattle.std.specs.Prelude.{int_lt, if◌then◌else◌}
+use Rattle.std.specs.Prelude.{int_lt, Result, Ok, Err, IfOk, OnOk, if◌then◌else◌}
 use Rattle.std.proofs.lemmas.List.{drop_at}
 use Rattle.std.proofs.lemmas.Bool.{true≢false}
 use Rattle.tb_break.proofs.EachLemmas.{all-front, all-back, all-join}
@@ -156,3 +156,11 @@ module _ (page : Page) (q now : Routine) (o : Option Ending) (before after : Lis
 -- what happened while a page was filled has pages of the store in which it is served
 pub front-pages : (store : Lists Node) (page : Page) (q now : Routine) (o : Option Ending) (before after : List Happening) → HasServed page q o now before after → ArePages store after → ArePages store before
 front-pages store page q now o before after h pages = all-front (IsPage store) before (sent_happenings h.sent) (subst (ArePages store) h.grown pages)
+
+-- the lists of all pages that are shown of a turn in which a page fires
+pub turn-pages : {E : Type 0} (r q : Routine) (page : Page) (hs : List Happening) → IsFiring true r page q hs → (x : Result (Option Ending) E) (now : Routine) (after : List Happening) (before shown : List Showing) →
+    before ≡ filled_shown (length r.machine.pool.lists.second) q.machine hs →
+    IfOk x (λ o. HasServed page q o now hs after) → OnOk x (ArePages now.store after) → OnOk x (AreShownPages now.store before → AreShownPages now.store shown) → OnOk x (AreShownPages now.store shown)
+turn-pages r q page hs h (Ok o) now after before shown is served pages grown =
+    grown (subst (AreShownPages now.store) (sym is) (filled-pages r q hs h.filled now.store (front-pages now.store page q now o hs after served pages)))
+turn-pages r q page hs h (Err e) now after before shown is served pages grown = tt
