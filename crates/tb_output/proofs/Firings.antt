@@ -1,5 +1,6 @@
 -- The firing, in reading order.
 pub mod ClassesTaken
+pub mod ReadingLemmas
 pub mod TakenLists
 pub mod NotesTaking
 pub mod ClosingNotes

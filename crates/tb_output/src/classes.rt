@@ -21,6 +21,15 @@ impl Model for Classes {
     ghost view = { λ a. a.items.items };
 }
 
+impl Classes {
+    /// The classes, by rising number.
+    pub(crate) fn as_slice(&self) -> &[Class]
+        ensures { result.now ≡ self.now }
+    {
+        &self.items
+    }
+}
+
 /// A copy of these classes.
 pub(crate) fn copied(alloc: Global, classes: &[Class]) -> Result<Classes, AllocError>
     ensures { IfOk result (λ a. a ≡ classes.now) }

@@ -54,8 +54,8 @@ fn depth_at(store: &Lists<Node>, l: ListId, place: usize) -> Option<i64>
     }
 }
 
-// The depth of a list that ends in this node, if no node before it matters.
-fn kind_depth(kind: &Kind) -> Option<i64>
+/// The depth of a list that ends in this node, if no node before it matters.
+pub(crate) fn kind_depth(kind: &Kind) -> Option<i64>
     ensures { result ≡ kind_depth kind.now }
 {
     match *kind {

@@ -1,4 +1,4 @@
 pub mod Behind
-pub mod Filled
+pub mod Filling
 pub mod ServedAgain
 pub mod Turns

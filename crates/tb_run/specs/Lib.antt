@@ -1,3 +1,4 @@
 pub mod ServedStates
 pub mod Routine
+pub mod FilledPages
 pub mod RoutinePages

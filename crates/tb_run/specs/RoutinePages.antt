@@ -1,47 +1,33 @@
--- A page that is filled and fires, as part of a step of the run. No public clause cites this module.
-use Rattle.std.specs.Prelude.{◌≡◌, ℕ, ◌+◌, ◌<◌, ◌≤◌, pos, ◌<ℤ◌, ◌≤ℤ◌, Bool, true, false, List, [], ◌++◌, map, Option, Some, None, int_lt}
+-- The calls by which a page is filled and served, as part of a step of the run. No public clause cites this module.
+use Rattle.std.specs.Prelude.{◌≡◌, ℕ, ◌+◌, ◌<◌, pos, ◌<ℤ◌, ◌≤ℤ◌, Bool, true, false, List, [], ◌++◌, Option, Some, None, int_lt}
 use Rattle.tb_pool.specs.Lists.{Lists}
 use Rattle.tb_node.specs.declared.Act.{Act}
 use Rattle.tb_node.specs.declared.Node.{Node}
 use Rattle.tb_node.specs.PlainNodes.{PlainNode}
-use Rattle.tb_node.specs.Fit.{shapes}
-use Rattle.tb_node.specs.Sums.{size_of}
 use Rattle.tb_builder.specs.declared.Ask.{Ask}
 use Rattle.tb_builder.specs.declared.Event.{Event}
 use Rattle.tb_builder.specs.declared.Page.{Page}
 use Rattle.tb_builder.specs.PageCalls.{PassedOver, ComesBy}
-use Rattle.tb_builder.specs.PageEvents.{fired_room}
-use Rattle.tb_builder.specs.FiredPages.{Boxed, Fired}
-use Rattle.tb_builder.specs.SizedContents.{fired_count}
-use Rattle.tb_builder.specs.Contents.{node_count}
-use Rattle.tb_sheet.specs.declared.Sent.{Sent}
+use Rattle.tb_builder.specs.FiredPages.{Boxed}
 use Rattle.tb_output.specs.declared.RunFault.{RunFault}
 use Rattle.tb_output.specs.declared.RunFault.TheVariants as faults
-use Rattle.tb_output.specs.State.{Work, Recorded}
+use Rattle.tb_output.specs.State.{Work}
 use Rattle.tb_output.specs.Output.{out}
 use Rattle.tb_output.specs.Act.{Acted, went, full, act_on}
 use Rattle.tb_output.specs.ActCalls.{line_of, warnings_sent}
 use Rattle.tb_output.specs.Machine.{state_shown, events_shown}
-use Rattle.tb_output.specs.Firing.{CanFire, fired_in}
 use Rattle.tb_items.specs.declared.happenings.Happening.{Happening}
-use Rattle.tb_items.specs.declared.happenings.Happening.TheVariants as happenings
 use Rattle.tb_run.specs.declared.routine.Routine.{Routine}
 use Rattle.tb_run.specs.declared.routine.Ending.{Ending}
 use Rattle.tb_run.specs.declared.routine.Ending.TheVariants as endings
-use Rattle.tb_run.specs.declared.routine.Filled.{Filled}
-use Rattle.tb_run.specs.declared.routine.Filled.TheVariants as filled
 use Rattle.tb_items.specs.RunEvents.{RunEvent}
-use Rattle.tb_steps.specs.Run.{held_count, step, firing_step, step_events}
-use Rattle.tb_steps.specs.Runnable.{AreRunClasses}
-use Rattle.tb_run.specs.ServedStates.{IsServed, IsServedPage}
+use Rattle.tb_steps.specs.Run.{held_count}
+use Rattle.tb_run.specs.ServedStates.{IsServed}
 use Rattle.tb_items.specs.declared.items_left.ItemsLeft.{ItemsLeft}
 use Rattle.tb_items.specs.ItemsLeft.{nodes_of, nodes_left, pieces_left, with_more, IsOpen}
 use Rattle.tb_items.specs.Happenings.{events_of, noted, happened_lists}
-use Rattle.tb_run.specs.Routine.{built_in, held_in, state_of, IsConsistent, IsBounded, between_pages, EndsAs, IsEnded}
-
--- what was sent, as happenings
-abbrev pub sent_happenings : List Sent → List Happening
-sent_happenings es = map (λ e. happenings.Sent e) es
+use Rattle.tb_run.specs.Routine.{built_in, held_in, state_of, IsConsistent, IsBounded, between_pages, IsEnded}
+use Rattle.tb_run.specs.FilledPages.{fired_whole}
 
 -- ---- the next event
 
@@ -97,48 +83,9 @@ pub record AreQuiet (wanted : Bool) (hs : List Happening) (es : List RunEvent) :
   pub events : (store : Lists Node) → events_of store hs ≡ noted wanted es
   pub lists : happened_lists hs ≡ []
 
--- the run ends before the page fires
-pub record IsFilledLast (wanted : Bool) (r : Routine) (e : Ending) (q : Routine) (hs : List Happening) : Type 0 where
-  pub quiet : AreQuiet wanted hs (step_events (step r.machine.params (state_of r)))
-  pub ended : EndsAs q (Some e) (step r.machine.params (state_of r))
-  pub whole : IsConsistent q
-  pub params : q.machine.params ≡ r.machine.params
-
--- the page that the builder fired, with all that waits after it
-abbrev pub fired_whole : Routine → Page → Fired
-fired_whole r page = record (fired_in r.builder r.store page) { rest = (held_in r).waiting }
-
 -- what the definition does at the firing of the page
 abbrev pub work_of : Routine → Page → Work
 work_of r page = out r.machine.params (state_of r) (fired_whole r page)
-
--- with the page that fires, this many nodes are held
-pub record IsBoundedPage (page : Page) (q : Routine) : Type 0 where
-  pub held : fired_count (fired_whole q page) + node_count (state_of q).held_page ≤ q.most + 1
-  pub few : q.most ≤ 4194304
-
--- the page fires in the state after its acts
-pub record IsFiring (wanted : Bool) (r : Routine) (page : Page) (q : Routine) (hs : List Happening) : Type 0 where
-  pub events : List RunEvent
-  pub records : List Recorded
-  pub quiet : AreQuiet wanted hs events
-  pub step_is : step r.machine.params (state_of r) ≡ firing_step r.machine.params events records (state_of q) (fired_whole q page)
-  pub whole : IsConsistent q
-  pub can : CanFire q.machine q.builder q.store page
-  pub room : fired_room q.builder ≡ size_of (shapes q.store page.body)
-  pub taken : q.machine.events ≡ []
-  pub params : q.machine.params ≡ r.machine.params
-  pub classes : q.machine.classes ≡ r.machine.classes
-  pub known : AreRunClasses q.machine.classes
-  pub served : IsServedPage (state_of q) (fired_whole q page)
-  pub bounded : IsBoundedPage page q
-  pub most : q.most ≡ r.most
-  pub ends : (before : List PlainNode) → IsOpen q.left (before ++ (built_in q).waiting)
-
--- the page that was filled fires, or the run ends before it does
-abbrev pub Fills : Bool → Routine → Filled → Routine → List Happening → Type 0
-Fills wanted r (filled.Fires page) q hs = IsFiring wanted r page q hs
-Fills wanted r (filled.Ends e) q hs = IsFilledLast wanted r e q hs
 
 -- ---- the page is served
 

@@ -5,4 +5,4 @@
 mod classes;
 mod routine;
 
-pub use routine::{Ending, Routine};
+pub use routine::{Ending, Filled, Routine};

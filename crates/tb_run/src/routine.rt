@@ -26,7 +26,8 @@ ghost use Rattle.tb_items.specs.Classes.{classes_of};
 ghost use Rattle.tb_steps.specs.Run.{held_count};
 ghost use Rattle.tb_items.specs.Happenings.{happened_lists, ArePages};
 ghost use Rattle.tb_run.specs.Routine.{built_in, state_of, IsConsistent, IsBounded, IsReady, AreHappened, IsTurned, IsEnded, over_limit, with_events};
-ghost use Rattle.tb_run.specs.RoutinePages.{HasComeTo, IsSupplied, Fills, Serves, fired_whole, IsBoundedPage, HasActed, HasNotActed, sent_happenings};
+ghost use Rattle.tb_run.specs.FilledPages.{sent_happenings, fired_whole, IsBoundedPage, CanServe, Fills, HasServed};
+ghost use Rattle.tb_run.specs.RoutinePages.{HasComeTo, IsSupplied, Serves, HasActed, HasNotActed};
 
 use crate::classes::classes_of;
 use std::alloc::{AllocError, Global};
@@ -77,10 +78,12 @@ pub enum Ending {
     NodeLimit { count: u64 },
 }
 
-// What a page comes to: it fires, or the run ends before.
+/// What a page comes to.
 #[derive(Clone, Copy)]
-enum Filled {
+pub enum Filled {
+    /// It fires, and awaits [`Routine::serve_page`].
     Fires(Page),
+    /// The run ends before a page fires.
     Ends(Ending),
 }
 
@@ -197,6 +200,68 @@ impl<'a> Routine<'a> {
             Filled::Fires(page) => page,
             Filled::Ends(ending) => return Ok(Some(ending)),
         };
+        self.serve_page(page, happened)
+    }
+
+    /// Fills the next page of what waits, up to its firing or the end of the run; the acts that are reached are done. The
+    /// page that fires is to be served by [`Self::serve_page`] next: both are one [`Self::turn`].
+    ///
+    /// In between the routine shows the state in which the page fires. `happened` holds the warnings of the acts and, if
+    /// `wanted` is set, the places that were tried, in their order; it is empty before. If memory runs out, the run cannot
+    /// go on.
+    #[inline(always)]
+    pub fn fill(
+        &mut self,
+        wanted: bool,
+        happened: &mut Vec<Happening>,
+    ) -> Result<Filled, AllocError>
+        requires ready { IsReady self.old }
+        requires empty { happened.old.items ≡ [] }
+        ensures { IfOk result (λ o. Fills wanted self.old o self.new happened.new.items) }
+    {
+        let ask = self.machine.ask();
+        'next: loop {
+            match self.next_event(wanted, &ask)? {
+                Event::Try(tried) => note_try(happened, wanted, tried)?,
+                Event::Act(act) => {
+                    if let Err(full) = self.act(act) {
+                        return Ok(Filled::Ends(Ending::PoolFull {
+                            line: line_of(&act),
+                            live: full.live,
+                        }));
+                    }
+                    self.hand_over(happened)?;
+                }
+                Event::Fired(page) => return Ok(Filled::Fires(page)),
+                Event::Empty => {
+                    let Some(left) = self.left else {
+                        return Ok(Filled::Ends(Ending::Done));
+                    };
+                    self.supply(left)?;
+                }
+            }
+        }
+    }
+
+    /// Serves the page that [`Self::fill`] returned: it is shipped, or its penalty asks for something else
+    /// (ltoutput.dtx, \output). What the firing sent is appended to `happened`, which has no pages before. Returns how the
+    /// run ends with it, if it does. If memory runs out, the run cannot go on.
+    #[inline(always)]
+    pub fn serve_page(
+        &mut self,
+        page: Page,
+        happened: &mut Vec<Happening>,
+    ) -> Result<Option<Ending>, AllocError>
+        requires page { CanServe page self.old }
+        requires quiet { happened_lists happened.old.items ≡ [] }
+
+        ensures served { IfOk result (λ o. HasServed page self.old o self.new happened.old.items happened.new.items) }
+        ensures ready { IfOk result (λ o. IfNone o (IsReady self.new)) }
+        ensures params { OnOk result (self.new.machine.params ≡ self.old.machine.params) }
+        ensures ended { OnOk result (IsEnded self.new) }
+        ensures pages { OnOk result (ArePages self.new.store happened.new.items) }
+        ensures lists { IfOk result (λ o. IfNone o (AreHappened self.new happened.new.items)) }
+    {
         let ending = self.serve(page)?;
         self.hand_over(happened)?;
         Ok(ending)
@@ -230,36 +295,6 @@ impl<'a> Routine<'a> {
         ensures closed { AllByRecursion (λ l. get self.new.store.lists l ≡ None) (happened_lists happened.now) }
     {
         close_happened(&mut self.store, happened);
-    }
-
-    // Fills the next page of what waits, up to its firing or the end of the run. The acts that are reached are done.
-    fn fill(&mut self, wanted: bool, happened: &mut Vec<Happening>) -> Result<Filled, AllocError>
-        requires ready { IsReady self.old }
-        requires empty { happened.old.items ≡ [] }
-        ensures { IfOk result (λ o. Fills wanted self.old o self.new happened.new.items) }
-    {
-        let ask = self.machine.ask();
-        'next: loop {
-            match self.next_event(wanted, &ask)? {
-                Event::Try(tried) => note_try(happened, wanted, tried)?,
-                Event::Act(act) => {
-                    if let Err(full) = self.act(act) {
-                        return Ok(Filled::Ends(Ending::PoolFull {
-                            line: line_of(&act),
-                            live: full.live,
-                        }));
-                    }
-                    self.hand_over(happened)?;
-                }
-                Event::Fired(page) => return Ok(Filled::Fires(page)),
-                Event::Empty => {
-                    let Some(left) = self.left else {
-                        return Ok(Filled::Ends(Ending::Done));
-                    };
-                    self.supply(left)?;
-                }
-            }
-        }
     }
 
     // Hands over more of the items that are left.

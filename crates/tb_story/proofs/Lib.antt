@@ -1,1 +1,2 @@
 pub mod StoryLemmas
+pub mod LineLemmas

@@ -243,3 +243,7 @@ kept_step ns i d ss new lt is e =
 -- a slice that was lent from a vector stands there again
 pub written : {X : Type 0} → (n : ℕ) (new items : List X) → length new ≡ n → take n (new ++ drop (length new) items) ≡ new
 written n new items e = take-append-le n new (drop (length new) items) (omega (arith, e)) ∙ take_all n new (omega (arith, e))
+
+-- more are over
+pub sound_by : (n m a : ℕ) (ss : List StoryView) → IsSound n a ss → AreOver m ss → IsSound m a ss
+sound_by n m a ss h o = record { over = o; counted = h.counted }

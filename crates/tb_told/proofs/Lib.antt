@@ -2,6 +2,10 @@ pub mod TestedLemmas
 pub mod AreaLemmas
 pub mod ColumnLemmas
 pub mod ValueLemmas
+pub mod ChoiceLemmas
+pub mod CompanyLemmas
+pub mod CopyLemmas
 pub mod TellingLemmas
 pub mod FillingLemmas
 pub mod DoublingLemmas
+pub mod StandingLemmas

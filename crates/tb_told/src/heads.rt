@@ -32,14 +32,15 @@ pub fn alone_at(pool: &Pool, wanted: &Wanted, from: Part, k: usize, f: &Float) -
     }
 }
 
-// Whether it may go on a page of floats, or floats are cleared.
-fn may_be_alone(f: &Float, wanted: &Wanted) -> bool
+/// Whether it may go on a page of floats, or floats are cleared.
+pub(crate) fn may_be_alone(f: &Float, wanted: &Wanted) -> bool
     ensures { result ≡ (f.now.places.p || wanted.now.clearing) }
 {
     f.places.p || wanted.clearing
 }
 
-fn is_no_higher(f: &Float, wanted: &Wanted) -> bool
+/// Whether it is no higher than the column.
+pub(crate) fn is_no_higher(f: &Float, wanted: &Wanted) -> bool
     ensures { result ≡ int_le f.now.height wanted.now.height }
 {
     f.height <= wanted.height

@@ -4,20 +4,29 @@
 
 mod amounts;
 mod areas;
+mod choices;
 mod columns;
+mod company;
+mod copies;
 mod decisions;
 mod fields;
 mod filling;
 mod heads;
 mod laws;
 mod places;
+mod standing;
+mod taken;
 mod tale_lines;
 mod telling;
 mod tested;
 
+pub use crate::company::tell_column;
+pub use crate::copies::copied;
 pub use crate::filling::{tell_doubled, tell_filled};
 pub use crate::heads::alone_at;
 pub use crate::laws::{the_company_is_told, what_is_told_is_the_decision, yes_says_that_all_hold};
+pub use crate::standing::here_lines;
+pub use crate::taken::take_company;
 pub use crate::tale_lines::put_tale;
 pub use crate::telling::{tell_called, tell_double, tell_next};
 use tb_fpage::Wanted;

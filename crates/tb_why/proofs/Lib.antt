@@ -1,5 +1,14 @@
 pub mod RunLemmas
 pub mod PlacementLemmas
+pub mod SeenLemmas
+pub mod WovenLemmas
+pub mod TurnLemmas
 pub mod PrintablePages
 pub mod AllWords
+pub mod TextLines
+pub mod EventLines
+pub mod TaleLines
+pub mod StoryTexts
+pub mod ShownTexts
 pub mod Rows
+pub mod LeavingLemmas

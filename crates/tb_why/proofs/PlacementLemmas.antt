@@ -371,25 +371,25 @@ clear-told p body w = by_notes (footnotes w.state)
 -- ---- floats and notes in the text
 
 -- a decision at a call names a list of the column, or that the float waits
-abbrev InColumn : Where → Type 0
-InColumn places.Here = Unit {0}
-InColumn places.Top = Unit {0}
-InColumn places.Bottom = Unit {0}
-InColumn places.Page = ⊥
-InColumn places.Double = ⊥
-InColumn places.Deferred = Unit {0}
+abbrev IsInColumn : Where → Type 0
+IsInColumn places.Here = Unit {0}
+IsInColumn places.Top = Unit {0}
+IsInColumn places.Bottom = Unit {0}
+IsInColumn places.Page = ⊥
+IsInColumn places.Double = ⊥
+IsInColumn places.Deferred = Unit {0}
 
-area-in : (a : AreaPlace) → InColumn (where_of a)
+area-in : (a : AreaPlace) → IsInColumn (where_of a)
 area-in at_top = tt
 area-in at_bottom = tt
 area-in deferred = tt
 
-current-in : (p : Params) (l : FloatLists) (s : Suppress) (h : ℤ) (f : Float) → InColumn (current_place p l s h f)
+current-in : (p : Params) (l : FloatLists) (s : Suppress) (h : ℤ) (f : Float) → IsInColumn (current_place p l s h f)
 current-in p l s h f =
     let r = max_ℤ h (text_minimum p l f) +ℤ f.height in
     by_enter (may_enter p l s l.deferred r f) r (has_class f.class l.bottom) f.places.h (fits_column p l (r +ℤ p.intextsep.width))
   where
-    by_enter : (b : Bool) (r : ℤ) (c d e : Bool) → InColumn (if b then (if c then where_of (bottom_or_deferred p l s r f) else (if d then (if e then places.Here else where_of (top_or_bottom p l s (r +ℤ p.intextsep.width) f)) else where_of (top_or_bottom p l s r f))) else places.Deferred)
+    by_enter : (b : Bool) (r : ℤ) (c d e : Bool) → IsInColumn (if b then (if c then where_of (bottom_or_deferred p l s r f) else (if d then (if e then places.Here else where_of (top_or_bottom p l s (r +ℤ p.intextsep.width) f)) else where_of (top_or_bottom p l s r f))) else places.Deferred)
     by_enter false r c d e = tt
     by_enter true r true d e = area-in (bottom_or_deferred p l s r f)
     by_enter true r false true true = tt
@@ -403,7 +403,7 @@ defer-records p f left w = by_here (only_here f)
     by_here true = sends-records (warned (warnings.Ht f.name)) (place_float p places.Deferred (with_top f) left w)
     by_here false = refl
 
-goes-told : (p : Params) (vert : Bool) (f : Float) (left : FloatLists) (ts : List Told) (w : Work) (place : Where) → InColumn place → One f ts → place_told ts ≡ place →
+goes-told : (p : Params) (vert : Bool) (f : Float) (left : FloatLists) (ts : List Told) (w : Work) (place : Where) → IsInColumn place → One f ts → place_told ts ≡ place →
     Tells w (float_goes p vert f left w place) (unless_over w (tales (decisions f ts)))
 goes-told p vert f left ts w places.Here ok only is = placed-told p places.Here f left ts w only is
 goes-told p vert f left ts w places.Top ok only is = placed-told p places.Top f left ts w only is

@@ -18,7 +18,7 @@ use Rattle.tb_area.specs.Area.{next_place, double_place}
 use Rattle.tb_told.specs.AreaTold.{told_call, told_next, told_wide}
 use Rattle.tb_fpage.specs.Company.{Choice, company, chosen_floats, left_floats}
 use Rattle.tb_margin.specs.Margin.{placed_note}
-use Rattle.tb_column.specs.Column.{PlainColumn, Notes, text_column, single_floats_column, wide_floats_column}
+use Rattle.tb_column.specs.Column.{PlainColumn, Notes, text_column, single_floats_column}
 use Rattle.tb_sheet.specs.Sheet.{pair_sheet, PlainSent}
 use Rattle.tb_output.specs.State.{State, Work, begun, footnotes, puts, records_also, output, with_floats}
 use Rattle.tb_output.specs.FloatMoves.{still_deferred, place_waiting}

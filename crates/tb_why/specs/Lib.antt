@@ -1,6 +1,12 @@
 pub mod Firing
+pub mod Seen
+pub mod SeenSteps
 pub mod WhyRun
 pub mod Summary
 pub mod ShownLines
 pub mod ShownOf
+pub mod ShownTurns
 pub mod Placements
+pub mod Told
+pub mod PlainNames
+pub mod PlainStories

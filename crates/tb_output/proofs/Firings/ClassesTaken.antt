@@ -157,7 +157,7 @@ sized-by : (t : Bool) (x y : Option (List Leaf)) → All IsSizedLeaf (content_of
 sized-by true x y h k = h
 sized-by false x y h k = k
 
-sized-content : (bs : List Boxed) (k : ℕ) → AreSizedBoxes bs → All IsSizedLeaf (content_of (box_content bs k))
+pub sized-content : (bs : List Boxed) (k : ℕ) → AreSizedBoxes bs → All IsSizedLeaf (content_of (box_content bs k))
 sized-content [] k h = All-nil IsSizedLeaf
 sized-content (b ∷ bs) k h = sized-by (b.number == k) b.content (box_content bs k) h.0 (sized-content bs k h.1)
 
@@ -192,7 +192,7 @@ module _ (all : List Class) where
   )
 
 -- how many nodes these insertions have
-abbrev inner_count : List Notes → ℕ
+abbrev pub inner_count : List Notes → ℕ
 inner_count [] = 0
 inner_count (n ∷ ns) = length n.inner + inner_count ns
 
@@ -204,7 +204,7 @@ count-with : (c : Class) (o : Option (List Leaf)) (ns : List Notes) → inner_co
 count-with c None ns = omega arith
 count-with c (Some inner) ns = omega arith
 
-count-in : (k : ℕ) (cs : List Class) (bs : List Boxed) → AreClassesFrom k cs → AreBoxesOf cs bs → inner_count (notes_in cs bs) ≤ box_count bs
+pub count-in : (k : ℕ) (cs : List Class) (bs : List Boxed) → AreClassesFrom k cs → AreBoxesOf cs bs → inner_count (notes_in cs bs) ≤ box_count bs
 count-in k [] bs rising h = omega arith
 count-in k (c ∷ cs) [] rising h = absurd h
 count-in k (c ∷ cs) (b ∷ bs) rising h =

@@ -11,7 +11,7 @@ use Rattle.tb_output.specs.ActCalls.{warnings_sent}
 use Rattle.tb_output.specs.Machine.{event_lists, events_shown}
 use Rattle.tb_items.specs.RunEvents.{sent}
 use Rattle.tb_items.specs.Happenings.{events_of, happened_lists, ArePages}
-use Rattle.tb_run.specs.RoutinePages.{sent_happenings}
+use Rattle.tb_run.specs.FilledPages.{sent_happenings}
 
 pub sent-events : (store : Lists Node) (es : List Sent) → events_of store (sent_happenings es) ≡ map sent (events_shown store es)
 sent-events store [] = refl

@@ -27,7 +27,8 @@ use Rattle.tb_steps.specs.Run.{held_count}
 use Rattle.tb_steps.specs.Runnable.{AreRunnable, AreRunClasses}
 use Rattle.tb_run.specs.ServedStates.{IsServed, IsServedPage}
 use Rattle.tb_run.specs.Routine.{built_in, held_in, state_of, IsConsistent, IsBounded, between_pages, IsEnded, over_limit}
-use Rattle.tb_run.specs.RoutinePages.{fired_whole, work_of, IsBoundedPage, IsServedOn, IsFaultOf, ServesTo, Serves}
+use Rattle.tb_run.specs.FilledPages.{fired_whole, IsBoundedPage}
+use Rattle.tb_run.specs.RoutinePages.{work_of, IsServedOn, IsFaultOf, ServesTo, Serves}
 use Rattle.tb_run.proofs.Turns.CountedLemmas.{shown-sized}
 use Rattle.tb_run.proofs.ServedAgain.ServedOut.{out-count, out-served}
 

@@ -1,15 +1,10 @@
-use Rattle.std.proofs.Common.{◌≡◌, ◌+◌, ◌<◌, ◌≤◌, ◌∙◌, ap, sym, subst, pos, length, get_or, ◌++◌, append-nil, arith}
+use Rattle.std.proofs.Common.{◌≡◌, ◌+◌, ◌<◌, ◌≤◌, ◌∙◌, ap, sym, subst, length, get_or, ◌++◌, append-nil, arith}
 use Rattle.std.specs.Prelude.{option_to_list}
-use Rattle.tb_scaled.specs.declared.Order.TheVariants as orders
-use Rattle.tb_insert.specs.declared.Class.{Class}
 use Rattle.tb_output.specs.Notes.{boxes_held}
 use Rattle.tb_output.proofs.Firings.ClassesTaken.{TakenSoFar, none-so-far, so-far-awaits, so-far-known, so-far-next, all-taken}
+use Rattle.tb_output.proofs.Firings.ReadingLemmas.{past}
 use Rattle.tb_output.proofs.notes.take_notes.Goals as goal
 use Rattle.tb_output.proofs.notes.take_notes.Goals.{in-Some+in_ok-push, in_default}
-
--- what comes past the end of a list of classes
-abbrev past : Class
-past = record { number = 0; factor = pos 0; limit = pos 0; skip = record { width = pos 0; stretch = pos 0; order = orders.Normal; shrink = pos 0 } }
 
 pub loop-class-init : goal.loop-class-init
 loop-class-init c = subst (λ ns. TakenSoFar c.args.classes.now 0 ns c.args.b.now c.args.b.now c.args.store.now c.args.store.now) (sym c.requires.none) (none-so-far c.args.classes.now c.args.b.now c.args.store.now c.requires.sound)

@@ -4,7 +4,7 @@ use Rattle.std.proofs.lemmas.Result.{err_from_is_err_and}
 use Rattle.tb_pool.specs.Lists.{IsLive}
 use Rattle.tb_pool.specs.Frame.{IsNoneOf}
 use Rattle.tb_output.specs.Machine.{MachineView}
-use Rattle.tb_run.proofs.Filled.ActingLemmas.{dropped-live, has-acted}
+use Rattle.tb_run.proofs.Filling.ActingLemmas.{dropped-live, has-acted}
 use Rattle.tb_run.proofs.routine.Routine.act.Goals as goal
 
 pub act-requires : goal.act-requires

@@ -3,11 +3,11 @@ use Rattle.std.specs.Prelude.{◌<◌}
 use Rattle.tb_run.specs.declared.routine.Routine.{Routine}
 use Rattle.tb_run.specs.declared.routine.Ending.TheVariants as endings
 use Rattle.tb_run.specs.Routine.{held_in}
-use Rattle.tb_run.specs.RoutinePages.{IsFilledLast}
-use Rattle.tb_run.proofs.Filled.FillingLemmas.{IsUnderway, turns_left, underway-start, underway-fits}
-use Rattle.tb_run.proofs.Filled.MoreLemmas.{none-left}
-use Rattle.tb_run.proofs.Filled.PassingLemmas.{come-whole, come-tried, come-fewer, come-sized, come-acted, come-fewer-acted, come-full, come-over, come-fires}
-use Rattle.tb_run.proofs.Filled.SupplyingLemmas.{come-takes, come-supplied-so, come-fewer-left}
+use Rattle.tb_run.specs.FilledPages.{IsFilledLast}
+use Rattle.tb_run.proofs.Filling.FillingLemmas.{IsUnderway, turns_left, underway-start, underway-fits}
+use Rattle.tb_run.proofs.Filling.MoreLemmas.{none-left}
+use Rattle.tb_run.proofs.Filling.PassingLemmas.{come-whole, come-tried, come-fewer, come-sized, come-acted, come-fewer-acted, come-full, come-over, come-fires}
+use Rattle.tb_run.proofs.Filling.SupplyingLemmas.{come-takes, come-supplied-so, come-fewer-left}
 use Rattle.tb_run.proofs.routine.Routine.fill.Goals as goal
 
 pub next-init : goal.next-init

@@ -1,4 +1,4 @@
-use Rattle.tb_run.proofs.Filled.FillingLemmas.{IsUnderway, turns_left}
+use Rattle.tb_run.proofs.Filling.FillingLemmas.{IsUnderway, turns_left}
 use Rattle.tb_run.proofs.routine.Routine.fill.Given as goal
 
 abbrev pub invariant-next : goal.invariant-next

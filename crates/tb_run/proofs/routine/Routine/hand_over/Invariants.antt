@@ -1,6 +1,6 @@
 use Rattle.std.proofs.Common.{◌≡◌, ◌++◌, length}
 use Rattle.tb_run.specs.Routine.{with_events}
-use Rattle.tb_run.specs.RoutinePages.{sent_happenings}
+use Rattle.tb_run.specs.FilledPages.{sent_happenings}
 use Rattle.tb_run.proofs.routine.Routine.hand_over.Given as goal
 
 -- what is left comes after what was handed over, and only events were taken

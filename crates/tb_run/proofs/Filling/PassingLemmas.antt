@@ -1,0 +1,137 @@
+-- Places are passed over while a page is filled.
+use Rattle.std.proofs.Common.{◌≡◌, refl, sym, subst, ◌∙◌, ap, ℕ, ◌<◌, ◌≤◌, Bool, true, false, List, [], ◌∷◌, ◌++◌, None, append-nil, arith}
+use Rattle.std.proofs.lemmas.Bool.{true≢false}
+use Rattle.tb_node.specs.declared.Act.{Act}
+use Rattle.tb_builder.specs.declared.Ask.{Ask}
+use Rattle.tb_builder.specs.declared.Event.{Event}
+use Rattle.tb_builder.specs.declared.Event.TheVariants as events
+use Rattle.tb_builder.specs.declared.Page.{Page}
+use Rattle.tb_builder.specs.declared.Try.{Try}
+use Rattle.tb_builder.specs.PageEvents.{FiresWith}
+use Rattle.tb_builder.specs.PageProgress.{IsNextOfPage}
+use Rattle.tb_builder.specs.PageCalls.{IsNext, PassedOver, ComesBy}
+use Rattle.tb_output.specs.State.{ask_of}
+use Rattle.tb_sheet.specs.Asked.{IsSizedAct}
+use Rattle.tb_output.specs.ActCalls.{line_of}
+use Rattle.tb_items.specs.declared.happenings.Happening.{Happening}
+use Rattle.tb_run.specs.declared.routine.Routine.{Routine}
+use Rattle.tb_run.specs.declared.routine.Ending.TheVariants as endings
+use Rattle.tb_items.specs.Happenings.{noted_try}
+use Rattle.tb_run.specs.Routine.{built_in, held_in, state_of, with_events, IsConsistent, IsReady}
+use Rattle.tb_run.specs.FilledPages.{sent_happenings, IsFilledLast, IsFiring}
+use Rattle.tb_run.specs.RoutinePages.{HasComeTo, HasActed, HasNotActed}
+use Rattle.tb_run.proofs.Filling.FillingLemmas.{IsUnderway, left_of_page, turns_left, underway-tried, fewer-tried, act-fits, underway-acted, fewer-acted, filled-full, filled-over}
+use Rattle.tb_items.specs.ItemsLeft.{pieces_left, AreItemsLeft}
+use Rattle.tb_run.proofs.Turns.WholeLemmas.{built-whole}
+use Rattle.tb_run.proofs.Filling.MoreLemmas.{IsOpenFor, IsMetBy, next-page, next-going, next-kept, next-open, fired-open, met-try, met-act, met-page}
+use Rattle.tb_run.proofs.Filling.FiringLemmas.{filled-fires}
+
+-- the routine before the last call of the builder, which came to the event: as much of the page is left there at most
+pub record IsLastCall (wanted : Bool) (r : Routine) (ask : Ask) (e : Event) (d : Routine) (hs : List Happening) (most_left : ℕ) : Type 0 where
+  pub before : Routine
+  pub underway : IsUnderway wanted r before hs
+  pub next : IsNext before.builder before.store ask e d.builder d.store
+  pub machine : d.machine ≡ before.machine
+  pub most : d.most ≡ before.most
+  pub left : d.left ≡ before.left
+  pub fewer : left_of_page r before ≤ most_left
+
+module _ (wanted : Bool) (r d : Routine) (hs : List Happening) (ready : IsReady r) (ask : Ask) (asked : ask ≡ ask_of r.machine.params (state_of r)) (e : Event) where
+  -- an unwanted place is no happening
+  none-noted : (b : Bool) → b ≡ false → (x : Try) → hs ≡ hs ++ noted_try b x
+  none-noted true is x = absurd (true≢false is)
+  none-noted false is x = sym (append-nil hs)
+
+  open-now : (q : Routine) → IsUnderway wanted r q hs → IsOpenFor q.left (built_in q) ask
+  open-now q h = subst (IsOpenFor q.left (built_in q)) (sym asked) h.ends
+
+  -- each place that is passed over is one call
+  walk : (ps : List PassedOver) (q : Routine) → IsUnderway wanted r q hs → wanted ≡ false → ComesBy ps q.builder q.store ask e d.builder d.store → d.machine ≡ q.machine → d.most ≡ q.most → d.left ≡ q.left → IsLastCall wanted r ask e d hs (left_of_page r q)
+  walk [] q h unwanted n same most left = record { before = q; underway = h; next = n; machine = same; most = most; left = left; fewer = (omega arith) }
+  walk (p ∷ ps) q h unwanted n same most left =
+      let x : Routine = record { store = p.store; builder = p.builder; machine = q.machine; most = q.most; left = q.left } in
+      let t : Event = events.Try p.place in
+      let ends = open-now q h in
+      let page : IsNextOfPage t (held_in q) ask (held_in x) x.store = next-page q x ask t n.0 refl ends (met-try q.left p.place) in
+      let kept = next-kept q x ask t n.0 refl ends in
+      let after : IsOpenFor x.left (built_in x) ask = next-open q x ask t n.0 refl ends (next-going q x ask t n.0 refl ends (λ f. f)) (met-try q.left p.place) in
+      let u : IsUnderway wanted r x hs = underway-tried wanted r q x hs ready h ask asked t page n.0.sound n.0.keeps refl refl refl kept p.place refl after hs (none-noted wanted unwanted p.place) in
+      let f : left_of_page r x < left_of_page r q = fewer-tried wanted r q x hs ready h ask asked t page n.0.sound n.0.keeps refl refl refl kept p.place refl in
+      let l : IsLastCall wanted r ask e d hs (left_of_page r x) = walk ps x u unwanted n.1 same most left in
+      let k = l.fewer in
+      record { before = l.before; underway = l.underway; next = l.next; machine = l.machine; most = l.most; left = l.left; fewer = (omega (arith, f, k)) }
+
+  module _ (q : Routine) (h : IsUnderway wanted r q hs) (c : HasComeTo wanted e ask q d) where
+    by-wanted : (b : Bool) → wanted ≡ b → IsLastCall wanted r ask e d hs (left_of_page r q)
+    by-wanted true is = record { before = q; underway = h; next = subst (λ ps. ComesBy ps q.builder q.store ask e d.builder d.store) (c.none is) c.comes; machine = c.machine; most = c.most; left = c.left; fewer = (omega arith) }
+    by-wanted false is = walk c.passed q h is c.comes c.machine c.most c.left
+
+    pub last-call : IsLastCall wanted r ask e d hs (left_of_page r q)
+    last-call = by-wanted wanted refl
+
+    abbrev l : IsLastCall wanted r ask e d hs (left_of_page r q)
+    l = last-call
+
+    ends : IsOpenFor l.before.left (built_in l.before) ask
+    ends = open-now l.before l.underway
+
+    kept : (built_in d).classes ≡ (built_in l.before).classes
+    kept = next-kept l.before d ask e l.next l.left ends
+
+    page-of : IsMetBy l.before.left e → IsNextOfPage e (held_in l.before) ask (held_in d) d.store
+    page-of met = next-page l.before d ask e l.next l.left ends met
+
+    pub come-whole : IsConsistent d
+    come-whole = built-whole l.before d l.underway.whole l.next.keeps l.next.sound l.machine (subst (λ o. AreItemsLeft (built_in d).classes o) (sym l.left) (subst (λ cs. AreItemsLeft cs l.before.left) (sym kept) l.underway.whole.items))
+
+    -- no more turns are left
+    turns-so : (now : Routine) → now.left ≡ d.left → left_of_page r now < left_of_page r l.before → turns_left r now < turns_left r q
+    turns-so now same f = let k = l.fewer in let e = ap pieces_left (same ∙ c.left) in omega (arith, f, k, e)
+
+    -- a place was tried
+    module _ (x : Try) (is : e ≡ events.Try x) where
+      met-here : IsMetBy l.before.left e
+      met-here = subst (IsMetBy l.before.left) (sym is) (met-try l.before.left x)
+
+      going-here : l.before.builder.stopped ≡ false
+      going-here = next-going l.before d ask e l.next l.left ends (λ f. subst (λ v. FiresWith v (built_in l.before) ask (built_in d) d.store) is f)
+
+      pub come-tried : (new : List Happening) → new ≡ hs ++ noted_try wanted x → IsUnderway wanted r d new
+      come-tried = underway-tried wanted r l.before d hs ready l.underway ask asked e (page-of met-here) l.next.sound l.next.keeps l.machine l.most l.left kept x is (next-open l.before d ask e l.next l.left ends going-here met-here)
+
+      pub come-fewer : turns_left r d < turns_left r q
+      come-fewer = turns-so d refl (fewer-tried wanted r l.before d hs ready l.underway ask asked e (page-of met-here) l.next.sound l.next.keeps l.machine l.most l.left kept x is)
+
+    -- an act was reached
+    module _ (a : Act) (is : e ≡ events.Act a) where
+      met-act-here : IsMetBy l.before.left e
+      met-act-here = subst (IsMetBy l.before.left) (sym is) (met-act l.before.left a)
+
+      going-act : l.before.builder.stopped ≡ false
+      going-act = next-going l.before d ask e l.next l.left ends (λ f. subst (λ v. FiresWith v (built_in l.before) ask (built_in d) d.store) is f)
+
+      open-act : IsOpenFor d.left (built_in d) ask
+      open-act = next-open l.before d ask e l.next l.left ends going-act met-act-here
+
+      pub come-sized : IsSizedAct a
+      come-sized = act-fits wanted r l.before d hs ready l.underway ask asked e (page-of met-act-here) l.next.sound l.next.keeps l.machine l.most l.left kept a is
+
+      pub come-acted : (now : Routine) → HasActed a d now → (new : List Happening) → new ≡ hs ++ sent_happenings now.machine.events → IsUnderway wanted r (with_events [] now) new
+      come-acted now acted = underway-acted wanted r l.before d hs ready l.underway ask asked e (page-of met-act-here) l.next.sound l.next.keeps l.machine l.most l.left kept a is now acted open-act
+
+      pub come-fewer-acted : (now : Routine) → HasActed a d now → turns_left r (with_events [] now) < turns_left r q
+      come-fewer-acted now acted =
+          turns-so (with_events [] now) acted.left
+          (fewer-acted wanted r l.before d hs ready l.underway ask asked e (page-of met-act-here) l.next.sound l.next.keeps l.machine l.most l.left kept a is now acted open-act)
+
+      pub come-full : (now : Routine) (live : ℕ) → HasNotActed a live d now → IsFilledLast wanted r (endings.PoolFull (line_of a) live) now hs
+      come-full now live k = filled-full wanted r l.before d hs ready l.underway ask asked e (page-of met-act-here) l.next.sound l.next.keeps l.machine l.most l.left kept a is now live k
+
+    -- nothing waits any more, and nothing is left
+    pub come-over : e ≡ events.Empty → d.left ≡ None → IsFilledLast wanted r endings.Done d hs
+    come-over is none = filled-over wanted r l.before d hs ready l.underway ask asked e (page-of (subst (λ o. IsMetBy o e) (sym none ∙ l.left) tt)) l.next.sound l.next.keeps l.machine l.most l.left kept is
+
+    pub come-fires : (page : Page) → e ≡ events.Fired page → IsFiring wanted r page d hs
+    come-fires page is =
+        filled-fires wanted r l.before d hs ready l.underway ask asked e (page-of (subst (IsMetBy l.before.left) (sym is) (met-page l.before.left page))) l.next.sound l.next.keeps l.machine l.most l.left kept page is l.next.body l.next.room
+        (fired-open l.before d ask e l.next l.left ends page is)
