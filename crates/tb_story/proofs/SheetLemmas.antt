@@ -36,9 +36,9 @@ same_decided f place m = same_if (is_deferred place) m.sheets (keep_if f (reason
 
 same_told : (f : Float) (t : Told) (m : SummaryView) → (after_told f t m).sheets ≡ m.sheets
 same_told f (Enters t) m = same_tested _ _ _ _ _ t.failed m
-same_told f (TestsHere t) m = same_tested _ _ _ _ _ t.failed m
-same_told f (TestsTop t) m = same_tested _ _ _ _ _ t.failed m
-same_told f (TestsBottom t) m = same_tested _ _ _ _ _ t.failed m
+same_told f (TestsHere t) m = same_tested _ _ None _ _ t.failed m
+same_told f (TestsTop t) m = same_tested _ _ None _ _ t.failed m
+same_told f (TestsBottom t) m = same_tested _ _ None _ _ t.failed m
 same_told f (TestsWide t) m = same_tested _ _ _ _ _ t.failed m
 same_told f (Goes w) m = same_decided f w m
 
