@@ -60,8 +60,9 @@ fn tell_bottom(
     ensures { OnOk result (pieces.new.items ≡ pieces.old.items ++ tales (decisions f.now (told_bottom p.now pool.now.lists s.now required f.now))) }
 {
     let told = at_bottom(pool, p, s, required, f);
+    let failed = told.failed;
     tell(pieces, f, Told::TestsBottom(told))?;
-    tell(pieces, f, Told::Goes(place_if(told.failed, Where::Bottom)))
+    tell(pieces, f, Told::Goes(place_if(failed, Where::Bottom)))
 }
 
 // What is told of the top, and then of the bottom, and where the float goes.
@@ -78,11 +79,13 @@ fn tell_areas(
     ensures { OnOk result (pieces.new.items ≡ pieces.old.items ++ tales (decisions f.now (told_areas p.now pool.now.lists s.now required f.now))) }
 {
     let told = at_top(pool, p, s, required, f);
+    let need = told.need;
+    let failed = told.failed;
     tell(pieces, f, Told::TestsTop(told))?;
-    if is_yes(told.failed) {
+    if is_yes(failed) {
         tell(pieces, f, Told::Goes(Where::Top))
     } else {
-        let low = after_top(pool, p, s, required, told.need, f);
+        let low = after_top(pool, p, s, required, need, f);
         tell_bottom(pieces, pool, p, s, low, f)
     }
 }
@@ -123,13 +126,16 @@ fn tell_column(
     ensures { OnOk result (pieces.new.items ≡ pieces.old.items ++ tales (decisions f.now (told_column p.now pool.now.lists s.now required f.now))) }
 {
     let told = in_text(pool, p, required, f);
+    let need = told.need;
+    let failed = told.failed;
+    let blocked = told.blocker.is_some();
     tell(pieces, f, Told::TestsHere(told))?;
-    if is_yes(told.failed) {
+    if is_yes(failed) {
         tell(pieces, f, Told::Goes(Where::Here))
-    } else if told.blocker.is_some() {
+    } else if blocked {
         tell_bottom(pieces, pool, p, s, required, f)
     } else {
-        let low = after_text(required, told.need, f);
+        let low = after_text(required, need, f);
         tell_areas(pieces, pool, p, s, low, f)
     }
 }
@@ -160,9 +166,11 @@ pub fn tell_called(
     ensures { OnOk result (pieces.new.items ≡ pieces.old.items ++ tales (decisions f.now (told_call p.now pool.now.lists s.now page_height f.now))) }
 {
     let told = entering_current(pool, p, s, page_height, f);
+    let need = told.need;
+    let failed = told.failed;
     tell(pieces, f, Told::Enters(told))?;
-    if is_yes(told.failed) {
-        tell_column(pieces, pool, p, s, told.need, f)
+    if is_yes(failed) {
+        tell_column(pieces, pool, p, s, need, f)
     } else {
         tell(pieces, f, Told::Goes(Where::Deferred))
     }
@@ -186,9 +194,11 @@ pub fn tell_next(
         return Ok(());
     }
     let told = entering_next(pool, p, s, k, f);
+    let need = told.need;
+    let failed = told.failed;
     tell(pieces, f, Told::Enters(told))?;
-    if is_yes(told.failed) {
-        tell_areas(pieces, pool, p, s, told.need, f)
+    if is_yes(failed) {
+        tell_areas(pieces, pool, p, s, need, f)
     } else {
         tell(pieces, f, Told::Goes(Where::Deferred))
     }
@@ -212,6 +222,7 @@ pub fn tell_double(
         return Ok(());
     }
     let told = above_both(pool, p, from, k, f);
+    let failed = told.failed;
     tell(pieces, f, Told::TestsWide(told))?;
-    tell(pieces, f, Told::Goes(place_if(told.failed, Where::Double)))
+    tell(pieces, f, Told::Goes(place_if(failed, Where::Double)))
 }

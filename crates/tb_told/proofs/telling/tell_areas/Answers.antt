@@ -16,8 +16,8 @@ returns-then-is_yes c =
     let rr = c.ranges.required in
     let told = simp to_z-of_z at c.at_top-told.ensures.told in
     let passes = sym c.is_yes.ensures ∙ c.if-is_yes.true in
-    told-on c.tell-2.result f c.args.pieces.now.items c.tell.new.pieces.items c.tell-2.new.pieces.items (TestsTop c.at_top-told.result) (Goes Top ∷ []) (told_areas p l s r f)
-    (top-goes p l s r f c.at_top-told.result told passes) c.in_ok-tell.ensures c.tell-2.ensures
+    told-on c.tell-then-is_yes.result f c.args.pieces.now.items c.tell.new.pieces.items c.tell-then-is_yes.new.pieces.items (TestsTop c.at_top-told.result) (Goes Top ∷ []) (told_areas p l s r f)
+    (top-goes p l s r f c.at_top-told.result told passes) c.in_ok-tell.ensures c.tell-then-is_yes.ensures
 
 pub returns-else-is_yes : goal.returns-else-is_yes
 returns-else-is_yes c =

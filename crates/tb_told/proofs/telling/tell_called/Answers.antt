@@ -35,5 +35,5 @@ returns-else-is_yes c =
     let rr = c.ranges.page_height in
     let told = simp to_z-of_z at c.entering_current-told.ensures.told in
     let stops = sym c.is_yes.ensures ∙ c.if-is_yes.false in
-    told-on c.tell-2.result f c.args.pieces.now.items c.tell.new.pieces.items c.tell-2.new.pieces.items (Enters c.entering_current-told.result) (Goes Deferred ∷ []) (told_call p l s c.args.page_height f)
-    (enters-not p l s l.deferred r f c.entering_current-told.result (told_column p l s r f) told stops) c.in_ok-tell.ensures c.tell-2.ensures
+    told-on c.tell-else-is_yes.result f c.args.pieces.now.items c.tell.new.pieces.items c.tell-else-is_yes.new.pieces.items (Enters c.entering_current-told.result) (Goes Deferred ∷ []) (told_call p l s c.args.page_height f)
+    (enters-not p l s l.deferred r f c.entering_current-told.result (told_column p l s r f) told stops) c.in_ok-tell.ensures c.tell-else-is_yes.ensures

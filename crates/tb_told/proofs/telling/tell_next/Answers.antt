@@ -39,5 +39,5 @@ returns-else-is_yes c =
     let r = f.height +ℤ text_minimum p l f in
     let told = c.entering_next-told.ensures.told in
     let stops = sym c.is_yes.ensures ∙ c.if-is_yes.false in
-    told-on c.tell-2.result f c.args.pieces.now.items c.tell.new.pieces.items c.tell-2.new.pieces.items (Enters c.entering_next-told.result) (Goes Deferred ∷ []) (told_next p l s before f)
-    (enters-not p l s before r f c.entering_next-told.result (told_areas p l s r f) told stops ∙ asked f.wide _ c.if-f.false) c.in_ok-tell.ensures c.tell-2.ensures
+    told-on c.tell-else-is_yes.result f c.args.pieces.now.items c.tell.new.pieces.items c.tell-else-is_yes.new.pieces.items (Enters c.entering_next-told.result) (Goes Deferred ∷ []) (told_next p l s before f)
+    (enters-not p l s before r f c.entering_next-told.result (told_areas p l s r f) told stops ∙ asked f.wide _ c.if-f.false) c.in_ok-tell.ensures c.tell-else-is_yes.ensures
