@@ -1,8 +1,9 @@
 -- The walks of a firing as they are seen: what is left of a walk over wide pages, or over columns of floats, after some turns.
-use Rattle.std.proofs.Common.{◌≡◌, ℕ, zero, suc, Bool, true, false, List, [], ◌++◌, append-nil, sym, ap, ◌∙◌}
+use Rattle.std.proofs.Common.{◌≡◌, ℕ, zero, suc, Bool, true, false, List, [], ◌++◌, length, append-nil, sym, ap, ◌∙◌}
 use Rattle.tb_param.specs.declared.Params.{Params}
+use Rattle.tb_float.specs.Lists.{wide_waiting}
 use Rattle.tb_told.specs.declared.Piece.{Piece}
-use Rattle.tb_why.specs.Seen.{Seen, wide_told, wide_seen, float_told, float_seen}
+use Rattle.tb_why.specs.Seen.{Seen, wide_told, wide_seen, all_wide_told, all_wide_seen, float_told, float_seen, all_float_told, all_float_seen}
 use Rattle.tb_why.specs.SeenSteps.{IsWideTurn, IsFloatTurn}
 
 -- what was told, with what so many more turns tell, is this; and they lead here
@@ -21,6 +22,11 @@ pub record IsTold (v end : Seen) (now all : List Piece) : Type 0 where
   pub seen : v ≡ end
 
 -- ---- wide pages
+
+-- at the beginning there are as many turns as floats
+pub wide-begin : (p : Params) (clearing : Bool) (n : ℕ) (v : Seen) (now : List Piece) → n ≡ length (wide_waiting p v.floats) →
+    WidesLeft p clearing n v now (now ++ all_wide_told p clearing v) (all_wide_seen p clearing v)
+wide-begin p clearing n v now e = record { told = ap (λ k. now ++ wide_told p clearing k v) e; seen = ap (λ k. wide_seen p clearing k v) e }
 
 -- a page was put out
 pub wide-next : (p : Params) (clearing more : Bool) (n m : ℕ) (v u : Seen) (now new all : List Piece) (end : Seen) → n ≡ suc m → more ≡ true →
@@ -46,6 +52,11 @@ wide-over p clearing zero v now all end over h = record { told = sym (append-nil
 wide-over p clearing (suc n) v now all end over h = cc
 
 -- ---- columns of floats
+
+-- at the beginning there are as many turns as floats
+pub float-begin : (p : Params) (clearing : Bool) (n : ℕ) (v : Seen) (now : List Piece) → n ≡ length v.floats.deferred →
+    FloatsLeft p clearing n v now (now ++ all_float_told p clearing v) (all_float_seen p clearing v)
+float-begin p clearing n v now e = record { told = ap (λ k. now ++ float_told p clearing k v) e; seen = ap (λ k. float_seen p clearing k v) e }
 
 -- a column was put out
 pub float-next : (p : Params) (clearing more : Bool) (n m : ℕ) (v u : Seen) (now new all : List Piece) (end : Seen) → n ≡ suc m → more ≡ true →

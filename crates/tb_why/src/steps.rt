@@ -257,7 +257,7 @@ impl Seen {
         requires extent { IsExtent f.now.height }
         ensures { OnOk result (pieces.new.items ≡ pieces.old.items ++ tales (Tale.Calls (spot_seen self.now) f.now page_height ∷ decisions f.now (told_call p.now self.now.floats self.now.suppress page_height f.now))) }
     {
-        pieces.push(Piece::Says(Tale::Calls(self.spot(), *f, page_height)))?;
+        tell_call(pieces, self.spot(), f, page_height)?;
         tell_called(pieces, &self.pool, p, &self.suppress, page_height, f)
     }
 
@@ -280,6 +280,19 @@ impl Seen {
         );
         Tale::Beside(self.spot(), *m, height, self.note_bottom, placed)
     }
+}
+
+// Appends that a float is called at a text of this height. Fails only if memory runs out.
+fn tell_call(
+    pieces: &mut Vec<Piece>,
+    at: Spot,
+    f: &Float,
+    page_height: i64,
+) -> Result<(), AllocError>
+    ensures { OnOk result (pieces.new.items ≡ pieces.old.items ++ Piece.Says (Tale.Calls at f.now page_height) ∷ []) }
+{
+    pieces.push(Piece::Says(Tale::Calls(at, *f, page_height)))?;
+    Ok(())
 }
 
 // Appends the place of what is sent next. Fails only if memory runs out.
