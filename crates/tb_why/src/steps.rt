@@ -66,8 +66,7 @@ impl Seen {
         if self.over {
             return Ok(());
         }
-        pieces.push(Piece::Says(tale))?;
-        Ok(())
+        tell(pieces, tale)
     }
 
     /// Appends that the floats of these lines stand in the text of the next column. Fails only if memory runs out.
@@ -257,8 +256,15 @@ impl Seen {
         requires extent { IsExtent f.now.height }
         ensures { OnOk result (pieces.new.items ≡ pieces.old.items ++ tales (Tale.Calls (spot_seen self.now) f.now page_height ∷ decisions f.now (told_call p.now self.now.floats self.now.suppress page_height f.now))) }
     {
-        pieces.push(Piece::Says(Tale::Calls(self.spot(), *f, page_height)))?;
+        tell(pieces, self.called(f, page_height))?;
         tell_called(pieces, &self.pool, p, &self.suppress, page_height, f)
+    }
+
+    // That a float is called at a text of this height.
+    fn called(&self, f: &Float, page_height: i64) -> Tale
+        ensures { result ≡ Tale.Calls (spot_seen self.now) f.now page_height }
+    {
+        Tale::Calls(self.spot(), *f, page_height)
     }
 
     /// What is told of a note beside a text of this height.
@@ -280,6 +286,14 @@ impl Seen {
         );
         Tale::Beside(self.spot(), *m, height, self.note_bottom, placed)
     }
+}
+
+// Appends a tale. Fails only if memory runs out.
+fn tell(pieces: &mut Vec<Piece>, tale: Tale) -> Result<(), AllocError>
+    ensures { OnOk result (pieces.new.items ≡ pieces.old.items ++ Piece.Says tale ∷ []) }
+{
+    pieces.push(Piece::Says(tale))?;
+    Ok(())
 }
 
 // Appends the place of what is sent next. Fails only if memory runs out.
