@@ -3,6 +3,7 @@ pub mod PlacementLemmas
 pub mod SeenLemmas
 pub mod WovenLemmas
 pub mod TurnLemmas
+pub mod FiringLemmas
 pub mod PrintablePages
 pub mod AllWords
 pub mod TextLines

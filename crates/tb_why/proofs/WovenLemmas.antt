@@ -97,3 +97,15 @@ module _ (hs : List Happening) (k : ℕ) (old new : List Showing) where
         within = within;
         shown = λ ps. ap (λ xs. xs ++ woven_shown ps (drop (k + 1) hs)) is ∙ append_assoc old (showings.Happens x ∷ []) (woven_shown ps (drop (k + 1) hs)) ∙ ap (λ hs. old ++ woven_shown (NextSent ∷ ps) hs) (sym (drop_more hs k d h));
       }
+
+-- ---- float by float
+
+pub waits-more : (shown next : List Showing) (spot : Spot) (f : Float) (left fs : List Float) (all : List Showing) → left ≡ f ∷ fs → next ≡ shown ++ showings.Tells (Waits spot f) ∷ [] → shown ++ all_waits spot left ≡ all → next ++ all_waits spot fs ≡ all
+waits-more shown next spot f left fs all is put so_far =
+    ap (λ xs. xs ++ all_waits spot fs) put
+    ∙ append_assoc shown (showings.Tells (Waits spot f) ∷ []) (all_waits spot fs)
+    ∙ ap (λ gs. shown ++ all_waits spot gs) (sym is)
+    ∙ so_far
+
+pub waits-last : (shown all : List Showing) (spot : Spot) (left : List Float) → left ≡ [] → shown ++ all_waits spot left ≡ all → shown ≡ all
+waits-last shown all spot left none so_far = sym (append-nil shown) ∙ ap (λ gs. shown ++ all_waits spot gs) (sym none) ∙ so_far
