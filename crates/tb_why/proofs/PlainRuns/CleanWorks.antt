@@ -1,7 +1,7 @@
 -- A firing keeps the nodes and floats of the galley: what it sends and leaves has no name with a line feed, if what it began
 -- with has none.
-use Rattle.std.proofs.Common.{◌≡◌, subst, ℕ, ℤ, pos, ◌+ℤ◌, ◌-ℤ◌, Bool, true, false, List, [], ◌∷◌, ◌++◌, map, drop, Option, Some, None}
-use Rattle.std.specs.Prelude.{◌==◌, int_le, int_lt, not, ◌&&◌, if◌then◌else◌}
+use Rattle.std.proofs.Common.{subst, ℕ, ℤ, ◌+ℤ◌, ◌-ℤ◌, Bool, true, false, List, [], ◌∷◌, ◌++◌, map, Option, Some, None}
+use Rattle.std.specs.Prelude.{◌==◌, int_le, not, ◌&&◌, if◌then◌else◌}
 use Rattle.std.specs.List.{AllByRecursion}
 use Rattle.tb_break.proofs.EachLemmas.{all-join}
 use Rattle.tb_scaled.specs.declared.Glue.{Glue}
@@ -56,9 +56,9 @@ CleanEntry (entries.Right m) = Unit {0}
 abbrev pub CleanEntries : List Entry → Type 0
 CleanEntries es = AllByRecursion CleanEntry es
 
--- the floats in the text are there as boxes, and their list is not shown
+-- the floats of each list
 abbrev pub CleanLists : FloatLists → Type 0
-CleanLists l = CleanEntries l.current × CleanFloats l.top × CleanFloats l.bottom × CleanFloats l.deferred × CleanFloats l.double × CleanFloats l.second
+CleanLists l = CleanEntries l.current × CleanFloats l.top × CleanFloats l.bottom × CleanFloats l.deferred × CleanFloats l.double × CleanFloats l.second × CleanFloats l.here
 
 abbrev pub CleanLeft : Option PlainColumn → Type 0
 CleanLeft None = Unit {0}
@@ -69,30 +69,30 @@ CleanState s = CleanNodes s.waiting × CleanBoxes s.boxes × CleanNodes s.held_p
 
 -- ---- lists of floats
 
-floats-join : (xs ys : List Float) → CleanFloats xs → CleanFloats ys → CleanFloats (xs ++ ys)
+pub floats-join : (xs ys : List Float) → CleanFloats xs → CleanFloats ys → CleanFloats (xs ++ ys)
 floats-join xs ys h k = all-join IsPlainFloat xs ys h k
 
 joined : (place : Where) (f : Float) (l : FloatLists) → IsPlainFloat f → CleanLists l → CleanLists (joined_to place f l)
-joined places.Here f l h k = k
-joined places.Top f l h k = (k.0, floats-join l.top (f ∷ []) k.1 (h, tt), k.2, k.3, k.4, k.5)
-joined places.Bottom f l h k = (k.0, k.1, floats-join l.bottom (f ∷ []) k.2 (h, tt), k.3, k.4, k.5)
+joined places.Here f l h k = (k.0, k.1, k.2, k.3, k.4, k.5, floats-join l.here (f ∷ []) k.6 (h, tt))
+joined places.Top f l h k = (k.0, floats-join l.top (f ∷ []) k.1 (h, tt), k.2, k.3, k.4, k.5, k.6)
+joined places.Bottom f l h k = (k.0, k.1, floats-join l.bottom (f ∷ []) k.2 (h, tt), k.3, k.4, k.5, k.6)
 joined places.Page f l h k = k
-joined places.Double f l h k = (k.0, k.1, k.2, k.3, floats-join l.double (f ∷ []) k.4 (h, tt), k.5)
-joined places.Deferred f l h k = (k.0, k.1, k.2, floats-join l.deferred (f ∷ []) k.3 (h, tt), k.4, k.5)
+joined places.Double f l h k = (k.0, k.1, k.2, k.3, floats-join l.double (f ∷ []) k.4 (h, tt), k.5, k.6)
+joined places.Deferred f l h k = (k.0, k.1, k.2, floats-join l.deferred (f ∷ []) k.3 (h, tt), k.4, k.5, k.6)
 
-waiting : (p : Params) (l : FloatLists) → CleanLists l → CleanFloats (wide_waiting p l)
+pub waiting : (p : Params) (l : FloatLists) → CleanLists l → CleanFloats (wide_waiting p l)
 waiting p l h = by_release (has_second p)
   where
     by_release : (t : Bool) → CleanFloats (floats_of (if t then parts.Second else parts.Deferred) l)
     by_release true = h.5
     by_release false = h.3
 
-with-waiting : (p : Params) (fs : List Float) (l : FloatLists) → CleanFloats fs → CleanLists l → CleanLists (with_wide_waiting p fs l)
+pub with-waiting : (p : Params) (fs : List Float) (l : FloatLists) → CleanFloats fs → CleanLists l → CleanLists (with_wide_waiting p fs l)
 with-waiting p fs l g h = by_release (has_second p)
   where
     by_release : (t : Bool) → CleanLists (with_floats_of (if t then parts.Second else parts.Deferred) fs l)
-    by_release true = (h.0, h.1, h.2, h.3, h.4, g)
-    by_release false = (h.0, h.1, h.2, g, h.4, h.5)
+    by_release true = (h.0, h.1, h.2, h.3, h.4, g, h.6)
+    by_release false = (h.0, h.1, h.2, g, h.4, h.5, h.6)
 
 -- ---- the insertions of a page
 
@@ -126,17 +126,17 @@ module _ (p : Params) where
   abbrev pub CleanWork : Work → Type 0
   CleanWork w = CleanState w.state × CleanNodes w.put_back × AllByRecursion CleanSent w.sent
 
-  abbrev CleanHand : Hand → Type 0
+  abbrev pub CleanHand : Hand → Type 0
   CleanHand nothing = Unit {0}
   CleanHand (of_text body) = CleanNodes body
   CleanHand (of_column c) = CleanNodes c.nodes
   CleanHand (of_float f) = IsPlainFloat f
   CleanHand (of_note m at) = CleanNote m
 
-  abbrev Clean : Hand → Work → Type 0
+  abbrev pub Clean : Hand → Work → Type 0
   Clean h w = CleanHand h × CleanWork w
 
-  work-if : (t : Bool) (a b : Work) → CleanWork a → CleanWork b → CleanWork (if t then a else b)
+  pub work-if : (t : Bool) (a b : Work) → CleanWork a → CleanWork b → CleanWork (if t then a else b)
   work-if true a b h k = h
   work-if false a b h k = k
 
@@ -146,15 +146,15 @@ module _ (p : Params) where
   sends-more : (e : PlainSent) (w : Work) → CleanSent e → CleanWork w → CleanWork (sends e w)
   sends-more e w h k = by-sends CleanWork e w k (k.0, k.1, all-join CleanSent w.sent (e ∷ []) k.2 (h, tt))
 
-  records-more : (r : Recorded) (w : Work) → CleanWork w → CleanWork (records_also r w)
+  pub records-more : (r : Recorded) (w : Work) → CleanWork w → CleanWork (records_also r w)
   records-more r w k = by-records CleanWork r w k k
 
-  has-floats : (l : FloatLists) (w : Work) → CleanLists l → CleanWork w → CleanWork (with_floats l w)
+  pub has-floats : (l : FloatLists) (w : Work) → CleanLists l → CleanWork w → CleanWork (with_floats l w)
   has-floats l w h k = ((k.0.0, k.0.1, k.0.2, h, k.0.4), k.1, k.2)
 
   -- ---- floats
 
-  goes-to : (place : Where) (f : Float) (l : FloatLists) (w : Work) → IsPlainFloat f → CleanLists l → CleanWork w → CleanWork (place_float p place f l w)
+  pub goes-to : (place : Where) (f : Float) (l : FloatLists) (w : Work) → IsPlainFloat f → CleanLists l → CleanWork w → CleanWork (place_float p place f l w)
   goes-to place f l w h k g =
       has-floats (joined_to place f l) (if is_placed place then records_also (placed f place w.state.floats (column_height_of p w.state.floats)) w else w) (joined place f l h k)
       (work-if (is_placed place) (records_also (placed f place w.state.floats (column_height_of p w.state.floats)) w) w (records-more _ w g) g)
@@ -165,15 +165,27 @@ module _ (p : Params) where
 
   -- ---- pages
 
-  ships : (sheet : PlainSheet) (w : Work) → CleanSheet sheet → CleanWork w → CleanWork (ship p sheet w)
+  pub ships : (sheet : PlainSheet) (w : Work) → CleanSheet sheet → CleanWork w → CleanWork (ship p sheet w)
   ships sheet w h k = by-ship CleanWork p sheet w (λ r. k) (λ r. k) (λ r e. (k.0, k.1, all-join CleanSent w.sent (shipped w.state.page sheet ∷ []) k.2 (h, tt)))
 
-  left-column : (c : PlainColumn) (o : Option PlainColumn) → CleanNodes c.nodes → CleanLeft o → CleanNodes (left_or c o).nodes
+  pub left-column : (c : PlainColumn) (o : Option PlainColumn) → CleanNodes c.nodes → CleanLeft o → CleanNodes (left_or c o).nodes
   left-column c None h k = h
   left-column c (Some d) h k = k
 
-  without-double : (w : Work) → CleanWork w → CleanWork (without_double w)
-  without-double w k = ((k.0.0, k.0.1, k.0.2, (k.0.3.0, k.0.3.1, k.0.3.2, k.0.3.3, tt, k.0.3.5), tt), k.1, k.2)
+  pub without-double : (w : Work) → CleanWork w → CleanWork (without_double w)
+  without-double w k = ((k.0.0, k.0.1, k.0.2, (k.0.3.0, k.0.3.1, k.0.3.2, k.0.3.3, tt, k.0.3.5, k.0.3.6), tt), k.1, k.2)
+
+  -- the page of two columns
+  pub pair-ships : (c : PlainColumn) (w : Work) → CleanNodes c.nodes → CleanWork w → CleanWork (without_double (ship p (pair_sheet p w.state.floats (left_or c w.state.left_column) c) w))
+  pair-ships c w h k =
+      let sheet = pair_sheet p w.state.floats (left_or c w.state.left_column) c in
+      without-double (ship p sheet w) (ships sheet w (pair-clean p w.state.floats k.0.3.4, left-column c w.state.left_column h k.0.4, h) k)
+
+  -- the floats above both columns wait again
+  pub wide-again : (w : Work) → CleanWork w → CleanWork (with_floats (double_again p w.state.floats) w)
+  wide-again w k =
+      let l = k.0.3 in
+      has-floats (double_again p w.state.floats) w (with-waiting p (w.state.floats.double ++ wide_waiting p w.state.floats) (record w.state.floats { double = [] }) (floats-join w.state.floats.double (wide_waiting p w.state.floats) l.4 (waiting p w.state.floats l)) (l.0, l.1, l.2, l.3, tt, l.5, l.6)) k
 
   -- ---- what goes back
 
@@ -198,17 +210,15 @@ module _ (p : Params) where
 
   -- ---- each move
 
-  column-clean : {h : Hand} {a : Work} {i : Hand} {b : Work} → ColumnMove p h a i b → Clean h a → Clean i b
+  pub column-clean : {h : Hand} {a : Work} {i : Hand} {b : Work} → ColumnMove p h a i b → Clean h a → Clean i b
   column-clean (takes_company clearing cs w e) k =
       let c = company-all IsPlainFloat (single_wanted p w.state.floats clearing) w.state.floats.deferred cs e k.1.0.3.3 in
       let l = k.1.0.3 in
-      (floats-column (column_height_of p w.state.floats) p.fptop p.fpsep p.fpbot (chosen_floats cs) c.0, has-floats (record w.state.floats { deferred = left_floats cs }) w (l.0, l.1, l.2, c.1, l.4, l.5) k.1)
+      (floats-column (column_height_of p w.state.floats) p.fptop p.fpsep p.fpbot (chosen_floats cs) c.0, has-floats (record w.state.floats { deferred = left_floats cs }) w (l.0, l.1, l.2, c.1, l.4, l.5, l.6) k.1)
   column-clean (records_column c w) k = (k.0, records-more (output c) w k.1)
   column-clean (ships_column c w t) k = (tt, ships (one c) w k.0 k.1)
   column-clean (keeps_left c w t f) k = (tt, ((k.1.0.0, k.1.0.1, k.1.0.2, k.1.0.3, k.0), k.1.1, k.1.2))
-  column-clean (ships_pair c w t f) k =
-      let sheet = pair_sheet p w.state.floats (left_or c w.state.left_column) c in
-      (tt, without-double (ship p sheet w) (ships sheet w (pair-clean p w.state.floats k.1.0.3.4, left-column c w.state.left_column k.0 k.1.0.4, k.0) k.1))
+  column-clean (ships_pair c w t f) k = (tt, pair-ships c w k.0 k.1)
   column-clean (ends_column w) k = k
   column-clean (ships_wide clearing cs w e) k =
       let c = company-all IsPlainFloat (wide_wanted p clearing) (wide_waiting p w.state.floats) cs e (waiting p w.state.floats k.1.0.3) in
@@ -218,23 +228,21 @@ module _ (p : Params) where
       let g = taken-out before f rest (subst CleanFloats e (waiting p w.state.floats k.1.0.3)) in
       (tt, goes-to places.Double f (with_wide_waiting p (before ++ rest) w.state.floats) w g.0 (with-waiting p (before ++ rest) w.state.floats g.1 k.1.0.3) k.1)
 
-  page-clean : {h : Hand} {a : Work} {i : Hand} {b : Work} → PageMove p h a i b → Clean h a → Clean i b
+  pub page-clean : {h : Hand} {a : Work} {i : Hand} {b : Work} → PageMove p h a i b → Clean h a → Clean i b
   page-clean (by_column m) k = column-clean m k
   page-clean (by_fill (places_next a f before rest w c e i)) k =
       let l = k.1.0.3 in
       let g = taken-out before f rest (subst CleanFloats e l.3) in
-      (tt, goes-to (where_of a) f (record w.state.floats { deferred = before ++ rest }) w g.0 (l.0, l.1, l.2, g.1, l.4, l.5) k.1)
+      (tt, goes-to (where_of a) f (record w.state.floats { deferred = before ++ rest }) w g.0 (l.0, l.1, l.2, g.1, l.4, l.5, l.6) k.1)
   page-clean (takes_text body w) k =
       let s = k.1.0 in
-      (text-clean p w.state.floats body (footnotes w.state) s.3.1 s.3.2 k.0 (notes-of w.state.classes w.state.boxes s.1), ((s.0, emptied w.state.boxes, s.2, (s.3.0, tt, tt, s.3.3, s.3.4, s.3.5), s.4), k.1.1, k.1.2))
+      (text-clean p w.state.floats body (footnotes w.state) s.3.1 s.3.2 k.0 (notes-of w.state.classes w.state.boxes s.1), ((s.0, emptied w.state.boxes, s.2, (s.3.0, tt, tt, s.3.3, s.3.4, s.3.5, tt), s.4), k.1.1, k.1.2))
   page-clean (fills_text body w) k = (nodes-join body (made (skip filling_glue) ∷ []) k.0 (tt, tt), k.1)
   page-clean (keeps_front body w) k = (tt, puts-more (cleared_front p body) w (nodes-take _ body k.0) k.1)
   page-clean (gathers w) k =
       let l = k.1.0.3 in
-      (tt, has-floats (deferred_again w.state.floats) w (l.0, tt, tt, floats-join (w.state.floats.top ++ w.state.floats.bottom) w.state.floats.deferred (floats-join w.state.floats.top w.state.floats.bottom l.1 l.2) l.3, l.4, l.5) k.1)
-  page-clean (gathers_wide w t f) k =
-      let l = k.1.0.3 in
-      (tt, has-floats (double_again p w.state.floats) w (with-waiting p (w.state.floats.double ++ wide_waiting p w.state.floats) (record w.state.floats { double = [] }) (floats-join w.state.floats.double (wide_waiting p w.state.floats) l.4 (waiting p w.state.floats l)) (l.0, l.1, l.2, l.3, tt, l.5)) k.1)
+      (tt, has-floats (deferred_again w.state.floats) w (l.0, tt, tt, floats-join (w.state.floats.top ++ w.state.floats.bottom) w.state.floats.deferred (floats-join w.state.floats.top w.state.floats.bottom l.1 l.2) l.3, l.4, l.5, l.6) k.1)
+  page-clean (gathers_wide w t f) k = (tt, wide-again w k.1)
   page-clean (leaves_second w t f) k = (tt, puts-more (made blank_box ∷ clear_again) w (tt, clear-nodes) k.1)
   page-clean (clears_again w) k = (tt, puts-more clear_again w clear-nodes k.1)
 
@@ -275,13 +283,13 @@ module _ (p : Params) where
   first : (vert : Bool) (height depth page_height : ℤ) (es : List Entry) (w : Work) → CleanEntries es → CleanWork w → CleanWork (first_goes p vert height depth page_height es w)
   first vert height depth page_height (entries.Float f ∷ es) w h k =
       let l = k.0.3 in
-      float-goes vert f (record w.state.floats { current = es }) w (current_place p w.state.floats w.state.suppress page_height f) h.0 (h.1, l.1, l.2, l.3, l.4, l.5) k
+      float-goes vert f (record w.state.floats { current = es }) w (current_place p w.state.floats w.state.suppress page_height f) h.0 (h.1, l.1, l.2, l.3, l.4, l.5, l.6) k
   first vert height depth page_height (entries.Left m ∷ []) w h k =
       let l = k.0.3 in
-      note-goes depth m (record w.state.floats { current = [] }) w (placed_note p w.state.page w.state.two_columns w.state.first_column height w.state.note_bottom m) h.0 (tt, l.1, l.2, l.3, l.4, l.5) k
+      note-goes depth m (record w.state.floats { current = [] }) w (placed_note p w.state.page w.state.two_columns w.state.first_column height w.state.note_bottom m) h.0 (tt, l.1, l.2, l.3, l.4, l.5, l.6) k
   first vert height depth page_height (entries.Left m ∷ e ∷ es) w h k =
       let l = k.0.3 in
-      note-goes depth m (record w.state.floats { current = es }) w (placed_note p w.state.page w.state.two_columns w.state.first_column height w.state.note_bottom m) h.0 (h.1.1, l.1, l.2, l.3, l.4, l.5) k
+      note-goes depth m (record w.state.floats { current = es }) w (placed_note p w.state.page w.state.two_columns w.state.first_column height w.state.note_bottom m) h.0 (h.1.1, l.1, l.2, l.3, l.4, l.5, l.6) k
   first vert height depth page_height (entries.Right m ∷ es) w h k = interline w k
   first vert height depth page_height [] w h k = interline w k
 
