@@ -11,7 +11,9 @@ mod steps;
 mod telling;
 mod turns;
 
-pub use crate::byte_law::{without_told_lines_the_events_are_left, without_told_lines_the_trace_is_left};
+pub use crate::byte_law::{
+    without_told_lines_the_events_are_left, without_told_lines_the_trace_is_left,
+};
 pub use crate::laws::{floats_go_where_told, what_is_told_changes_nothing};
 pub use crate::shown::{Showing, note_shown, put_shown};
 pub use crate::telling::tell_firing;

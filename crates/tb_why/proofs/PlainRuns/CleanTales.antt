@@ -120,17 +120,19 @@ module _ (p : Params) (l : FloatLists) (s : Suppress) (k : CleanLists l) where
   areas-told : (r : ℤ) (f : Float) → AreTold (told_areas p l s r f)
   areas-told r f =
       let above = r +ℤ next_separator p l.top in
-      let low = if tries_top p l s f then above else r in
-      (either-plain (first_of_class f.class l.here) (first_of_class f.class l.bottom) (first-plain f.class l.here k.6) (first-plain f.class l.bottom k.2),
-      told-if (all_hold (top_tests p l s above f)) (Goes (where_of at_top) ∷ []) (told_bottom p l s low f) (tt, tt) (bottom-told low f))
+      let low = if tries_top p l s f then above else r in (
+        either-plain (first_of_class f.class l.here) (first_of_class f.class l.bottom) (first-plain f.class l.here k.6) (first-plain f.class l.bottom k.2),
+        told-if (all_hold (top_tests p l s above f)) (Goes (where_of at_top) ∷ []) (told_bottom p l s low f) (tt, tt) (bottom-told low f),
+      )
 
   column-told : (r : ℤ) (f : Float) → AreTold (told_column p l s r f)
   column-told r f =
       let inside = r +ℤ p.intextsep.width in
-      let to = if f.places.h then inside else r in
-      (first-plain f.class l.bottom k.2,
-      told-if (all_hold (here_tests p l inside f)) (Goes places.Here ∷ []) (if has_class f.class l.bottom then told_bottom p l s r f else told_areas p l s to f) (tt, tt)
-      (told-if (has_class f.class l.bottom) (told_bottom p l s r f) (told_areas p l s to f) (bottom-told r f) (areas-told to f)))
+      let to = if f.places.h then inside else r in (
+        first-plain f.class l.bottom k.2,
+        told-if (all_hold (here_tests p l inside f)) (Goes places.Here ∷ []) (if has_class f.class l.bottom then told_bottom p l s r f else told_areas p l s to f) (tt, tt)
+            (told-if (has_class f.class l.bottom) (told_bottom p l s r f) (told_areas p l s to f) (bottom-told r f) (areas-told to f)),
+      )
 
   call-told : (h : ℤ) (f : Float) → AreTold (told_call p l s h f)
   call-told h f =

@@ -301,8 +301,8 @@ module _ (p : Params) where
       let depth = last_depth shapes in
       let height = size_of shapes -ℤ depth in
       let back = puts-more (ns ++ notes_nodes p (footnotes w.state)) (record w { state = record w.state { held_page = []; boxes = emptied_boxes w.state.boxes } })
-          (nodes-join ns (notes_nodes p (footnotes w.state)) (nodes-join w.state.held_page (without_firing_box body) s.2 (nodes-take _ body h)) (notes-back (footnotes w.state) (notes-of w.state.classes w.state.boxes s.1)))
-          ((s.0, emptied w.state.boxes, tt, s.3, s.4), k.1, k.2) in
+      (nodes-join ns (notes_nodes p (footnotes w.state)) (nodes-join w.state.held_page (without_firing_box body) s.2 (nodes-take _ body h)) (notes-back (footnotes w.state) (notes-of w.state.classes w.state.boxes s.1)))
+      ((s.0, emptied w.state.boxes, tt, s.3, s.4), k.1, k.2) in
       first vert height depth (height +ℤ depth +ℤ notes_height (footnotes w.state)) w.state.floats.current (list_back p ns w) s.3.0 back
 
   -- ---- the firing
