@@ -137,9 +137,9 @@ champion-plain false = refl
 try-kept : (t : Try) → Kept (try_line t)
 try-kept t =
     let text =
-        codes "try" ++ and_count t.line ++ codes " t" ++ and_number t.sums.total ++ codes " s" ++ and_numbers t.sums.stretch ++ codes " z" ++ and_number t.sums.shrink
-        ++ codes " g" ++ and_number t.goal ++ codes " b" ++ and_cost t.badness ++ codes " p" ++ and_number t.penalty ++ codes " c" ++ and_cost t.cost
-        ++ champion_text t.champion in
+    codes "try" ++ and_count t.line ++ codes " t" ++ and_number t.sums.total ++ codes " s" ++ and_numbers t.sums.stretch ++ codes " z" ++ and_number t.sums.shrink
+    ++ codes " g" ++ and_number t.goal ++ codes " b" ++ and_cost t.badness ++ codes " p" ++ and_number t.penalty ++ codes " c" ++ and_cost t.cost
+    ++ champion_text t.champion in
     line-kept text (simp (list_all-append, count-plain, number-plain, numbers-plain, cost-plain, champion-plain) refl) refl
 
 -- the lines of an event are kept

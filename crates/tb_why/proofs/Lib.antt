@@ -11,5 +11,7 @@ pub mod EventLines
 pub mod TaleLines
 pub mod StoryTexts
 pub mod ShownTexts
+pub mod PlainRuns
+pub mod TraceLeft
 pub mod Rows
 pub mod LeavingLemmas

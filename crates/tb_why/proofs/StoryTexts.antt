@@ -105,8 +105,8 @@ story-left s g =
     let l = landed-plain s.landed (where_text s.place) (where-plain s.place) in
     let b = because-plain (at_end s).groups (at_end s).group e.2 e.3 in
     line-left (
-        codes "why" ++ and_text s.float.name ++ and_count s.float.line ++ codes " called" ++ and_count s.called ++ landed_text s.landed (where_text s.place)
-        ++ reasons_text (at_end s))
+    codes "why" ++ and_text s.float.name ++ and_count s.float.line ++ codes " called" ++ and_count s.called ++ landed_text s.landed (where_text s.place)
+    ++ reasons_text (at_end s))
     (plain-join (codes "why" ++ and_text s.float.name ++ and_count s.float.line ++ codes " called" ++ and_count s.called ++ landed_text s.landed (where_text s.place)) (reasons_text (at_end s))
     (plain-join (codes "why" ++ and_text s.float.name ++ and_count s.float.line ++ codes " called" ++ and_count s.called) (landed_text s.landed (where_text s.place)) (simp (list_all-append, n, count-plain) refl) l) b) refl
 
