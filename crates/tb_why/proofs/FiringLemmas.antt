@@ -1,8 +1,9 @@
 -- What is told of a firing by what is read of its page, of the machine before it.
 use Rattle.std.proofs.Common.{◌≡◌, refl, sym, ◌∙◌, ap, ℕ, ℤ, ◌+ℤ◌, ◌-ℤ◌, pos, Bool, true, false, List, [], ◌∷◌, ◌++◌, map, arith}
-use Rattle.std.specs.Prelude.{int_lt, not, if◌then◌else◌}
+use Rattle.std.specs.Prelude.{int_lt, if◌then◌else◌}
 use Rattle.std.proofs.lemmas.Int.{ints}
 use Rattle.std.proofs.lemmas.Bool.{true≢false}
+use Rattle.tb_scaled.specs.Amount.{IsAmount}
 use Rattle.tb_node.specs.PlainNodes.{PlainNode, node_shape, plain_list}
 use Rattle.tb_node.specs.Sums.{size_of, last_depth}
 use Rattle.tb_param.specs.declared.Params.{Params}
@@ -13,6 +14,7 @@ use Rattle.tb_output.specs.declared.reading.Reading.{Reading as PageReading}
 use Rattle.tb_output.specs.State.{State, begun, footnotes}
 use Rattle.tb_output.specs.Text.{without_firing_box, notes_height}
 use Rattle.tb_output.specs.Output.{after_page}
+use Rattle.tb_output.specs.Firing.{IsReach}
 use Rattle.tb_output.specs.Reading.{any_notes, IsPageReading}
 use Rattle.tb_run.specs.declared.routine.Routine.{Routine}
 use Rattle.tb_run.specs.Routine.{state_of}
@@ -34,10 +36,9 @@ notes-are (n ∷ ns) = refl
 height-is : (size depth notes : ℤ) → size +ℤ notes ≡ (size -ℤ depth) +ℤ depth +ℤ notes
 height-is size depth notes = omega (arith, ints)
 
-not-false : (t u : Bool) → t ≡ u → not u ≡ false → t ≡ true
-not-false true u is no = refl
-not-false false true is no = is
-not-false false false is no = absurd (true≢false no)
+-- how far down notes reach is an amount
+pub reach-amount : (z : ℤ) → IsReach z → IsAmount z
+reach-amount z h = let l = h.low in let u = h.high in record { low = omega (arith, ints, l); high = omega (arith, ints, u) }
 
 told-then : (t : Bool) (ps : List Piece) → t ≡ true → ps ≡ (if t then ps else [])
 told-then true ps is = refl
@@ -70,7 +71,7 @@ module _ (r : Routine) (page : Page) (own : PageReading) (read : IsPageReading o
   }
 
 pub pieces-told : (r : Routine) (page : Page) (p : Params) (z : Reading) (own : PageReading) (here : List ℕ) (v : Seen) (old new : List Piece) {may : Bool} →
-    int_lt (pos r.machine.dead_cycles) r.machine.params.maxdeadcycles ≡ may → not may ≡ false →
+    int_lt (pos r.machine.dead_cycles) r.machine.params.maxdeadcycles ≡ may → may ≡ true →
     p ≡ r.machine.params → z ≡ read_at page.penalty own → IsPageReading own r.machine r.builder r.store page → here ≡ here_lines (plain_list r.store page.body) → v ≡ seen_in r.machine →
     old ≡ [] → new ≡ old ++ seen_pieces p (reading_with z here) v → new ≡ pieces_in r page
 pieces-told r page p z own here v old new {may} test allowed p-is z-is read here-is v-is empty told =
@@ -80,4 +81,4 @@ pieces-told r page p z own here v old new {may} test allowed p-is z-is read here
     ∙ (λ i. empty i ++ seen_pieces (p-is i) (reading_with (z-is i) here) (v-is i))
     ∙ ap (λ x. seen_pieces r.machine.params x (seen_in r.machine)) (reading-is r page own read here here-is)
     ∙ sym (seen-firing r.machine.params s f)
-    ∙ told-then (int_lt (pos r.machine.dead_cycles) r.machine.params.maxdeadcycles) _ (not-false _ may test allowed)
+    ∙ told-then (int_lt (pos r.machine.dead_cycles) r.machine.params.maxdeadcycles) _ (test ∙ allowed)

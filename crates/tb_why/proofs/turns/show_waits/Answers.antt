@@ -18,7 +18,8 @@ loop-entry-init c =
       way = (
         fs,
         c.into_iter-entry-iterator.ensures.into_iter_gives ∙ c.entries_from-entry-items.ensures ∙ ap (λ (p : FloatPool). drop c.args.from (entries_of parts.Second p.lists)) c.pool.ensures ∙ drop-map _ c.args.from c.args.machine.now.pool.lists.second,
-        ap (λ s. c.args.shown.now.items ++ all_waits s fs) c.spot-spot.ensures);
+        ap (λ s. c.args.shown.now.items ++ all_waits s fs) c.spot-spot.ensures,
+      );
     }
 
 pub float-requires : goal.float-requires
