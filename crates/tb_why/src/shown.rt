@@ -96,11 +96,7 @@ pub fn put_shown(
     Ok(())
 }
 
-fn put_showing(
-    out: &mut Vec<u8>,
-    store: &Lists<Node>,
-    showing: &Showing,
-) -> Result<(), AllocError>
+fn put_showing(out: &mut Vec<u8>, store: &Lists<Node>, showing: &Showing) -> Result<(), AllocError>
     requires { IsShownPage store.now showing.now }
     ensures { OnOk result (out.new.items ≡ out.old.items ++ shown_lines (shown_part store.now showing.now)) }
 {
