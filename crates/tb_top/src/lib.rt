@@ -35,8 +35,8 @@ pub use tb_laws::{
 };
 pub use tb_makeup::first_unsuited;
 pub use tb_report::Totals;
-pub use top::run;
 pub use told_pages::why_pages;
+pub use top::run;
 
 /// What `paginate` and `paginate_plain` write of a run: its report, with the places that were tried or without, or nothing.
 #[derive(Clone, Copy, Debug, PartialEq, Eq)]
