@@ -3,3 +3,4 @@ pub mod PlacementLemmas
 pub mod AllWords
 pub mod Rows
 pub mod LeavingLemmas
+pub mod TellingLemmas
