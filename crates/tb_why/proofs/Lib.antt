@@ -15,3 +15,4 @@ pub mod PlainRuns
 pub mod TraceLeft
 pub mod Rows
 pub mod LeavingLemmas
+pub mod TellingLemmas

@@ -1,10 +1,12 @@
 -- The walks of a firing as they are seen: what is left of a walk over wide pages, or over columns of floats, after some turns.
-use Rattle.std.proofs.Common.{◌≡◌, ℕ, zero, suc, Bool, true, false, List, [], ◌++◌, length, append-nil, sym, ap, ◌∙◌}
+use Rattle.std.proofs.Common.{◌≡◌, ℕ, zero, suc, Bool, true, false, List, [], ◌++◌, length, append-nil, append_assoc, sym, ap, ◌∙◌, Result, Ok, Err, OnOk}
 use Rattle.tb_param.specs.declared.Params.{Params}
+use Rattle.tb_float.specs.declared.Part.TheVariants as parts
 use Rattle.tb_float.specs.Lists.{wide_waiting}
+use Rattle.tb_output.specs.Columns.{single_wanted}
 use Rattle.tb_told.specs.declared.Piece.{Piece}
-use Rattle.tb_why.specs.Seen.{Seen, wide_told, wide_seen, all_wide_told, all_wide_seen, float_told, float_seen, all_float_told, all_float_seen}
-use Rattle.tb_why.specs.SeenSteps.{IsWideTurn, IsFloatTurn}
+use Rattle.tb_why.specs.Seen.{Seen, wide_told, wide_seen, all_wide_told, all_wide_seen, float_told, float_seen, all_float_told, all_float_seen, column_looked_told, put_out_told, put_out_seen, float_told_by, float_seen_by}
+use Rattle.tb_why.specs.SeenSteps.{TakesCompany, IsWideTurn, IsFloatTurn}
 
 -- what was told, with what so many more turns tell, is this; and they lead here
 pub record WidesLeft (p : Params) (clearing : Bool) (n : ℕ) (v : Seen) (now all : List Piece) (end : Seen) : Type 0 where
@@ -80,3 +82,28 @@ float-stop p clearing false n m v u now new all end one is t h = record {
 pub float-over : (p : Params) (clearing : Bool) (n : ℕ) (v : Seen) (now all : List Piece) (end : Seen) → n ≡ 0 → FloatsLeft p clearing n v now all end → IsTold v end now all
 float-over p clearing zero v now all end over h = record { told = sym (append-nil now) ∙ h.told; seen = h.seen }
 float-over p clearing (suc n) v now all end over h = cc
+
+-- a column of floats was looked for, and put out
+pub float-put : (p : Params) (clearing : Bool) (v u w : Seen) (old mid new : List Piece) → TakesCompany (single_wanted p v.floats clearing) parts.Deferred v u →
+    mid ≡ old ++ column_looked_told p clearing v → new ≡ mid ++ put_out_told p u → w ≡ put_out_seen p u → IsFloatTurn p clearing true v w old new
+float-put p clearing v u w old mid new t first second led =
+    let looked = column_looked_told p clearing v in
+    record {
+      told = λ n.
+          ap (λ x. x ++ float_told p clearing n w) (second ∙ ap (λ m. m ++ put_out_told p u) first)
+          ∙ append_assoc (old ++ looked) (put_out_told p u) (float_told p clearing n w)
+          ∙ append_assoc old looked (put_out_told p u ++ float_told p clearing n w)
+          ∙ ap (λ (x : Seen). old ++ (looked ++ (put_out_told p u ++ float_told p clearing n x))) led
+          ∙ ap (λ (x : Seen). old ++ (looked ++ (put_out_told p x ++ float_told p clearing n (put_out_seen p x)))) t.seen
+          ∙ ap (λ c. old ++ (looked ++ float_told_by (λ x. float_told p clearing n x) p v c)) (sym t.found);
+      seen = λ n.
+          ap (λ (x : Seen). float_seen p clearing n x) led ∙ ap (λ (x : Seen). float_seen p clearing n (put_out_seen p x)) t.seen
+          ∙ ap (λ c. float_seen_by (λ x. float_seen p clearing n x) p v c) (sym t.found);
+    }
+
+-- ---- steps in turn
+
+-- one thing is told after another, unless memory runs out
+pub told-after : {T E : Type 0} (r : Result T E) (old mid new a b : List Piece) → mid ≡ old ++ a → OnOk r (new ≡ mid ++ b) → OnOk r (new ≡ old ++ (a ++ b))
+told-after (Ok x) old mid new a b first h = h ∙ ap (λ m. m ++ b) first ∙ append_assoc old a b
+told-after (Err e) old mid new a b first h = tt

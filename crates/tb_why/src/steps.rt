@@ -13,10 +13,10 @@ ghost use Rattle.tb_told.specs.Tales.{tales, decisions, column_tales, back_tales
 ghost use Rattle.tb_why.specs.Seen.{spot_seen, told_unless, with_lists, fill_told, fill_seen, fill_double_told, fill_double_seen, is_last, ship_told, ship_seen, without_double_seen, after_column_seen, without_column_seen, note_seen};
 ghost use Rattle.tb_why.specs.SeenSteps.{TakesCompany, TakesNone};
 
+use crate::Seen;
 use crate::lists::{
     defer_areas, defer_double, empty, empty_column, single_wanted, tell_back, wide_part,
 };
-use crate::Seen;
 use std::alloc::AllocError;
 use tb_area::{fill_column, fill_double};
 use tb_float::{Entry, Part, Suppress};
@@ -24,7 +24,9 @@ use tb_fpage::Wanted;
 use tb_margin::place_note;
 use tb_node::{Float, Margin, Where};
 use tb_param::{Params, exceeds};
-use tb_told::{Piece, Spot, Tale, take_company, tell_called, tell_column, tell_doubled, tell_filled};
+use tb_told::{
+    Piece, Spot, Tale, take_company, tell_called, tell_column, tell_doubled, tell_filled,
+};
 
 // Nothing is kept out of the areas of floats.
 const NO_SUPPRESS: Suppress = Suppress {
