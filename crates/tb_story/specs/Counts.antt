@@ -1,5 +1,5 @@
 -- What holds of the stories at any time: those at the front are over, and no count is past twice the sheets.
-use Rattle.std.specs.Prelude.{◌≡◌, ◌≤◌, ℕ, zero, suc, ◌+◌, Bool, false, List, [], ◌∷◌, Option, Some, None, if◌then◌else◌}
+use Rattle.std.specs.Prelude.{◌≡◌, ◌≤◌, ℕ, zero, suc, ◌+◌, false, List, [], ◌∷◌, Option, Some, None}
 use Rattle.std.specs.List.{AllByRecursion}
 use Rattle.tb_story.specs.declared.Group.{Group}
 use Rattle.tb_story.specs.Story.{StoryView, is_open}
@@ -24,6 +24,10 @@ pub record IsCounted (sheets : ℕ) (s : StoryView) : Type 0 where
 pub record IsSound (n sheets : ℕ) (ss : List StoryView) : Type 0 where
   pub over : AreOver n ss
   pub counted : AllByRecursion (IsCounted sheets) ss
+
+-- what held of the stories holds of the changed ones, after any number of sheets
+abbrev pub StaysSound : ℕ → List StoryView → List StoryView → Type 0
+StaysSound n old new = (sheets : ℕ) → IsSound n sheets old → IsSound n sheets new
 
 -- the first so many stories are changed
 abbrev pub changed_front : (StoryView → StoryView) → ℕ → List StoryView → List StoryView

@@ -17,9 +17,9 @@ mod refusal;
 mod rows;
 mod status;
 mod summary;
+mod told_pages;
 mod top;
 mod views;
-mod why_pages;
 
 pub use laws::each_makes_up_once;
 pub use makeup_pages::{PlainRunFault, paginate_plain};
@@ -35,8 +35,8 @@ pub use tb_laws::{
 };
 pub use tb_makeup::first_unsuited;
 pub use tb_report::Totals;
+pub use told_pages::why_pages;
 pub use top::run;
-pub use why_pages::why_pages;
 
 /// What `paginate` and `paginate_plain` write of a run: its report, with the places that were tried or without, or nothing.
 #[derive(Clone, Copy, Debug, PartialEq, Eq)]

@@ -6,4 +6,13 @@ pub mod TurnLemmas
 pub mod FiringLemmas
 pub mod PrintablePages
 pub mod AllWords
+pub mod TextLines
+pub mod EventLines
+pub mod TaleLines
+pub mod StoryTexts
+pub mod ShownTexts
+pub mod PlainRuns
+pub mod TraceLeft
 pub mod Rows
+pub mod LeavingLemmas
+pub mod TellingLemmas

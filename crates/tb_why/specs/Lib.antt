@@ -7,3 +7,6 @@ pub mod ShownLines
 pub mod ShownOf
 pub mod ShownTurns
 pub mod Placements
+pub mod Told
+pub mod PlainNames
+pub mod PlainStories
