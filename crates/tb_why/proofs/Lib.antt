@@ -16,3 +16,6 @@ pub mod TraceLeft
 pub mod Rows
 pub mod LeavingLemmas
 pub mod TellingLemmas
+pub mod MovingLemmas
+pub mod LandingLemmas
+pub mod TimeLemmas

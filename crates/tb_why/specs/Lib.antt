@@ -7,6 +7,7 @@ pub mod ShownLines
 pub mod ShownOf
 pub mod ShownTurns
 pub mod Placements
+pub mod SummaryLaws
 pub mod Told
 pub mod PlainNames
 pub mod PlainStories

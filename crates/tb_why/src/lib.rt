@@ -9,6 +9,7 @@ mod laws;
 mod lists;
 mod shown;
 mod steps;
+mod summary_laws;
 mod telling;
 mod turns;
 mod weaving;
@@ -18,6 +19,7 @@ pub use crate::byte_law::{
 };
 pub use crate::laws::{floats_go_where_told, what_is_told_changes_nothing};
 pub use crate::shown::{Showing, note_shown, put_shown};
+pub use crate::summary_laws::{landed_where_shipped, times_are_sheets};
 pub use crate::telling::tell_firing;
 pub use crate::turns::told_turn;
 use std::marker::Model;
