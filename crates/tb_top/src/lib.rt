@@ -19,6 +19,7 @@ mod status;
 mod summary;
 mod top;
 mod views;
+mod why_law;
 mod why_pages;
 
 pub use laws::each_makes_up_once;
@@ -36,6 +37,7 @@ pub use tb_laws::{
 pub use tb_makeup::first_unsuited;
 pub use tb_report::Totals;
 pub use top::run;
+pub use why_law::why_without_its_lines_is_trace;
 pub use why_pages::why_pages;
 
 /// What `paginate` and `paginate_plain` write of a run: its report, with the places that were tried or without, or nothing.
