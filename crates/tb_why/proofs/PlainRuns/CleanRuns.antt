@@ -34,13 +34,13 @@ use Rattle.tb_sheet.specs.Sheet.{PlainSent, warned}
 use Rattle.tb_output.specs.State.{State, Work, Recorded, emptied, ask_of, first_state, void_boxes}
 use Rattle.tb_output.specs.Act.{Acted, went, full, act_on, taken_float, lists_with_taken, large_warning, with_taken, with_current}
 use Rattle.tb_output.specs.Output.{out}
-use Rattle.tb_steps.specs.Run.{done, dead_cycles, page_limit, node_limit, Progress, progress_by, progress, Step, ends, goes_on, held_count, after_firing, fire, after_progress, step, firings_left}
+use Rattle.tb_steps.specs.Run.{Run, End, done, dead_cycles, page_limit, node_limit, Progress, progress_by, progress, Step, ends, goes_on, held_count, after_firing, fire, after_progress, step, run_by, run_from, firings_left, run_of}
 use Rattle.tb_items.specs.RunEvents.{RunEvent, sent}
 use Rattle.tb_items.specs.Classes.{classes_of}
 use Rattle.tb_why.proofs.PlainRuns.CleanNodes.{CleanLeaves, CleanNote, CleanKind, CleanAct, CleanNodes, nodes-join, nodes-pruned, CleanReached, CleanReach, reached-clean, CleanBoxes, CleanFired, fired-clean}
 use Rattle.tb_why.proofs.PlainRuns.CleanWorks.{CleanLists, CleanState, CleanSent, out-clean}
 use Rattle.tb_why.proofs.PlainRuns.CleanTales.{CleanPieces, told-clean}
-use Rattle.tb_why.specs.PlainNames.{IsPlainFloat, ArePlainNodes, IsPlainWarning, IsPlainSent, IsPlainEvent, IsPlainShown, ArePlainNames}
+use Rattle.tb_why.specs.PlainNames.{IsPlainFloat, ArePlainNodes, IsPlainWarning, IsPlainSent, IsPlainEvent, IsPlainShown, ArePlainNames, IsPlainEnd}
 use Rattle.tb_why.specs.Firing.{all_sent, woven, spot_of, firing_pieces}
 use Rattle.tb_why.specs.WhyRun.{Shown, tells, all_happen, all_shown, wait_tales, firing_shown, fired_shown, step_shown, shown_after, shown_from, shown_run}
 use Rattle.tb_told.specs.declared.Piece.{Piece}
@@ -60,6 +60,11 @@ use Rattle.std.proofs.lemmas.Bool.{and_from}
 abbrev CleanActed : Acted → Type 0
 CleanActed (went s ws rs) = CleanState s × AllByRecursion IsPlainWarning ws
 CleanActed (full line live) = Unit {0}
+
+-- what is left on the page by a run that ends well
+abbrev CleanEnd : End → Type 0
+CleanEnd (done left) = CleanNodes left
+CleanEnd e = Unit {0}
 
 -- ---- what is shown
 
@@ -151,9 +156,9 @@ module _ (p : Params) where
   progresses (acted a ∷ rs) least s g h = progresses-by (λ t. progress p rs least t) (λ t k. progresses rs least t g.1 k) s (act_on p s a) h (acts-on s a h g.0)
   progresses (tried line b ∷ rs) least s g h = let k = progresses rs (min_ℤ least b.cost) s g.1 h in (k.0, (tt, k.1))
 
-  -- the state after a step that is not the last
+  -- what is left after the last step, or the state after another one
   abbrev CleanStep : Step → Type 0
-  CleanStep (ends es rs e) = Unit {0}
+  CleanStep (ends es rs e) = CleanEnd e
   CleanStep (goes_on es rs s) = CleanState s
 
   step-if : (t : Bool) (x y : Step) → CleanStep x → CleanStep y → CleanStep (if t then x else y)
@@ -193,7 +198,7 @@ module _ (p : Params) where
       k = progresses (page_of s).reached awful_bad s (page-reached s h).reached h
 
       by_fault : (o : Option (ℕ × ℕ)) → CleanStep (after_progress p (page_of s) q o)
-      by_fault None = step-if (page_of s).fires (fire p (page_of s) q) (ends q.events (q.records ++ emptied q.state.floats ∷ []) (done (page_of s).passed)) (fires (page_of s) q (page-reached s h) k) tt
+      by_fault None = step-if (page_of s).fires (fire p (page_of s) q) (ends q.events (q.records ++ emptied q.state.floats ∷ []) (done (page_of s).passed)) (fires (page_of s) q (page-reached s h) k) (page-reached s h).passed
       by_fault (Some f) = tt
 
   -- what is shown of a firing
@@ -230,6 +235,15 @@ module _ (p : Params) where
   runs (suc fuel) s h =
       names-join (step_shown p s) (shown_after (λ t. shown_from p fuel t) (step p s)) (step-plain s h)
       (after-plain (λ t. shown_from p fuel t) (λ t k. runs fuel t k) (step p s) (steps s h))
+
+  ended-by : (later : State → Run) → ((s : State) → CleanState s → CleanEnd (later s).end) → (x : Step) → CleanStep x → CleanEnd (run_by later x).end
+  ended-by later f (ends es rs e) h = h
+  ended-by later f (goes_on es rs s) h = f s h
+
+  ended : (fuel : ℕ) (s : State) → CleanState s → CleanEnd (run_from p fuel s).end
+  unfolding run_from
+  ended zero s h = tt
+  ended (suc fuel) s h = ended-by (λ t. run_from p fuel t) (λ t k. ended fuel t k) (step p s) (steps s h)
 
 -- ---- the nodes of a valid galley
 
@@ -317,14 +331,29 @@ void : (cs : List Class) → CleanBoxes (void_boxes cs)
 void [] = tt
 void (c ∷ cs) = (tt, void cs)
 
+-- a run begins with the nodes of the galley
+begins : (g : Galley) → IsValid g → CleanState (first_state g.params (classes_of g) (expanded g))
+begins g v = (expanded-clean g v, void (classes_of g), tt, (tt, tt, tt, tt, tt, tt, tt), tt)
+
 -- no name in what is shown of the run of a valid galley has a line feed
 pub run-plain : (g : Galley) → IsValid g → ArePlainNames (shown_run g)
 unfolding shown_run
 run-plain g v =
-    names-if (int_lt g.params.maxnodes (pos (held_count s))) [] (shown_from g.params (suc (firings_left g.params s)) s) tt (runs g.params (suc (firings_left g.params s)) s start)
+    let s = first_state g.params (classes_of g) (expanded g) in
+    names-if (int_lt g.params.maxnodes (pos (held_count s))) [] (shown_from g.params (suc (firings_left g.params s)) s) tt (runs g.params (suc (firings_left g.params s)) s (begins g v))
+
+-- nor one in what is left by it, if it ends well
+pub end-plain : (g : Galley) → IsValid g → IsPlainEnd (run_of g).end
+unfolding run_of
+end-plain g v = by_nodes (int_lt g.params.maxnodes (pos (held_count s)))
   where
     s : State
     s = first_state g.params (classes_of g) (expanded g)
 
-    start : CleanState s
-    start = (expanded-clean g v, void (classes_of g), tt, (tt, tt, tt, tt, tt, tt, tt), tt)
+    end-left : (e : End) → CleanEnd e → IsPlainEnd e
+    end-left (done left) h = nodes-plain left h
+    end-left e h = tt
+
+    by_nodes : (t : Bool) → IsPlainEnd (if t then record { events = []; records = []; end = node_limit (held_count s) } else run_from g.params (suc (firings_left g.params s)) s).end
+    by_nodes true = tt
+    by_nodes false = end-left (run_from g.params (suc (firings_left g.params s)) s).end (ended g.params (suc (firings_left g.params s)) s (begins g v))
