@@ -9,7 +9,7 @@ import tempfile
 
 from . import about, messages, points, program, report
 
-MODES = ('report', 'trace', 'rate', 'plain', 'print', 'lines', 'dvi', 'dvilist', 'gen')
+MODES = ('report', 'trace', 'rate', 'why', 'plain', 'print', 'lines', 'dvi', 'dvilist', 'gen')
 REPORTS = ('report', 'trace', 'plain')      # the modes whose output is a page report
 MOST = 8388608                              # bytes of an input
 WHO = 'galley-pages'
@@ -23,6 +23,7 @@ MODE     what is made (report where none is named):
   report   the page report of a galley
   trace    the same, with each place at which a page was weighed, and its cost
   rate     the same, with how good each text column is, and the sum of their demerits
+  why      the trace, with why each float and marginal note went where it went
   plain    the report of its pages under plain TeX's page makeup
   print    its canonical text
   lines    the galley of a text of paragraphs, broken into lines of least demerits

@@ -165,7 +165,7 @@ class Completions(Scratch):
             text = read('tools', 'completion', name)
             for option in re.findall(r"add_argument\('(?:-h', ')?(--?[a-z]+)'", usage):
                 self.assertIn(option, text)
-            for mode in ('report', 'trace', 'rate', 'plain', 'print', 'lines', 'dvi', 'dvilist', 'gen'):
+            for mode in ('report', 'trace', 'rate', 'why', 'plain', 'print', 'lines', 'dvi', 'dvilist', 'gen'):
                 self.assertIn(mode, text)
 
 

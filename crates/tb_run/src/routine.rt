@@ -209,6 +209,7 @@ impl<'a> Routine<'a> {
     /// In between the routine shows the state in which the page fires. `happened` holds the warnings of the acts and, if
     /// `wanted` is set, the places that were tried, in their order; it is empty before. If memory runs out, the run cannot
     /// go on.
+    #[inline(always)]
     pub fn fill(
         &mut self,
         wanted: bool,

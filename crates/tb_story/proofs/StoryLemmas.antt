@@ -1,12 +1,15 @@
 -- Stories that are changed one after another, and what holds of them at any time.
-use Rattle.std.proofs.Common.{◌≡◌, refl, sym, ap, ◌∙◌, subst, ℕ, zero, suc, ◌+◌, ◌-◌, ◌≤◌, ◌<◌, Bool, true, false, List, [], ◌∷◌, ◌++◌, length, map, drop, set, get_or, arith}
+use Rattle.std.proofs.Common.{◌≡◌, refl, sym, ap, ◌∙◌, subst, ℕ, zero, suc, ◌+◌, ◌-◌, ◌≤◌, ◌<◌, Bool, true, false, List, [], ◌∷◌, ◌++◌, length, map, take, drop, set, get_or, arith}
 use Rattle.std.specs.Prelude.{◌&&◌, ◌==◌, Option, Some, None, if◌then◌else◌}
 use Rattle.std.specs.List.{AllByRecursion}
-use Rattle.std.proofs.lemmas.List.{at_drop_more}
+use Rattle.std.proofs.lemmas.List.{at_drop_more, take-append-le, take_all}
+use Rattle.tb_node.specs.declared.Float.{Float}
 use Rattle.tb_node.specs.declared.Where.{Where}
 use Rattle.tb_story.specs.declared.Kept.{Kept}
 use Rattle.tb_story.specs.declared.Group.{Group}
+use Rattle.tb_story.specs.declared.Noted.{Noted}
 use Rattle.tb_story.specs.Story.{StoryView, is_open, is_deferred, is_story_of, is_alike, times_so_far, missed, missed_by, missed_sheet, carried, by_break, kept_back, placed_at, landed_at, begun, if_of, with_story, last_of}
+use Rattle.tb_story.specs.Summary.{kept_all}
 use Rattle.tb_story.specs.Counts.{AreOver, IsCounted, IsSound, open_times, changed_front}
 
 -- ---- those that are over
@@ -166,9 +169,9 @@ last_over line zero ss o = refl
 last_over line (suc n) [] o = refl
 last_over line (suc n) (s ∷ ss) o = passed (is_open s) (s.float.line == line) o.0 ∙ last_over line n ss o.1
   where
-  passed : (b c : Bool) → b ≡ false → (if (b && c) then s.last else last_of line ss) ≡ last_of line ss
-  passed false c e = refl
-  passed true c e = cc
+    passed : (b c : Bool) → b ≡ false → (if (b && c) then s.last else last_of line ss) ≡ last_of line ss
+    passed false c e = refl
+    passed true c e = cc
 
 module _ {X : Type 0} where
   if_false : (b : Bool) (x y : X) → b ≡ false → (if b then x else y) ≡ y
@@ -215,6 +218,9 @@ next_counted change n a i now ss d e lt h =
 pub sound_now : (n a b i : ℕ) (change : StoryView → StoryView) (now ss : List StoryView) → LeavesOver change → KeepsCounts a b change → a ≤ b → IsSound n a ss → now ≡ changed_front change i ss → IsSound n b now
 sound_now n a b i change now ss l k le h e = subst (λ t. IsSound n b t) (sym e) (sound_front n a b i change ss l k le h)
 
+pub over_now : (n i : ℕ) (change : StoryView → StoryView) (now ss : List StoryView) → LeavesOver change → AreOver n ss → now ≡ changed_front change i ss → AreOver n now
+over_now n i change now ss l o e = subst (λ t. AreOver n t) (sym e) (over_changed change l n i ss o)
+
 pub over_next : (n : ℕ) (ss : List StoryView) (d : StoryView) → AreOver n ss → n < length ss → is_open (get_or ss n d) ≡ false → AreOver (n + 1) ss
 over_next n ss d o lt e = subst (λ k. AreOver k ss) (one_more n) (over_more n ss d o lt e)
 
@@ -224,3 +230,20 @@ over_all zero [] o h = tt
 over_all (suc n) [] o h = absurd o
 over_all zero (s ∷ ss) o h = absurd (omega arith)
 over_all (suc n) (s ∷ ss) o h = (o.0, over_all n ss o.1 (omega arith))
+
+pub begun_counted : (f : Float) (page : ℕ) (last : Option Kept) (n : ℕ) → IsCounted n (begun f page last n)
+begun_counted f page last n = record { placed = omega arith; times = omega arith }
+
+-- one note more: its float is kept back
+pub kept_step : (ns : List Noted) (i : ℕ) (d : Noted) (ss new : List StoryView) → i < length ns → d ≡ get_or ns i d → new ≡ with_story d.float.line (kept_back d.kept) ss → kept_all (drop i ns) ss ≡ kept_all (drop (i + 1) ns) new
+kept_step ns i d ss new lt is e =
+    at_drop_more (λ t. kept_all t ss) ns i d lt ∙ ap (λ x. kept_all (drop (i + 1) ns) (with_story x.float.line (kept_back x.kept) ss)) (sym is)
+    ∙ ap (λ t. kept_all (drop (i + 1) ns) t) (sym e)
+
+-- a slice that was lent from a vector stands there again
+pub written : {X : Type 0} → (n : ℕ) (new items : List X) → length new ≡ n → take n (new ++ drop (length new) items) ≡ new
+written n new items e = take-append-le n new (drop (length new) items) (omega (arith, e)) ∙ take_all n new (omega (arith, e))
+
+-- more are over
+pub sound_by : (n m a : ℕ) (ss : List StoryView) → IsSound n a ss → AreOver m ss → IsSound m a ss
+sound_by n m a ss h o = record { over = o; counted = h.counted }

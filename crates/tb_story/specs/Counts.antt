@@ -25,6 +25,10 @@ pub record IsSound (n sheets : ℕ) (ss : List StoryView) : Type 0 where
   pub over : AreOver n ss
   pub counted : AllByRecursion (IsCounted sheets) ss
 
+-- what held of the stories holds of the changed ones, after any number of sheets
+abbrev pub StaysSound : ℕ → List StoryView → List StoryView → Type 0
+StaysSound n old new = (sheets : ℕ) → IsSound n sheets old → IsSound n sheets new
+
 -- the first so many stories are changed
 abbrev pub changed_front : (StoryView → StoryView) → ℕ → List StoryView → List StoryView
 changed_front change zero ss = ss

@@ -134,9 +134,13 @@ by_break f = record { area = areas.Here; cause = causes.Carried; root = f; by = 
 abbrev pub carried : ℕ → StoryView → StoryView
 carried sheets s = if s.put == sheets then s else record (missed (sheets - s.put) (by_break s.float) s) { put = sheets }
 
--- what is still missing for a float that waits at the end
+-- for what a float waits at the end, if it does
+abbrev pub last_at_end : StoryView → Option Kept
+last_at_end s = if waits s then s.last else None
+
+-- it still misses what it waits for
 abbrev pub at_end : StoryView → StoryView
-at_end s = if waits s then missed_by 0 s.last s else s
+at_end s = missed_by 0 (last_at_end s) s
 
 -- ---- all stories
 

@@ -1,6 +1,7 @@
 -- The summary: one story of each float that was called or waits, as the tales and the shipped pages tell it.
 use Rattle.std.specs.Prelude.{ℕ, ℤ, pos, negsuc, ◌+◌, ◌-ℤ◌, ◌+ℤ◌, Bool, true, false, not, ◌&&◌, ◌==◌, List, [], ◌∷◌, ◌++◌, map, Option, Some, None, int_lt, if◌then◌else◌}
 use Rattle.tb_node.specs.declared.Float.{Float}
+use Rattle.tb_node.specs.declared.What.{What}
 use Rattle.tb_node.specs.declared.What.TheVariants as what
 use Rattle.tb_node.specs.declared.Where.{Where}
 use Rattle.tb_node.specs.declared.Where.TheVariants as places
@@ -166,22 +167,32 @@ abbrev pub kept_all : List Noted → List StoryView → List StoryView
 kept_all [] ss = ss
 kept_all (n ∷ ns) ss = kept_all ns (with_story n.float.line (kept_back n.kept) ss)
 
+abbrev pub keep_noted : List Noted → SummaryView → SummaryView
+keep_noted ns m = with_stories (kept_all ns m.stories) m
+
 -- those that head no column, and those that stay behind, are kept back
 abbrev pub keep_all : SummaryView → SummaryView
-keep_all m = with_stories (kept_all m.passed (kept_all m.alone m.stories)) m
+keep_all m = keep_noted m.passed (keep_noted m.alone m)
 
 -- no float stays behind yet
 abbrev pub none_behind : SummaryView → SummaryView
 none_behind m = record m { passed = [] }
 
+-- why a float heads no column
+abbrev pub no_head_by : Float → Alone → Test → SummaryView → Kept
+no_head_by f t w m = kept_by areas.Alone w f (gain w (t.high -ℤ t.most) (pos 0)) (way_of_head t.blocker m)
+
 abbrev pub after_heads : Float → Alone → Option Test → SummaryView → SummaryView
 after_heads f t None m = none_behind m
-after_heads f t (Some w) m = not_alone f (kept_by areas.Alone w f (gain w (t.high -ℤ t.most) (pos 0)) (way_of_head t.blocker m)) m
+after_heads f t (Some w) m = not_alone f (no_head_by f t w m) m
+
+-- why a float stays behind the company of a head
+abbrev pub behind_by : Float → Joining → Test → SummaryView → Kept
+behind_by f t w m = kept_by areas.Joins w f (gain w (t.high -ℤ t.most) (capped t.sum -ℤ t.most)) (way_of_joining t.blocker m)
 
 abbrev pub after_joining : Float → Joining → Option Test → SummaryView → SummaryView
 after_joining f t None m = m
-after_joining f t (Some w) m =
-    stays_behind f (kept_by areas.Joins w f (gain w (t.high -ℤ t.most) (capped t.sum -ℤ t.most)) (way_of_joining t.blocker m)) m
+after_joining f t (Some w) m = stays_behind f (behind_by f t w m) m
 
 abbrev pub after_company : Float → Made → Option Test → SummaryView → SummaryView
 after_company f t None m = keep_all m
@@ -234,9 +245,14 @@ after_tale PutOut m = after_output m
 
 -- ---- pages that are shipped
 
+-- the story of the float that a box holds
+abbrev pub after_box : ℕ → What → List StoryView → List StoryView
+after_box page (what.Float name class place item) ss = with_story item (landed_at page place) ss
+after_box page w ss = ss
+
 -- the story of the float whose box a node is
 abbrev pub after_node : ℕ → PlainKind → List StoryView → List StoryView
-after_node page (plain (hbox (what.Float name class place item) h d)) ss = with_story item (landed_at page place) ss
+after_node page (plain (hbox w h d)) ss = after_box page w ss
 after_node page k ss = ss
 
 -- the stories of the floats among nodes

@@ -47,6 +47,13 @@ impl Summary {
         }
     }
 
+    /// How many sheets were put out.
+    pub fn sheets(&self) -> u64
+        ensures { result ≡ self.now.sheets }
+    {
+        self.sheets
+    }
+
     /// The last reason of the float of a line, if it was not shipped.
     pub(crate) fn last_of(&self, line: u32) -> Option<Kept>
         ensures { result ≡ last_of line self.now.stories }
@@ -78,7 +85,12 @@ impl Summary {
     }
 
     /// A story begins. If memory runs out, the summary is as it was.
-    pub(crate) fn begin(&mut self, f: &Float, page: u64, last: Option<Kept>) -> Result<(), AllocError>
+    pub(crate) fn begin(
+        &mut self,
+        f: &Float,
+        page: u64,
+        last: Option<Kept>,
+    ) -> Result<(), AllocError>
         ensures { OnOk result (self.new ≡ begun_story f.now page last self.old) }
     {
         let story = Story::new(self.alloc, f, page, last, self.sheets);
@@ -149,7 +161,14 @@ impl Summary {
     {
         match told {
             Told::Enters(t) => {
-                self.try_area(Area::Enter, f, &t.blocker, lack(t.need, t.room), 0, t.failed)
+                self.try_area(
+                    Area::Enter,
+                    f,
+                    &t.blocker,
+                    lack(t.need, t.room),
+                    0,
+                    t.failed,
+                )
             }
             Told::TestsHere(t) => {
                 self.try_area(Area::Here, f, &None, lack(t.need, t.room), 0, t.failed)
@@ -160,7 +179,14 @@ impl Summary {
             }
             Told::TestsBottom(t) => {
                 let share = lack(t.high, t.share);
-                self.try_area(Area::Bottom, f, &None, lack(t.need, t.room), share, t.failed)
+                self.try_area(
+                    Area::Bottom,
+                    f,
+                    &None,
+                    lack(t.need, t.room),
+                    share,
+                    t.failed,
+                )
             }
             Told::TestsWide(t) => {
                 self.try_area(Area::Wide, f, &t.blocker, lack(t.high, t.room), 0, t.failed)

@@ -1,13 +1,15 @@
 //! The summary of a run: one story of each float that was called or waits, with what kept it back, for how many sheets.
 #![tactic(auto)]
 
+mod columns;
+mod deciding;
 mod lines;
 mod notes;
+mod one_story;
 mod reasons;
 mod sheets;
 mod stories;
-mod one_story;
-mod deciding;
+mod telling;
 
 use std::alloc::Global;
 use std::marker::Model;

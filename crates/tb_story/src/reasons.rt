@@ -78,13 +78,7 @@ pub(crate) fn times_so_far(k: &Kept, group: &Option<Group>) -> u64
 {
     match group {
         None => 0,
-        Some(g) => {
-            if is_alike(&g.kept, k) {
-                g.times
-            } else {
-                0
-            }
-        }
+        Some(g) => { if is_alike(&g.kept, k) { g.times } else { 0 } }
     }
 }
 
@@ -159,13 +153,7 @@ pub(crate) fn own_reason(found: Option<Kept>) -> Option<Kept>
     ensures { result ≡ own_reason found }
 {
     match found {
-        Some(k) => {
-            if is_by_places(k.cause) {
-                None
-            } else {
-                Some(k)
-            }
-        }
+        Some(k) => { if is_by_places(k.cause) { None } else { Some(k) } }
         None => None,
     }
 }

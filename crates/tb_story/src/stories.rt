@@ -2,7 +2,7 @@
 ghost use Rattle.std.specs.Prelude.{◌≡◌, ◌<◌, ◌+◌, ◌^◌, OnOk, map};
 ghost use Rattle.std.specs.List.{AllByRecursion};
 ghost use Rattle.tb_story.specs.Story.{kept_back, placed_at, landed_at, missed_sheet, carried, with_story, last_of};
-ghost use Rattle.tb_story.specs.Counts.{AreOver, IsCounted, IsSound};
+ghost use Rattle.tb_story.specs.Counts.{AreOver, IsCounted, IsSound, StaysSound};
 
 use crate::{Kept, Story};
 use std::alloc::AllocError;
@@ -25,7 +25,9 @@ pub(crate) fn last_of(stories: &[Story], over: usize, line: u32) -> Option<Kept>
 /// The float of this line is kept back for this reason.
 pub(crate) fn keep_story(stories: &mut [Story], over: usize, line: u32, k: &Kept)
     requires { AreOver over stories.old }
-    ensures { stories.new ≡ with_story line (kept_back k.now) stories.old }
+    ensures kept { stories.new ≡ with_story line (kept_back k.now) stories.old }
+    ensures over { AreOver over stories.new }
+    ensures sound { StaysSound over stories.old stories.new }
 {
     for i in over..stories.len() {
         let story = &mut stories[i];
@@ -34,15 +36,10 @@ pub(crate) fn keep_story(stories: &mut [Story], over: usize, line: u32, k: &Kept
 }
 
 /// The float of this line is placed, after so many sheets.
-pub(crate) fn place_story(
-    stories: &mut [Story],
-    over: usize,
-    line: u32,
-    place: Where,
-    sheets: u64,
-)
+pub(crate) fn place_story(stories: &mut [Story], over: usize, line: u32, place: Where, sheets: u64)
     requires { AreOver over stories.old }
-    ensures { stories.new ≡ with_story line (placed_at place sheets) stories.old }
+    ensures placed { stories.new ≡ with_story line (placed_at place sheets) stories.old }
+    ensures sound { IsSound over sheets stories.old → IsSound over sheets stories.new }
 {
     for i in over..stories.len() {
         let story = &mut stories[i];
@@ -53,7 +50,9 @@ pub(crate) fn place_story(
 /// The float of this line is shipped.
 pub(crate) fn land_story(stories: &mut [Story], over: usize, line: u32, page: u64, place: Where)
     requires { AreOver over stories.old }
-    ensures { stories.new ≡ with_story line (landed_at page place) stories.old }
+    ensures landed { stories.new ≡ with_story line (landed_at page place) stories.old }
+    ensures over { AreOver over stories.new }
+    ensures sound { StaysSound over stories.old stories.new }
 {
     for i in over..stories.len() {
         let story = &mut stories[i];
@@ -81,11 +80,7 @@ pub(crate) fn carry_story(
 }
 
 /// Each float that waits misses a sheet, after so many. If memory runs out, the counts hold for one sheet more.
-pub(crate) fn miss_sheet(
-    stories: &mut [Story],
-    over: usize,
-    sheets: u64,
-) -> Result<(), AllocError>
+pub(crate) fn miss_sheet(stories: &mut [Story], over: usize, sheets: u64) -> Result<(), AllocError>
     requires few { sheets < 2 ^ 63 }
     requires sound { IsSound over sheets stories.old }
     ensures missed { OnOk result (stories.new ≡ map missed_sheet stories.old) }

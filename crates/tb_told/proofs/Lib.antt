@@ -2,6 +2,9 @@ pub mod TestedLemmas
 pub mod AreaLemmas
 pub mod ColumnLemmas
 pub mod ValueLemmas
+pub mod ChoiceLemmas
+pub mod CompanyLemmas
+pub mod CopyLemmas
 pub mod TellingLemmas
 pub mod FillingLemmas
 pub mod DoublingLemmas

@@ -9,7 +9,7 @@ use Rattle.tb_float.specs.declared.Part.{Part}
 use Rattle.tb_float.specs.Lists.{floats_of, with_floats_of}
 use Rattle.tb_float.specs.Pool.{FloatPool}
 use Rattle.tb_fpage.specs.declared.Wanted.{Wanted}
-use Rattle.tb_fpage.specs.Company.{Choice, company, left_floats}
+use Rattle.tb_fpage.specs.Company.{Choice, company, chosen_floats, left_floats}
 use Rattle.tb_told.specs.declared.ToldColumn.{ToldColumn}
 use Rattle.tb_told.specs.declared.ToldColumn.TheVariants.{Joins, Takes}
 use Rattle.tb_told.specs.declared.Piece.{Piece}
@@ -33,6 +33,10 @@ told_at z before f fs later = if beq f.wide z.wide then told_float z before f fs
 abbrev pub told_choices : Wanted → List Choice → List Choice → List ToldColumn
 told_choices z before [] = []
 told_choices z before (c ∷ cs) = if_of_width z c.float (Joins c.float (joins_told z before c.float)) ++ told_choices z (before ++ c ∷ []) cs
+
+-- of the floats that a company takes
+abbrev pub taken_told : List Choice → List ToldColumn
+taken_told cs = map (λ g. Takes g) (chosen_floats cs)
 
 -- ---- a company leaves the list
 

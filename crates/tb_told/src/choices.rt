@@ -1,6 +1,6 @@
 //! The company of a head: for each float of the list, whether it is in it.
-ghost use Rattle.std.specs.Prelude.{◌≡◌, ◌≤◌, ◌+◌, ◌*◌, [], ◌∷◌, ◌<◌, ◌+ℤ◌, pos, if◌then◌else◌, length, take, drop, OnOk, IfOk};
-ghost use Rattle.tb_node.specs.declared.Float.{Float as PlainFloat};
+ghost use Rattle.std.specs.Prelude.{◌≡◌, ◌≤◌, ◌+◌, [], ◌∷◌, ◌+ℤ◌, ◌-ℤ◌, ◌&&◌, ◌||◌, ◌==◌, not, pos, suc, int_le, int_lt, if◌then◌else◌, length, slice_get, Some, take, drop, OnOk, IfOk};
+ghost use Rattle.std.specs.Bool.{beq};
 ghost use Rattle.tb_float.specs.Lists.{IsWaiting, floats_of};
 ghost use Rattle.tb_float.specs.Ranges.{IsWithin};
 ghost use Rattle.tb_fpage.specs.Company.{company_height, separated, joins, choices_from, company_of_head, passed_over, chosen_floats, left_floats};
@@ -46,8 +46,8 @@ pub(crate) fn company_of(
 ) -> Result<Vec<Choice>, AllocError>
     requires waiting { IsWaiting from }
     requires few { length (floats_of from pool.now.lists) ≤ 4096 }
-    requires within { place < length (floats_of from pool.now.lists) }
-    ensures { IfOk result (λ cs. cs.items ≡ company_of_head wanted.now (take place (floats_of from pool.now.lists)) f.now (drop (place + 1) (floats_of from pool.now.lists))) }
+    requires there { slice_get (floats_of from pool.now.lists) place ≡ Some f.now }
+    ensures { IfOk result (λ cs. cs.items ≡ company_of_head wanted.now (take place (floats_of from pool.now.lists)) f.now (drop (suc place) (floats_of from pool.now.lists))) }
 {
     let mut choices = Vec::new(alloc);
     choose_all(&mut choices, pool, wanted, from, place, f)?;
@@ -65,9 +65,9 @@ fn choose_all(
 ) -> Result<(), AllocError>
     requires waiting { IsWaiting from }
     requires few { length (floats_of from pool.now.lists) ≤ 4096 }
-    requires within { place < length (floats_of from pool.now.lists) }
+    requires there { slice_get (floats_of from pool.now.lists) place ≡ Some f.now }
     requires none { choices.old.items ≡ [] }
-    ensures { OnOk result (choices.new.items ≡ company_of_head wanted.now (take place (floats_of from pool.now.lists)) f.now (drop (place + 1) (floats_of from pool.now.lists))) }
+    ensures { OnOk result (choices.new.items ≡ company_of_head wanted.now (take place (floats_of from pool.now.lists)) f.now (drop (suc place) (floats_of from pool.now.lists))) }
 {
     pass_over(choices, pool, from, place)?;
     choices.push(Choice {
@@ -127,7 +127,17 @@ fn joins(wanted: &Wanted, before: &[Choice], f: &Float) -> bool
     requires { length before.now ≤ 4096 }
     ensures { result ≡ joins wanted.now before.now f.now }
 {
-    f.wide == wanted.wide && joining(wanted, before, f).failed.is_none()
+    if !is_of_width(f, wanted.wide) {
+        return false;
+    }
+    joining(wanted, before, f).failed.is_none()
+}
+
+/// Whether a float has this width.
+pub(crate) fn is_of_width(f: &Float, wide: bool) -> bool
+    ensures { result ≡ beq f.now.wide wide }
+{
+    f.wide == wide
 }
 
 // ---- what is told of them
@@ -138,7 +148,7 @@ pub(crate) fn joining(wanted: &Wanted, before: &[Choice], f: &Float) -> Joining
     ensures { result ≡ joins_told wanted.now before.now f.now }
 {
     let blocker = first_left(before, f.class);
-    let sum = separated(before, wanted.sep) + i128::from(f.height);
+    let sum = height_with(before, wanted.sep, f.height);
     let failed = failing(
         may_be_alone(f, wanted),
         Test::Places,
@@ -148,7 +158,7 @@ pub(crate) fn joining(wanted: &Wanted, before: &[Choice], f: &Float) -> Joining
             failing(
                 blocker.is_none(),
                 Test::Class,
-                failing(sum <= i128::from(wanted.height), Test::Sum, None),
+                failing(fits(sum, wanted.height), Test::Sum, None),
             ),
         ),
     );
@@ -167,18 +177,27 @@ pub(crate) fn made_of(wanted: &Wanted, company: &[Choice]) -> Made
     ensures { result ≡ made_told wanted.now company.now }
 {
     let floats = chosen_count(company);
-    let sum = if floats == 0 {
-        0
-    } else {
-        separated(company, wanted.sep) - i128::from(wanted.sep)
-    };
-    let made = wanted.clearing || i128::from(wanted.minimum) < sum;
+    let sum = company_height(company, floats, wanted.sep);
     Made {
         floats,
         sum,
         least: wanted.minimum,
-        failed: failing(made, Test::Sum, None),
+        failed: failing(is_made(wanted, sum), Test::Sum, None),
     }
+}
+
+// Whether a height fits into the column.
+fn fits(sum: i128, most: i64) -> bool
+    ensures { result ≡ int_le sum most }
+{
+    sum <= i128::from(most)
+}
+
+// Whether a company of this height is made.
+fn is_made(wanted: &Wanted, height: i128) -> bool
+    ensures { result ≡ (wanted.now.clearing || int_lt wanted.now.minimum height) }
+{
+    wanted.clearing || i128::from(wanted.minimum) < height
 }
 
 // The first float of a class that stays behind.
@@ -186,11 +205,18 @@ fn first_left(choices: &[Choice], class: u8) -> Option<Float>
     ensures { result ≡ first_of_class class (left_floats choices.now) }
 {
     for choice in choices {
-        if !choice.chosen && choice.float.class == class {
+        if is_left(choice, class) {
             return Some(choice.float);
         }
     }
     None
+}
+
+// Whether a float has this class and stays behind.
+fn is_left(choice: &Choice, class: u8) -> bool
+    ensures { result ≡ (not choice.now.chosen && (choice.now.float.class == class)) }
+{
+    !choice.chosen && choice.float.class == class
 }
 
 // How many floats are in the company.
@@ -199,11 +225,37 @@ fn chosen_count(choices: &[Choice]) -> usize
 {
     let mut count = 0;
     for choice in choices {
-        if choice.chosen {
-            count += 1;
-        }
+        count += one_if(choice.chosen);
     }
     count
+}
+
+fn one_if(chosen: bool) -> usize
+    ensures { result ≡ (if chosen then 1 else 0) }
+{
+    if chosen { 1 } else { 0 }
+}
+
+// ---- heights
+
+// The height of the company with one more float of this height.
+fn height_with(before: &[Choice], sep: i64, height: i64) -> i128
+    requires { length before.now ≤ 4096 }
+    ensures { result ≡ separated sep before.now +ℤ height }
+{
+    plus(separated(before, sep), height)
+}
+
+// The height of a company of so many floats.
+fn company_height(company: &[Choice], floats: usize, sep: i64) -> i128
+    requires few { length company.now ≤ 4096 }
+    requires floats { floats ≡ length (chosen_floats company.now) }
+    ensures { result ≡ company_height sep company.now }
+{
+    if floats == 0 {
+        return 0;
+    }
+    less(separated(company, sep), sep)
 }
 
 // The heights of the company, each with a separator.
@@ -214,7 +266,7 @@ fn separated(choices: &[Choice], sep: i64) -> i128
 {
     let mut sum = 0;
     for choice in choices {
-        sum += share(choice, sep);
+        sum = sum_of(sum, share(choice, sep));
     }
     sum
 }
@@ -229,4 +281,26 @@ fn share(choice: &Choice, sep: i64) -> i128
     } else {
         0
     }
+}
+
+fn sum_of(sum: i128, more: i128) -> i128
+    requires sum { IsWithin 151115727451828646838272 sum }
+    requires more { IsWithin 36893488147419103232 more }
+    ensures { result ≡ sum +ℤ more }
+{
+    sum + more
+}
+
+fn plus(sum: i128, height: i64) -> i128
+    requires { IsWithin 151115727451828646838272 sum }
+    ensures { result ≡ sum +ℤ height }
+{
+    sum + i128::from(height)
+}
+
+fn less(sum: i128, sep: i64) -> i128
+    requires { IsWithin 151115727451828646838272 sum }
+    ensures { result ≡ sum -ℤ sep }
+{
+    sum - i128::from(sep)
 }

@@ -1,14 +1,12 @@
 //! What is told where a column of floats is looked for: of each head, and of the company that is made.
-ghost use Rattle.std.specs.Prelude.{◌≡◌, ◌≤◌, ◌+◌, List, [], ◌∷◌, ◌++◌, length, take, drop, map, OnOk, IfOk};
-ghost use Rattle.std.specs.Bool.{beq};
+ghost use Rattle.std.specs.Prelude.{◌≡◌, ◌≤◌, List, [], ◌∷◌, ◌++◌, length, suc, slice_get, Some, take, drop, OnOk, IfOk};
 ghost use Rattle.tb_float.specs.Lists.{IsWaiting, floats_of};
-ghost use Rattle.tb_fpage.specs.Company.{chosen_floats, company_of_head};
 ghost use Rattle.tb_told.specs.declared.ToldColumn.{ToldColumn as PlainTold};
-ghost use Rattle.tb_told.specs.ColumnTold.{told_column, told_head, made_told};
-ghost use Rattle.tb_told.specs.ColumnPieces.{in_column, unless_made, told_at, told_choices};
+ghost use Rattle.tb_told.specs.ColumnTold.{told_column, told_head};
+ghost use Rattle.tb_told.specs.ColumnPieces.{in_column, unless_made, told_at, told_choices, taken_told};
 ghost use Rattle.tb_told.specs.Tales.{tales, column_tales, has_width};
 
-use crate::choices::{Choice, company_of, joining, made_of};
+use crate::choices::{Choice, company_of, is_of_width, joining, made_of};
 use crate::heads::alone_at;
 use crate::{Piece, Spot, Tale, ToldColumn};
 use std::alloc::AllocError;
@@ -42,7 +40,7 @@ fn has_width(pool: &Pool, wide: bool, from: Part) -> bool
     ensures { result ≡ has_width wide (floats_of from pool.now.lists) }
 {
     for entry in pool.entries(from) {
-        if entry.float().wide == wide {
+        if is_of_width(entry.float(), wide) {
             return true;
         }
     }
@@ -89,10 +87,10 @@ fn tell_float(
 ) -> Result<bool, AllocError>
     requires waiting { IsWaiting from }
     requires few { length (floats_of from pool.now.lists) ≤ 4096 }
-    requires there { drop place (floats_of from pool.now.lists) ≡ f.now ∷ drop (place + 1) (floats_of from pool.now.lists) }
-    ensures { IfOk result (λ made. (later : List PlainTold) → pieces.new.items ++ in_column (unless_made made later) ≡ pieces.old.items ++ in_column (told_at wanted.now (take place (floats_of from pool.now.lists)) f.now (drop (place + 1) (floats_of from pool.now.lists)) later)) }
+    requires there { slice_get (floats_of from pool.now.lists) place ≡ Some f.now }
+    ensures { IfOk result (λ made. (later : List PlainTold) → pieces.new.items ++ in_column (unless_made made later) ≡ pieces.old.items ++ in_column (told_at wanted.now (take place (floats_of from pool.now.lists)) f.now (drop (suc place) (floats_of from pool.now.lists)) later)) }
 {
-    if f.wide != wanted.wide {
+    if !is_of_width(f, wanted.wide) {
         return Ok(false);
     }
     let alone = alone_at(pool, wanted, from, place, f);
@@ -114,8 +112,8 @@ fn tell_head(
 ) -> Result<bool, AllocError>
     requires waiting { IsWaiting from }
     requires few { length (floats_of from pool.now.lists) ≤ 4096 }
-    requires there { drop place (floats_of from pool.now.lists) ≡ f.now ∷ drop (place + 1) (floats_of from pool.now.lists) }
-    ensures { IfOk result (λ made. (later : List PlainTold) → pieces.new.items ++ in_column (unless_made made later) ≡ pieces.old.items ++ in_column (told_head wanted.now (take place (floats_of from pool.now.lists)) f.now (drop (place + 1) (floats_of from pool.now.lists)) later)) }
+    requires there { slice_get (floats_of from pool.now.lists) place ≡ Some f.now }
+    ensures { IfOk result (λ made. (later : List PlainTold) → pieces.new.items ++ in_column (unless_made made later) ≡ pieces.old.items ++ in_column (told_head wanted.now (take place (floats_of from pool.now.lists)) f.now (drop (suc place) (floats_of from pool.now.lists)) later)) }
 {
     let company = company_of(*pieces.allocator(), pool, wanted, from, place, f)?;
     let made = made_of(wanted, &company);
@@ -157,7 +155,7 @@ fn tell_join(
     ensures { OnOk result (pieces.new.items ≡ pieces.old.items ++ in_column (told_choices wanted.now before.now (choice.now ∷ []))) }
 {
     let f = &choice.float;
-    if f.wide != wanted.wide {
+    if !is_of_width(f, wanted.wide) {
         return Ok(());
     }
     let told = joining(wanted, before, f);
@@ -166,12 +164,20 @@ fn tell_join(
 
 // Which floats a company takes.
 fn tell_taken(pieces: &mut Vec<Piece>, company: &[Choice]) -> Result<(), AllocError>
-    ensures { OnOk result (pieces.new.items ≡ pieces.old.items ++ in_column (map (λ f. PlainTold.Takes f) (chosen_floats company.now))) }
+    ensures { OnOk result (pieces.new.items ≡ pieces.old.items ++ in_column (taken_told company.now)) }
 {
     for choice in company {
-        if choice.chosen {
-            tell(pieces, ToldColumn::Takes(choice.float))?;
-        }
+        tell_if_taken(pieces, choice)?;
     }
     Ok(())
+}
+
+// Whether it takes this one.
+fn tell_if_taken(pieces: &mut Vec<Piece>, choice: &Choice) -> Result<(), AllocError>
+    ensures { OnOk result (pieces.new.items ≡ pieces.old.items ++ in_column (taken_told (choice.now ∷ []))) }
+{
+    if !choice.chosen {
+        return Ok(());
+    }
+    tell(pieces, ToldColumn::Takes(choice.float))
 }

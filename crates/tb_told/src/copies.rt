@@ -43,6 +43,7 @@ fn copy_floats(copy: &mut Pool, pool: &Pool, part: Part) -> Result<(), AllocErro
     requires empty { copy.old.lists.current ≡ [] }
     requires unmarked { HasNoMarks copy.old }
     ensures lists { OnOk result (copy.new.lists ≡ with_floats_of part (floats_of part copy.old.lists ++ floats_of part pool.now.lists) copy.old.lists) }
+    ensures empty { OnOk result (copy.new.lists.current ≡ []) }
     ensures unmarked { HasNoMarks copy.new }
 {
     let _sized = pool.len(part);
@@ -87,9 +88,10 @@ fn copy_current(copy: &mut Pool, pool: &Pool) -> Result<(), AllocError>
 {
     let mut left = None;
     for k in 0..pool.len(Part::Current) {
-        if let Some(entry) = pool.entry(Part::Current, k) {
-            left = copy_entry(copy, entry, left)?;
-        }
+        let Some(entry) = pool.entry(Part::Current, k) else {
+            return Err(AllocError);
+        };
+        left = copy_entry(copy, entry, left)?;
     }
     if left.is_some() {
         return Err(AllocError);

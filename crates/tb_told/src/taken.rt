@@ -1,7 +1,7 @@
 //! A company leaves the list in which its floats wait.
-ghost use Rattle.std.specs.Prelude.{◌≡◌, [], length, None, true, false};
+ghost use Rattle.std.specs.Prelude.{◌≡◌, suc, length, None, true, false};
 ghost use Rattle.tb_float.specs.Lists.{IsWaiting, floats_of};
-ghost use Rattle.tb_float.specs.Pool.{HasNoMarks, marks_of};
+ghost use Rattle.tb_float.specs.Pool.{HasNoMarks, marked_floats};
 ghost use Rattle.tb_float.specs.MarkedFloats.{without_marked};
 ghost use Rattle.tb_fpage.specs.Company.{company};
 ghost use Rattle.tb_told.specs.ColumnPieces.{IsTaken};
@@ -19,7 +19,7 @@ pub fn take_company(pool: &mut Pool, from: Part, wanted: &Wanted) -> bool
     ensures unchanged { result ≡ false → pool.new ≡ pool.old }
     ensures unmarked { HasNoMarks pool.new }
 {
-    let found = choose(
+    if !choose(
         pool,
         wanted.height,
         wanted.minimum,
@@ -27,17 +27,31 @@ pub fn take_company(pool: &mut Pool, from: Part, wanted: &Wanted) -> bool
         wanted.clearing,
         wanted.wide,
         from,
-    );
-    if found {
-        drop_marked(pool, from);
+    ) {
+        return false;
     }
-    found
+    drop_marked(pool, from);
+    true
 }
 
 // The marked floats of a list leave the pool.
 fn drop_marked(pool: &mut Pool, from: Part)
-    requires waiting { IsWaiting from }
+    requires { IsWaiting from }
     ensures { pool.new ≡ without_marked from pool.old }
 {
-    'floats: while let Some(_float) = pool.retire_marked(from) {}
+    'floats: while drop_one(pool, from) {}
+}
+
+// The first marked float of a list leaves the pool; false if none is marked, and nothing changes then.
+fn drop_one(pool: &mut Pool, from: Part) -> bool
+    requires { IsWaiting from }
+    ensures one { result ≡ true → without_marked from pool.new ≡ without_marked from pool.old }
+    ensures fewer { result ≡ true → length (marked_floats from pool.old) ≡ suc (length (marked_floats from pool.new)) }
+    ensures none { result ≡ false → pool.new ≡ without_marked from pool.old }
+{
+    let _marks = pool.len(from);
+    match pool.retire_marked(from) {
+        Some(_) => true,
+        None => false,
+    }
 }

@@ -1,10 +1,11 @@
 -- Worked rows, in reading order.
 mod Texts
-mod AllWords
 pub mod WorkedRows
 pub mod FloatRowLemmas
 pub mod ColumnRowLemmas
 pub mod VersionRowLemmas
 pub mod RateRowLemmas
+pub mod WhyRowLemmas
+pub mod WhyWideRowLemmas
 pub mod LinesRowLemmas
 pub mod MakeupRowLemmas

@@ -15,6 +15,8 @@ pub mod FloatRows
 pub mod ColumnRows
 pub mod VersionRows
 pub mod RateRows
+pub mod WhyRows
+pub mod WhyWideRows
 pub mod LinesRows
 pub mod MakeupRows
 pub mod MakeupTraceRows

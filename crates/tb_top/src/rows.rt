@@ -4,6 +4,8 @@ ghost use Rattle.tb_top.specs.FloatRows.{FloatRows};
 ghost use Rattle.tb_top.specs.ColumnRows.{ColumnRows};
 ghost use Rattle.tb_top.specs.VersionRows.{VersionRows};
 ghost use Rattle.tb_top.specs.RateRows.{RateRows};
+ghost use Rattle.tb_top.specs.WhyRows.{WhyRows};
+ghost use Rattle.tb_top.specs.WhyWideRows.{WhyWideRows};
 ghost use Rattle.tb_top.specs.LinesRows.{LinesRows};
 ghost use Rattle.tb_top.specs.MakeupRows.{MakeupRows};
 ghost use Rattle.tb_top.specs.MakeupTraceRows.{MakeupTraceRows};
@@ -17,6 +19,8 @@ pub fn check_rows()
     ensures columns { ColumnRows }
     ensures versions { VersionRows }
     ensures ratings { RateRows }
+    ensures told { WhyRows }
+    ensures told_wide { WhyWideRows }
     ensures lines { LinesRows }
     ensures makeup { MakeupRows }
     ensures makeup_trace { MakeupTraceRows }

@@ -1,6 +1,9 @@
 pub mod RunLemmas
 pub mod PlacementLemmas
 pub mod SeenLemmas
+pub mod WovenLemmas
+pub mod TurnLemmas
+pub mod FiringLemmas
 pub mod PrintablePages
 pub mod AllWords
 pub mod TextLines
@@ -11,3 +14,4 @@ pub mod ShownTexts
 pub mod PlainRuns
 pub mod TraceLeft
 pub mod Rows
+pub mod LeavingLemmas

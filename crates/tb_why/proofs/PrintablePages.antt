@@ -1,4 +1,4 @@
--- The events of the output routine's machine can be printed.
+-- The events of the output routine's machine are live, and can be printed.
 use Rattle.std.proofs.Common.{ℕ, arith}
 use Rattle.std.specs.Prelude.{pos}
 use Rattle.std.proofs.lemmas.Int.{ints}
@@ -10,7 +10,7 @@ use Rattle.tb_sheet.specs.declared.Sheet.{Sheet}
 use Rattle.tb_sheet.specs.declared.Sheet.TheVariants as sheets
 use Rattle.tb_sheet.specs.declared.Sent.{Sent}
 use Rattle.tb_sheet.specs.declared.Sent.TheVariants as events
-use Rattle.tb_sheet.specs.StoredSheets.{IsPageSheet, IsPageSent}
+use Rattle.tb_sheet.specs.StoredSheets.{IsLiveSheet, IsLiveSent, IsPageSheet, IsPageSent}
 use Rattle.tb_column.specs.Page.{IsPageList, IsPageColumn}
 use Rattle.tb_report.specs.Printable.{IsPrintableList, IsPrintable, IsPrintableSheet, IsPrintableSent}
 
@@ -33,3 +33,12 @@ printable-sheet store (sheets.Two tops at left right) h = (printable-list store 
 pub printable-sent : (store : Lists Node) (e : Sent) → IsPageSent store e → IsPrintableSent store e
 printable-sent store (events.Warn w) h = tt
 printable-sent store (events.Ship page sheet) h = printable-sheet store sheet h
+
+live-sheet : (store : Lists Node) (s : Sheet) → IsPageSheet store s → IsLiveSheet store s
+live-sheet store (sheets.One c) h = h.list.live
+live-sheet store (sheets.Wide c) h = h.list.live
+live-sheet store (sheets.Two tops at left right) h = (h.0.live, h.1.list.live, h.2.list.live)
+
+pub live-sent : (store : Lists Node) (e : Sent) → IsPageSent store e → IsLiveSent store e
+live-sent store (events.Warn w) h = tt
+live-sent store (events.Ship page sheet) h = live-sheet store sheet h

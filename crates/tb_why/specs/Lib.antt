@@ -5,6 +5,7 @@ pub mod WhyRun
 pub mod Summary
 pub mod ShownLines
 pub mod ShownOf
+pub mod ShownTurns
 pub mod Placements
 pub mod Told
 pub mod PlainNames

@@ -4,12 +4,14 @@
 #![tactic(auto)]
 
 mod byte_law;
+mod firings;
 mod laws;
 mod lists;
 mod shown;
 mod steps;
 mod telling;
 mod turns;
+mod weaving;
 
 pub use crate::byte_law::{
     without_told_lines_the_events_are_left, without_told_lines_the_trace_is_left,

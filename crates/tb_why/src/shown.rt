@@ -1,12 +1,14 @@
 //! What is shown of a run: its lines, and what they add to the summary.
 
-ghost use Rattle.std.specs.Prelude.{◌≡◌, ◌++◌, OnOk};
+ghost use Rattle.std.specs.Prelude.{◌≡◌, [], ◌∷◌, ◌++◌, OnOk};
 ghost use Rattle.tb_items.specs.Happenings.{event_of, IsPage};
 ghost use Rattle.tb_why.specs.ShownLines.{all_shown_lines, event_lines, shown_lines};
 ghost use Rattle.tb_why.specs.ShownOf.{all_shown_of, shown_part, AreShownPages, IsShownPage};
 ghost use Rattle.tb_why.specs.Summary.{after_event, after_shown, summed};
+ghost use Rattle.tb_story.specs.Summary.{after_tale};
 
 use std::alloc::AllocError;
+use std::marker::Model;
 use tb_items::Happening;
 use tb_node::Node;
 use tb_pool::Lists;
@@ -15,13 +17,67 @@ use tb_story::Summary;
 use tb_told::{Tale, put_tale};
 use tb_trace::put_try;
 
+/// What happened. It is a type of this crate, since the checker does not find the modules of what a [`Happening`] holds when
+/// it fills in a type parameter. In contracts it is that [`Happening`].
+#[derive(Clone, Copy)]
+pub struct Happened {
+    /// What happened.
+    pub happening: Happening,
+}
+
+impl Model for Happened {
+    ghost use Rattle.tb_items.specs.declared.happenings.Happening.{Happening};
+
+    ghost Value = { Happening };
+
+    ghost view = { λ h. h.happening };
+
+    ghost inverse = { λ h. record { happening = h } };
+}
+
+/// What is told. It is a type of this crate, as [`Happened`] is. In contracts it is that [`Tale`].
+#[derive(Clone, Copy)]
+pub struct Telling {
+    /// What is told.
+    pub tale: Tale,
+}
+
+impl Model for Telling {
+    ghost use Rattle.tb_told.specs.declared.Tale.{Tale};
+
+    ghost Value = { Tale };
+
+    ghost view = { λ t. t.tale };
+
+    ghost inverse = { λ t. record { tale = t } };
+}
+
 /// One thing that is shown of a turn: something that happened, or that is told.
 #[derive(Clone, Copy)]
 pub enum Showing {
     /// A legal place was tried, or the output routine sent something.
-    Happens(Happening),
+    Happens(Happened),
     /// Something is told.
-    Tells(Tale),
+    Tells(Telling),
+}
+
+/// Appends what happened. It fails only if memory runs out.
+pub(crate) fn show_happening(
+    shown: &mut Vec<Showing>,
+    happening: Happening,
+) -> Result<(), AllocError>
+    ensures { OnOk result (shown.new.items ≡ shown.old.items ++ Showing.Happens happening ∷ []) }
+{
+    shown.push(Showing::Happens(Happened { happening }))?;
+    Ok(())
+}
+
+/// Appends what is told. It fails only if memory runs out.
+pub(crate) fn show_tale(shown: &mut Vec<Showing>, tale: Tale) -> Result<(), AllocError>
+    ensures { OnOk result (shown.new.items ≡ shown.old.items ++ Showing.Tells tale ∷ []) }
+{
+    shown.push(Showing::Tells(Telling { tale }))?;
+    Ok(())
 }
 
 /// Appends the lines of what is shown, one after another. It fails only if memory runs out; a front of the lines may follow
@@ -49,8 +105,8 @@ fn put_showing(
     ensures { OnOk result (out.new.items ≡ out.old.items ++ shown_lines (shown_part store.now showing.now)) }
 {
     match showing {
-        Showing::Happens(happening) => put_happening(out, store, happening),
-        Showing::Tells(tale) => put_tale(out, tale),
+        Showing::Happens(happened) => put_happening(out, store, &happened.happening),
+        Showing::Tells(telling) => put_tale(out, &telling.tale),
     }
 }
 
@@ -69,8 +125,8 @@ fn put_happening(
     }
 }
 
-/// Takes what is shown into the summary, one after another. It fails only if memory runs out; nothing is promised of the
-/// summary then.
+/// Takes what is shown into the summary, one after another. It fails only if memory runs out, or if more
+/// sheets were put out than the summary counts; nothing is promised of the summary then.
 pub fn note_shown(
     summary: &mut Summary,
     store: &Lists<Node>,
@@ -94,12 +150,25 @@ fn note_showing(
     ensures { OnOk result (summary.new ≡ after_shown (shown_part store.now showing.now) summary.old) }
 {
     match showing {
-        Showing::Happens(happening) => {
-            note_happening(summary, store, happening);
+        Showing::Happens(happened) => {
+            note_happening(summary, store, &happened.happening);
             Ok(())
         }
-        Showing::Tells(tale) => summary.note(tale),
+        Showing::Tells(telling) => note_tale(summary, &telling.tale),
     }
+}
+
+// No run comes near so many sheets: it ships at most 1000000 pages.
+const MOST_SHEETS: u64 = 1 << 62;
+
+// Takes a tale into the summary, whose count of sheets has room for one more.
+fn note_tale(summary: &mut Summary, tale: &Tale) -> Result<(), AllocError>
+    ensures { OnOk result (summary.new ≡ after_tale tale.now summary.old) }
+{
+    if summary.sheets() >= MOST_SHEETS {
+        return Err(AllocError);
+    }
+    summary.note(tale)
 }
 
 // A page that was shipped lands floats; a place that was tried changes nothing.

@@ -1,5 +1,5 @@
 //! Single steps of a firing, as they are seen: each changes one thing, or tells of one.
-ghost use Rattle.std.specs.Prelude.{◌≡◌, ℕ, [], ◌∷◌, ◌++◌, map, slice_get, OnOk, IfSome, MatchBool};
+ghost use Rattle.std.specs.Prelude.{◌≡◌, ◌≤◌, ◌+◌, true, false, ◌||◌, [], ◌∷◌, ◌++◌, map, slice_get, OnOk, IfSome, MatchBool};
 ghost use Rattle.tb_scaled.specs.Amount.{IsAmount};
 ghost use Rattle.tb_float.specs.Lists.{IsWaiting, floats_of, entry_count};
 ghost use Rattle.tb_float.specs.Ranges.{AreFloatParams, IsSizedEntry, IsSizedMargin};
@@ -10,7 +10,7 @@ ghost use Rattle.tb_output.specs.Columns.{single_wanted};
 ghost use Rattle.tb_output.specs.Machine.{AreOutputParams};
 ghost use Rattle.tb_told.specs.AreaTold.{told_call};
 ghost use Rattle.tb_told.specs.Tales.{tales, decisions, column_tales, back_tales};
-ghost use Rattle.tb_why.specs.Seen.{spot_seen, told_unless, with_lists, fill_told, fill_seen, fill_double_told, fill_double_seen, ship_told, ship_seen, without_double_seen, after_column_seen, without_column_seen, note_seen};
+ghost use Rattle.tb_why.specs.Seen.{spot_seen, told_unless, with_lists, fill_told, fill_seen, fill_double_told, fill_double_seen, is_last, ship_told, ship_seen, without_double_seen, after_column_seen, without_column_seen, note_seen};
 ghost use Rattle.tb_why.specs.SeenSteps.{TakesCompany, TakesNone};
 
 use crate::lists::{
@@ -66,8 +66,7 @@ impl Seen {
         if self.over {
             return Ok(());
         }
-        pieces.push(Piece::Says(tale))?;
-        Ok(())
+        tell(pieces, tale)
     }
 
     /// Appends that the floats of these lines stand in the text of the next column. Fails only if memory runs out.
@@ -156,16 +155,37 @@ impl Seen {
         ensures told { OnOk result (pieces.new.items ≡ pieces.old.items ++ ship_told p.now self.old) }
         ensures seen { OnOk result (self.new ≡ ship_seen p.now self.old) }
     {
-        if self.over {
+        if self.is_over(p) {
+            self.stop();
             return Ok(());
         }
-        if exceeds(self.page, p.maxpages) {
-            self.over = true;
-            return Ok(());
-        }
-        pieces.push(Piece::NextSent)?;
-        self.page += 1;
+        tell_sent(pieces)?;
+        self.next_page();
         Ok(())
+    }
+
+    // Whether the page limit was met, or is met now.
+    fn is_over(&self, p: &Params) -> bool
+        requires { AreOutputParams p.now }
+        ensures over { result ≡ (self.now.over || is_last p.now self.now) }
+        ensures few { result ≡ false → self.now.page ≤ 4194304 }
+    {
+        self.over || exceeds(self.page, p.maxpages)
+    }
+
+    // The page limit was met.
+    fn stop(&mut self)
+        ensures { self.new ≡ record self.old { over = true } }
+    {
+        self.over = true;
+    }
+
+    // The next page is made.
+    fn next_page(&mut self)
+        requires { self.old.page ≤ 4194304 }
+        ensures { self.new ≡ record self.old { page = self.old.page + 1 } }
+    {
+        self.page += 1;
     }
 
     /// The page of two columns has taken the floats above them, and the next column is the first.
@@ -236,8 +256,15 @@ impl Seen {
         requires extent { IsExtent f.now.height }
         ensures { OnOk result (pieces.new.items ≡ pieces.old.items ++ tales (Tale.Calls (spot_seen self.now) f.now page_height ∷ decisions f.now (told_call p.now self.now.floats self.now.suppress page_height f.now))) }
     {
-        pieces.push(Piece::Says(Tale::Calls(self.spot(), *f, page_height)))?;
+        tell(pieces, self.called(f, page_height))?;
         tell_called(pieces, &self.pool, p, &self.suppress, page_height, f)
+    }
+
+    // That a float is called at a text of this height.
+    fn called(&self, f: &Float, page_height: i64) -> Tale
+        ensures { result ≡ Tale.Calls (spot_seen self.now) f.now page_height }
+    {
+        Tale::Calls(self.spot(), *f, page_height)
     }
 
     /// What is told of a note beside a text of this height.
@@ -259,6 +286,22 @@ impl Seen {
         );
         Tale::Beside(self.spot(), *m, height, self.note_bottom, placed)
     }
+}
+
+// Appends a tale. Fails only if memory runs out.
+fn tell(pieces: &mut Vec<Piece>, tale: Tale) -> Result<(), AllocError>
+    ensures { OnOk result (pieces.new.items ≡ pieces.old.items ++ Piece.Says tale ∷ []) }
+{
+    pieces.push(Piece::Says(tale))?;
+    Ok(())
+}
+
+// Appends the place of what is sent next. Fails only if memory runs out.
+fn tell_sent(pieces: &mut Vec<Piece>) -> Result<(), AllocError>
+    ensures { OnOk result (pieces.new.items ≡ pieces.old.items ++ Piece.NextSent ∷ []) }
+{
+    pieces.extend_from_slice(&[Piece::NextSent])?;
+    Ok(())
 }
 
 // Appends that the floats of these lines stand in a text. Fails only if memory runs out.

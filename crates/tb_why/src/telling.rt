@@ -1,5 +1,5 @@
 //! What is told at the firing of a page, along its steps.
-ghost use Rattle.std.specs.Prelude.{◌≡◌, ◌++◌, OnOk, IfOk};
+ghost use Rattle.std.specs.Prelude.{◌≡◌, ℕ, List, ◌++◌, OnOk, IfOk};
 ghost use Rattle.tb_scaled.specs.Amount.{IsAmount};
 ghost use Rattle.tb_output.specs.Machine.{AreOutputParams};
 ghost use Rattle.tb_output.specs.Output.{is_int};

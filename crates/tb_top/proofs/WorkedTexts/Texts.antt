@@ -18,7 +18,7 @@ use Rattle.tb_output.specs.Output.{out}
 use Rattle.tb_steps.specs.Run.{End, pool_full, dead_cycles, run_of, run_from, step}
 use Rattle.tb_top.specs.Report.{report, trace}
 use Rattle.tb_laws.specs.Laws.{is_carried, shipped_boxes}
-use Rattle.tb_top.proofs.WorkedTexts.AllWords.{galley_read}
+use Rattle.tb_why.proofs.AllWords.{galley_read}
 
 -- what is written for an input without faults
 abbrev reported : List ℕ → List ℕ

@@ -1,5 +1,5 @@
 use Rattle.std.proofs.Common.{◌≡◌}
-use Rattle.tb_story.specs.Story.{kept_back, placed_at, landed_at, if_of}
+use Rattle.tb_story.specs.Story.{placed_at, if_of}
 use Rattle.tb_story.specs.Counts.{changed_front}
 use Rattle.tb_story.proofs.stories.place_story.Given as goal
 

@@ -3,6 +3,8 @@ use Rattle.tb_top.proofs.WorkedTexts.FloatRowLemmas.{float_rows}
 use Rattle.tb_top.proofs.WorkedTexts.ColumnRowLemmas.{column_rows}
 use Rattle.tb_top.proofs.WorkedTexts.VersionRowLemmas.{version_rows}
 use Rattle.tb_top.proofs.WorkedTexts.RateRowLemmas.{rate_rows}
+use Rattle.tb_top.proofs.WorkedTexts.WhyRowLemmas.{why_rows}
+use Rattle.tb_top.proofs.WorkedTexts.WhyWideRowLemmas.{why_wide_rows}
 use Rattle.tb_top.proofs.WorkedTexts.LinesRowLemmas.{lines_rows}
 use Rattle.tb_top.proofs.WorkedTexts.MakeupRowLemmas.{makeup_rows, makeup_trace_rows}
 use Rattle.tb_top.proofs.rows.check_rows.Goals as goal
@@ -21,6 +23,12 @@ returns-clause-versions c = version_rows
 
 pub returns-clause-ratings : goal.returns-clause-ratings
 returns-clause-ratings c = rate_rows
+
+pub returns-clause-told : goal.returns-clause-told
+returns-clause-told c = why_rows
+
+pub returns-clause-told_wide : goal.returns-clause-told_wide
+returns-clause-told_wide c = why_wide_rows
 
 pub returns-clause-lines : goal.returns-clause-lines
 returns-clause-lines c = lines_rows

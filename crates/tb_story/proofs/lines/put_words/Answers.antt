@@ -1,0 +1,10 @@
+use Rattle.std.proofs.Common.{refl}
+use Rattle.tb_text.proofs.FrontLemmas.{cut, fails, on_joined}
+use Rattle.tb_story.proofs.lines.put_words.Goals as goal
+
+pub returns-in_err-put_text : goal.returns-in_err-put_text
+returns-in_err-put_text c = fails _ _ _ _ c.from_residual.ensures.0 (cut _ (simp c.area_text.ensures at c.in_err-put_text.ensures))
+
+pub returns : goal.returns
+returns c =
+    on_joined c.put_cause.result c.args.out.now.items c.put_text.new.out.items c.put_cause.new.out.items _ _ _ refl (simp c.area_text.ensures at c.in_ok-put_text.ensures) c.put_cause.ensures

@@ -1,0 +1,12 @@
+use Rattle.std.proofs.Common.{◌≡◌, List}
+use Rattle.tb_node.specs.declared.Float.{Float}
+use Rattle.tb_float.specs.Lists.{float_entries, floats_of}
+use Rattle.tb_told.specs.Tales.{has_width}
+use Rattle.tb_told.proofs.company.has_width.Given as goal
+
+abbrev pub invariant-loop-entry : goal.invariant-loop-entry
+invariant-loop-entry l = record {
+  can_next : (goal.iterator-loop-entry).can_next l.entry-iterator;
+  is_finite : (goal.iterator-loop-entry).is_finite l.entry-iterator;
+  way : (fs : List Float) × (l.entry-iterator ≡ float_entries fs) × (has_width l.fn.wide (floats_of l.fn.from l.fn.pool.lists) ≡ has_width l.fn.wide fs);
+}
