@@ -32,8 +32,8 @@ why_left g v =
     let r = run_of g in
     let t = totals_of r.events in
     ap (λ ls. without_told (codes "report 1\n" ++ ls)) (
-        sym (append_assoc (all_shown_lines xs) (summary_lines xs) (closing_lines r.end r.events))
-        ∙ ap (λ ls. told_text g ++ ls) (sym (closing-same r.end r.events)))
+    sym (append_assoc (all_shown_lines xs) (summary_lines xs) (closing_lines r.end r.events))
+    ∙ ap (λ ls. told_text g ++ ls) (sym (closing-same r.end r.events)))
     ∙ report_left g t v
     ∙ ap (λ ls. codes "report 1\n" ++ (ls ++ ending_lines r.end t)) (events-traced r.events)
     ∙ ap (λ ls. codes "report 1\n" ++ (all_lines traced_lines r.events ++ ls)) (closing-same r.end r.events)
