@@ -19,3 +19,4 @@ pub mod TellingLemmas
 pub mod MovingLemmas
 pub mod LandingLemmas
 pub mod TimeLemmas
+pub mod FaultLemmas

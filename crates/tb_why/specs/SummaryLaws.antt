@@ -1,5 +1,5 @@
 -- What the laws of the summary say of its stories: where they landed, and for how many sheets their reasons count.
-use Rattle.std.specs.Prelude.{◌≡◌, ◌⊎◌, ⊤, ℕ, ◌+◌, ◌≤◌, true, false, List, [], ◌∷◌, ◌++◌, Option, Some, None, is_some, if◌then◌else◌}
+use Rattle.std.specs.Prelude.{◌≡◌, Bool, ◌⊎◌, ⊤, ℕ, ◌+◌, ◌≤◌, true, false, List, [], ◌∷◌, ◌++◌, Option, Some, None, is_some, if◌then◌else◌}
 use Rattle.std.specs.List.{AllByRecursion}
 use Rattle.tb_node.specs.declared.What.{What}
 use Rattle.tb_node.specs.declared.What.TheVariants as what
@@ -13,11 +13,18 @@ use Rattle.tb_told.specs.declared.Tale.{Tale}
 use Rattle.tb_told.specs.declared.Tale.TheVariants.{Waits, Calls, Decides, InColumn, Back, Stands, PutOut}
 use Rattle.tb_story.specs.declared.Group.{Group}
 use Rattle.tb_story.specs.declared.Noted.{Noted}
-use Rattle.tb_story.specs.Story.{StoryView, waits, is_story_of}
-use Rattle.tb_story.specs.Summary.{SummaryView}
+use Rattle.tb_story.specs.declared.Cause.{Cause}
+use Rattle.tb_story.specs.declared.Cause.TheVariants as causes
+use Rattle.tb_story.specs.declared.Kept.{Kept}
+use Rattle.tb_told.specs.declared.Test.TheVariants as tests
+use Rattle.tb_told.specs.declared.Told.{Told}
+use Rattle.tb_told.specs.declared.Told.TheVariants.{Enters, TestsHere, TestsTop, TestsBottom, TestsWide, Goes}
+use Rattle.tb_node.specs.declared.Float.{Float}
+use Rattle.tb_story.specs.Story.{StoryView, waits, is_story_of, or_else, last_of}
+use Rattle.tb_story.specs.Summary.{SummaryView, noted_of, after_tale}
 use Rattle.tb_story.specs.Counts.{open_times}
 use Rattle.tb_why.specs.WhyRun.{Shown, happens, tells}
-use Rattle.tb_why.specs.Summary.{after_shown}
+use Rattle.tb_why.specs.Summary.{after_event, after_shown}
 
 -- ---- where a story landed
 
@@ -183,3 +190,75 @@ IsShownInOrder (happens (sent e)) m = IsSentInOrder e m
 abbrev pub IsOrderly : List Shown → SummaryView → Type 0
 IsOrderly [] m = ⊤
 IsOrderly (x ∷ xs) m = IsShownInOrder x m × IsOrderly xs (after_shown x m)
+
+-- ---- the float at fault
+
+-- the cause is the test of classes
+abbrev pub names_class : Cause → Bool
+names_class (causes.Failed tests.Class) = true
+names_class c = false
+
+-- by the test of classes: the root is the float itself if none is in the way, and else the float in the way, which has no reason
+abbrev pub IsByClass : Float → Option Float → (Float → Option Kept) → Kept → Type 0
+IsByClass f None reason k = k.root ≡ f
+IsByClass f (Some b) reason k = (k.root ≡ b) × (reason b ≡ None)
+
+-- the reason is of the float that is itself at fault: by another cause it is this float, or else it is as above
+abbrev pub IsAtFault : Float → Option Float → (Float → Option Kept) → Kept → Type 0
+IsAtFault f way reason k = ((names_class k.cause ≡ false) × (k.root ≡ f)) ⊎ IsByClass f way reason k
+
+-- the float that is in the way of a decision, where it is followed
+abbrev pub way_told : Told → Option Float
+way_told (Enters t) = t.blocker
+way_told (TestsWide t) = t.blocker
+way_told t = None
+
+-- why the float in the way heads no column, or what kept it before
+abbrev pub reason_of_head : SummaryView → Float → Option Kept
+reason_of_head m b = or_else (noted_of b.line m.alone) (last_of b.line m.stories)
+
+-- what is told of a column of floats tells of the float at fault
+abbrev pub IsColumnFault : ToldColumn → SummaryView → Kept → Type 0
+IsColumnFault (Heads f t) m k = IsAtFault f t.blocker (λ b. reason_of_head m b) k
+IsColumnFault (Joins f t) m k = IsAtFault f t.blocker (λ b. or_else (noted_of b.line m.passed) (reason_of_head m b)) k
+IsColumnFault (Companied f t) m k = IsAtFault f None (λ b. None) k
+IsColumnFault (Takes f) m k = ⊥
+
+-- the tale tells this reason of the float that is at fault
+abbrev pub TellsFault : Tale → SummaryView → Kept → Type 0
+TellsFault (Waits at f) m k = IsAtFault f None (λ b. None) k
+TellsFault (Decides f t) m k = IsAtFault f (way_told t) (λ b. last_of b.line m.stories) k
+TellsFault (InColumn t) m k = IsColumnFault t m k
+TellsFault (Back f place) m k = IsAtFault f None (λ b. None) k
+TellsFault (Stands line) m k = (names_class k.cause ≡ false) × (k.root.line ≡ line)
+TellsFault t m k = ⊥
+
+-- one of the tales among what is shown does, from this summary on
+abbrev pub IsToldOfFault : List Shown → SummaryView → Kept → Type 0
+IsToldOfFault [] m k = ⊥
+IsToldOfFault (tells t ∷ xs) m k = TellsFault t m k ⊎ IsToldOfFault xs (after_tale t m) k
+IsToldOfFault (happens e ∷ xs) m k = IsToldOfFault xs (after_event e m) k
+
+-- ---- the reasons of a summary
+
+-- of a reason, if there is one
+abbrev pub IfKept : (Kept → Type 0) → Option Kept → Type 0
+IfKept P None = ⊤
+IfKept P (Some k) = P k
+
+abbrev pub IfGroup : (Kept → Type 0) → Option Group → Type 0
+IfGroup P None = ⊤
+IfGroup P (Some g) = P g.kept
+
+-- of each reason of a story
+pub record OfStory (P : Kept → Type 0) (s : StoryView) : Type 0 where
+  pub last : IfKept P s.last
+  pub groups : AllByRecursion (λ g. P g.kept) s.groups
+  pub group : IfGroup P s.group
+
+-- of each reason of a summary
+pub record OfReasons (P : Kept → Type 0) (m : SummaryView) : Type 0 where
+  pub stories : AllByRecursion (OfStory P) m.stories
+  pub found : IfKept P m.found
+  pub alone : AllByRecursion (λ n. P n.kept) m.alone
+  pub passed : AllByRecursion (λ n. P n.kept) m.passed

@@ -19,7 +19,9 @@ pub use crate::byte_law::{
 };
 pub use crate::laws::{floats_go_where_told, what_is_told_changes_nothing};
 pub use crate::shown::{Showing, note_shown, put_shown};
-pub use crate::summary_laws::{landed_where_shipped, times_are_sheets};
+pub use crate::summary_laws::{
+    landed_where_shipped, reasons_are_of_the_float_at_fault, times_are_sheets,
+};
 pub use crate::telling::tell_firing;
 pub use crate::turns::told_turn;
 use std::marker::Model;
