@@ -1,5 +1,5 @@
-//! The worked rows and the other tests of whole runs, in one crate above `tb_top`, since a crate with tests is proved
-//! twice.
+//! The tests that the worked rows and other whole runs give what they must, in a crate above `tb_top`, since a crate with tests
+//! is proved twice.
 #![tactic(auto)]
 
 #[cfg(test)]

@@ -1,2 +1,3 @@
 pub mod StoryLemmas
 pub mod LineLemmas
+pub mod SheetLemmas

@@ -1,5 +1,5 @@
 -- What holds of the stories at any time: those at the front are over, and no count is past twice the sheets.
-use Rattle.std.specs.Prelude.{◌≡◌, ◌≤◌, ℕ, zero, suc, ◌+◌, Bool, false, List, [], ◌∷◌, Option, Some, None, if◌then◌else◌}
+use Rattle.std.specs.Prelude.{◌≡◌, ◌≤◌, ℕ, zero, suc, ◌+◌, false, List, [], ◌∷◌, Option, Some, None}
 use Rattle.std.specs.List.{AllByRecursion}
 use Rattle.tb_story.specs.declared.Group.{Group}
 use Rattle.tb_story.specs.Story.{StoryView, is_open}

@@ -1,3 +1,4 @@
 pub mod WhyGoing
 pub mod WhyTurns
 pub mod WhyOutcomes
+pub mod WhyTrace

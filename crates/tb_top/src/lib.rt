@@ -20,6 +20,7 @@ mod summary;
 mod told_pages;
 mod top;
 mod views;
+mod why_law;
 
 pub use laws::each_makes_up_once;
 pub use makeup_pages::{PlainRunFault, paginate_plain};
@@ -35,8 +36,9 @@ pub use tb_laws::{
 };
 pub use tb_makeup::first_unsuited;
 pub use tb_report::Totals;
-pub use top::run;
 pub use told_pages::why_pages;
+pub use top::run;
+pub use why_law::why_without_its_lines_is_trace;
 
 /// What `paginate` and `paginate_plain` write of a run: its report, with the places that were tried or without, or nothing.
 #[derive(Clone, Copy, Debug, PartialEq, Eq)]

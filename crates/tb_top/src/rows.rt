@@ -11,8 +11,8 @@ ghost use Rattle.tb_top.specs.MakeupRows.{MakeupRows};
 ghost use Rattle.tb_top.specs.MakeupTraceRows.{MakeupTraceRows};
 
 /// The definitions against which [`run`](crate::run) is proved give the worked rows: from the bytes
-/// of each galley the status, the report and the line on `err`, of nine the ratings of their columns, and of one the trace of its run under plain TeX's page
-/// makeup.
+/// of each galley the status, the report and the line on `err`, of nine the ratings of their columns, of twenty what is told of
+/// their runs, and of one the trace of its run under plain TeX's page makeup.
 pub fn check_rows()
     ensures text { WorkedRows }
     ensures floats { FloatRows }

@@ -153,11 +153,7 @@ fn write_rated<S: Source, K: Sink>(
 }
 
 // Reads a galley and writes its report with what is told of the run.
-fn write_told<S: Source, K: Sink>(
-    alloc: Global,
-    source: &mut S,
-    out: &mut K,
-) -> Result<(), Refusal>
+fn write_told<S: Source, K: Sink>(alloc: Global, source: &mut S, out: &mut K) -> Result<(), Refusal>
     ensures stands { StandsAfter (Some Mode.Why) (served_status result)
         (stream (S.left source.old) (S.left source.new) (S.faults source.old) (S.faults source.new))
         (stream (K.held out.old) (K.held out.new) (K.faults out.old) (K.faults out.new))

@@ -25,12 +25,14 @@ use Rattle.tb_column.specs.Column.{PlainColumn}
 use Rattle.tb_sheet.specs.declared.Warn.{Warn}
 use Rattle.tb_sheet.specs.declared.Warn.TheVariants as warnings
 use Rattle.tb_sheet.specs.Sheet.{PlainSheet, one, wide, two, warned, shipped}
-use Rattle.tb_report.specs.Lines.{order_text, sign_text, over_text, set_text, where_text, side_text, box_line, rule_line, matter_line, node_line, item_lines, kind_text, column_lines, unset, sheet_lines, warn_line}
+use Rattle.tb_report.specs.Lines.{order_text, sign_text, over_text, set_text, where_text, side_text, box_line, rule_line, matter_line, node_line, item_lines, kind_text, column_lines, unset, sheet_lines, warn_line, left_line, left_lines}
+use Rattle.tb_report.specs.declared.Totals.{Totals}
+use Rattle.tb_steps.specs.Run.{End, done}
 use Rattle.tb_builder.specs.declared.Try.{Try}
 use Rattle.tb_trace.specs.Lines.{and_cost, and_numbers, champion_text, try_line}
 use Rattle.tb_items.specs.RunEvents.{RunEvent, offered, sent}
-use Rattle.tb_why.specs.ShownLines.{event_lines}
-use Rattle.tb_why.specs.PlainNames.{HasPlainName, IsPlainIf, IsPlainMatter, IsPlainKind, ArePlainNodes, IsPlainSheet, IsPlainWarning, IsPlainEvent}
+use Rattle.tb_why.specs.ShownLines.{event_lines, ending_lines}
+use Rattle.tb_why.specs.PlainNames.{HasPlainName, IsPlainIf, IsPlainMatter, IsPlainKind, ArePlainNodes, IsPlainSheet, IsPlainWarning, IsPlainEvent, IsPlainEnd}
 use Rattle.tb_why.proofs.TextLines.{Kept, none-kept, both-kept, line-kept, count-plain, number-plain, plain-join}
 
 pub where-plain : (place : Where) → IsUnended (where_text place)
@@ -137,9 +139,9 @@ champion-plain false = refl
 try-kept : (t : Try) → Kept (try_line t)
 try-kept t =
     let text =
-        codes "try" ++ and_count t.line ++ codes " t" ++ and_number t.sums.total ++ codes " s" ++ and_numbers t.sums.stretch ++ codes " z" ++ and_number t.sums.shrink
-        ++ codes " g" ++ and_number t.goal ++ codes " b" ++ and_cost t.badness ++ codes " p" ++ and_number t.penalty ++ codes " c" ++ and_cost t.cost
-        ++ champion_text t.champion in
+    codes "try" ++ and_count t.line ++ codes " t" ++ and_number t.sums.total ++ codes " s" ++ and_numbers t.sums.stretch ++ codes " z" ++ and_number t.sums.shrink
+    ++ codes " g" ++ and_number t.goal ++ codes " b" ++ and_cost t.badness ++ codes " p" ++ and_number t.penalty ++ codes " c" ++ and_cost t.cost
+    ++ champion_text t.champion in
     line-kept text (simp (list_all-append, count-plain, number-plain, numbers-plain, cost-plain, champion-plain) refl) refl
 
 -- the lines of an event are kept
@@ -147,3 +149,21 @@ pub event-kept : (e : RunEvent) → IsPlainEvent e → Kept (event_lines e)
 event-kept (offered t) p = try-kept t
 event-kept (sent (warned w)) p = warning-kept w p
 event-kept (sent (shipped page sheet)) p = sheet-kept page sheet p
+
+-- ---- the end of a report
+
+left-kept : (k : PlainKind) → IsPlainKind k → Kept (left_line k)
+left-kept (plain (mark name)) p = line-kept (codes "left mark " ++ name) p refl
+left-kept (plain (note name)) p = line-kept (codes "left note " ++ name) p refl
+left-kept k p = none-kept
+
+lefts-kept : (ns : List PlainNode) → ArePlainNodes ns → Kept (left_lines ns)
+lefts-kept [] p = none-kept
+lefts-kept (n ∷ ns) p = both-kept (left_line n.kind) (left_lines ns) (left-kept n.kind p.0) (lefts-kept ns p.1)
+
+-- the last lines are kept
+pub ending-kept : (e : End) (t : Totals) → IsPlainEnd e → Kept (ending_lines e t)
+ending-kept (done left) t p =
+    let text = codes "end pages" ++ and_count t.pages ++ codes " boxes" ++ and_count t.boxes ++ codes " floats" ++ and_count t.floats ++ codes " warnings" ++ and_count t.warnings in
+    both-kept (left_lines left) (line text) (lefts-kept left p) (line-kept text (simp (list_all-append, count-plain) refl) refl)
+ending-kept e t p = none-kept

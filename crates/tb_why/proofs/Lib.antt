@@ -3,6 +3,7 @@ pub mod PlacementLemmas
 pub mod SeenLemmas
 pub mod WovenLemmas
 pub mod TurnLemmas
+pub mod FiringLemmas
 pub mod PrintablePages
 pub mod AllWords
 pub mod TextLines
@@ -10,8 +11,11 @@ pub mod EventLines
 pub mod TaleLines
 pub mod StoryTexts
 pub mod ShownTexts
+pub mod PlainRuns
+pub mod TraceLeft
 pub mod Rows
 pub mod LeavingLemmas
+pub mod TellingLemmas
 pub mod MovingLemmas
 pub mod LandingLemmas
 pub mod TimeLemmas

@@ -10,7 +10,7 @@ use Rattle.tb_why.proofs.TaleLines.{tale-left}
 use Rattle.tb_why.proofs.StoryTexts.{stories_left}
 
 -- whatever follows what is shown
-before : (xs : List Shown) (rest : List ℕ) → ArePlainNames xs → without_told (all_shown_lines xs ++ rest) ≡ all_event_lines (happened_among xs) ++ without_told rest
+pub before : (xs : List Shown) (rest : List ℕ) → ArePlainNames xs → without_told (all_shown_lines xs ++ rest) ≡ all_event_lines (happened_among xs) ++ without_told rest
 before [] rest h = refl
 before (happens e ∷ xs) rest h =
     ap without_told (append_assoc (event_lines e) (all_shown_lines xs) rest) ∙ event-kept e h.0 (all_shown_lines xs ++ rest)

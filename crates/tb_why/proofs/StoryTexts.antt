@@ -1,11 +1,11 @@
 -- The lines of the summary are left out, and what is shown puts no other name into it than those that are shown.
 use Rattle.std.proofs.Common.{refl, ℕ, ℤ, pos, ◌-ℤ◌, Bool, true, false, List, [], ◌∷◌, ◌++◌, map, Option, Some, None}
 use Rattle.std.specs.Prelude.{not, ◌&&◌, ◌-◌, ◌==◌, codes, if◌then◌else◌}
-use Rattle.std.proofs.lemmas.List.Folds.{list_all-append}
 use Rattle.tb_break.proofs.EachLemmas.{all-join}
 use Rattle.tb_text.specs.Lines.{IsUnended}
-use Rattle.tb_text.specs.Fields.{and_count, and_text}
+use Rattle.tb_text.specs.Fields.{and_number, and_count, and_text}
 use Rattle.tb_node.specs.declared.Float.{Float}
+use Rattle.tb_node.specs.declared.What.{What}
 use Rattle.tb_node.specs.declared.What.TheVariants as what
 use Rattle.tb_node.specs.declared.Where.{Where}
 use Rattle.tb_node.specs.declared.Where.TheVariants as places
@@ -31,9 +31,9 @@ use Rattle.tb_story.specs.declared.Cause.TheVariants as causes
 use Rattle.tb_story.specs.declared.Group.{Group}
 use Rattle.tb_story.specs.declared.Kept.{Kept}
 use Rattle.tb_story.specs.declared.Noted.{Noted}
-use Rattle.tb_story.specs.Story.{StoryView, area_text, cause_text, is_alike, is_by_places, is_deferred, or_else, is_story_of, waits, begun, kept_back, placed_at, landed_at, closed, missed, missed_by, missed_sheet, by_break, carried, at_end, with_story, last_of}
-use Rattle.tb_story.specs.Summary.{SummaryView, no_stories, noted_of, way_of, way_in, way_of_head, way_of_joining, kept_by, gain, lack, capped, keep, keep_if, put_at, own_reason, found_with, reason_of, decided, tested_in, after_told, heads_none, not_alone, kept_all, after_heads, after_joining, after_company, after_column, by_width, by_clear, after_tale, after_node, after_nodes, after_sheet}
-use Rattle.tb_story.specs.StoryLines.{landed_text, group_text, all_groups, because_text, reasons_text, story_line, story_lines}
+use Rattle.tb_story.specs.Story.{StoryView, area_text, cause_text, is_alike, is_by_places, is_deferred, or_else, is_story_of, waits, begun, kept_back, placed_at, landed_at, closed, missed, missed_by, missed_sheet, by_break, carried, last_at_end, at_end, with_story, last_of}
+use Rattle.tb_story.specs.Summary.{SummaryView, no_stories, noted_of, way_of, way_in, way_of_head, way_of_joining, kept_by, gain, lack, capped, keep, keep_if, put_at, own_reason, found_with, reason_of, decided, tested_in, after_told, heads_none, not_alone, kept_all, after_heads, after_joining, after_company, after_column, by_width, by_clear, after_tale, after_box, after_node, after_nodes, after_sheet}
+use Rattle.tb_story.specs.StoryLines.{kept_words, group_text, all_groups, because_text, reasons_text, landed_words, landed_text, head_text, fate_text, story_text, story_line, story_lines}
 use Rattle.tb_why.specs.WhyRun.{Shown, happens, tells}
 use Rattle.tb_why.specs.Summary.{after_event, summed, summary_lines}
 use Rattle.tb_why.specs.PlainNames.{IsPlainFloat, IsPlainBlocker, IsPlainTold, IsPlainColumn, IsPlainTale, ArePlainNames}
@@ -53,12 +53,16 @@ cause-plain (causes.Failed t) = test-plain t
 cause-plain causes.Back = refl
 cause-plain causes.Carried = refl
 
-landed-plain : (o : Option ℕ) (place : List ℕ) → IsUnended place → IsUnended (landed_text o place)
-landed-plain None place h = h
-landed-plain (Some page) place h = simp (list_all-append, h, count-plain) refl
+landed-plain : (o : Option ℕ) (place : Where) → IsUnended (landed_text o place)
+landed-plain None place = plain-join (landed_words None) (and_text (where_text place)) refl (where-plain place)
+landed-plain (Some page) place = plain-join (landed_words (Some page)) (and_text (where_text place)) (count-plain page) (where-plain place)
 
 group-plain : (g : Group) → IsPlainKept g.kept → IsUnended (group_text g)
-group-plain g h = simp (list_all-append, h, area-plain, cause-plain, number-plain, count-plain) refl
+group-plain g h =
+    let k = g.kept in
+    plain-join (kept_words k) (and_number k.by ++ and_count g.times)
+    (plain-join (and_text (area_text k.area)) (and_text (cause_text k.cause) ++ and_text k.root.name) (area-plain k.area) (plain-join (and_text (cause_text k.cause)) (and_text k.root.name) (cause-plain k.cause) h))
+    (plain-join (and_number k.by) (and_count g.times) (number-plain k.by) (count-plain g.times))
 
 groups-plain : (gs : List Group) → ArePlainGroups gs → IsUnended (all_groups gs)
 groups-plain [] h = refl
@@ -66,7 +70,7 @@ groups-plain (g ∷ gs) h = plain-join (group_text g) (all_groups gs) (group-pla
 
 because-plain : (gs : List Group) (o : Option Group) → ArePlainGroups gs → IsPlainGroup o → IsUnended (because_text gs o)
 because-plain gs None h k = refl
-because-plain gs (Some g) h k = plain-join (codes " because" ++ all_groups gs) (group_text g) (groups-plain gs h) (group-plain g k)
+because-plain gs (Some g) h k = plain-join (codes " because") (all_groups gs ++ group_text g) refl (plain-join (all_groups gs) (group_text g) (groups-plain gs h) (group-plain g k))
 
 -- ---- one story
 
@@ -92,8 +96,12 @@ story-if false a b h k = k
 sheet-missed : (s : StoryView) → IsPlainStory s → IsPlainStory (missed_sheet s)
 sheet-missed s g = story-if (waits s) (missed_by 1 s.last s) s (missed_by-plain 1 s.last s g.1 g) g
 
+reason-if : (t : Bool) (a b : Option Kept) → IsPlainReason a → IsPlainReason b → IsPlainReason (if t then a else b)
+reason-if true a b h k = h
+reason-if false a b h k = k
+
 end-plain : (s : StoryView) → IsPlainStory s → IsPlainStory (at_end s)
-end-plain s g = story-if (waits s) (missed_by 0 s.last s) s (missed_by-plain 0 s.last s g.1 g) g
+end-plain s g = missed_by-plain 0 (last_at_end s) s (reason-if (waits s) s.last None g.1 tt) g
 
 carried-plain : (sheets : ℕ) (s : StoryView) → IsPlainStory s → IsPlainStory (carried sheets s)
 carried-plain sheets s g = story-if (s.put == sheets) s (record (missed (sheets - s.put) (by_break s.float) s) { put = sheets }) g (missed-plain (sheets - s.put) (by_break s.float) s g.0 g)
@@ -101,14 +109,11 @@ carried-plain sheets s g = story-if (s.put == sheets) s (record (missed (sheets 
 story-left : (s : StoryView) → IsPlainStory s → LeftOut (story_line s)
 story-left s g =
     let e = end-plain s g in
-    let n = g.0 in
-    let l = landed-plain s.landed (where_text s.place) (where-plain s.place) in
-    let b = because-plain (at_end s).groups (at_end s).group e.2 e.3 in
-    line-left (
-        codes "why" ++ and_text s.float.name ++ and_count s.float.line ++ codes " called" ++ and_count s.called ++ landed_text s.landed (where_text s.place)
-        ++ reasons_text (at_end s))
-    (plain-join (codes "why" ++ and_text s.float.name ++ and_count s.float.line ++ codes " called" ++ and_count s.called ++ landed_text s.landed (where_text s.place)) (reasons_text (at_end s))
-    (plain-join (codes "why" ++ and_text s.float.name ++ and_count s.float.line ++ codes " called" ++ and_count s.called) (landed_text s.landed (where_text s.place)) (simp (list_all-append, n, count-plain) refl) l) b) refl
+    line-left (story_text s)
+    (plain-join (head_text s) ((codes " called" ++ and_count s.called) ++ fate_text s)
+    (plain-join (codes "why") (and_text s.float.name ++ and_count s.float.line) refl (plain-join (and_text s.float.name) (and_count s.float.line) g.0 (count-plain s.float.line)))
+    (plain-join (codes " called" ++ and_count s.called) (fate_text s) (count-plain s.called)
+    (plain-join (landed_text s.landed s.place) (reasons_text (at_end s)) (landed-plain s.landed s.place) (because-plain (at_end s).groups (at_end s).group e.2 e.3)))) refl
 
 lines-left : (ss : List StoryView) → ArePlainStories ss → LeftOut (story_lines ss)
 lines-left [] h = none-left
@@ -123,10 +128,6 @@ changed l change (s ∷ ss) f h = (story-if (is_story_of l s) (change s) s (f s 
 all-missed : (ss : List StoryView) → ArePlainStories ss → ArePlainStories (map missed_sheet ss)
 all-missed [] h = tt
 all-missed (s ∷ ss) h = (sheet-missed s h.0, all-missed ss h.1)
-
-reason-if : (t : Bool) (a b : Option Kept) → IsPlainReason a → IsPlainReason b → IsPlainReason (if t then a else b)
-reason-if true a b h k = h
-reason-if false a b h k = k
 
 last-plain : (l : ℕ) (ss : List StoryView) → ArePlainStories ss → IsPlainReason (last_of l ss)
 last-plain l [] h = tt
@@ -260,8 +261,12 @@ tale-more (Beside at n height reach placed) m h g = g
 tale-more (Stands l) m h g = (changed l (carried m.sheets) m.stories (λ s p. carried-plain m.sheets s p) g.0, g.1, g.2, g.3)
 tale-more PutOut m h g = (all-missed m.stories g.0, g.1, g.2, g.3)
 
+box-more : (page : ℕ) (w : What) (ss : List StoryView) → ArePlainStories ss → ArePlainStories (after_box page w ss)
+box-more page (what.Float name class place item) ss g = changed item (landed_at page place) ss (λ s p. p) g
+box-more page w ss g = g
+
 node-more : (page : ℕ) (k : PlainKind) (ss : List StoryView) → ArePlainStories ss → ArePlainStories (after_node page k ss)
-node-more page (plain (hbox (what.Float name class place item) h d)) ss g = changed item (landed_at page place) ss (λ s p. p) g
+node-more page (plain (hbox w h d)) ss g = box-more page w ss g
 node-more page k ss g = g
 
 nodes-more : (page : ℕ) (ns : List PlainNode) (ss : List StoryView) → ArePlainStories ss → ArePlainStories (after_nodes page ns ss)

@@ -71,8 +71,8 @@ told-left : (name : Name) (t : Told) → IsUnended name → IsPlainTold t → Le
 told-left name (Enters t) p h =
     let b = blocker-plain t.blocker h in
     line-left (
-        codes "enter" ++ and_text name ++ blocker_text t.blocker ++ count_text t.count ++ codes " least" ++ and_number t.least ++ codes " high" ++ and_number t.high
-        ++ codes " room" ++ and_number t.room ++ codes " need" ++ and_number t.need ++ verdict_text t.failed)
+    codes "enter" ++ and_text name ++ blocker_text t.blocker ++ count_text t.count ++ codes " least" ++ and_number t.least ++ codes " high" ++ and_number t.high
+    ++ codes " room" ++ and_number t.room ++ codes " need" ++ and_number t.need ++ verdict_text t.failed)
     (simp (list_all-append, p, b, count-plain, number-plain, verdict-plain) refl) refl
 told-left name (TestsHere t) p h =
     let b = blocker-plain t.blocker h in
@@ -81,19 +81,19 @@ told-left name (TestsHere t) p h =
 told-left name (TestsTop t) p h =
     let b = blocker-plain t.blocker h in
     line-left (
-        codes "top" ++ and_text name ++ blocker_text t.blocker ++ count_text t.count ++ codes " room" ++ and_number t.room ++ codes " need" ++ and_number t.need
-        ++ codes " share" ++ and_number t.share ++ codes " high" ++ and_number t.high ++ verdict_text t.failed)
+    codes "top" ++ and_text name ++ blocker_text t.blocker ++ count_text t.count ++ codes " room" ++ and_number t.room ++ codes " need" ++ and_number t.need
+    ++ codes " share" ++ and_number t.share ++ codes " high" ++ and_number t.high ++ verdict_text t.failed)
     (simp (list_all-append, p, b, count-plain, number-plain, verdict-plain) refl) refl
 told-left name (TestsBottom t) p h =
     line-left (
-        codes "bottom" ++ and_text name ++ count_text t.count ++ codes " room" ++ and_number t.room ++ codes " need" ++ and_number t.need
-        ++ codes " share" ++ and_number t.share ++ codes " high" ++ and_number t.high ++ verdict_text t.failed)
+    codes "bottom" ++ and_text name ++ count_text t.count ++ codes " room" ++ and_number t.room ++ codes " need" ++ and_number t.need
+    ++ codes " share" ++ and_number t.share ++ codes " high" ++ and_number t.high ++ verdict_text t.failed)
     (simp (list_all-append, p, count-plain, number-plain, verdict-plain) refl) refl
 told-left name (TestsWide t) p h =
     let b = blocker-plain t.blocker h in
     line-left (
-        codes "wide" ++ and_text name ++ blocker_text t.blocker ++ count_text t.count ++ codes " room" ++ and_number t.room ++ codes " high" ++ and_number t.high
-        ++ verdict_text t.failed)
+    codes "wide" ++ and_text name ++ blocker_text t.blocker ++ count_text t.count ++ codes " room" ++ and_number t.room ++ codes " high" ++ and_number t.high
+    ++ verdict_text t.failed)
     (simp (list_all-append, p, b, count-plain, number-plain, verdict-plain) refl) refl
 told-left name (Goes w) p h = goes-left name (where_text w) p (where-plain w)
 
@@ -107,8 +107,8 @@ column-left (Joins f t) p =
     let n = p.0 in
     let b = blocker-plain t.blocker p.1 in
     line-left (
-        codes "joins" ++ and_text f.name ++ blocker_text t.blocker ++ codes " high" ++ and_number t.high ++ codes " sum" ++ and_number t.sum ++ codes " most" ++ and_number t.most
-        ++ verdict_text t.failed)
+    codes "joins" ++ and_text f.name ++ blocker_text t.blocker ++ codes " high" ++ and_number t.high ++ codes " sum" ++ and_number t.sum ++ codes " most" ++ and_number t.most
+    ++ verdict_text t.failed)
     (simp (list_all-append, n, b, number-plain, verdict-plain) refl) refl
 column-left (Companied f t) p =
     line-left (codes "company" ++ and_text f.name ++ codes " floats" ++ and_count t.floats ++ codes " sum" ++ and_number t.sum ++ codes " least" ++ and_number t.least ++ verdict_text t.failed)
@@ -124,8 +124,8 @@ begins-left at false false height = line-left (codes "start" ++ begins_text at f
 beside-left : (at : Spot) (m : Margin) (height reach : ℤ) (placed : Placed) → IsUnended m.name → LeftOut (beside_line at m height reach placed)
 beside-left at m height reach placed p =
     line-left (
-        codes "beside" ++ and_text m.name ++ and_count m.line ++ spot_text at ++ codes " text" ++ and_number height ++ codes " reach" ++ and_number reach
-        ++ codes " high" ++ and_number (note_height placed.side m) ++ codes " shift" ++ and_number placed.shift ++ and_text (side_text placed.side))
+    codes "beside" ++ and_text m.name ++ and_count m.line ++ spot_text at ++ codes " text" ++ and_number height ++ codes " reach" ++ and_number reach
+    ++ codes " high" ++ and_number (note_height placed.side m) ++ codes " shift" ++ and_number placed.shift ++ and_text (side_text placed.side))
     (simp (list_all-append, p, count-plain, number-plain, spot-plain, side-plain) refl) refl
 
 -- the line of a tale is left out

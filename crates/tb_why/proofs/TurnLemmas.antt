@@ -1,6 +1,6 @@
 -- What is shown of a turn is what the definition shows of a step.
 use Rattle.std.proofs.Common.{◌≡◌, refl, sym, subst, ◌∙◌, ap, ℕ, pos, Bool, true, false, List, [], ◌∷◌, ◌++◌, length, drop, map, Option, Some, None, append_assoc, append-nil}
-use Rattle.std.specs.Prelude.{int_lt, if◌then◌else◌}
+use Rattle.std.specs.Prelude.{int_lt, Result, Ok, Err, IfOk, OnOk, if◌then◌else◌}
 use Rattle.std.proofs.lemmas.List.{drop_at}
 use Rattle.std.proofs.lemmas.Bool.{true≢false}
 use Rattle.tb_break.proofs.EachLemmas.{all-front, all-back, all-join}
@@ -128,33 +128,39 @@ module _ (r q : Routine) (page : Page) (hs : List Happening) (h : IsFiring true 
 
 -- ---- the page is served
 
-module _ (page : Page) (q now : Routine) (o : Option Ending) (before after : List Happening) (h : HasServed page q o now before after) (old new : List Showing) where
-  abbrev firing : List Shown
-  firing = firing_shown q.machine.params (state_of q) (fired_whole q page)
-
+module _ (page : Page) (q now : Routine) (o : Option Ending) (before after : List Happening) (h : HasServed page q o now before after)
+    (ps : List Piece) (hs : List Happening) (told : ps ≡ pieces_in q page) (rest : hs ≡ drop (length before) after) (old new : List Showing) (is : new ≡ old ++ woven_shown ps hs) where
   abbrev alive : Bool
   alive = int_lt (pos q.machine.dead_cycles) q.machine.params.maxdeadcycles
 
-  sent-is : drop (length before) after ≡ sent_happenings h.sent
-  sent-is = ap (drop (length before)) h.grown ∙ drop_at before (sent_happenings h.sent) (length before) refl
+  sent-is : hs ≡ sent_happenings h.sent
+  sent-is = rest ∙ ap (drop (length before)) h.grown ∙ drop_at before (sent_happenings h.sent) (length before) refl
 
-  pub sent-woven : (ps : List Piece) → ps ≡ pieces_in q page → new ≡ old ++ woven_shown ps (drop (length before) after) → all_shown_of now.store new ≡ all_shown_of now.store old ++ firing
-  sent-woven ps told-is is =
+  pub sent-woven : all_shown_of now.store new ≡ all_shown_of now.store old ++ firing_shown q.machine.params (state_of q) (fired_whole q page)
+  sent-woven =
       ap (all_shown_of now.store) is
-      ∙ shown-append now.store old (woven_shown ps (drop (length before) after))
+      ∙ shown-append now.store old (woven_shown ps hs)
       ∙ ap (λ xs. all_shown_of now.store old ++ xs)
-      ((λ i. all_shown_of now.store (woven_shown (told-is i) (sent-is i)))
+      ((λ i. all_shown_of now.store (woven_shown (told i) (sent-is i)))
       ∙ woven-shown now.store (pieces_in q page) h.sent
       ∙ ap (λ es. all_shown (woven (pieces_in q page) es)) h.shown
       ∙ allowed-list alive (firing_pieces q.machine.params (state_of q) (fired_whole q page)) (out q.machine.params (state_of q) (fired_whole q page)).sent)
 
-  pub sent-pages : (ps : List Piece) → ArePages now.store after → new ≡ old ++ woven_shown ps (drop (length before) after) → AreShownPages now.store old → AreShownPages now.store new
-  sent-pages ps pages is so_far =
+  pub sent-pages : ArePages now.store after → AreShownPages now.store old → AreShownPages now.store new
+  sent-pages pages so_far =
       subst (AreShownPages now.store) (sym is)
-      (all-join (IsShownPage now.store) old (woven_shown ps (drop (length before) after)) so_far
-      (woven-pages now.store ps (drop (length before) after)
+      (all-join (IsShownPage now.store) old (woven_shown ps hs) so_far
+      (woven-pages now.store ps hs
       (subst (ArePages now.store) (sym sent-is) (all-back (IsPage now.store) before (sent_happenings h.sent) (subst (ArePages now.store) h.grown pages)))))
 
 -- what happened while a page was filled has pages of the store in which it is served
 pub front-pages : (store : Lists Node) (page : Page) (q now : Routine) (o : Option Ending) (before after : List Happening) → HasServed page q o now before after → ArePages store after → ArePages store before
 front-pages store page q now o before after h pages = all-front (IsPage store) before (sent_happenings h.sent) (subst (ArePages store) h.grown pages)
+
+-- the lists of all pages that are shown of a turn in which a page fires
+pub turn-pages : {E : Type 0} (r q : Routine) (page : Page) (hs : List Happening) → IsFiring true r page q hs → (x : Result (Option Ending) E) (now : Routine) (after : List Happening) (before shown : List Showing) →
+    before ≡ filled_shown (length r.machine.pool.lists.second) q.machine hs →
+    IfOk x (λ o. HasServed page q o now hs after) → OnOk x (ArePages now.store after) → OnOk x (AreShownPages now.store before → AreShownPages now.store shown) → OnOk x (AreShownPages now.store shown)
+turn-pages r q page hs h (Ok o) now after before shown is served pages grown =
+    grown (subst (AreShownPages now.store) (sym is) (filled-pages r q hs h.filled now.store (front-pages now.store page q now o hs after served pages)))
+turn-pages r q page hs h (Err e) now after before shown is served pages grown = tt

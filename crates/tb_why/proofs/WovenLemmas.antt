@@ -1,13 +1,10 @@
 -- What is shown of a turn, list by list: what happened, what waits, and what is told of a firing with what it sent.
-use Rattle.std.proofs.Common.{◌≡◌, refl, sym, ◌∙◌, ap, ℕ, ◌+◌, ◌≤◌, ◌<◌, Bool, true, false, List, [], ◌∷◌, ◌++◌, length, drop, map, get_or, append_assoc, append-nil}
-use Rattle.std.specs.Prelude.{if◌then◌else◌}
-use Rattle.std.proofs.lemmas.List.{map-append, drop_more, drop_all}
-use Rattle.std.proofs.lemmas.Bool.{true≢false}
+use Rattle.std.proofs.Common.{◌≡◌, refl, sym, ◌∙◌, ap, true, List, [], ◌∷◌, ◌++◌, map, append_assoc, append-nil}
+use Rattle.std.proofs.lemmas.List.{map-append}
 use Rattle.tb_pool.specs.Lists.{Lists}
 use Rattle.tb_node.specs.declared.Node.{Node}
 use Rattle.tb_node.specs.declared.Float.{Float}
 use Rattle.tb_sheet.specs.declared.Sent.{Sent}
-use Rattle.tb_sheet.specs.Sheet.{PlainSent}
 use Rattle.tb_sheet.specs.StoredSheets.{sent_shown}
 use Rattle.tb_output.specs.Machine.{events_shown}
 use Rattle.tb_items.specs.declared.happenings.Happening.{Happening}
@@ -15,16 +12,15 @@ use Rattle.tb_items.specs.RunEvents.{RunEvent, offered, sent}
 use Rattle.tb_items.specs.Happenings.{event_of, events_of, noted, ArePages}
 use Rattle.tb_run.specs.FilledPages.{sent_happenings}
 use Rattle.tb_told.specs.declared.Spot.{Spot}
-use Rattle.tb_told.specs.declared.Tale.{Tale}
 use Rattle.tb_told.specs.declared.Tale.TheVariants.{Waits}
 use Rattle.tb_told.specs.declared.Piece.{Piece}
 use Rattle.tb_told.specs.declared.Piece.TheVariants.{Says, NextSent}
 use Rattle.tb_why.specs.declared.shown.Showing.{Showing}
 use Rattle.tb_why.specs.declared.shown.Showing.TheVariants as showings
 use Rattle.tb_why.specs.Firing.{all_sent, woven}
-use Rattle.tb_why.specs.WhyRun.{Shown, happens, tells, all_happen, all_shown}
+use Rattle.tb_why.specs.WhyRun.{happens, tells, all_happen, all_shown}
 use Rattle.tb_why.specs.ShownOf.{shown_part, all_shown_of, AreShownPages}
-use Rattle.tb_why.specs.ShownTurns.{all_happens, all_waits, woven_shown, IsPieceShown}
+use Rattle.tb_why.specs.ShownTurns.{all_happens, all_waits, woven_shown}
 
 -- ---- as it is shown of a run
 
@@ -72,28 +68,14 @@ woven-pages store (Says t ∷ ps) hs k = (tt, woven-pages store ps hs k)
 woven-pages store (NextSent ∷ ps) [] k = woven-pages store ps [] k
 woven-pages store (NextSent ∷ ps) (h ∷ hs) k = (k.0, woven-pages store ps hs k.1)
 
--- ---- piece by piece
+-- ---- float by float
 
-module _ (hs : List Happening) (k : ℕ) (old new : List Showing) where
-  pub says-shown : (t : Tale) → k ≤ length hs → new ≡ old ++ showings.Tells t ∷ [] → IsPieceShown (Says t) hs k k old new
-  says-shown t h is = record {
-    within = h;
-    shown = λ ps. ap (λ xs. xs ++ woven_shown ps (drop k hs)) is ∙ append_assoc old (showings.Tells t ∷ []) (woven_shown ps (drop k hs));
-  }
+pub waits-more : (shown next : List Showing) (spot : Spot) (f : Float) (left fs : List Float) (all : List Showing) → left ≡ f ∷ fs → next ≡ shown ++ showings.Tells (Waits spot f) ∷ [] → shown ++ all_waits spot left ≡ all → next ++ all_waits spot fs ≡ all
+waits-more shown next spot f left fs all is put so_far =
+    ap (λ xs. xs ++ all_waits spot fs) put
+    ∙ append_assoc shown (showings.Tells (Waits spot f) ∷ []) (all_waits spot fs)
+    ∙ ap (λ gs. shown ++ all_waits spot gs) (sym is)
+    ∙ so_far
 
-  -- nothing more was sent
-  pub none-shown : k ≤ length hs → length hs ≤ k → new ≡ old → IsPieceShown NextSent hs k k old new
-  none-shown h over is =
-      let none = drop_all k hs over in
-      record {
-        within = h;
-        shown = λ ps. (λ i. is i ++ woven_shown ps (none i)) ∙ ap (λ hs. old ++ woven_shown (NextSent ∷ ps) hs) (sym none);
-      }
-
-  pub next-shown : (d : Happening) → k < length hs → k + 1 ≤ length hs → new ≡ old ++ showings.Happens (get_or hs k d) ∷ [] → IsPieceShown NextSent hs k (k + 1) old new
-  next-shown d h within is =
-      let x = get_or hs k d in
-      record {
-        within = within;
-        shown = λ ps. ap (λ xs. xs ++ woven_shown ps (drop (k + 1) hs)) is ∙ append_assoc old (showings.Happens x ∷ []) (woven_shown ps (drop (k + 1) hs)) ∙ ap (λ hs. old ++ woven_shown (NextSent ∷ ps) hs) (sym (drop_more hs k d h));
-      }
+pub waits-last : (shown all : List Showing) (spot : Spot) (left : List Float) → left ≡ [] → shown ++ all_waits spot left ≡ all → shown ≡ all
+waits-last shown all spot left none so_far = sym (append-nil shown) ∙ ap (λ gs. shown ++ all_waits spot gs) (sym none) ∙ so_far

@@ -10,6 +10,7 @@ use Rattle.tb_node.specs.PlainNodes.{Matter, hbox, rule, skip, kerned, pen, mark
 use Rattle.tb_sheet.specs.declared.Warn.{Warn}
 use Rattle.tb_sheet.specs.declared.Warn.TheVariants as warnings
 use Rattle.tb_sheet.specs.Sheet.{PlainSheet, one, wide, two, PlainSent, warned, shipped}
+use Rattle.tb_steps.specs.Run.{End, done}
 use Rattle.tb_items.specs.RunEvents.{RunEvent, offered, sent}
 use Rattle.tb_told.specs.declared.Told.{Told}
 use Rattle.tb_told.specs.declared.Told.TheVariants.{Enters, TestsHere, TestsTop, TestsBottom, TestsWide, Goes}
@@ -118,3 +119,8 @@ IsPlainShown (tells t) = IsPlainTale t
 -- no name in what is shown has a line feed
 abbrev pub ArePlainNames : List Shown → Type 0
 ArePlainNames xs = AllByRecursion IsPlainShown xs
+
+-- what is left on the page by a run that ends well
+abbrev pub IsPlainEnd : End → Type 0
+IsPlainEnd (done left) = ArePlainNodes left
+IsPlainEnd e = Unit {0}

@@ -1,7 +1,9 @@
 -- The lines of a run with what is told of it.
 use Rattle.std.specs.Prelude.{ℕ, List, [], ◌∷◌, ◌++◌}
-use Rattle.tb_report.specs.Lines.{sent_lines}
+use Rattle.tb_report.specs.Lines.{sent_lines, end_lines}
+use Rattle.tb_report.specs.declared.Totals.{Totals}
 use Rattle.tb_trace.specs.Lines.{try_line}
+use Rattle.tb_steps.specs.Run.{End, done}
 use Rattle.tb_items.specs.RunEvents.{RunEvent, offered, sent}
 use Rattle.tb_told.specs.Lines.{tale_line}
 use Rattle.tb_why.specs.WhyRun.{Shown, happens, tells, shown_run}
@@ -30,3 +32,8 @@ all_event_lines (e ∷ es) = event_lines e ++ all_event_lines es
 -- what is told of the run of a galley: its events with the tales between them, and then the summary
 abbrev pub told_text : Galley → List ℕ
 told_text g = all_shown_lines (shown_run g) ++ summary_lines (shown_run g)
+
+-- the last lines of a report with these totals: what is left, if the run ended well
+abbrev pub ending_lines : End → Totals → List ℕ
+ending_lines (done left) t = end_lines left t
+ending_lines e t = []

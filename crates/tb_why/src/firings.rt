@@ -2,12 +2,12 @@
 
 ghost use Rattle.std.specs.Prelude.{◌≡◌, IfOk};
 ghost use Rattle.tb_run.specs.FilledPages.{CanServe};
-ghost use Rattle.tb_why.specs.ShownTurns.{pieces_in, seen_in};
+ghost use Rattle.tb_why.specs.ShownTurns.{pieces_in, read_at, seen_in};
 
 use crate::{Reading, Seen, tell_firing};
 use std::alloc::{AllocError, Global};
 use tb_builder::Page;
-use tb_output::Machine;
+use tb_output::{Machine, Reading as PageReading};
 use tb_run::Routine;
 use tb_told::{Piece, copied, here_lines};
 
@@ -27,12 +27,7 @@ pub(crate) fn told_pieces(
         return Ok(pieces);
     }
     let read = machine.reading(&routine.store, &routine.builder, page);
-    let reading = Reading {
-        penalty: page.penalty,
-        height: read.height,
-        page_height: read.page_height,
-        has_notes: read.has_notes,
-    };
+    let reading = with_penalty(page.penalty, &read);
     let here = here_lines(alloc, &routine.store, page.body)?;
     let seen = seen_before(alloc, machine)?;
     tell_firing(
@@ -59,4 +54,16 @@ fn seen_before(alloc: Global, machine: &Machine) -> Result<Seen, AllocError>
         over: false,
         pool: copied(alloc, machine.pool())?,
     })
+}
+
+// What is read from a page that fires at this penalty.
+fn with_penalty(penalty: i64, read: &PageReading) -> Reading
+    ensures { result ≡ read_at penalty read.now }
+{
+    Reading {
+        penalty,
+        height: read.height,
+        page_height: read.page_height,
+        has_notes: read.has_notes,
+    }
 }

@@ -1,6 +1,6 @@
 //! What is told of a run, along its steps: why each float went where it went. What is told of a firing, in pieces; a turn with
-//! what is shown of it, its lines and what they add to the summary; and the laws that what is told changes nothing, and that
-//! each float is placed where it is told to go.
+//! what is shown of it, its lines and what they add to the summary; and the laws that what is told changes nothing, that
+//! without its lines the trace is left, and that each float is placed where it is told to go.
 #![tactic(auto)]
 
 mod byte_law;
@@ -14,7 +14,9 @@ mod telling;
 mod turns;
 mod weaving;
 
-pub use crate::byte_law::without_told_lines_the_events_are_left;
+pub use crate::byte_law::{
+    without_told_lines_the_events_are_left, without_told_lines_the_trace_is_left,
+};
 pub use crate::laws::{floats_go_where_told, what_is_told_changes_nothing};
 pub use crate::shown::{Showing, note_shown, put_shown};
 pub use crate::summary_laws::{

@@ -13,10 +13,10 @@ ghost use Rattle.tb_told.specs.Tales.{tales, decisions, column_tales, back_tales
 ghost use Rattle.tb_why.specs.Seen.{spot_seen, told_unless, with_lists, fill_told, fill_seen, fill_double_told, fill_double_seen, is_last, ship_told, ship_seen, without_double_seen, after_column_seen, without_column_seen, note_seen};
 ghost use Rattle.tb_why.specs.SeenSteps.{TakesCompany, TakesNone};
 
+use crate::Seen;
 use crate::lists::{
     defer_areas, defer_double, empty, empty_column, single_wanted, tell_back, wide_part,
 };
-use crate::Seen;
 use std::alloc::AllocError;
 use tb_area::{fill_column, fill_double};
 use tb_float::{Entry, Part, Suppress};
@@ -24,7 +24,9 @@ use tb_fpage::Wanted;
 use tb_margin::place_note;
 use tb_node::{Float, Margin, Where};
 use tb_param::{Params, exceeds};
-use tb_told::{Piece, Spot, Tale, take_company, tell_called, tell_column, tell_doubled, tell_filled};
+use tb_told::{
+    Piece, Spot, Tale, take_company, tell_called, tell_column, tell_doubled, tell_filled,
+};
 
 // Nothing is kept out of the areas of floats.
 const NO_SUPPRESS: Suppress = Suppress {
@@ -66,8 +68,7 @@ impl Seen {
         if self.over {
             return Ok(());
         }
-        pieces.push(Piece::Says(tale))?;
-        Ok(())
+        tell(pieces, tale)
     }
 
     /// Appends that the floats of these lines stand in the text of the next column. Fails only if memory runs out.
@@ -257,8 +258,15 @@ impl Seen {
         requires extent { IsExtent f.now.height }
         ensures { OnOk result (pieces.new.items ≡ pieces.old.items ++ tales (Tale.Calls (spot_seen self.now) f.now page_height ∷ decisions f.now (told_call p.now self.now.floats self.now.suppress page_height f.now))) }
     {
-        pieces.push(Piece::Says(Tale::Calls(self.spot(), *f, page_height)))?;
+        tell(pieces, self.called(f, page_height))?;
         tell_called(pieces, &self.pool, p, &self.suppress, page_height, f)
+    }
+
+    // That a float is called at a text of this height.
+    fn called(&self, f: &Float, page_height: i64) -> Tale
+        ensures { result ≡ Tale.Calls (spot_seen self.now) f.now page_height }
+    {
+        Tale::Calls(self.spot(), *f, page_height)
     }
 
     /// What is told of a note beside a text of this height.
@@ -280,6 +288,14 @@ impl Seen {
         );
         Tale::Beside(self.spot(), *m, height, self.note_bottom, placed)
     }
+}
+
+// Appends a tale. Fails only if memory runs out.
+fn tell(pieces: &mut Vec<Piece>, tale: Tale) -> Result<(), AllocError>
+    ensures { OnOk result (pieces.new.items ≡ pieces.old.items ++ Piece.Says tale ∷ []) }
+{
+    pieces.push(Piece::Says(tale))?;
+    Ok(())
 }
 
 // Appends the place of what is sent next. Fails only if memory runs out.

@@ -79,12 +79,7 @@ impl Seen {
     }
 
     // A text column is put out, with the floats of these lines in its text.
-    fn text(
-        &mut self,
-        pieces: &mut Vec<Piece>,
-        p: &Params,
-        here: &[u32],
-    ) -> Result<(), AllocError>
+    fn text(&mut self, pieces: &mut Vec<Piece>, p: &Params, here: &[u32]) -> Result<(), AllocError>
         requires { AreOutputParams p.now }
         ensures told { OnOk result (pieces.new.items ≡ pieces.old.items ++ text_told p.now here.now self.old) }
         ensures seen { OnOk result (self.new ≡ text_seen p.now self.old) }

@@ -10,6 +10,7 @@ ghost use Rattle.tb_why.specs.WhyRun.{firing_shown, step_shown};
 
 use crate::Showing;
 use crate::firings::told_pieces;
+use crate::shown::show_tale;
 use crate::weaving::{show_happened, show_sent};
 use std::alloc::{AllocError, Global};
 use tb_builder::Page;
@@ -75,7 +76,7 @@ fn show_waits(shown: &mut Vec<Showing>, machine: &Machine, from: usize) -> Resul
 {
     let spot = spot(machine);
     for entry in machine.pool().entries_from(Part::Second, from) {
-        shown.push(Showing::Tells(Tale::Waits(spot, *entry.float())))?;
+        show_tale(shown, Tale::Waits(spot, *entry.float()))?;
     }
     Ok(())
 }

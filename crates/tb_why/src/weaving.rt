@@ -4,6 +4,7 @@ ghost use Rattle.std.specs.Prelude.{◌≡◌, ◌≤◌, ◌++◌, length, IfOk
 ghost use Rattle.tb_why.specs.ShownTurns.{all_happens, woven_shown, IsPieceShown};
 
 use crate::Showing;
+use crate::shown::{show_happening, show_tale};
 use std::alloc::AllocError;
 use tb_items::Happening;
 use tb_told::Piece;
@@ -16,7 +17,7 @@ pub(crate) fn show_happened(
     ensures { OnOk result (shown.new.items ≡ shown.old.items ++ all_happens happened.now) }
 {
     for happening in happened {
-        shown.push(Showing::Happens(*happening))?;
+        show_happening(shown, *happening)?;
     }
     Ok(())
 }
@@ -48,7 +49,7 @@ fn show_piece(
 {
     match *piece {
         Piece::Says(tale) => {
-            shown.push(Showing::Tells(tale))?;
+            show_tale(shown, tale)?;
             Ok(next)
         }
         Piece::NextSent => show_next(shown, sent, next),
@@ -63,6 +64,6 @@ fn show_next(shown: &mut Vec<Showing>, sent: &[Happening], next: usize) -> Resul
     if next == sent.len() {
         return Ok(next);
     }
-    shown.push(Showing::Happens(sent[next]))?;
+    show_happening(shown, sent[next])?;
     Ok(next + 1)
 }

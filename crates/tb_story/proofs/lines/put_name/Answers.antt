@@ -7,4 +7,5 @@ returns-in_err-put_text c = fails _ _ _ _ c.from_residual.ensures.0 (cut _ (simp
 
 pub returns : goal.returns
 returns c =
-    on_joined c.put_count.result c.args.out.now.items c.put_text.new.out.items c.put_count.new.out.items _ _ _ refl (simp c.as_bytes.ensures at c.in_ok-put_text.ensures) c.put_count.ensures
+    on_joined c.put_count.result c.args.out.now.items c.put_text.new.out.items c.put_count.new.out.items _ _ _ refl (simp c.as_bytes.ensures at c.in_ok-put_text.ensures)
+    (simp c.from.ensures at c.put_count.ensures)

@@ -1,4 +1,4 @@
-use Rattle.std.proofs.Common.{◌≡◌, ◌<◌, ◌+◌, ◌≤◌, [], length, drop, subst, sym, ◌∙◌, ap}
+use Rattle.std.proofs.Common.{subst, ap}
 use Rattle.std.proofs.lemmas.List.{drop_all}
 use Rattle.tb_text.proofs.FrontLemmas.{PutSoFar, put-begins, put-more, put-stops, put-ends, fails}
 use Rattle.tb_story.specs.StoryLines.{story_lines}

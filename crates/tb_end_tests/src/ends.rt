@@ -1,6 +1,12 @@
 //! Ends that fail: each call that a run makes, in turn.
-use super::rows::ROWS;
-use super::*;
+use std::alloc::{AllocError, Global};
+use std::test::Fail;
+use tb_io::{MemSink, MemSource};
+use tb_top::{Status, run};
+use tb_worked_rows::{
+    Failing, INPUT, Left, MODE_ROWS, NONE, REPORT, ROWS, galley_of_many, report_of_many, run_on,
+    run_with, words_of,
+};
 
 // The worked row of equal costs, and the same galley with few sets: what is read, its report, and how many reads of 50
 // bytes it takes, the one that finds the end included.
@@ -34,7 +40,7 @@ fn each_failing_read_is_reported(rt: HostRuntime) -> Result<(), Fail> {
 }
 
 // Runs on an input, of which the write of this number fails.
-fn fail_write(alloc: Global, input: &[u8], call: u64) -> Result<Left, Fail> {
+fn fail_write(alloc: Global, input: &[u8], call: u64) -> Result<Left, AllocError> {
     let calls = [call];
     let failing = Failing {
         writes: &calls,
@@ -181,5 +187,50 @@ fn nothing_is_read_after_a_fault(rt: HostRuntime) -> Result<(), Fail> {
         Status::Done
     );
     assert_eq!(rt; out.held(), REPORT);
+    Ok(())
+}
+
+#[test]
+fn words_long_input_and_a_failing_err(rt: HostRuntime) -> Result<(), Fail> {
+    let alloc = rt.alloc();
+    let words = vec![in alloc;
+        String::from_str(alloc, "galley_pages")?,
+        String::from_str(alloc, "--mode")?,
+    ]?;
+    let mut source = MemSource::new(INPUT.to_vec(alloc)?, 1, Vec::new(alloc));
+    let mut out = MemSink::new(alloc, Vec::new(alloc));
+    let mut err = MemSink::new(alloc, Vec::new(alloc));
+    assert_eq!(rt;
+        run(alloc, &words, &mut source, &mut out, &mut err),
+        Status::Words
+    );
+    assert_eq!(rt; err.held(), b"galley_pages: words refused\n".as_slice());
+    // The name alone is accepted, and nothing of the input was taken before.
+    assert_eq!(rt;
+        run(alloc, &words[..1], &mut source, &mut out, &mut err),
+        Status::Done
+    );
+    assert_eq!(rt; out.held(), REPORT);
+    let long = vec![in alloc; b'\n'; 8388609]?;
+    let mut source = MemSource::new(long, 1 << 20, Vec::new(alloc));
+    let mut err = MemSink::new(alloc, Vec::new(alloc));
+    assert_eq!(rt;
+        run(alloc, &[], &mut source, &mut out, &mut err),
+        Status::Range
+    );
+    assert_eq!(rt;
+        err.held(),
+        b"galley_pages: line 0 field 0: InputSize\n".as_slice()
+    );
+    let silent = run_on(
+        alloc,
+        b"",
+        &Failing {
+            lines: &[1],
+            ..NONE
+        },
+    )?;
+    assert_eq!(rt; silent.status, 3);
+    assert_eq!(rt; silent.err.held(), b"".as_slice());
     Ok(())
 }

@@ -1,8 +1,21 @@
 //! Inputs that are cut short, and inputs that come in small pieces.
-use super::float_rows::FLOAT_ROWS;
-use super::rows::ROWS;
-use super::*;
+use std::alloc::Global;
+use std::process::Abort;
+use std::test::Fail;
 use tb_galley::{GalleyFault, new_reader};
+use tb_worked_rows::{FLOAT_ROWS, Failing, NONE, ROWS, Row, run_by, run_on};
+
+// Runs each row on an input that is read by pieces of this size, and says where it differs.
+fn check(rt: &impl Abort, alloc: Global, rows: &[Row], piece: usize) -> Result<(), Fail> {
+    for row in rows {
+        let name = row.name;
+        let left = run_by(alloc, &[], row.input, piece, &NONE)?;
+        assert_eq!(rt; left.status, row.status, "{name}");
+        assert_eq!(rt; left.out.held(), row.out, "{name}");
+        assert_eq!(rt; left.err.held(), row.err, "{name}");
+    }
+    Ok(())
+}
 
 // Without its last line feed the article page is the same page; any shorter front of it is no galley.
 #[test]

@@ -1,6 +1,6 @@
 //! Worked rows with floats.
 
-use super::rows::Row;
+use crate::Row;
 
 /// Worked rows with floats in one column.
 pub const FLOAT_ROWS: [Row; 18] = [

@@ -1,6 +1,6 @@
 //! Worked rows with two columns.
 
-use super::rows::Row;
+use crate::Row;
 
 /// Worked rows with two columns, marginal notes and suppressed areas.
 pub const COLUMN_ROWS: [Row; 10] = [

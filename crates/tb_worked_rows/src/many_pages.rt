@@ -1,6 +1,6 @@
 //! Pages of one box each, so many that their report is longer than two pieces of 32768 bytes.
 
-use super::long_page::put_line;
+use crate::long_page::put_line;
 use std::alloc::{AllocError, Global};
 
 const PAGES: u32 = 1000;

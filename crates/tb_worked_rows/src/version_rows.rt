@@ -1,6 +1,6 @@
 //! Worked rows of other versions.
 
-use super::rows::Row;
+use crate::Row;
 
 /// Worked rows of galley version 2 and of release 2014.
 pub const VERSION_ROWS: [Row; 4] = [

@@ -1,0 +1,21 @@
+//! Worked rows as tables, each with an input and what the program must make of it, and a call that runs one over ends in memory.
+//! For tests alone.
+#![tactic(auto)]
+
+mod column_rows;
+mod float_rows;
+mod long_page;
+mod many_pages;
+mod mode_rows;
+mod rows;
+mod runs;
+mod version_rows;
+
+pub use column_rows::COLUMN_ROWS;
+pub use float_rows::FLOAT_ROWS;
+pub use long_page::{long_galley, long_report};
+pub use many_pages::{galley_of_many, report_of_many};
+pub use mode_rows::{MODE_ROWS, ModeRow};
+pub use rows::{ROWS, Row};
+pub use runs::{Failing, INPUT, Left, NONE, REPORT, run_by, run_on, run_with, words_of};
+pub use version_rows::VERSION_ROWS;
