@@ -1,14 +1,14 @@
 -- Each reason of the summary was told of the float that is itself at fault: what is shown, one after another.
-use Rattle.std.proofs.Common.{◌≡◌, refl, sym, inl, inr, ◌⊎◌, ℕ, ℤ, ◌+◌, ◌-◌, Bool, true, false, List, [], ◌∷◌, ◌++◌, map, Option, Some, None, if◌then◌else◌}
-use Rattle.std.specs.Prelude.{⊤, not, ◌&&◌, ◌==◌}
+use Rattle.std.proofs.Common.{◌≡◌, refl, inl, inr, ℕ, ℤ, ◌-◌, Bool, true, false, List, [], ◌∷◌, ◌++◌, Option, Some, None, if◌then◌else◌}
+use Rattle.std.specs.Prelude.{not, ◌&&◌, ◌==◌}
 use Rattle.std.specs.List.{AllByRecursion}
 use Rattle.tb_node.specs.declared.Float.{Float}
 use Rattle.tb_node.specs.declared.What.{What}
 use Rattle.tb_node.specs.declared.What.TheVariants as what
 use Rattle.tb_node.specs.declared.Where.{Where}
 use Rattle.tb_node.specs.declared.Where.TheVariants as places
-use Rattle.tb_node.specs.PlainNodes.{Matter, hbox, PlainKind, plain, PlainNode}
-use Rattle.tb_sheet.specs.Sheet.{PlainSheet, one, wide, two, PlainSent, warned, shipped}
+use Rattle.tb_node.specs.PlainNodes.{hbox, PlainKind, plain, PlainNode}
+use Rattle.tb_sheet.specs.Sheet.{PlainSheet, one, wide, two, warned, shipped}
 use Rattle.tb_items.specs.RunEvents.{RunEvent, offered, sent}
 use Rattle.tb_told.specs.declared.Test.{Test}
 use Rattle.tb_told.specs.declared.Test.TheVariants as tests
@@ -27,10 +27,10 @@ use Rattle.tb_story.specs.declared.Kept.{Kept}
 use Rattle.tb_story.specs.declared.Group.{Group}
 use Rattle.tb_story.specs.declared.Noted.{Noted}
 use Rattle.tb_story.specs.Story.{StoryView, is_story_of, is_deferred, is_alike, is_by_places, or_else, closed, begun, kept_back, placed_at, landed_at, missed, missed_by, missed_sheet, by_break, carried, waits, if_of, with_story, last_of}
-use Rattle.tb_story.specs.Summary.{SummaryView, no_stories, noted_of, way_of, way_in, way_of_head, way_of_joining, kept_by, gain, capped, own_reason, found_with, reason_of, keep_if, put_at, nothing_found, tested_in, keep, heads_none, not_alone, kept_all, keep_all, after_heads, after_joining, after_company, no_head_by, behind_by, by_clear, by_width, after_told, after_column, after_tale, after_box, after_node, after_nodes, after_sheet, after_sent}
+use Rattle.tb_story.specs.Summary.{SummaryView, no_stories, noted_of, way_of, way_in, way_of_head, way_of_joining, kept_by, gain, own_reason, found_with, reason_of, keep_if, put_at, nothing_found, tested_in, keep, heads_none, kept_all, after_heads, after_joining, after_company, no_head_by, by_clear, by_width, after_told, after_column, after_tale, after_box, after_node, after_nodes, after_sheet}
 use Rattle.tb_why.specs.WhyRun.{Shown, happens, tells}
-use Rattle.tb_why.specs.Summary.{after_event, after_shown, summed}
-use Rattle.tb_why.specs.SummaryLaws.{names_class, IsByClass, IsAtFault, way_told, reason_of_head, IsColumnFault, TellsFault, IsToldOfFault, IfKept, IfGroup, OfStory, OfReasons}
+use Rattle.tb_why.specs.Summary.{after_event, summed}
+use Rattle.tb_why.specs.SummaryLaws.{names_class, IsAtFault, way_told, reason_of_head, IsColumnFault, TellsFault, IsToldOfFault, IfKept, IfGroup, OfStory, OfReasons}
 use Rattle.tb_why.proofs.MovingLemmas.{all_mapped, all_appended, if_changed}
 use Rattle.tb_why.proofs.LandingLemmas.{line_of}
 
@@ -92,7 +92,7 @@ module _ (P : Kept → Type 0) where
   reason_kept : (line : ℕ) (m : SummaryView) → OfReasons P m → IfKept P (reason_of line m)
   reason_kept line m a =
       else_kept (own_reason m.found) (or_else (noted_of line m.alone) m.found) (own_kept m.found a.found)
-          (else_kept (noted_of line m.alone) m.found (noted_kept line m.alone a.alone) a.found)
+      (else_kept (noted_of line m.alone) m.found (noted_kept line m.alone a.alone) a.found)
 
   head_kept : (b : Float) (m : SummaryView) → OfReasons P m → IfKept P (reason_of_head m b)
   head_kept b m a = else_kept (noted_of b.line m.alone) (last_of b.line m.stories) (noted_kept b.line m.alone a.alone) (last_kept b.line m.stories a.stories)
@@ -102,17 +102,17 @@ module _ (P : Kept → Type 0) where
   back_kept : (line : ℕ) (k : Kept) (ss : List StoryView) → P k → AllByRecursion (OfStory P) ss → AllByRecursion (OfStory P) (with_story line (kept_back k) ss)
   back_kept line k ss p a =
       all_mapped (OfStory P) (OfStory P) (if_of line (kept_back k))
-          (λ s q. if_changed (OfStory P) s (kept_back k s) (is_story_of line s) q (λ e. record { last = p; groups = q.groups; group = q.group })) ss a
+      (λ s q. if_changed (OfStory P) s (kept_back k s) (is_story_of line s) q (λ e. record { last = p; groups = q.groups; group = q.group })) ss a
 
   place_kept : (line : ℕ) (w : Where) (n : ℕ) (ss : List StoryView) → AllByRecursion (OfStory P) ss → AllByRecursion (OfStory P) (with_story line (placed_at w n) ss)
   place_kept line w n ss a =
       all_mapped (OfStory P) (OfStory P) (if_of line (placed_at w n))
-          (λ s q. if_changed (OfStory P) s (placed_at w n s) (is_story_of line s) q (λ e. record { last = q.last; groups = q.groups; group = q.group })) ss a
+      (λ s q. if_changed (OfStory P) s (placed_at w n s) (is_story_of line s) q (λ e. record { last = q.last; groups = q.groups; group = q.group })) ss a
 
   land_kept : (line page : ℕ) (w : Where) (ss : List StoryView) → AllByRecursion (OfStory P) ss → AllByRecursion (OfStory P) (with_story line (landed_at page w) ss)
   land_kept line page w ss a =
       all_mapped (OfStory P) (OfStory P) (if_of line (landed_at page w))
-          (λ s q. if_changed (OfStory P) s (landed_at page w s) (is_story_of line s) q (λ e. record { last = q.last; groups = q.groups; group = q.group })) ss a
+      (λ s q. if_changed (OfStory P) s (landed_at page w s) (is_story_of line s) q (λ e. record { last = q.last; groups = q.groups; group = q.group })) ss a
 
   groups_appended : (gs : List Group) (g : Group) → AllByRecursion (λ x. P x.kept) gs → P g.kept → AllByRecursion (λ x. P x.kept) (gs ++ g ∷ [])
   groups_appended [] g a p = (p, tt)
@@ -136,7 +136,7 @@ module _ (P : Kept → Type 0) where
   carried_kept : (line n : ℕ) (ss : List StoryView) → ((k : Kept) → (names_class k.cause ≡ false) × (k.root.line ≡ line) → P k) → AllByRecursion (OfStory P) ss → AllByRecursion (OfStory P) (with_story line (carried n) ss)
   carried_kept line n ss h a =
       all_mapped (OfStory P) (OfStory P) (if_of line (carried n))
-          (λ s q. if_changed (OfStory P) s (carried n s) (is_story_of line s) q (λ e. carry_by n (by_break s.float) s (s.put == n) (h (by_break s.float) (refl, line_of line s e)) q)) ss a
+      (λ s q. if_changed (OfStory P) s (carried n s) (is_story_of line s) q (λ e. carry_by n (by_break s.float) s (s.put == n) (h (by_break s.float) (refl, line_of line s e)) q)) ss a
 
   sheet_by : (s : StoryView) (o : Option Kept) → IfKept P o → OfStory P s → OfStory P (missed_by 1 o s)
   sheet_by s None p q = q
@@ -199,7 +199,7 @@ module _ (P : Kept → Type 0) where
   behind_kept f t by None m h a = own areas.Joins t f by (λ b. or_else (noted_of b.line m.passed) (reason_of_head m b)) h
   behind_kept f t by (Some b) m h a =
       behind areas.Joins t f by b (λ x. or_else (noted_of x.line m.passed) (reason_of_head m x)) h (or_else (noted_of b.line m.passed) (reason_of_head m b)) refl
-          (else_kept (noted_of b.line m.passed) (reason_of_head m b) (noted_kept b.line m.passed a.passed) (head_kept b m a))
+      (else_kept (noted_of b.line m.passed) (reason_of_head m b) (noted_kept b.line m.passed a.passed) (head_kept b m a))
 
   joining_kept : (f : Float) (t : Joining) (o : Option Test) (m : SummaryView) → ((k : Kept) → IsAtFault f t.blocker (λ b. or_else (noted_of b.line m.passed) (reason_of_head m b)) k → P k) → OfReasons P m → OfReasons P (after_joining f t o m)
   joining_kept f t None m h a = a

@@ -1,5 +1,5 @@
 -- What the laws of the summary say of its stories: where they landed, and for how many sheets their reasons count.
-use Rattle.std.specs.Prelude.{◌≡◌, Bool, ◌⊎◌, ⊤, ℕ, ◌+◌, ◌≤◌, true, false, List, [], ◌∷◌, ◌++◌, Option, Some, None, is_some, if◌then◌else◌}
+use Rattle.std.specs.Prelude.{◌≡◌, ◌⊎◌, ⊤, ℕ, ◌+◌, ◌≤◌, Bool, true, false, List, [], ◌∷◌, ◌++◌, Option, Some, None, is_some, if◌then◌else◌}
 use Rattle.std.specs.List.{AllByRecursion}
 use Rattle.tb_node.specs.declared.What.{What}
 use Rattle.tb_node.specs.declared.What.TheVariants as what
@@ -18,7 +18,7 @@ use Rattle.tb_story.specs.declared.Cause.TheVariants as causes
 use Rattle.tb_story.specs.declared.Kept.{Kept}
 use Rattle.tb_told.specs.declared.Test.TheVariants as tests
 use Rattle.tb_told.specs.declared.Told.{Told}
-use Rattle.tb_told.specs.declared.Told.TheVariants.{Enters, TestsHere, TestsTop, TestsBottom, TestsWide, Goes}
+use Rattle.tb_told.specs.declared.Told.TheVariants.{Enters, TestsWide}
 use Rattle.tb_node.specs.declared.Float.{Float}
 use Rattle.tb_story.specs.Story.{StoryView, waits, is_story_of, or_else, last_of}
 use Rattle.tb_story.specs.Summary.{SummaryView, noted_of, after_tale}
