@@ -1,5 +1,5 @@
 -- The walks of a firing as they are seen: what is left of a walk over wide pages, or over columns of floats, after some turns.
-use Rattle.std.proofs.Common.{◌≡◌, ℕ, zero, suc, Bool, true, false, List, [], ◌++◌, length, append-nil, append_assoc, sym, ap, ◌∙◌, Result, Ok, Err, OnOk}
+use Rattle.std.proofs.Common.{◌≡◌, ℕ, zero, suc, Bool, true, false, List, ◌++◌, length, append-nil, append_assoc, sym, ap, ◌∙◌, Result, Ok, Err, OnOk}
 use Rattle.tb_param.specs.declared.Params.{Params}
 use Rattle.tb_float.specs.declared.Part.TheVariants as parts
 use Rattle.tb_float.specs.Lists.{wide_waiting}

@@ -1,4 +1,4 @@
-use Rattle.std.proofs.Common.{◌≡◌, ℕ, suc, ◌+◌, ◌-◌, ◌++◌, length, ap, ◌∙◌, arith}
+use Rattle.std.proofs.Common.{◌≡◌, suc, ◌+◌, ◌-◌, length, arith}
 use Rattle.tb_why.proofs.TellingLemmas.{float-begin, float-next, float-stop, float-over}
 use Rattle.tb_why.proofs.Seen.float_columns.Goals.{After-count-turn-end}
 use Rattle.tb_why.proofs.Seen.float_columns.Goals as goal

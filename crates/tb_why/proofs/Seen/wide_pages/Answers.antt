@@ -1,4 +1,4 @@
-use Rattle.std.proofs.Common.{◌≡◌, ℕ, suc, ◌+◌, ◌-◌, ◌++◌, length, ap, ◌∙◌, arith}
+use Rattle.std.proofs.Common.{◌≡◌, suc, ◌+◌, ◌-◌, length, ap, ◌∙◌, arith}
 use Rattle.tb_float.specs.Lists.{floats_of, wide_waiting}
 use Rattle.tb_float.proofs.WaitingLemmas.{waiting-count}
 use Rattle.tb_why.proofs.TellingLemmas.{wide-begin, wide-next, wide-stop, wide-over}
