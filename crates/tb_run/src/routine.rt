@@ -298,6 +298,7 @@ impl<'a> Routine<'a> {
     }
 
     // Hands over more of the items that are left.
+    #[inline(always)]
     fn supply(&mut self, left: ItemsLeft<'a>) -> Result<(), AllocError>
         requires whole { IsConsistent self.old }
         requires left { self.old.left ≡ Some left }
@@ -309,6 +310,7 @@ impl<'a> Routine<'a> {
     }
 
     // The next event of the builder. Places that were tried are passed over unless `wanted` is set.
+    #[inline(always)]
     fn next_event(&mut self, wanted: bool, ask: &Ask) -> Result<Event, AllocError>
         requires sound { IsSound self.old.builder self.old.store }
         requires fits { NextFits (built_in self.old) ask.now }
@@ -322,6 +324,7 @@ impl<'a> Routine<'a> {
     }
 
     // Does an act. A first column that it drops is closed.
+    #[inline(always)]
     fn act(&mut self, act: Act) -> Result<(), Full>
         requires whole { IsConsistent self.old }
         requires act { IsSizedAct act }
@@ -337,6 +340,7 @@ impl<'a> Routine<'a> {
     }
 
     // The machine serves a page that fired, and what it puts back waits. What is sent is with the machine.
+    #[inline(always)]
     fn serve(&mut self, page: Page) -> Result<Option<Ending>, AllocError>
         requires whole { IsConsistent self.old }
         requires page { CanFire self.old.machine self.old.builder self.old.store page }
