@@ -67,15 +67,15 @@ returns-then-is_signal-2 c =
     let clearing : is_int r.penalty clear_penalty ≡ false = simp to_z-of_z at (sym c.is_signal.ensures ∙ c.if-is_signal.false) in
     let told = c.text_float.ensures c.args.here.now in
     elim c.then-is_signal-2.branch [
-      then-is_signal-2-via-then-is_signal-2 w ↦
-        let par : is_int r.penalty par_penalty ≡ true = simp to_z-of_z at (sym c.is_signal-2.ensures ∙ w.if-is_signal-2.true) in
-        subst (λ (ps : List Piece). OnOk c.text_float.result (c.text_float.new.pieces.items ≡ c.args.pieces.now.items ++ ps))
-        (sym (fired false false true _ p r v eject clearing par refl)) told
+      | then-is_signal-2-via-then-is_signal-2 w ↦
+          let par : is_int r.penalty par_penalty ≡ true = simp to_z-of_z at (sym c.is_signal-2.ensures ∙ w.if-is_signal-2.true) in
+          subst (λ (ps : List Piece). OnOk c.text_float.result (c.text_float.new.pieces.items ≡ c.args.pieces.now.items ++ ps))
+          (sym (fired false false true _ p r v eject clearing par refl)) told
       | then-is_signal-2-via-else-is_signal-2+then-is_signal-3 w ↦
-        let par : is_int r.penalty par_penalty ≡ false = simp to_z-of_z at (sym c.is_signal-2.ensures ∙ w.if-is_signal-2.false) in
-        let vert : is_int r.penalty vert_penalty ≡ true = simp to_z-of_z at (sym w.is_signal-else-is_signal-2.ensures ∙ w.if-is_signal-3.true) in
-        subst (λ (ps : List Piece). OnOk c.text_float.result (c.text_float.new.pieces.items ≡ c.args.pieces.now.items ++ ps))
-        (sym (fired false false false true p r v eject clearing par vert)) told
+          let par : is_int r.penalty par_penalty ≡ false = simp to_z-of_z at (sym c.is_signal-2.ensures ∙ w.if-is_signal-2.false) in
+          let vert : is_int r.penalty vert_penalty ≡ true = simp to_z-of_z at (sym w.is_signal-else-is_signal-2.ensures ∙ w.if-is_signal-3.true) in
+          subst (λ (ps : List Piece). OnOk c.text_float.result (c.text_float.new.pieces.items ≡ c.args.pieces.now.items ++ ps))
+          (sym (fired false false false true p r v eject clearing par vert)) told
     ]
 
 pub returns : goal.returns

@@ -64,7 +64,7 @@ returns-in-Some-Left c = λ here.
     let fits : FitsSigned w64 r.height = search rules in
     let note : c.beside.result ≡ note_seen p r.height m v = simp to_z-of_z at c.beside.ensures in
     let said : told_unless v.over (Says c.beside.result ∷ []) ≡ tales (note_seen p r.height m v ∷ [])
-        = ap (λ (b : Bool). told_unless b (Says c.beside.result ∷ [])) below ∙ ap (λ (t : Tale). tales (t ∷ [])) note in
+    = ap (λ (b : Bool). told_unless b (Says c.beside.result ∷ [])) below ∙ ap (λ (t : Tale). tales (t ∷ [])) note in
     subst (λ (ps : List Piece). OnOk c.say.result (c.say.new.pieces.items ≡ c.args.pieces.now.items ++ ps))
     (said ∙ sym (told-by p (reading_with r here) v (Some (entries.Left m)) below first)) c.say.ensures
 
