@@ -37,7 +37,6 @@ pub fn tell_firing(
 
 impl Seen {
     // What is told at a firing, by the penalty of its break.
-    #[tactic(auto, unfolding(crate::specs::Seen::seen_pieces))]
     fn fire(
         &mut self,
         pieces: &mut Vec<Piece>,

@@ -22,4 +22,5 @@ returns c =
     let first = subst (λ (t : Tale). mid ≡ old ++ Says t ∷ []) (simp to_z-of_z at c.called.ensures) c.in_ok-tell.ensures in
     let later = simp to_z-of_z at c.tell_called.ensures in
     subst (λ (v : Seen). OnOk r (new ≡ old ++ tales (Calls (spot_seen c.args.self.now) f h ∷ decisions f (told_call p v.floats v.suppress h f)))) c.self.view_is
-    (told-after r old mid new (Says (Calls (spot_seen c.args.self.now) f h) ∷ []) _ first later)
+    (told-after r old mid new (Says (Calls (spot_seen c.args.self.now) f h) ∷ [])
+    (tales (decisions f (told_call p c.self.inside.pool.lists c.self.inside.suppress h f))) first later)

@@ -1,6 +1,6 @@
-use Rattle.std.proofs.Common.{◌≡◌, refl, ℤ, Bool, true, false, List, [], ◌++◌, append-nil, sym, ap, ◌∙◌, subst, OnOk, FitsSigned, w64, rules, arith}
+use Rattle.std.proofs.Common.{◌≡◌, refl, Bool, true, false, List, [], ◌++◌, append-nil, sym, ap, ◌∙◌, subst, OnOk, FitsSigned, w64, rules}
 use Rattle.std.specs.Prelude.{int_le, if◌then◌else◌}
-use Rattle.std.proofs.lemmas.Int.{to_z-of_z, ints}
+use Rattle.std.proofs.lemmas.Int.{to_z-of_z}
 use Rattle.tb_scaled.specs.Scaled.{eject_penalty}
 use Rattle.tb_param.specs.declared.Params.{Params}
 use Rattle.tb_sheet.specs.Asked.{clear_penalty, par_penalty, vert_penalty}

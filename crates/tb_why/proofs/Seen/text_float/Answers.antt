@@ -1,4 +1,4 @@
-use Rattle.std.proofs.Common.{◌≡◌, refl, ℕ, ℤ, Bool, true, false, List, [], ◌∷◌, ◌++◌, append-nil, sym, ap, ◌∙◌, subst, OnOk, Option, Some, None, FitsSigned, w64, rules}
+use Rattle.std.proofs.Common.{◌≡◌, refl, ℤ, Bool, false, List, [], ◌∷◌, ◌++◌, append-nil, sym, ap, ◌∙◌, subst, OnOk, Option, Some, None, FitsSigned, w64, rules}
 use Rattle.std.specs.Prelude.{slice_get}
 use Rattle.std.proofs.lemmas.Int.{to_z-of_z}
 use Rattle.tb_param.specs.declared.Params.{Params}
