@@ -1,3 +1,2 @@
 pub mod StoryLemmas
 pub mod LineLemmas
-pub mod SheetLemmas
