@@ -209,7 +209,6 @@ impl<'a> Routine<'a> {
     /// In between the routine shows the state in which the page fires. `happened` holds the warnings of the acts and, if
     /// `wanted` is set, the places that were tried, in their order; it is empty before. If memory runs out, the run cannot
     /// go on.
-    #[inline(always)]
     pub fn fill(
         &mut self,
         wanted: bool,
@@ -246,7 +245,6 @@ impl<'a> Routine<'a> {
     /// Serves the page that [`Self::fill`] returned: it is shipped, or its penalty asks for something else
     /// (ltoutput.dtx, \output). What the firing sent is appended to `happened`, which has no pages before. Returns how the
     /// run ends with it, if it does. If memory runs out, the run cannot go on.
-    #[inline(always)]
     pub fn serve_page(
         &mut self,
         page: Page,
@@ -298,7 +296,6 @@ impl<'a> Routine<'a> {
     }
 
     // Hands over more of the items that are left.
-    #[inline(always)]
     fn supply(&mut self, left: ItemsLeft<'a>) -> Result<(), AllocError>
         requires whole { IsConsistent self.old }
         requires left { self.old.left ≡ Some left }
@@ -310,7 +307,6 @@ impl<'a> Routine<'a> {
     }
 
     // The next event of the builder. Places that were tried are passed over unless `wanted` is set.
-    #[inline(always)]
     fn next_event(&mut self, wanted: bool, ask: &Ask) -> Result<Event, AllocError>
         requires sound { IsSound self.old.builder self.old.store }
         requires fits { NextFits (built_in self.old) ask.now }
@@ -324,7 +320,6 @@ impl<'a> Routine<'a> {
     }
 
     // Does an act. A first column that it drops is closed.
-    #[inline(always)]
     fn act(&mut self, act: Act) -> Result<(), Full>
         requires whole { IsConsistent self.old }
         requires act { IsSizedAct act }
@@ -340,7 +335,6 @@ impl<'a> Routine<'a> {
     }
 
     // The machine serves a page that fired, and what it puts back waits. What is sent is with the machine.
-    #[inline(always)]
     fn serve(&mut self, page: Page) -> Result<Option<Ending>, AllocError>
         requires whole { IsConsistent self.old }
         requires page { CanFire self.old.machine self.old.builder self.old.store page }
