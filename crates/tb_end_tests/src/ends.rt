@@ -1,11 +1,12 @@
 //! Ends that fail: each call that a run makes, in turn.
 use std::alloc::{AllocError, Global};
+use std::process::Abort;
 use std::test::Fail;
 use tb_io::{MemSink, MemSource};
 use tb_top::{Status, run};
 use tb_worked_rows::{
-    Failing, INPUT, Left, MODE_ROWS, NONE, REPORT, ROWS, galley_of_many, report_of_many, run_on,
-    run_with, words_of,
+    Failing, INPUT, Left, MODE_ROWS, ModeRow, NONE, RATE_ROWS, REPORT, ROWS, WHY_ROWS,
+    galley_of_many, report_of_many, run_on, run_with, words_of,
 };
 
 // The worked row of equal costs, and the same galley with few sets: what is read, its report, and how many reads of 50
@@ -130,9 +131,7 @@ fn failing_err_keeps_the_status(rt: HostRuntime) -> Result<(), Fail> {
 
 // In each mode that reads or writes, a first read or a first write that fails is reported, and nothing is written. Refused
 // words are refused first, and so is what is refused before anything is written.
-#[test]
-fn first_fault_of_each_mode(rt: HostRuntime) -> Result<(), Fail> {
-    let alloc = rt.alloc();
+fn check_faults(rt: &impl Abort, alloc: Global, rows: &[ModeRow]) -> Result<(), Fail> {
     let first = [1];
     let reads = Failing {
         reads: &first,
@@ -142,7 +141,7 @@ fn first_fault_of_each_mode(rt: HostRuntime) -> Result<(), Fail> {
         writes: &first,
         ..NONE
     };
-    for row in &MODE_ROWS {
+    for row in rows {
         let name = row.name;
         let words = words_of(alloc, row)?;
         let unread = run_with(alloc, &words, row.input, &reads)?;
@@ -166,6 +165,21 @@ fn first_fault_of_each_mode(rt: HostRuntime) -> Result<(), Fail> {
         assert_eq!(rt; unwritten.err.held(), line, "{name}");
     }
     Ok(())
+}
+
+#[test]
+fn first_fault_of_each_mode(rt: HostRuntime) -> Result<(), Fail> {
+    check_faults(&rt, rt.alloc(), &MODE_ROWS)
+}
+
+#[test]
+fn first_fault_of_a_rating(rt: HostRuntime) -> Result<(), Fail> {
+    check_faults(&rt, rt.alloc(), &RATE_ROWS)
+}
+
+#[test]
+fn first_fault_of_what_is_told(rt: HostRuntime) -> Result<(), Fail> {
+    check_faults(&rt, rt.alloc(), &WHY_ROWS)
 }
 
 // After a read that fails no more is taken: what follows it is whole for the next run.

@@ -7,8 +7,8 @@ use std::alloc::Global;
 use std::process::Abort;
 use std::test::Fail;
 use tb_worked_rows::{
-    COLUMN_ROWS, FLOAT_ROWS, INPUT, MODE_ROWS, NONE, REPORT, ROWS, Row, VERSION_ROWS, long_galley,
-    long_report, run_by, run_on, run_with, words_of,
+    COLUMN_ROWS, FLOAT_ROWS, INPUT, MODE_ROWS, ModeRow, NONE, RATE_ROWS, REPORT, ROWS, Row,
+    VERSION_ROWS, WHY_ROWS, long_galley, long_report, run_by, run_on, run_with, words_of,
 };
 
 // Runs each row on an input that is read by pieces of this size, and says where it differs.
@@ -62,10 +62,9 @@ fn penalty_costs_by_the_goal(rt: HostRuntime) -> Result<(), Fail> {
     Ok(())
 }
 
-#[test]
-fn modes_give_what_they_say(rt: HostRuntime) -> Result<(), Fail> {
-    let alloc = rt.alloc();
-    for row in &MODE_ROWS {
+// Runs each row with its words, and says where it differs.
+fn check_modes(rt: &impl Abort, alloc: Global, rows: &[ModeRow]) -> Result<(), Fail> {
+    for row in rows {
         let name = row.name;
         let left = run_with(alloc, &words_of(alloc, row)?, row.input, &NONE)?;
         assert_eq!(rt; left.status, row.status, "{name}");
@@ -73,4 +72,19 @@ fn modes_give_what_they_say(rt: HostRuntime) -> Result<(), Fail> {
         assert_eq!(rt; left.err.held(), row.err, "{name}");
     }
     Ok(())
+}
+
+#[test]
+fn modes_give_what_they_say(rt: HostRuntime) -> Result<(), Fail> {
+    check_modes(&rt, rt.alloc(), &MODE_ROWS)
+}
+
+#[test]
+fn columns_are_rated(rt: HostRuntime) -> Result<(), Fail> {
+    check_modes(&rt, rt.alloc(), &RATE_ROWS)
+}
+
+#[test]
+fn floats_are_told_of(rt: HostRuntime) -> Result<(), Fail> {
+    check_modes(&rt, rt.alloc(), &WHY_ROWS)
 }
