@@ -12,7 +12,7 @@ use Rattle.tb_lines.specs.declared.sums.Sums.{Sums}
 use Rattle.tb_lines.specs.declared.table.Best.{Best}
 use Rattle.tb_lines.specs.declared.table.Active.{Active}
 use Rattle.tb_lines.specs.Entries.{passes, after_word, is_legal_entry, is_legal, is_forced, entry_penalty, penalty_at, first_word, line_start, line_between}
-use Rattle.tb_lines.specs.Demerits.{plus_sums, sums_of, line_badness, feasible_demerits, sums_demerits, line_demerits}
+use Rattle.tb_lines.specs.Demerits.{plus_sums, sums_of, line_badness, penalty_demerits, feasible_demerits, sums_demerits, line_demerits}
 use Rattle.tb_lines.specs.LeastSolution.{sum_of_both}
 use Rattle.tb_lines.specs.SolutionLines.{last_forced, is_within, is_up_to, is_step, step_demerits}
 use Rattle.tb_lines.specs.Table.{total_in, offer, with_offer, best_among, row_at, table_of}
@@ -69,7 +69,7 @@ too_wide ps es i to start s f here within sums floor few over j le = by_step (is
     by_step true e =
         let a = and_parts (is_legal es j && is_within (Some i) j) (is_up_to (last_forced es j) (Some i)) e in
         let b = and_parts (is_legal es j) (is_within (Some i) j) a.0 in
-        no_demerits ps (sums_of (line_between es (Some i) j)) (penalty_at es j) (wide b.0 b.1)
+        no_demerits ps (sums_of (line_between es (Some i) j)) (penalty_demerits (penalty_at es j)) (wide b.0 b.1)
 
 -- the same from what the code reads
 pub too_wide_read : (ps : LineParams) (es : List Entry) (sums : List Sums) (starts : List ℕ) (floors : List ℕ) (i to start : ℕ) (d s : Sums) (e f k : ℕ)

@@ -50,16 +50,16 @@ penalty_demerits p =
     if int_lt (pos 0) p then p *ℤ p
     else (if int_lt (negsuc 9999) p && int_lt p (pos 0) then pos 0 -ℤ p *ℤ p else pos 0)
 
--- the demerits of a line whose badness is within the tolerance
+-- the demerits of a line whose badness is within the tolerance, with what the penalty of its break adds
 abbrev pub feasible_demerits : LineParams → ℤ → Option ℤ → Option ℤ
-feasible_demerits ps p None = None
-feasible_demerits ps p (Some b) =
-    if int_le b (pos ps.tolerance) then Some (badness_demerits ps.line_penalty b +ℤ penalty_demerits p) else None
+feasible_demerits ps ending None = None
+feasible_demerits ps ending (Some b) =
+    if int_le b (pos ps.tolerance) then Some (badness_demerits ps.line_penalty b +ℤ ending) else None
 
--- the demerits of a line with these sums that ends at this penalty; none if it is not feasible
+-- the demerits of a line with these sums, with what the penalty of its break adds; none if it is not feasible
 unfoldable pub sums_demerits : LineParams → Sums → ℤ → Option ℤ
-sums_demerits ps s p = feasible_demerits ps p (line_badness ps.hsize s)
+sums_demerits ps s ending = feasible_demerits ps ending (line_badness ps.hsize s)
 
 -- the demerits of the line from one break, or the paragraph's start, to the next; none if it is not feasible
 abbrev pub line_demerits : LineParams → List Entry → Option ℕ → ℕ → Option ℤ
-line_demerits ps es i j = sums_demerits ps (sums_of (line_between es i j)) (penalty_at es j)
+line_demerits ps es i j = sums_demerits ps (sums_of (line_between es i j)) (penalty_demerits (penalty_at es j))

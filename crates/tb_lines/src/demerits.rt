@@ -44,7 +44,9 @@ fn badness_demerits(line_penalty: u32, badness: i64) -> i64
     }
 }
 
-fn penalty_demerits(penalty: i16) -> i64
+/// What the penalty of a break adds to the demerits of a line that ends there: its square, taken away below 0; a forced
+/// break adds nothing.
+pub(crate) fn penalty_demerits(penalty: i16) -> i64
     ensures value { result ≡ penalty_demerits penalty }
     ensures low { negsuc 4294967295 ≤ℤ result }
     ensures high { result ≤ℤ pos 4294967296 }
@@ -59,34 +61,38 @@ fn penalty_demerits(penalty: i16) -> i64
     }
 }
 
-// The demerits of a line of this badness, if it is within the tolerance.
-fn feasible_demerits(params: &LineParams, penalty: i16, badness: i64) -> Option<i64>
+// The demerits of a line of this badness, if it is within the tolerance; `ending` is what the penalty of its break adds.
+fn feasible_demerits(params: &LineParams, ending: i64, badness: i64) -> Option<i64>
     requires low { pos 0 ≤ℤ badness }
     requires high { badness ≤ℤ pos 10000 }
-    ensures value { result ≡ feasible_demerits params.now penalty (Option.Some badness) }
+    requires ending_low { negsuc 4294967295 ≤ℤ ending }
+    requires ending_high { ending ≤ℤ pos 4294967296 }
+    ensures value { result ≡ feasible_demerits params.now ending (Option.Some badness) }
     ensures low { IfSome result (λ d. negsuc 8589934591 ≤ℤ d) }
     ensures high { IfSome result (λ d. d ≤ℤ pos 8589934592) }
 {
     if badness > i64::from(params.tolerance) {
         return None;
     }
-    let total = badness_demerits(params.line_penalty, badness) + penalty_demerits(penalty);
-    Some(total)
+    Some(badness_demerits(params.line_penalty, badness) + ending)
 }
 
-/// The demerits of a line with these sums that ends at this penalty; `None` if it is not feasible.
+/// The demerits of a line with these sums; `None` if it is not feasible. `ending` is what the penalty of its break adds,
+/// which is the same for all lines that end there.
 #[inline(always)]
 #[tactic(auto, unfolding(crate::specs::Demerits::sums_demerits))]
-pub(crate) fn sums_demerits(params: &LineParams, s: &Sums, penalty: i16) -> Option<i64>
+pub(crate) fn sums_demerits(params: &LineParams, s: &Sums, ending: i64) -> Option<i64>
     requires width { s.now.width ≤ 281474976710656 }
     requires stretch { s.now.stretch ≤ 281474976710656 }
     requires shrink { s.now.shrink ≤ 281474976710656 }
-    ensures value { result ≡ sums_demerits params.now s.now penalty }
+    requires ending_low { negsuc 4294967295 ≤ℤ ending }
+    requires ending_high { ending ≤ℤ pos 4294967296 }
+    ensures value { result ≡ sums_demerits params.now s.now ending }
     ensures low { IfSome result (λ d. negsuc 8589934591 ≤ℤ d) }
     ensures high { IfSome result (λ d. d ≤ℤ pos 8589934592) }
 {
     match line_badness(params.hsize, s) {
-        Some(badness) => feasible_demerits(params, penalty, badness),
+        Some(badness) => feasible_demerits(params, ending, badness),
         None => None,
     }
 }

@@ -1,15 +1,15 @@
 //! The best way to each break: one break before it (TeX: The Program §829). Only breaks that can still begin a line are
 //! tried.
 ghost use Rattle.std.specs.Prelude.{◌≡◌, ◌≤◌, ◌<◌, ◌+◌, ℕ, pos, negsuc, ◌≤ℤ◌, true, length, IfOk, IfSome, Option};
-ghost use Rattle.tb_lines.specs.Entries.{is_legal, line_start};
-ghost use Rattle.tb_lines.specs.Demerits.{line_demerits};
+ghost use Rattle.tb_lines.specs.Entries.{is_legal, line_start, penalty_at};
+ghost use Rattle.tb_lines.specs.Demerits.{line_demerits, penalty_demerits};
 ghost use Rattle.tb_lines.specs.LeastSolution.{sum_of_both};
 ghost use Rattle.tb_lines.specs.SolutionLines.{step_demerits, last_forced, is_within};
 ghost use Rattle.tb_lines.specs.Table.{total_in, offer, with_offer, best_among, row_at, table_of};
 ghost use Rattle.tb_lines.specs.ActiveBreaks.{IsActive, IsPassedBy};
 ghost use Rattle.tb_lines.specs.Prepared.{AreRunning, AreFirstWords, AreFloors, IsSmallTotal, HasSmallTotals};
 
-use crate::demerits::sums_demerits;
+use crate::demerits::{penalty_demerits, sums_demerits};
 use crate::entries::{Entry, entry_penalty, is_forced_entry, is_legal};
 use crate::sums::{Sums, between, floors, least_width, running_sums, word_starts};
 use crate::text::LineParams;
@@ -121,19 +121,33 @@ impl<'a> Prepared<'a> {
         }
     }
 
-    // The demerits of the line from a break, or the paragraph's start, to another; `None` if it is not feasible. It is
-    // needed for each pair of breaks that is tried, so it is inlined into the loop over them.
+    // What the penalty of a break adds to each line that ends there.
+    fn ending(&self, to: usize) -> i64
+        requires inside { to < length self.now.entries.now }
+        ensures value { result ≡ penalty_demerits (penalty_at self.now.entries.now to) }
+        ensures low { negsuc 4294967295 ≤ℤ result }
+        ensures high { result ≤ℤ pos 4294967296 }
+    {
+        penalty_demerits(entry_penalty(&self.entries[to]))
+    }
+
+    // The demerits of the line from a break, or the paragraph's start, to another; `None` if it is not feasible. `ending` is
+    // what the penalty of the second adds. It is needed for each pair of breaks that is tried, so it is inlined into the loop
+    // over them.
     #[inline(always)]
-    fn line_demerits(&self, from: Option<usize>, to: usize) -> Option<i64>
+    fn line_demerits(&self, from: Option<usize>, to: usize, ending: i64) -> Option<i64>
         requires within { is_within from to ≡ true }
         requires inside { to < length self.now.entries.now }
+        requires ending { ending ≡ penalty_demerits (penalty_at self.now.entries.now to) }
+        requires ending_low { negsuc 4294967295 ≤ℤ ending }
+        requires ending_high { ending ≤ℤ pos 4294967296 }
         ensures value { result ≡ line_demerits self.now.params.now self.now.entries.now from to }
         ensures low { IfSome result (λ d. negsuc 8589934591 ≤ℤ d) }
         ensures high { IfSome result (λ d. d ≤ℤ pos 8589934592) }
     {
         let start = self.line_start(from, to);
         let sums = between(&self.sums[start], &self.sums[to]);
-        sums_demerits(self.params, &sums, entry_penalty(&self.entries[to]))
+        sums_demerits(self.params, &sums, ending)
     }
 
     // The best with what one more break offers.
@@ -143,9 +157,13 @@ impl<'a> Prepared<'a> {
         row: Option<Best>,
         from: usize,
         to: usize,
+        ending: i64,
     ) -> Option<Best>
         requires within { from < to }
         requires inside { to < length self.now.entries.now }
+        requires ending { ending ≡ penalty_demerits (penalty_at self.now.entries.now to) }
+        requires ending_low { negsuc 4294967295 ≤ℤ ending }
+        requires ending_high { ending ≤ℤ pos 4294967296 }
         requires best { IfSome best (λ b. IsSmallTotal (to + 1) b.total) }
         requires row { IfSome row (λ b. IsSmallTotal (from + 1) b.total) }
         ensures value { result ≡ with_offer best (Option.Some from) (sum_of_both (total_in row) (line_demerits self.now.params.now self.now.entries.now (Option.Some from) to)) }
@@ -154,7 +172,7 @@ impl<'a> Prepared<'a> {
         if row.is_none() {
             return best;
         }
-        let offer = sum_of_both(from, row, self.line_demerits(Some(from), to));
+        let offer = sum_of_both(from, row, self.line_demerits(Some(from), to, ending));
         with_offer(to, best, Some(from), offer)
     }
 
@@ -168,7 +186,12 @@ impl<'a> Prepared<'a> {
         ensures small { IfSome result (λ b. IsSmallTotal (to + 1) b.total) }
     {
         match forced {
-            None => with_offer(to, None, None, self.line_demerits(None, to)),
+            None => with_offer(
+                to,
+                None,
+                None,
+                self.line_demerits(None, to, self.ending(to)),
+            ),
             Some(_) => None,
         }
     }
@@ -236,9 +259,10 @@ impl<'a> Prepared<'a> {
         ensures value { result ≡ best_among (offer (step_demerits self.now.params.now self.now.entries.now) (row_at rows.now) to) to }
         ensures small { IfSome result (λ b. IsSmallTotal (to + 1) b.total) }
     {
+        let ending = self.ending(to);
         let mut best = self.start_row(active.forced, to);
         for from in active.low..to {
-            best = self.with_row(best, rows[from], from, to);
+            best = self.with_row(best, rows[from], from, to, ending);
         }
         best
     }
