@@ -126,7 +126,7 @@ class Data(unittest.TestCase):
 
     def test_each_table_has_rows(self):
         self.assertEqual(set(tables()), {'Report', 'Page', 'Before', 'Column', 'Set', 'Item', 'Warning', 'Try', 'Left',
-                                         'Totals'})
+                                         'Totals', 'Marks', 'PageMarks'})
         self.assertTrue(all(tables().values()))
 
 
