@@ -191,11 +191,12 @@ class _Reader:
 
     # ---- which float a line names
 
-    def waiting_one(self, name, area):
-        """The first waiting float of this name that was not asked by this area in this pass."""
-        for it in self.waiting:
-            if it.name == name and (area, id(it)) not in self.asked:
-                self.asked.add((area, id(it)))
+    def waiting_one(self, name, test):
+        """The first waiting float of this name, width and height that was not asked by this area in this pass."""
+        width = 'single' if self.spot.column else 'double'
+        for it in self.waiting[self.waiting.index(self.head) + 1 if test.area == 'joins' else 0:]:
+            if (it.name, it.width, it.high) == (name, width, test.high) and (test.area, id(it)) not in self.asked:
+                self.asked.add((test.area, id(it)))
                 return it
         raise ValueError(name)
 
@@ -274,14 +275,14 @@ class _Reader:
             self.company = [self.head] + self.company
             return self.head
         if area in ('alone', 'joins'):
-            it = self.waiting_one(name, area)
+            it = self.waiting_one(name, test)
             if area == 'alone' and not test.failed:
                 self.head, self.company = it, []
             elif area == 'joins' and not test.failed:
                 self.company.append(it)
             return it
         if self.kind != 'call' and area in ('enter', 'wide'):
-            self.current = self.waiting_one(name, area)
+            self.current = self.waiting_one(name, test)
         return self.current
 
     def goes(self, name, where):
@@ -300,8 +301,10 @@ class _Reader:
             self.waiting.remove(it)
 
     def back(self, name, where):
-        it = next(it for it in reversed(self.run.floats) if it.name == name and it not in self.waiting + self.taken_back
-                  and it.decisions and it.decisions[-1].goes == where)
+        """Of the floats of this name that stand there, the first on the latest page goes back."""
+        found = [it for it in self.run.floats if it.name == name and it.decisions and it.decisions[-1].goes == where
+                 and it not in self.taken_back]
+        it = min(found, key=lambda one: (-one.decisions[-1].spot.page, -one.decisions[-1].spot.column))
         it.decisions[-1].back = where
         self.taken_back.append(it)
 
