@@ -9,7 +9,8 @@ import unittest
 
 HERE = os.path.dirname(os.path.abspath(__file__))
 STORED = os.path.join(HERE, 'stored')
-DOCUMENT = os.path.join(HERE, os.pardir, os.pardir, 'examples', 'document')
+TOP = os.path.join(HERE, os.pardir, os.pardir)
+DOCUMENT = os.path.join(TOP, 'examples', 'document')
 sys.path.insert(0, os.path.join(HERE, os.pardir))
 
 

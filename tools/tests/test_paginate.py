@@ -20,11 +20,11 @@ for ending in ('galley', 'galleylog', 'pages', 'log'):
 open(name + '.aux', 'w').close()
 '''
 
-# Stands for galley_pages: the stored report and trace of notes.tex.
+# Stands for galley_pages: the stored report and trace of notes.tex. It has no float, so nothing is told besides the trace.
 FAKE_PROGRAM = '''#!/usr/bin/env python3
 import sys
 sys.stdin.read()
-print(open(%r + sys.argv[2]).read(), end='')
+print(open(%r + sys.argv[2].replace('why', 'trace')).read(), end='')
 '''
 
 
