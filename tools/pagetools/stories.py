@@ -148,25 +148,30 @@ def goes(decision):
     return 'taken back from there' if decision.back else decision.goes or 'stays'
 
 
+def waits_before(test):
+    """The float that waits and is in the way; None if the one in the way stands in the column, or if there is none."""
+    return test.blocking if test.failed == 'class' and test.area not in ('here', 'top') else None
+
+
 def first_in_line(test):
-    """The float that is itself at fault where one of its class is in the way, and the test that kept that one with its
-    decision; None if it is not known."""
-    it, before, found = test.blocking, test.number, None
+    """The float that is itself at fault where one that waits is in the way, the test that kept it, and the decision of
+    that test; None if none that waits is in the way."""
+    it, before, found = waits_before(test), test.number, None
     while it is not None:
         kept = [(decision.reason(), decision) for decision in it.decisions if decision.reason()]
         kept = [pair for pair in kept if pair[0].number < before]
         if not kept:
             return found
         found, before = (it, *kept[-1]), kept[-1][0].number
-        it = kept[-1][0].blocking if kept[-1][0].failed == 'class' else None
+        it = waits_before(kept[-1][0])
     return found
 
 
 def in_words(test, story, decision):
     """Why a test failed, and where a float that waits is in the way, why that one or the first in line waits."""
     told = why_words.in_words(test, decision, story.settings)
-    first = first_in_line(test) if test.failed == 'class' else None
-    if first is None or first[1].failed == 'class':
+    first = first_in_line(test)
+    if first is None:
         return told
     words = why_words.in_words(first[1], first[2], story.settings)
     name = '' if first[0] is test.blocking else '; first in line is ' + first[0].name
