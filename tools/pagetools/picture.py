@@ -125,7 +125,7 @@ class Book:
         if told:
             self.stories += stories.of_part(part, own, told, (len(self.sheets), len(self.stories)))
             self.notes.update(stories.note_tips(own.pages, told.run.notes, self.entries))
-        traced = told.trace if told else report.read(options.trace[part]) if part < len(options.trace) else None
+        traced = report.read(options.trace[part]) if part < len(options.trace) else told.trace if told else None
         for page, other in zip(own.pages, traced.pages if traced else []):
             page.tries = other.tries
 

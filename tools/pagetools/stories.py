@@ -220,6 +220,8 @@ def group_lines(story, group):
 
 def lines_of(story):
     """All that is told of a float, by lines with their shapes: its title, where it went, and its decisions."""
+    if story.skipped:
+        return [(title(story.told), 'title'), ('galleyexport called it on a page of its own before, to stand here', 'words')]
     found = groups(story)
     left_out = len(found) - SHOWN if len(found) > SHOWN + 1 else 0
     lines = [(title(story.told), 'title'), (journey(story), 'words')]

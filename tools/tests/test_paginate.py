@@ -53,7 +53,8 @@ class Documents(Scratch):
         self.assertEqual(status, 0, said)
         self.assertIn('LaTeX, run 2 of at most 3\ngalleyexport: ', said)
         self.assertIn('3 pages are the same in every place\nmy notes: LaTeX made 3 pages', said)
-        self.assertTrue(os.path.exists(self.path('out of it/pictures/index.html')))
+        for name in ('pictures/index.html', 'my notes.why'):
+            self.assertTrue(os.path.exists(self.path('out of it/' + name)), name)
 
     def test_auxiliary_files_of_an_earlier_call_save_a_run(self):
         for _ in range(2):

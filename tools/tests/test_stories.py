@@ -3,6 +3,8 @@ tools/test."""
 import copy
 import os
 import re
+import shutil
+import subprocess
 import unittest
 import xml.etree.ElementTree as xml
 
@@ -110,6 +112,7 @@ class Stories(Base):
         book = self.book(document('paper'))
         title = next(story for story in book.stories if story.told.name == 'title.1')
         self.assertEqual((title.skipped, title.late(), title.call_page, title.page, title.told.late()), (True, 0, 0, 1, 2))
+        self.assertEqual(stories.lines_of(title)[1][0], 'galleyexport called it on a page of its own before, to stand here')
         # the page that the exporter put in is not counted
         wide = next(story for story in book.stories if story.told.name == 'table.2')
         self.assertEqual((wide.call_page, wide.page, wide.told.landed), (2, 3, 4))
@@ -217,6 +220,26 @@ class Drawings(Base):
                          {'figure.1', 'figure.2', 'table.2', 'figure.5', 'figure.6'})
         self.assertIn('<a href="#page-4">', text)
         self.assertNotIn('href="page004.svg"><text', text)
+
+    @unittest.skipUnless(shutil.which('chromium'), 'no browser')
+    def test_a_click_in_a_browser(self):
+        self.draw(document('paper'))
+        index = os.path.join(self.path('out'), 'index.html')
+        with open(index, encoding='utf-8') as file:
+            text = file.read()
+        clicks = [('.ask', 1), ('.askway', 1), ('.askway', 0), ('main', 0)]     # the line of figure.1 opens it, and closes it
+        with open(index, 'w', encoding='utf-8') as out:
+            out.write(text.replace('</html>', '<script>for (const it of %s) { document.querySelector(it)'
+                                   '.dispatchEvent(new MouseEvent("click", {bubbles: true})); document.querySelector("h1").append('
+                                   '" " + document.querySelectorAll(".story.open").length) }</script></html>' % [
+                                       shape for shape, _ in clicks]))
+        command = ['chromium', '--headless', '--no-sandbox', '--disable-gpu', '--user-data-dir=' + self.path('profile'),
+                   '--dump-dom', 'file://' + index]
+        try:
+            shown = subprocess.run(command, stdout=subprocess.PIPE, stderr=subprocess.DEVNULL, timeout=120, check=True)
+        except (subprocess.SubprocessError, OSError):
+            self.skipTest('the browser did not start')
+        self.assertIn('<h1>paper %s</h1>' % ' '.join(str(count) for _, count in clicks), shown.stdout.decode('utf-8'))
 
     def test_why_a_note_was_moved(self):
         self.draw(document('paper'))
