@@ -122,7 +122,7 @@ class Float:
         return '!' in self.places
 
     def missed(self):
-        """The decisions that did not place it for good: those that kept it, and those that a clear took back."""
+        """The decisions that kept it."""
         return [it for it in self.decisions if not it.placed()]
 
 
@@ -147,6 +147,14 @@ class Run:
     heights: dict = field(default_factory=dict)     # of columns, by spot
     companies: list = field(default_factory=list)   # (spot, the floats of the company that was made)
     done: bool = False                              # whether the run ended well
+
+    def pages(self):
+        """How many pages were shipped."""
+        return max((spot.page for spot in self.heights), default=0)
+
+    def in_two_columns(self):
+        """Whether any page has two columns."""
+        return any(spot.column == 2 for spot in self.heights)
 
     def named(self, name, line=None):
         """The floats of this name, or the one that is called on this line."""
