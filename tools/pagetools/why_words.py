@@ -179,8 +179,8 @@ def _pass_places(test, it, decision, settings):
 
 def _pass_count(test, it, decision, settings):
     allowed, used, _ = test.count
-    more = Change(COUNTS[test.area], str(used + 1), 'least') if used >= allowed else None
-    return [more, with_bang(it)]
+    suppressed = used < allowed or decision.kind == 'call' and settings['suppressfloats']      # or may be: the line can't tell
+    return [None if suppressed else Change(COUNTS[test.area], str(used + 1), 'least'), with_bang(it)]
 
 
 def _pass_share(test, it, decision, settings):
