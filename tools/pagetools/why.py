@@ -111,7 +111,7 @@ class Float:
     called: int = 0      # the page, by the summary
     landed: int = 0      # 0 if it was not shipped
     where: str = ''      # here, top, bottom, wide or page; of one that was not shipped also deferred
-    column: int = 0      # in which it landed, 0 above both columns and for one that was not shipped
+    column: int = 0      # in which it landed; 0 over both columns, and for one that was not shipped
     reasons: list = field(default_factory=list)
 
     def late(self):
@@ -194,7 +194,7 @@ class _Reader:
         self.asked = set()          # (area, id of a float) in this pass
         self.head, self.company = None, []
         self.current = None         # the float that is being decided on
-        self.page, self.column = 0, 0
+        self.page, self.column, self.is_wide = 0, 0, False
         self.shipped = {}           # (name, page, where) -> the columns in which such floats were shipped
 
     # ---- which float a line names
@@ -335,9 +335,9 @@ class _Reader:
     def trace(self, word, words):
         """A line of the trace, of which columns and floats are kept."""
         if word == 'page':
-            self.page, self.column = int(words[0]), 0
+            self.page, self.column, self.is_wide = int(words[0]), 0, words[1] == 'wide'
         elif word == 'column':
-            self.column = int(words[0])
+            self.column = 0 if self.is_wide else int(words[0])
             self.run.heights[Spot(self.page, self.column)] = int(words[3])
         elif word == 'float':
             self.shipped.setdefault((words[0], self.page, words[2]), []).append(self.column)

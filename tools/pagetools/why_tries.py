@@ -88,18 +88,27 @@ def of_decision(it, decision, settings, behind):
 
 def tried(program, text, it, settings):
     """The outcome of each change: those by which the float is earlier, the earliest first and one for each parameter and
-    float, and the changes that were of no use."""
-    found = candidates(it, settings)
-    with ThreadPoolExecutor(4) as pool:
-        ran = list(pool.map(lambda pair: outcome(program, text, it, *pair), found))
-    helps = [one for one in ran if one and is_earlier(one.found, it)]
+    float, and the changes that were of no use. Places in all letters are tried where no one letter is of use."""
+    helps, others = tried_of(program, text, it, candidates(it, settings))
+    if it.width == 'single' and not any(one.change.what == 'places' and one.target is it for one in helps):
+        known = [change for _, change in others]
+        every = [why_words.with_places(it, letters) for letters in ('htbp', '!htbp')]
+        more = tried_of(program, text, it, [(it, one) for one in every if one.value != it.places and one not in known])
+        helps, others = helps + more[0], more[1] + others
     helps.sort(key=lambda one: one.found.late())
     first = {}
     for one in helps:
         first.setdefault((id(one.target), one.change.what if one.change.what != 'places' else one.change), one)
-    useful = {(id(one.target), one.change.what) for one in helps}
-    others = [pair for pair in found if (id(pair[0]), pair[1].what) not in useful]
-    return list(first.values()), others
+    useful = {(id(one.target), one.change.what) for one in helps if one.change.what != 'places'}
+    return list(first.values()), [pair for pair in others if (id(pair[0]), pair[1].what) not in useful]
+
+
+def tried_of(program, text, it, pairs):
+    """The outcomes by which the float is earlier, and the changes that were of no use, both in order."""
+    with ThreadPoolExecutor(4) as pool:
+        ran = list(pool.map(lambda pair: outcome(program, text, it, *pair), pairs))
+    good = [one is not None and is_earlier(one.found, it) for one in ran]
+    return [one for one, helps in zip(ran, good) if helps], [pair for pair, helps in zip(pairs, good) if not helps]
 
 
 def is_earlier(found, it):
