@@ -20,10 +20,12 @@ def value(name, text):
 
 
 def read(text):
-    """The values that a galley sets, and the defaults of the others."""
+    """The values that a galley sets, the defaults of the others, and under `suppressfloats` whether it has such a line."""
     out = {name: value(name, it) for known in (FRACTIONS, NUMBERS, SIZES) for name, it in known.items()}
+    out['suppressfloats'] = False
     for line in text.splitlines():
         words = line.split()
+        out['suppressfloats'] |= words[:1] == ['suppressfloats']
         if words[:1] == ['set'] and len(words) > 2 and words[1] in out:
             out[words[1]] = value(words[1], words[2])
     return out

@@ -111,7 +111,7 @@ class Float:
     called: int = 0      # the page, by the summary
     landed: int = 0      # 0 if it was not shipped
     where: str = ''      # here, top, bottom, wide or page; of one that was not shipped also deferred
-    column: int = 0      # in which it landed, 0 above both columns and for one that was not shipped
+    column: int = 0      # in which it landed; 0 over both columns, and for one that was not shipped
     reasons: list = field(default_factory=list)
 
     def late(self):
@@ -122,7 +122,7 @@ class Float:
         return '!' in self.places
 
     def missed(self):
-        """The decisions that did not place it for good: those that kept it, and those that a clear took back."""
+        """The decisions that kept it."""
         return [it for it in self.decisions if not it.placed()]
 
 
@@ -147,6 +147,14 @@ class Run:
     heights: dict = field(default_factory=dict)     # of columns, by spot
     companies: list = field(default_factory=list)   # (spot, the floats of the company that was made)
     done: bool = False                              # whether the run ended well
+
+    def pages(self):
+        """How many pages were shipped."""
+        return max((spot.page for spot in self.heights), default=0)
+
+    def in_two_columns(self):
+        """Whether any page has two columns."""
+        return any(spot.column == 2 for spot in self.heights)
 
     def named(self, name, line=None):
         """The floats of this name, or the one that is called on this line."""
@@ -186,7 +194,7 @@ class _Reader:
         self.asked = set()          # (area, id of a float) in this pass
         self.head, self.company = None, []
         self.current = None         # the float that is being decided on
-        self.page, self.column = 0, 0
+        self.page, self.column, self.is_wide = 0, 0, False
         self.shipped = {}           # (name, page, where) -> the columns in which such floats were shipped
 
     # ---- which float a line names
@@ -327,9 +335,9 @@ class _Reader:
     def trace(self, word, words):
         """A line of the trace, of which columns and floats are kept."""
         if word == 'page':
-            self.page, self.column = int(words[0]), 0
+            self.page, self.column, self.is_wide = int(words[0]), 0, words[1] == 'wide'
         elif word == 'column':
-            self.column = int(words[0])
+            self.column = 0 if self.is_wide else int(words[0])
             self.run.heights[Spot(self.page, self.column)] = int(words[3])
         elif word == 'float':
             self.shipped.setdefault((words[0], self.page, words[2]), []).append(self.column)

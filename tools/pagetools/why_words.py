@@ -17,6 +17,12 @@ AREAS = {'enter': 'this column', 'here': 'the text', 'top': 'the top', 'bottom':
 LETTERS = {'here': 'h', 'top': 't', 'bottom': 'b', 'wide': 't', 'alone': 'p', 'joins': 'p'}
 
 
+# Reasons of the summary that no test stands for.
+CARRIED = {('here', 'carried'): 'the page broke before it, so it was carried in the text',
+           ('clear', 'back'): 'a clear took it back',
+           ('wait', 'wide'): 'it waited without a call, as a wide float of release 2014 does'}
+
+
 @dataclass(frozen=True)
 class Change:
     """One change of a galley, in a parameter or in the float itself."""
@@ -93,27 +99,27 @@ def _count(test, decision, settings):
     where, name = AREAS[test.area], COUNTS[test.area]
     if used < allowed:
         return '\\suppressfloats lets no float into %s' % where
-    have = 'has' if used else 'may have no float'
-    return '%s %s: %s' % (where, 'has %s already' % floats(used) if used else have, is_now(name, settings))
+    have = 'has %s already' % floats(used) if used else 'may have no float'
+    return '%s %s (%s)' % (where, have, is_now(name, settings))
 
 
 def _room(test, decision, settings):
     over = points(test.lacks(), up=True)
     if test.area == 'wide':
-        return '%s more than %s may hold: %s' % (over, AREAS['wide'], is_now('dbltopfraction', settings))
+        return '%s more than %s may hold (%s)' % (over, AREAS['wide'], is_now('dbltopfraction', settings))
     rest = {'here': 'with intextsep round it, ', 'top': 'with the space below it, ', 'bottom': 'with the space above it, '}
     enter = decision.test('enter')
     least = enter.least if enter else 0
     if least > decision.text:
-        text = 'the text that it must have besides (%s)' % is_now('textfraction', settings)
+        text = 'the text that must be there (%s)' % is_now('textfraction', settings)
     else:
-        text = 'the text that it has so far'
+        text = 'the text so far'
     return '%s%s too high for this column beside %s' % (rest.get(test.area, ''), over, text)
 
 
 def _share(test, decision, settings):
-    return '%s more than %s may hold: %s' % (points(test.lacks(), up=True), AREAS[test.area],
-                                             is_now(SHARES[test.area], settings))
+    return '%s more than %s may hold (%s)' % (points(test.lacks(), up=True), AREAS[test.area],
+                                              is_now(SHARES[test.area], settings))
 
 
 def _tall(test, decision, settings):
@@ -124,9 +130,21 @@ def _sum(test, decision, settings):
     if test.area == 'joins':
         return 'the floats before it leave %s too little of the page of floats' % points(test.lacks(), up=True)
     name = 'floatpagefraction' if decision.spot.column else 'dblfloatpagefraction'
-    group = 'the float itself is' if test.floats == 1 else 'the %s that may share a page of floats are' % floats(test.floats)
-    return '%s %s high, and a page of floats needs more than %s: %s' % (
+    group = 'it is' if test.floats == 1 else 'the %s that could share a page of floats are' % floats(test.floats)
+    return '%s %s high, and a page of floats needs more than %s (%s)' % (
         group, points(test.sum), points(test.least), is_now(name, settings))
+
+
+def root_of(test):
+    """The test and the decision by which the float that is in the way waits itself; None if it was placed."""
+    if not test.blocking:
+        return None
+    before = [one for one in test.blocking.decisions if one.tests and one.tests[0].number < test.number]
+    last = before[-1] if before else None
+    reason = last.reason() if last else None
+    if reason and reason.failed == 'class' and reason.blocking not in (None, test.blocking):
+        return root_of(reason) or (reason, last)
+    return (reason, last) if reason else None
 
 
 TELLERS = {'places': _places, 'wide': _wide, 'class': _class, 'count': _count, 'room': _room, 'share': _share,
@@ -155,8 +173,8 @@ def with_places(it, letters):
 
 
 def lower(test, it):
-    """The float made lower by what it lacks, None if it lacks more than its height."""
-    return Change('high', str(it.high - test.lacks()), 'most') if it.high >= test.lacks() else None
+    """The float made lower by what it lacks, None if this is more than half of it."""
+    return Change('high', str(it.high - test.lacks()), 'most') if it.high >= 2 * test.lacks() else None
 
 
 def fraction_of_at_least(name, target, height):
@@ -179,8 +197,8 @@ def _pass_places(test, it, decision, settings):
 
 def _pass_count(test, it, decision, settings):
     allowed, used, _ = test.count
-    more = Change(COUNTS[test.area], str(used + 1), 'least') if used >= allowed else None
-    return [more, with_bang(it)]
+    suppressed = used < allowed or decision.kind == 'call' and settings['suppressfloats']      # or may be: the line can't tell
+    return [None if suppressed else Change(COUNTS[test.area], str(used + 1), 'least'), with_bang(it)]
 
 
 def _pass_share(test, it, decision, settings):
