@@ -100,7 +100,7 @@ class PageCalls:
 
     def _way_points(self, story, column, bends):
         """The points of the curve from a call in a column to its float in a column, or above both."""
-        item, other, y = story.item, self.columns.get(story.told.column), column.y + story.call_y / PT
+        item, other, y = story.item, self.columns.get(story.column), column.y + story.call_y / PT
         if other is None:
             x = max(column.x - 12, self.wide[0] + 6)
             foot = self.wide[1] + (item.top + item.height) / PT
@@ -118,7 +118,7 @@ class PageCalls:
     # ---- Where they stand
 
     def _float(self, story):
-        item, column = story.item, self.columns.get(story.told.column)
+        item, column = story.item, self.columns.get(story.column)
         if column is None:
             x, y, width = self.wide
         else:
@@ -126,7 +126,7 @@ class PageCalls:
         y, height = y + item.top / PT, item.height / PT
         if story.is_elsewhere() and story.call_page:
             words = 'called on page %d' % story.call_page
-            words += ', ' + told.late(story.late()) if story.late() else ''
+            words += ', ' + story.late_words() if story.late() else ''
             size = min(5.6, max(3.5, height - 1))
             self.drawing.rect(x + 3, y + 1.5, len(words) * size * svg.LETTER + 4, size + 2, 'plate', radius=1.5)
             self.drawing.text(x + 5, y + 1.2 + size, words, size, 'words')

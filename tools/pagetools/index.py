@@ -10,7 +10,7 @@ from . import stories, svg
 PT = 65536.0
 HERE = os.path.dirname(os.path.abspath(__file__))
 
-LATE = '<th title="columns and wide pages that were put out while it waited">Sheets late<th>Why'
+LATE = '<th title="how many columns and wide pages were put out while it waited">Sheets late<th>Why'
 
 PAGE = '''<!doctype html>
 <html lang="en">

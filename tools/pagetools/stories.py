@@ -29,12 +29,12 @@ class Story:
     number: int          # counted through the document, from 1
     told: why.Float
     part: int            # which of the document's galleys it stands in
-    settings: dict       # the parameters of that galley
+    source: Told         # what is told of that part
     shown: object        # the number that the document gives to a page of that part
     skipped: bool        # whether it was called on a page that the exporter put in
-    two: bool            # whether there are pages of two columns
     item: object = None  # of the report, None if it was not shipped
     page: int = 0        # where it stands, 0 for nowhere
+    column: int = 0      # 0 above both columns
     call_page: int = 0   # where the words before its call stand, 0 where that is unknown
     call_column: int = 0
     call_y: int = 0      # sp below the top of that column
@@ -42,6 +42,15 @@ class Story:
     def late(self):
         """How many columns and wide pages were put out while it waited; 0 where the exporter made it wait."""
         return 0 if self.skipped else self.told.late()
+
+    def late_words(self):
+        """How late it is, in columns or pages; '' if it is not late."""
+        late, word = self.late(), 'column' if self.two() else 'page'
+        return count(late, word) + ' late' if late else ''
+
+    def two(self):
+        """Whether there are pages of two columns."""
+        return self.source.run.in_two_columns()
 
     def is_elsewhere(self):
         """Whether it stands on another page than the words round its call."""
@@ -53,17 +62,17 @@ def of_part(part, own, told, known):
     `known` before it."""
     pages = own.pages
     skipped = [page.number for page in pages if page.is_skipped()]
-    two = any(page.kind == 'two' for page in pages)
-    items = [(page.number, column, item) for page in pages for column, item in page.items() if item.kind == 'float']
+    items = [(page, column, item) for page in pages for column, item in page.items() if item.kind == 'float']
     found = []
     for it in told.run.floats:
-        story = Story(known[1] + len(found) + 1, it, part, told.settings, _counted(skipped, known[0]),
-                      it.spot.page in skipped, two)
-        at = next((k for k, (number, column, item) in enumerate(items)
-                   if (item.name, number, item.place, column) == (it.name, it.landed, it.where, it.column)), None)
+        story = Story(known[1] + len(found) + 1, it, part, told, _counted(skipped, known[0]),
+                      it.spot.page in skipped)
+        at = next((k for k, (page, column, item) in enumerate(items)
+                   if (item.name, page.number, item.place) == (it.name, it.landed, it.where)
+                   and it.column == (0 if page.kind == 'wide' else column)), None)
         if at is not None:
-            number, _, story.item = items.pop(at)
-            story.page = story.shown(number)
+            page, story.column, story.item = items.pop(at)
+            story.page = story.shown(page.number)
         elif it.landed:
             raise report.ReportFault('%s tells of other pages than %s' % (told.path, own.path))
         found.append(story)
@@ -101,10 +110,6 @@ def count(number, word):
     return '%d %s%s' % (number, word, '' if number == 1 else 's')
 
 
-def late(number):
-    return '%s late' % count(number, 'sheet')
-
-
 def title(it):
     """`figure.1: class 1, places tb, 135.0pt high`."""
     width = 'as wide as both columns, ' if it.width == 'double' else ''
@@ -115,22 +120,22 @@ def journey(story):
     """Where it was called and where it stands, in a sentence."""
     it = story.told
     made = story.shown(it.spot.page)
-    told = 'called while page %d was made' % made + (', column %d' % it.spot.column if story.two else '')
+    told = 'called while page %d was made' % made + (', column %d' % it.spot.column if story.two() else '')
     if story.call_page and story.call_page != made:
         told += '; the words before it stand on page %d' % story.call_page
     if not story.page:
         return told + '; on no page: the run ended before'
-    alone = it.where == 'page' and (it.width == 'double' or not story.two)
+    alone = it.where == 'page' and (it.width == 'double' or not story.two())
     where = 'on a page of floats' if alone else PLACES[it.where]
     told += '; stands on page %d, %s' % (story.page, where)
-    return told + (', ' + late(story.late()) if story.late() else '')
+    return told + (', ' + story.late_words() if story.late() else '')
 
 
 def place_of(story, decision):
     """`page 5, column 2, at its call`."""
     spot = decision.spot
     column = ', column %d' % spot.column if spot.column else ', over both columns'
-    return 'page %d' % story.shown(spot.page) + (column if story.two else '') + {'call': ', at its call', 'start': '', 'clear': ', at a clear'}[decision.kind]
+    return 'page %d' % story.shown(spot.page) + (column if story.two() else '') + {'call': ', at its call', 'start': '', 'clear': ', at a clear'}[decision.kind]
 
 
 def verdict(test):
@@ -140,7 +145,7 @@ def verdict(test):
 def passes(test, story, decision):
     """What alone would have passed a test; '' if no change of the float or of a parameter would."""
     found = [it.in_words() + {'least': ' or more', 'most': ' or less', '': ''}[it.bound]
-             for it in why_words.changes(test, story.told, decision, story.settings)]
+             for it in why_words.changes(test, story.told, decision, story.source.settings)]
     return 'would have passed this test: ' + ', or '.join(found) if found else ''
 
 
@@ -148,34 +153,16 @@ def goes(decision):
     return 'taken back from there' if decision.back else decision.goes or 'stays'
 
 
-def waits_before(test):
-    """The float that waits and is in the way; None if the one in the way stands in the column, or if there is none."""
-    return test.blocking if test.failed == 'class' and test.area not in ('here', 'top') else None
-
-
-def first_in_line(test):
-    """The float that is itself at fault where one that waits is in the way, the test that kept it, and the decision of
-    that test; None if none that waits is in the way."""
-    it, before, found = waits_before(test), test.number, None
-    while it is not None:
-        kept = [(decision.reason(), decision) for decision in it.decisions if decision.reason()]
-        kept = [pair for pair in kept if pair[0].number < before]
-        if not kept:
-            return found
-        found, before = (it, *kept[-1]), kept[-1][0].number
-        it = waits_before(kept[-1][0])
-    return found
-
-
 def in_words(test, story, decision):
     """Why a test failed, and where a float that waits is in the way, why that one or the first in line waits."""
-    told = why_words.in_words(test, decision, story.settings)
-    first = first_in_line(test)
-    if first is None:
+    told = why_words.in_words(test, decision, story.source.settings)
+    root = why_words.root_of(test) if test.failed == 'class' else None
+    if root is None:
         return told
-    words = why_words.in_words(first[1], first[2], story.settings)
-    name = '' if first[0] is test.blocking else '; first in line is ' + first[0].name
-    return '%s%s (%s: %s)' % (told, name, first[1].area, words)
+    reason, at = root
+    first = next(it for it in story.source.run.floats if any(one is at for one in it.decisions))
+    name = '' if first is test.blocking else '; first in line is ' + first.name
+    return '%s%s (%s: %s)' % (told, name, reason.area, why_words.in_words(reason, at, story.source.settings))
 
 
 def kept_lines(story, decision):

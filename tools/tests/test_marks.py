@@ -1,8 +1,9 @@
 """Tests of the marks of pages, with reports written for them: what TeX's marks are, by its rules. Run by tools/test."""
 import json
+import os
 import unittest
 
-from support import Scratch, document, run
+from support import TOP, Scratch, document, run
 from test_json import Shape
 
 from pagetools import marks, report
@@ -105,6 +106,11 @@ class Marks(Scratch):
         self.assertEqual(self.told(ONE_COLUMN), 'page 1 top - first - bottom -\npage 2 top - first m1 bottom m3\n'
                                                 'page 3 top m3 first m3 bottom m3\nleft m4\n')
         self.assertTrue(self.told(ONE_COLUMN, SKIPPED).endswith('page 4 top m3 first s bottom t\nleft m4\n'))
+
+    def test_the_marks_in_the_document(self):
+        _, said = run(marks.main, os.path.join(TOP, 'examples', 'chapter.report'))
+        with open(os.path.join(TOP, 'tools', 'README.md'), encoding='utf-8') as file:
+            self.assertIn('```\n$ tools/marks examples/chapter.report\n%s```\n' % said, file.read())
 
     def test_json(self):
         for texts in ((ONE_COLUMN,), (TWO_COLUMNS, ONE_COLUMN)):

@@ -1,6 +1,5 @@
 """Tests of the picture with --why: where calls and floats stand, what is told of each, and how it is drawn. Run by
 tools/test."""
-import copy
 import os
 import re
 import shutil
@@ -58,6 +57,13 @@ goes late page
 """ + REPORT[REPORT.index('page 2'):REPORT.index('end')] + """why low 3 called 1 landed 1 bottom
 why late 5 called 1 landed 2 page because enter room late 36 1
 """ + REPORT[REPORT.index('end'):]
+
+
+# A float that waits for G, which waits for F.
+BEHIND_G = """call H 18 page 1 column 1 class 1 places t width single high 5 text 20
+enter H class G count 3 0 3 least 19 high 5 room 100 need 25 no class
+goes H deferred
+"""
 
 
 def example(name):
@@ -123,37 +129,41 @@ class Stories(Base):
         self.assertEqual(low[2:], [('page 1, at its call \u2192 bottom', 'told'), (
             '   enter: yes \u00b7 here: no, places \u00b7 top: no, places \u00b7 bottom: yes', 'quiet')])
         text = [line.strip() for line, _ in late]
-        self.assertEqual(text[1:3], ['called while page 1 was made; stands on page 2, on a page of floats, 1 sheet late',
+        self.assertEqual(text[1:3], ['called while page 1 was made; stands on page 2, on a page of floats, 1 page late',
                                      'page 1, at its call \u2192 deferred'])
         # the room of 80 must exceed the text of 40 and the float
         self.assertIn('36sp too high for this column', text[3])
         self.assertTrue(text[4].startswith('would have passed this test: a height of 39sp or less'), text[4])
         self.assertEqual(text[5:], ['page 2 \u2192 page', 'alone: yes \u00b7 company: yes'])
 
+    def test_the_story_in_the_document(self):
+        book = self.book(os.path.join(TOP, 'examples', 'tutorial', 'figure'))
+        story = next(story for story in book.stories if story.told.name == 'a-table')
+        with open(os.path.join(TOP, 'tools', 'README.md'), encoding='utf-8') as file:
+            self.assertIn('```\n%s\n```\n' % '\n'.join(line for line, _ in stories.lines_of(story)), file.read())
+
     def test_one_reason_again_and_again_is_told_once(self):
         first, second = (stories.lines_of(story) for story in self.book(example('waiting')).stories)
         told = [line for line, _ in first]
         self.assertEqual([line.strip() for line in told if 'more than the top' in line],
-                         ['top: 7sp more than the top may hold: topfraction is 0.7'])
+                         ['top: 7sp more than the top may hold (topfraction is 0.7)'])
         self.assertIn('until page 4: the same, 3 times', told)
         # 0.77 of 100sp is 77sp, of which less than 76sp are free
         self.assertEqual(len([line for line in told if 'would have passed this test: ' in line and '[!t]' in line]), 1)
-        self.assertIn('   enter: F of its class waits before it (top: 7sp more than the top may hold: topfraction is 0.7)',
+        self.assertIn('   enter: F of its class waits before it (top: 7sp more than the top may hold (topfraction is 0.7))',
                       [line for line, _ in second])
 
     def test_first_in_line(self):
-        # a chain of three floats of a class: the last waits for the second, which waits for the first
-        first, second = self.book(example('waiting')).stories
-        third = copy.deepcopy(second)
-        for decision in third.told.decisions:
-            for test in decision.tests:
-                test.number += 1
-                if test.blocking:
-                    test.blocker, test.blocking = 'G', second.told
-        decision = third.told.decisions[0]
-        self.assertEqual(stories.in_words(decision.reason(), third, decision), 'G of its class waits before it; first in line '
-                         'is F (top: 7sp more than the top may hold: topfraction is 0.7)')
-        self.assertIs(stories.first_in_line(decision.reason())[0], first.told)
+        with open(example('waiting.why'), encoding='latin-1') as file:
+            text = file.read().replace('goes G deferred\n', 'goes G deferred\n' + BEHIND_G, 1)
+        with open(self.path('b.why'), 'w', encoding='latin-1') as out:
+            out.write(text)
+        for ending in ('galley', 'report'):
+            shutil.copy(example('waiting.' + ending), self.path('b.' + ending))
+        story = self.book(self.path('b')).stories[2]
+        decision = story.told.decisions[0]
+        self.assertEqual(stories.in_words(decision.reason(), story, decision), 'G of its class waits before it; first in line '
+                         'is F (top: 7sp more than the top may hold (topfraction is 0.7))')
 
     def test_many_decisions_are_cut(self):
         story = self.book(example('waiting')).stories[0]
@@ -188,7 +198,7 @@ class Drawings(Base):
     def test_a_call_and_its_float_on_another_page(self):
         self.draw(self.path('a'))
         self.assertIn('to page 2', self.texts('page001.svg'))
-        self.assertIn('called on page 1, 1 sheet late', self.texts('page002.svg'))
+        self.assertIn('called on page 1, 1 page late', self.texts('page002.svg'))
         self.assertFalse([text for text in self.texts('page003.svg') if text.startswith(('to page', 'called on'))])
 
     def test_a_line_to_a_float_of_the_page(self):
@@ -248,6 +258,22 @@ class Drawings(Base):
         self.assertEqual([tip for tip in tips if 'the notes before it to 71.6pt' in tip],
                          ['marginal note margin.5, moved down by 19.10pt: the text reaches down to 58.0pt, the notes before '
                           'it to 71.6pt, and it is 5.6pt high'])
+
+    def test_a_page_of_double_floats(self):
+        report_text = REPORT.replace('page 2 one', 'page 2 wide')
+        why_text = WHY.replace('page 2 one', 'page 2 wide').replace('start page 2 column 1', 'start page 2 wide').replace(
+            'places tp width single', 'places tp width double').replace('need 115 no room', 'need 115 no wide').replace(
+                'enter room late 36', 'enter wide late 0')
+        galley_text = GALLEY.replace('float late 2 single', 'float late 2 double')
+        for name, text in (('a.galley', galley_text), ('a.report', report_text), ('a.why', why_text)):
+            with open(self.path(name), 'w', encoding='latin-1') as out:
+                out.write(text)
+        story = self.book(self.path('a')).stories[1]
+        self.assertEqual((story.page, story.column, story.told.column), (2, 1, 0))
+        self.assertIn('stands on page 2, on a page of floats, 1 page late', stories.journey(story))
+        self.draw(self.path('a'))
+        hatched, asked = (self.elements('page002.svg', shape)[0] for shape in ('hatch1', 'ask'))
+        self.assertEqual([hatched.get(it) for it in ('x', 'y', 'width')], [asked.get(it) for it in ('x', 'y', 'width')])
 
     def test_tags_do_not_lie_over_another(self):
         drawing = calls.svg.Drawing(300, 200)
