@@ -44,7 +44,7 @@ def words(name):
     """The words in a name that galleyexport made (`b12.The-line`), and its number; else the name and ''. The last word
     of a name that was cut is left out, since it may be a part of one."""
     number, point, text = name.partition('.')
-    if point and text and number[:1] in 'bvw' and number[1:].isdigit():
+    if point and text and number[:1] in 'bvwm' and number[1:].isdigit():
         text = text.replace('-', ' ').strip()
         return cut(text, LONGEST_WORDS - 1) if len(text) >= LONGEST_WORDS else text, number
     return name, ''
