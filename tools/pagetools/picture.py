@@ -7,7 +7,7 @@ from dataclasses import dataclass
 from . import calls, compare, document, index, marks, places, report, stories, tries, why
 from . import galley as galleys
 from .calls import page_file
-from .column import LANE, PT, Around, ColumnDrawing, cut, draw_float, mark_first
+from .column import LANE, PT, Around, ColumnDrawing, cut, draw_float, mark_first, words
 from .svg import Drawing
 
 USAGE = """Draws the pages of a report. Frames are columns; boxes stand with their baseline and words; a spring is the
@@ -75,10 +75,12 @@ class PageDrawing:
         if own is None or own.bottom is None:
             return
         y, right, letters = drawing.height - 20, self.left + self.width, int(self.width / 2 / (6 * 0.6)) - 12
+        def told(which, name):
+            return '%s mark %s' % (which, cut(words(name)[0], letters))
         if own.top:
-            drawing.text(self.left, 11.2, 'top mark ' + cut(own.top, letters), 6, 'marked')
-        drawing.text(right, 11.2, 'first mark ' + cut(own.first, letters), 6, 'marked', 'end')
-        drawing.text(right, y, 'bottom mark ' + cut(own.bottom, letters), 6, 'marked', 'end')
+            drawing.text(self.left, 11.2, told('top', own.top), 6, 'marked', tip=own.top)
+        drawing.text(right, 11.2, told('first', own.first), 6, 'marked', 'end', own.first)
+        drawing.text(right, y, told('bottom', own.bottom), 6, 'marked', 'end', own.bottom)
 
 
 # ---- What is drawn
@@ -172,11 +174,11 @@ def entries_of(pages, galley, part):
     return entries
 
 
-def chosen(sheets, words):
+def chosen(sheets, asked):
     """The pages A-B, or A alone."""
-    if not words:
+    if not asked:
         return sheets
-    first, _, last = words.partition('-')
+    first, _, last = asked.partition('-')
     return [sheet for sheet in sheets if int(first) <= sheet.number() <= int(last or first)]
 
 

@@ -303,7 +303,8 @@ class Marks(Scratch):
         for name, told in (('page001.svg', ['first mark chapter1', 'bottom mark chapter1']),
                            ('page002.svg', ['top mark chapter1', 'first mark chapter1', 'bottom mark chapter1'])):
             tree = xml.parse(os.path.join(self.path('out'), name))
-            self.assertEqual([''.join(it.itertext()) for it in tree.iter() if it.get('class') == 'marked'], told)
+            shown = [it for it in tree.iter() if it.get('class') == 'marked']
+            self.assertEqual([''.join(it.itertext()) for it in shown], ['chapter1' + text for text in told])
 
     def test_a_document_without_marks_has_none(self):
         run(picture.main, document('paper.report'), '--out', self.path('out'))
