@@ -31,6 +31,14 @@ def counted(number, word):
     return '%d %s%s' % (number, word, '' if number == 1 else 's')
 
 
+def telling(decision):
+    """The tests that kept a float; those of its places only where there is no other. Of a text that its places leave out
+    nothing is told."""
+    failed = decision.failed()
+    others = [it for it in failed if it.failed != 'places']
+    return [it for it in others if it.area != 'here' or decision.asks_here] or others or failed
+
+
 class Story:
     """What can be said of the floats and notes of a run."""
 
@@ -122,14 +130,8 @@ class Story:
         return 'At %s %s:' % ('a clear on' if first.kind == 'clear' else 'the start of', self.spot(first.spot))
 
     def why_not(self, decision):
-        """Each test that kept it; those of its places only where there is no other."""
-        failed = decision.failed()
-        told = [it for it in failed if it.failed != 'places'] or failed
-        parts = []
-        for test in told:
-            text = in_words(test, decision, self.settings)
-            if text not in parts:
-                parts.append(text)
+        """Each test that kept it, in words."""
+        parts = list(dict.fromkeys(in_words(test, decision, self.settings) for test in telling(decision)))
         return '; '.join(parts) or 'it is not asked'
 
     def root(self, decision):
@@ -195,16 +197,16 @@ class Story:
         if most.root != it.name:
             text = '%s: %s' % (most.root, text)
         others = len(it.reasons) - 1
-        return text + (' (and %d other%s)' % (others, 's' * (others > 1)) if others else '')
+        return text + (' (and %s)' % counted(others, 'other reason') if others else '')
 
     def reason_text(self, reason):
         if (reason.area, reason.word) in CARRIED:
             return CARRIED[reason.area, reason.word]
         for it in self.run.named(reason.root):
             for decision in it.decisions:
-                for test in decision.failed():
-                    if (test.area, test.failed, test.lacks()) == (reason.area, reason.word, reason.by):
-                        return in_words(test, decision, self.settings)
+                test = decision.reason()
+                if test and (test.area, test.failed, test.lacks()) == (reason.area, reason.word, reason.by):
+                    return in_words(telling(decision)[0], decision, self.settings)
         return '%s %s' % (reason.area, reason.word)
 
     def table(self):

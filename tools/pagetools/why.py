@@ -61,6 +61,7 @@ class Decision:
     kind: str            # call, start or clear
     spot: Spot
     text: int = 0        # at a call: the height of the text so far
+    asks_here: bool = False     # at a call: whether the float has the place h
     height: int = 0      # of the column, or of the page where the spot is a whole one; 0 if the lines do not tell
     tests: list = field(default_factory=list)
     goes: str = ''       # here, top, bottom, wide, page or deferred; '' if other floats took the column
@@ -258,7 +259,8 @@ class _Reader:
             return
         self.current = it
         self.kind, self.spot, self.height, self.open = 'call', it.spot, 0, {}
-        self.decision_of(it).text = known['text']
+        decision = self.decision_of(it)
+        decision.text, decision.asks_here = known['text'], 'h' in it.places
 
     def tested(self, area, words, number):
         known = values(words[1:])

@@ -4,10 +4,12 @@ import subprocess
 from concurrent.futures import ThreadPoolExecutor
 from dataclasses import dataclass
 
+from . import settings as known
 from . import why, why_words
 from .why_words import Change
 
 MOST = 60                       # changes that are tried for one float
+ROUNDS = 3                      # values of one parameter that are tried, each by the test that failed after the one before
 CLEAR = Change('clear', '')     # a clear behind the float
 
 
@@ -56,12 +58,39 @@ def run_of(program, text):
     return why.read(ran.stdout.decode('latin-1'))
 
 
-def outcome(program, text, it, target, change):
-    """Where the float `it` lands after a change of `target`; None if the run with it is refused before."""
-    new, first, moved = changed(text, target, change)
-    run = run_of(program, new)
+def outcome(program, text, it, target, change, settings):
+    """Where the float `it` lands after a change of `target`. Where it is no earlier, since a later test of the same decision
+    fails by the same parameter, the value that passes that one is tried. None if the run with it is refused before."""
+    for _ in range(ROUNDS):
+        new, first, moved = changed(text, target, change)
+        run = run_of(program, new)
+        found = same_float(run, it, first, moved)
+        if found and found.landed and is_earlier(found, it):
+            break
+        more = further(same_float(run, target, first, moved), target, change, settings)
+        if not more:
+            break
+        change = more
+    return Outcome(change, target, found, run.pages()) if found and found.landed else None
+
+
+def same_float(run, it, first, moved):
+    """The float in the run of the changed galley, None if the run did not come so far."""
     found = run.named(it.name, it.line + (moved if it.line >= first else 0))
-    return Outcome(change, target, found[0], run.pages()) if found and found[0].landed else None
+    return found[0] if found else None
+
+
+def further(found, target, change, settings):
+    """The next value of what was changed, by the first decision that keeps the float still; None if it has none."""
+    if not found or not change.bound or len(found.decisions) > len(target.decisions):
+        return None
+    settings = {**settings, change.what: known.value(change.what, change.value)} if change.what in settings else settings
+    for decision in found.missed():
+        for test in decision.failed():
+            for one in why_words.changes(test, found, decision, settings):
+                if one.what == change.what and one != change:
+                    return one
+    return None
 
 
 def candidates(it, settings):
@@ -89,13 +118,14 @@ def of_decision(it, decision, settings, behind):
 def tried(program, text, it, settings):
     """The outcome of each change: those by which the float is earlier, the earliest first and one for each parameter and
     float, and the changes that were of no use. Places in all letters are tried where no one letter is of use."""
-    helps, others = tried_of(program, text, it, candidates(it, settings))
+    helps, others = tried_of(program, text, it, candidates(it, settings), settings)
     if it.width == 'single' and not any(one.change.what == 'places' and one.target is it for one in helps):
-        known = [change for _, change in others]
+        tried_before = [change for _, change in others]
         every = [why_words.with_places(it, letters) for letters in ('htbp', '!htbp')]
-        more = tried_of(program, text, it, [(it, one) for one in every if one.value != it.places and one not in known])
-        helps, others = helps + more[0], more[1] + others
-    helps.sort(key=lambda one: one.found.late())
+        more = [(it, one) for one in every if one.value != it.places and one not in tried_before]
+        more = tried_of(program, text, it, more, settings)
+        helps, others = helps + more[0], sorted(others + more[1], key=lambda pair: pair[1] == CLEAR)
+    helps.sort(key=lambda one: (one.found.landed, one.found.column))
     first = {}
     for one in helps:
         first.setdefault((id(one.target), one.change.what if one.change.what != 'places' else one.change), one)
@@ -103,13 +133,14 @@ def tried(program, text, it, settings):
     return list(first.values()), [pair for pair in others if (id(pair[0]), pair[1].what) not in useful]
 
 
-def tried_of(program, text, it, pairs):
+def tried_of(program, text, it, pairs, settings):
     """The outcomes by which the float is earlier, and the changes that were of no use, both in order."""
     with ThreadPoolExecutor(4) as pool:
-        ran = list(pool.map(lambda pair: outcome(program, text, it, *pair), pairs))
+        ran = list(pool.map(lambda pair: outcome(program, text, it, *pair, settings), pairs))
     good = [one is not None and is_earlier(one.found, it) for one in ran]
     return [one for one, helps in zip(ran, good) if helps], [pair for pair, helps in zip(pairs, good) if not helps]
 
 
 def is_earlier(found, it):
-    return not it.landed or found.late() < it.late()
+    """Whether a float lands on an earlier page, or in an earlier column of its page; one over both columns stands first."""
+    return not it.landed or (found.landed, found.column) < (it.landed, it.column)
