@@ -364,6 +364,6 @@ def read(text):
             continue
         try:
             reader.take(words[0], words[1:], number)
-        except (ValueError, IndexError, KeyError, TypeError, StopIteration):
+        except (ValueError, IndexError, KeyError, TypeError, AttributeError, StopIteration):
             raise WhyFault('line %d: this is no line of the mode why: %s' % (number, line)) from None
     return reader.finish()
