@@ -135,7 +135,8 @@ def place_of(story, decision):
     """`page 5, column 2, at its call`."""
     spot = decision.spot
     column = ', column %d' % spot.column if spot.column else ', over both columns'
-    return 'page %d' % story.shown(spot.page) + (column if story.two() else '') + {'call': ', at its call', 'start': '', 'clear': ', at a clear'}[decision.kind]
+    when = {'call': ', at its call', 'start': '', 'clear': ', at a clear'}[decision.kind]
+    return 'page %d' % story.shown(spot.page) + (column if story.two() else '') + when
 
 
 def verdict(test):

@@ -78,8 +78,8 @@ class Base(Scratch):
                 out.write(text)
 
     def book(self, *names):
-        return picture.Book(picture.parsed([*(name + '.report' for name in names), '--galley', *(it + '.galley' for it in names),
-                                            '--why', *(name + '.why' for name in names)]))
+        files = {ending: [name + ending for name in names] for ending in ('.report', '.galley', '.why')}
+        return picture.Book(picture.parsed(files['.report'] + ['--galley'] + files['.galley'] + ['--why'] + files['.why']))
 
     def draw(self, name):
         status, said = run(picture.main, name + '.report', '--galley', name + '.galley', '--why', name + '.why', '--out',
@@ -237,12 +237,12 @@ class Drawings(Base):
         index = os.path.join(self.path('out'), 'index.html')
         with open(index, encoding='utf-8') as file:
             text = file.read()
-        clicks = [('.ask', 1), ('.askway', 1), ('.askway', 0), ('main', 0)]     # the line of figure.1 opens it, and closes it
+        # what is clicked on, and how many floats are told of then: the line to figure.1 opens its panel, and closes it
+        clicks = [('.ask', 1), ('.askway', 1), ('.askway', 0), ('main', 0)]
+        script = ('for (const it of %s) { document.querySelector(it).dispatchEvent(new MouseEvent("click", {bubbles: true}))\n'
+                  'document.querySelector("h1").append(" " + document.querySelectorAll(".story.open").length) }')
         with open(index, 'w', encoding='utf-8') as out:
-            out.write(text.replace('</html>', '<script>for (const it of %s) { document.querySelector(it)'
-                                   '.dispatchEvent(new MouseEvent("click", {bubbles: true})); document.querySelector("h1").append('
-                                   '" " + document.querySelectorAll(".story.open").length) }</script></html>' % [
-                                       shape for shape, _ in clicks]))
+            out.write(text.replace('</html>', '<script>%s</script></html>' % script % [shape for shape, _ in clicks]))
         command = ['chromium', '--headless', '--no-sandbox', '--disable-gpu', '--user-data-dir=' + self.path('profile'),
                    '--dump-dom', 'file://' + index]
         try:
