@@ -53,6 +53,7 @@ class Facts:
     losses: list = field(default_factory=list)       # what the galley can't say
     warnings: list = field(default_factory=list)     # the number of the page, the words of the report
     floats: list = field(default_factory=list)       # a FloatRow for each
+    unshipped: list = field(default_factory=list)    # the stories of floats that are on no page
 
 
 def points(text):
@@ -128,6 +129,12 @@ def float_table(rows):
             '<th>Height%s%s</table></details>') % (len(rows), LATE * told, lines)
 
 
+def unshipped_text(story):
+    """A float that the run ended before: where it was called, and why it waits."""
+    called = ', called on ' + page_link(story.call_page) if story.call_page else ''
+    return '%s%s: %s' % (escape(story.told.name), called, escape(stories.reason(story)))
+
+
 def story_cells(story):
     """How late a float is, and why."""
     if story is None or story.skipped:
@@ -144,6 +151,7 @@ def facts_text(facts, figures):
                                      for number, warning in facts.warnings]))
     told.append(details("What the galley can't say, and what it says otherwise", [escape(line) for line in facts.losses]))
     told.append(float_table(facts.floats))
+    told.append(details('Floats on no page', [unshipped_text(story) for story in facts.unshipped]))
     return '\n'.join(line for line in told if line)
 
 

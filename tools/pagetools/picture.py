@@ -229,7 +229,8 @@ def write_sheets(folder, book, sheets):
 def facts(book, options):
     """What the index says of the whole document."""
     out = index.Facts(warnings=[(page.number, warning) for page in book.pages() for warning in page.warnings],
-                      floats=index.float_rows(book.pages(), book.entries, book.stories))
+                      floats=index.float_rows(book.pages(), book.entries, book.stories),
+                      unshipped=[story for story in book.stories if not story.page])
     if book.comparison:
         out.totals.append(compare.totals(book.comparison))
     if options.log and options.trace:

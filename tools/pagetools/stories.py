@@ -223,8 +223,8 @@ def lines_of(story):
 
 
 def reason(story):
-    """Why it is late, in words: the reason of the first decision that kept it; '' if it is not late."""
-    if not story.late():
+    """Why it is late or on no page, in words: the reason of the first decision that kept it; '' if it is not late."""
+    if story.page and not story.late():
         return ''
     for decision in story.told.decisions:
         kept = decision.reason()

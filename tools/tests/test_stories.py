@@ -192,6 +192,8 @@ class Stories(Base):
         self.assertIn('on no page: the run ended before', stories.journey(late))
         self.draw(self.path('a'))
         self.assertIn('on no page', self.texts('page001.svg'))
+        with open(os.path.join(self.path('out'), 'index.html'), encoding='utf-8') as file:
+            self.assertIn('<li>late, called on <a href="#page-1">page 1</a>: 36sp too high for this column', file.read())
 
 
 class Drawings(Base):
