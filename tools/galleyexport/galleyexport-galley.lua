@@ -104,7 +104,7 @@ local PUT = {
     end
     put("penalty " .. value)
   end,
-  mark = function(put, record) put("mark " .. record.name) end,
+  mark = function(put, record) put((record.class == 0 and "mark " or "note ") .. record.name) end,
   note = function(put, record) put("note " .. record.name) end,
   suppress = function(put, record) put(record.area == "" and "suppressfloats" or "suppressfloats " .. record.area) end,
   title = function(_, record)

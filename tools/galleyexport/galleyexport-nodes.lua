@@ -6,7 +6,7 @@
 --   glue         width, stretch, stretch_order, shrink, shrink_order, leaders
 --   kern         width
 --   penalty      value; page_break: what \pagebreak or \nopagebreak set; columns: the change that this clear makes
---   mark, note   name (a note is a whatsit)
+--   mark, note   name (a note is a whatsit); of a mark the class too
 --   insertion    class, cost, split_depth, leaves (records)
 --   title        float (a box over both columns), put in by galleyexport-floats
 --   suppress     area, likewise
@@ -22,6 +22,10 @@ for _, name in ipairs { "hlist", "vlist", "rule", "ins", "mark", "glue", "kern",
   NODE[name] = node.id(name)
 end
 M.NODE = NODE
+
+-- TeX's commands of tokens: a character's is its category.
+local OPENS, CLOSES, SPACE, LETTER, OTHER = 1, 2, 10, 11, 12
+local IS_SIZED = { [token.command_id("hskip")] = true, [token.command_id("kern")] = true }
 
 local CLEAR_PENALTY = -10001
 local LONGEST_NAME = 63
@@ -84,13 +88,33 @@ local function gather(head, words)
   end
 end
 
+-- A number with words, as a name.
+local function with_words(number, text)
+  text = text:gsub("^-+", ""):gsub("-+$", "")
+  return text == "" and number or (number .. "." .. text):sub(1, LONGEST_NAME)
+end
+
 -- The name of a box: b for a horizontal one, v for a vertical one, its number, and its words.
 function M.box_name(n, id)
   local words = { length = 0 }
   if n.head then gather(n.head, words) end
-  local text = table.concat(words):gsub("^-+", ""):gsub("-+$", "")
-  local number = (n.id == NODE.vlist and "v" or "b") .. id
-  return text == "" and number or (number .. "." .. text):sub(1, LONGEST_NAME)
+  return with_words((n.id == NODE.vlist and "v" or "b") .. id, table.concat(words))
+end
+
+-- The words of a mark, its parts in braces apart. The size of a skip or kern among them is left out.
+local function mark_words(tokens)
+  local words, depth, in_size = {}, 0, false
+  for _, token in ipairs(tokens) do
+    local command, character = token[1], token[2]
+    if command == LETTER or command == OTHER then
+      if not in_size then words[#words + 1] = letters(character) end
+    else
+      in_size = IS_SIZED[command]
+      depth = depth + (command == OPENS and 1 or command == CLOSES and -1 or 0)
+      if command == SPACE or in_size or (command == CLOSES and depth == 0) then words[#words + 1] = "-" end
+    end
+  end
+  return table.concat(words):gsub("-+", "-"):sub(1, WORDS_IN_NAME)
 end
 
 -- ---- Records
@@ -127,9 +151,10 @@ local function penalty_record(n)
   return new_record(n, { kind = "penalty", value = n.penalty, page_break = BREAK and node.get_attribute(n, BREAK) })
 end
 
+-- LaTeX has marks of its own in other classes, from which a running head is made too; only that of class 0 is TeX's.
 local function mark_record(n)
-  local record = new_record(n, { kind = "mark" })
-  record.name = "m" .. record.id
+  local record = new_record(n, { kind = "mark", class = n.class })
+  record.name = n.class == 0 and with_words("m" .. record.id, mark_words(n.mark)) or "w" .. record.id .. ".mark" .. n.class
   return record
 end
 

@@ -261,7 +261,9 @@ local LINE_OF = {
   box = function(item) return string.format("box %s %d %d %d", item.record.name, item.top, item.height, item.depth) end,
   rule = function(item) return string.format("rule %s %d %d %d", item.record.name, item.top, item.height, item.depth) end,
   footrule = function(item) return string.format("footrule %d %d %d", item.top, item.height, item.depth) end,
-  mark = function(item) return string.format("mark %s %d", item.record.name, item.top) end,
+  mark = function(item)
+    return string.format("%s %s %d", item.record.class == 0 and "mark" or "note", item.record.name, item.top)
+  end,
   note = function(item) return string.format("note %s %d", item.record.name, item.top) end,
   unknown = function(item)
     return string.format("# a box of the output routine: %s %d %d %d", item.name, item.top, item.height, item.depth)

@@ -1,5 +1,6 @@
 """A column of a page as a drawing: its frame, items, the room between them, and what was weighed."""
 import textwrap
+from dataclasses import dataclass, field
 
 from . import galley as galleys
 from . import reasons, svg
@@ -12,7 +13,6 @@ SHOWN_BEYOND = 3         # so many places past a column's end are told
 HOPELESS = '100000'      # the cost of a place where the page would be far too short: a mark without its cost
 STRIP = 24.0             # the width of the strip at the right of boxes where penalties stand
 NO_BREAK = 10000         # a penalty that forbids a break: a bar without its number
-LETTER = 0.56            # the width of a letter, of the size of the type
 LONGEST_WORDS = 52       # so many letters has a name that galleyexport cut
 ELLIPSIS = '\u2026'
 
@@ -44,7 +44,7 @@ def words(name):
     """The words in a name that galleyexport made (`b12.The-line`), and its number; else the name and ''. The last word
     of a name that was cut is left out, since it may be a part of one."""
     number, point, text = name.partition('.')
-    if point and text and number[:1] in 'bvw' and number[1:].isdigit():
+    if point and text and number[:1] in 'bvwm' and number[1:].isdigit():
         text = text.replace('-', ' ').strip()
         return cut(text, LONGEST_WORDS - 1) if len(text) >= LONGEST_WORDS else text, number
     return name, ''
@@ -73,15 +73,24 @@ def mark_first(drawing, x, y, width, height):
     drawing.text(x + width - 1, y - 2, 'first difference', 6.4, 'alarm', 'end')
 
 
-class ColumnDrawing:
-    """Draws one column at (x, y), `width` points wide, with a lane at its right for the places that were weighed. The
-    item `marked` is that with the first difference from LaTeX's page."""
+@dataclass
+class Around:
+    """What all columns of a page have in common."""
+    entries: dict        # of the galley, by the ids of items
+    lane: float = 0.0    # the width of the lane at the right of a column, for the places that were weighed
+    calls: float = 0.0   # of the lane at its left, for the calls of floats
+    notes: dict = field(default_factory=dict)   # why a marginal note was moved, by the ids of items
+    marked: object = None       # the item with the first difference from LaTeX's page
 
-    def __init__(self, drawing, column, x, y, width, entries, lane=0.0, marked=None):
-        self.drawing, self.column, self.entries, self.marked = drawing, column, entries, marked
-        self.x, self.y, self.width, self.lane = x, y, width, lane
+
+class ColumnDrawing:
+    """Draws one column at (x, y), `width` points wide."""
+
+    def __init__(self, drawing, column, x, y, width, around):
+        self.drawing, self.column, self.around, self.entries = drawing, column, around, around.entries
+        self.x, self.y, self.width, self.lane = x, y, width, around.lane
         self.height = column.height / PT
-        self.spring_x, self.box_x, self.box_width = x + 5, x + 11, width - 13 - (STRIP if entries else 0)
+        self.spring_x, self.box_x, self.box_width = x + 5, x + 11, width - 13 - (STRIP if around.entries else 0)
         self.live = {'stretch': 'stretch', 'shrink': 'shrink'}.get(column.sign, 'still')
         self.feet, self.baselines = column.footnotes_top(), []
 
@@ -107,7 +116,7 @@ class ColumnDrawing:
         self._ends(ends)
         self._places(marks, '\n'.join(ends))
         for item in self.column.items:
-            if item is self.marked:
+            if item is self.around.marked:
                 shift = item.number if item.kind == 'margin' else 0
                 mark_first(self.drawing, self.x - 3, self.y + (item.top + shift) / PT - 2, self.width + 6,
                            (item.height + item.depth) / PT + 4)
@@ -148,7 +157,7 @@ class ColumnDrawing:
         size = 6.6 if height + depth >= 5.2 else max(3.0, (height + depth) * 1.2)
         base = top + (height - 0.2 if height + depth < 14 else size + 1.5)
         small = min(size, 5.4)
-        room = int((self.box_width - 5 - len(number) * small * 0.62) / (size * LETTER))
+        room = int((self.box_width - 5 - len(number) * small * 0.62) / (size * svg.LETTER))
         self.drawing.text(self.box_x + 3, base, cut(text, max(room, 3)), size, 'words')
         if number:
             self.drawing.text(self.box_x + self.box_width - 2, base, number, small, 'label', 'end')
@@ -158,9 +167,10 @@ class ColumnDrawing:
         height, depth, shift = item.height / PT, item.depth / PT, item.number / PT
         base = self.y + item.top / PT + shift
         left = item.place == 'left'
-        x = self.x - 74 if left else self.x + self.width + self.lane + 22
-        self.drawing.rect(x, base - height, 56, height + depth, 'margin', 'marginal note %s, moved down by %.2fpt' % (
-            item.name, shift), radius=1.5)
+        x = self.x - 74 - self.around.calls if left else self.x + self.width + self.lane + 22
+        tip = 'marginal note %s, moved down by %.2fpt' % (item.name, shift)
+        tip += ''.join(': ' + why for why in [self.around.notes.get(id(item))] if why and shift)
+        self.drawing.rect(x, base - height, 56, height + depth, 'margin', tip, radius=1.5)
         self.drawing.text(x + 3, base - height + min(height + depth, 8) - 1.5,
                           cut(words(item.name)[0], 14) + (' moved' if shift else ''), 5.5, 'aside')
         self.drawing.line(x + 56 if left else x, base, self.x if left else self.x + self.width, base, 'leader')

@@ -7,7 +7,7 @@ import subprocess
 import sys
 import tempfile
 
-from . import about, messages, points, program, report
+from . import about, messages, points, program, report, settings, story, why, why_data, why_tries
 
 MODES = ('report', 'trace', 'rate', 'why', 'plain', 'print', 'lines', 'dvi', 'dvilist', 'gen')
 REPORTS = ('report', 'trace', 'plain')      # the modes whose output is a page report
@@ -15,6 +15,7 @@ MOST = 8388608                              # bytes of an input
 WHO = 'galley-pages'
 
 USAGE = """usage: galley-pages [MODE] [FILE ..] [-o OUT] [--json | --points] [--count N] [--quiet]
+       galley-pages why [FILE [NAME [LINE]]] [-o OUT] [--json | --raw] [--quiet]
        galley-pages --help | --version
 
 Makes the pages of a galley, and tells where each page ends and where each box, float and note stands.
@@ -23,7 +24,8 @@ MODE     what is made (report where none is named):
   report   the page report of a galley
   trace    the same, with each place at which a page was weighed, and its cost
   rate     the same, with how good each text column is, and the sum of their demerits
-  why      the trace, with why each float and marginal note went where it went
+  why      a table of all floats: where each was called and where it landed, how late, and why; with NAME the story
+           of that float or marginal note, and what would have let it in earlier (docs/WHY.md)
   plain    the report of its pages under plain TeX's page makeup
   print    its canonical text
   lines    the galley of a text of paragraphs, broken into lines of least demerits
@@ -32,22 +34,25 @@ MODE     what is made (report where none is named):
   gen      one line about the run of a generated galley of --count N items
 FILE     a galley (of the mode lines a text of paragraphs, of dvilist a DVI file); standard input without one, or as -.
          Of several files each is a run of its own; what they give comes one after another. A file that is named as a
-         mode is written as ./report.
+         mode is written as ./report. Of the mode why it is one, and then a name may follow.
+NAME     of the mode why: a float or a marginal note; LINE is the line of its galley, where several have the name
 
 -o OUT     write to the file OUT in place of standard output
---json     a report as JSON (docs/JSON.md); of the modes report, trace and plain
+--json     a report as JSON (docs/JSON.md); of the modes report, trace and plain; and what the mode why tells
+--raw      of the mode why: the trace with its lines (docs/FORMATS.md), as the program writes it
 --points   a report with all sizes in points, as TeX prints them; of the same modes
 --count N  of the mode gen: how many items, 1 to 40000; 1000 without it
 --quiet    no line that the program is not proved, and none if the reader of a pipe has stopped
 
 A refusal is told as FILE:LINE:FIELD: CAUSE, what it means and what to do, with the line and a mark under the field;
-docs/MESSAGES.md has all of them. Without --json and --points, what is written is the program's output, byte for byte. The
-status is the program's (docs/FORMATS.md), of several files the first that is not 0; 1 if there is no program, 2 after a
-usage error.
+docs/MESSAGES.md has all of them. Without --json and --points, and but for the mode why, what is written is the program's
+output, byte for byte. The status is the program's (docs/FORMATS.md), of several files the first that is not 0; 1 if there
+is no program, 2 after a usage error, as NAME where the galley has no such float.
 
   galley-pages paper.galley -o paper.report
   galley-pages trace paper.galley --json
   galley-pages dvi paper.galley -o paper.dvi
+  galley-pages why paper.galley fig.3
 """
 
 
@@ -68,12 +73,16 @@ def options_of(arguments):
     parser.add_argument('-o', dest='out')
     parser.add_argument('--json', action='store_true')
     parser.add_argument('--points', action='store_true')
+    parser.add_argument('--raw', action='store_true')
     parser.add_argument('--count')
     parser.add_argument('--quiet', action='store_true')
     options = parser.parse_intermixed_args(arguments)
     named = options.words[:1] in [[mode] for mode in MODES]
     options.mode = options.words[0] if named else 'report'
     options.files = options.words[named:] or ['-']
+    options.name = []
+    if options.mode == 'why':
+        options.files, options.name = options.files[:1], options.files[1:]
     return options
 
 
@@ -81,8 +90,11 @@ def check(options):
     """Raises a usage error where options do not go together."""
     if options.json and options.points:
         raise Usage('--json and --points do not go together')
-    if (options.json or options.points) and options.mode not in REPORTS:
-        raise Usage('--json and --points are for the modes report, trace and plain')
+    if options.json and options.mode not in REPORTS + ('why',):
+        raise Usage('--json is for the modes report, trace, plain and why')
+    if options.points and options.mode not in REPORTS:
+        raise Usage('--points is for the modes report, trace and plain')
+    check_why(options)
     if options.count is not None and options.mode != 'gen':
         raise Usage('--count is for the mode gen')
     if options.mode == 'gen' and options.files != ['-']:
@@ -95,6 +107,14 @@ def check(options):
             raise Usage(fault)
         if options.out and file != '-' and os.path.exists(options.out) and os.path.samefile(file, options.out):
             raise Usage('%s would be written over itself' % file)
+
+
+def check_why(options):
+    """Raises a usage error where the options of the mode why are wrong."""
+    if options.raw and (options.mode != 'why' or options.json or options.name):
+        raise Usage('--raw is for the mode why, without --json and without a name')
+    if len(options.name) > 2 or not all(line.isdigit() for line in options.name[1:]):
+        raise Usage('the mode why takes one file, and then the name of a float or note and the number of its line')
 
 
 def main(arguments):
@@ -115,10 +135,10 @@ def main(arguments):
         if used.note() and not options.quiet:
             say('%s: %s' % (WHO, used.note()))
         return run_all(used.path, options)
-    except Usage as fault:
+    except (Usage, story.Unknown) as fault:
         say('%s: %s; galley-pages --help says more' % (WHO, fault))
         return 2
-    except (program.NotBuilt, report.ReportFault) as fault:
+    except (program.NotBuilt, report.ReportFault, why.WhyFault) as fault:
         say('%s: %s' % (WHO, fault))
         return 1
     except KeyboardInterrupt:
@@ -159,15 +179,19 @@ class Run:
         self.name = 'standard input' if file == '-' else file
         self.out = b''
         words = [path, '--mode', options.mode] + (['--count', options.count] if options.count is not None else [])
-        keeps = options.json or options.points or options.out
+        tells = options.mode == 'why' and not options.raw
+        keeps = options.json or options.points or options.out or tells
         with input_of(file, options.mode) as given:
             start = given.tell() if given.seekable() else 0
             ran = subprocess.run(words, stdin=given, stdout=subprocess.PIPE if keeps else None, stderr=subprocess.PIPE,
                                  check=False)
             self.status = ran.returncode if ran.returncode >= 0 else 128 - ran.returncode
+            text = text_of(given, start) if ran.stderr or tells else b''
             if ran.stderr:
-                self.tell(ran.stderr.decode('latin-1'), text_of(given, start))
-        if keeps:
+                self.tell(ran.stderr.decode('latin-1'), text)
+        if tells:
+            self.put(told(options, ran.stdout.decode('latin-1'), text.decode('latin-1'), path))
+        elif keeps:
             self.put(shaped(options, ran.stdout, self.name))
 
     def tell(self, said, text):
@@ -225,6 +249,23 @@ def shaped(options, out, name):
     if options.points:
         return points.in_points(text).encode('latin-1')
     return (json.dumps(report.data(read), indent=1) + '\n').encode()
+
+
+def told(options, out, text, path):
+    """What the mode why tells, as the options ask for it: a table, the story of one float or note, or JSON."""
+    if not out:
+        return b''
+    run, known = why.read(out), settings.read(text)
+    name, line = (options.name + [None, None])[:2]
+    tried = None
+    floats, notes = run.floats, run.notes
+    if name is not None:
+        floats, notes = story.chosen(run, name, int(line) if line else None)
+        tried = lambda it: why_tries.tried(path, text, it, known)
+    if options.json:
+        return (json.dumps(why_data.data(run, known, floats, notes, tried), indent=1) + '\n').encode()
+    lines = story.lines(run, known, floats, notes, tried) if name is not None else story.Story(run, known).table()
+    return ''.join(line + '\n' for line in lines).encode('latin-1')
 
 
 def reader_stopped():

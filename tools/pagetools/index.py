@@ -5,10 +5,12 @@ from bisect import bisect_right
 from dataclasses import dataclass, field
 from html import escape
 
-from . import svg
+from . import stories, svg
 
 PT = 65536.0
 HERE = os.path.dirname(os.path.abspath(__file__))
+
+LATE = '<th title="how many columns and wide pages were put out while it waited">Sheets late<th>Why'
 
 PAGE = '''<!doctype html>
 <html lang="en">
@@ -51,6 +53,7 @@ class Facts:
     losses: list = field(default_factory=list)       # what the galley can't say
     warnings: list = field(default_factory=list)     # the number of the page, the words of the report
     floats: list = field(default_factory=list)       # a FloatRow for each
+    unshipped: list = field(default_factory=list)    # the stories of floats that are on no page
 
 
 def points(text):
@@ -75,6 +78,7 @@ class FloatRow:
     item: object         # of the report
     page: int
     called: int          # the page with the text before its call, 0 where that is unknown
+    story: object = None # what --why tells of it
 
 
 def text_lines(pages, entries):
@@ -88,16 +92,17 @@ def text_lines(pages, entries):
     return {part: sorted(rows) for part, rows in lines.items()}
 
 
-def float_rows(pages, entries):
+def float_rows(pages, entries, told):
     """A row for each float, in the order of pages."""
     lines, rows = text_lines(pages, entries), []
+    known = {id(story.item): story for story in told}
     for page in pages:
         for _, item in page.items():
             if item.kind == 'float':
                 entry = entries.get(id(item))
                 text = lines.get(entry.part, []) if entry else []
                 called = text[max(bisect_right(text, (entry.line, 0)) - 1, 0)][1] if text else 0
-                rows.append(FloatRow(item, page.number, called))
+                rows.append(FloatRow(item, page.number, called, known.get(id(item))))
     return rows
 
 
@@ -116,11 +121,25 @@ def details(title, rows):
 def float_table(rows):
     if not rows:
         return ''
+    told = any(row.story for row in rows)
     lines = ''.join('<tr><td>%s<td>%d<td>%s<td>%s<td>%s<td>%.1fpt' % (
         escape(row.item.name), row.item.number, page_link(row.called) if row.called else '', page_link(row.page),
-        escape(row.item.place), row.item.height / PT) for row in rows)
+        escape(row.item.place), row.item.height / PT) + story_cells(row.story) * told for row in rows)
     return ('<details><summary>Floats (%d)</summary><table><tr><th>Float<th>Class<th>Called on<th>Placed on<th>Area'
-            '<th>Height%s</table></details>') % (len(rows), lines)
+            '<th>Height%s%s</table></details>') % (len(rows), LATE * told, lines)
+
+
+def unshipped_text(story):
+    """A float that the run ended before: where it was called, and why it waits."""
+    called = ', called on ' + page_link(story.call_page) if story.call_page else ''
+    return '%s%s: %s' % (escape(story.told.name), called, escape(stories.reason(story)))
+
+
+def story_cells(story):
+    """How late a float is, and why."""
+    if story is None or story.skipped:
+        return '<td><td>'
+    return '<td>%d<td>%s' % (story.late(), escape(stories.reason(story)))
 
 
 def facts_text(facts, figures):
@@ -132,6 +151,7 @@ def facts_text(facts, figures):
                                      for number, warning in facts.warnings]))
     told.append(details("What the galley can't say, and what it says otherwise", [escape(line) for line in facts.losses]))
     told.append(float_table(facts.floats))
+    told.append(details('Floats on no page', [unshipped_text(story) for story in facts.unshipped]))
     return '\n'.join(line for line in told if line)
 
 
@@ -178,6 +198,6 @@ def write(path, title, pages, figures, facts):
     parts = {'title': escape(title), 'pages': '%d page%s' % (pages, '' if pages == 1 else 's'),
              'style': svg.style() + '\n' + stored('index.css'), 'patterns': svg.patterns(),
              'numbers': ' '.join(figure.link(str(figure.number)) for figure in figures), 'facts': facts_text(facts, figures),
-             'figures': '\n'.join(figure.text for figure in figures), 'script': stored('index.js')}
+             'figures': '\n'.join(figure.text for figure in figures), 'script': stored('index.js') + '\n' + svg.STORIES}
     with open(path, 'w', encoding='utf-8') as out:
         out.write(PAGE % parts)

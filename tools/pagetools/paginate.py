@@ -11,8 +11,9 @@ import sys
 from . import compare, picture, report, tries
 
 USAGE = """Compiles the document with lualatex and the package galleyexport, as it is; runs galley_pages on its galleys;
-tells how many pages and places are the same as LaTeX made and weighed; draws each page. All files go to the folder DIR:
-NAME.galley, NAME.pages, NAME.galleylog, NAME.report, NAME.trace, pictures/index.html, and LaTeX's own. The exit status
+tells how many pages and places are the same as LaTeX made and weighed; draws each page, with the way of each float from
+its call. All files go to the folder DIR: NAME.galley, NAME.pages, NAME.galleylog, NAME.report, NAME.trace, NAME.why,
+pictures/index.html, and LaTeX's own. The exit status
 is 0 if all agrees, 1 if anything differs, and 2 or more if no pages were made: 2 for the arguments or the document, 3 if
 lualatex or galley_pages is missing, 4 if galley_pages refused a galley. Errors that TeX reports in the document are
 counted, and change no status."""
@@ -69,7 +70,7 @@ class Document:
 
     def clean(self):
         """Takes away what an earlier call made, but for LaTeX's auxiliary files."""
-        made = [path for ending in ('.galley', '.report', '.trace') for path in self.parts(ending)]
+        made = [path for ending in ('.galley', '.report', '.trace', '.why') for path in self.parts(ending)]
         made += [self.path('.pages'), self.path('.galleylog')]
         made += glob.glob(os.path.join(glob.escape(self.out), 'pictures', 'page*.svg'))
         for path in made:
@@ -146,17 +147,18 @@ def run_program(path, galley, mode, out):
 
 
 def make_pages(path, galleys):
-    """The reports and traces on the galleys."""
-    reports, traces = [], []
+    """The reports on the galleys, their traces, and what is told of their floats."""
+    reports, traces, told = [], [], []
     for galley in galleys:
         stem = os.path.splitext(galley)[0]
         status = run_program(path, galley, 'report', stem + '.report')
         if status not in ENDED_WITH_PAGES:
             raise Refusal('galley_pages refused %s with status %d' % (galley, status), 4)
-        run_program(path, galley, 'trace', stem + '.trace')
+        for mode, made in (('trace', traces), ('why', told)):
+            run_program(path, galley, mode, '%s.%s' % (stem, mode))
+            made.append('%s.%s' % (stem, mode))
         reports.append(stem + '.report')
-        traces.append(stem + '.trace')
-    return reports, traces
+    return reports, traces, told
 
 
 # ---- The whole
@@ -171,13 +173,13 @@ def paginate(document, options):
     with open(document.path('.galleylog'), encoding='utf-8', errors='replace') as log:
         print(log.read(), end='')
     say('galley_pages: %d galley%s' % (len(galleys), 's' if len(galleys) > 1 else ''))
-    reports, traces = make_pages(path, galleys)
+    reports, traces, told = make_pages(path, galleys)
     pages, log = document.path('.pages'), document.path('.log')
     every = ['--every-page'] if options.every_page else []
     same = compare.main([pages] + reports + ['--log', log] + every) == 0
     same = tries.main([log] + traces + ['--quiet']) == 0 and same
     if not options.no_pictures:
-        picture.main(reports + ['--galley'] + galleys + ['--trace'] + traces + [
+        picture.main(reports + ['--galley'] + galleys + ['--trace'] + traces + ['--why'] + told + [
             '--latex', pages, '--log', log, '--galleylog', document.path('.galleylog'),
             '--out', os.path.join(document.out, 'pictures')])
     return same

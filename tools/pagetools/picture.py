@@ -4,9 +4,10 @@ import os
 import sys
 from dataclasses import dataclass
 
-from . import compare, document, index, places, report, tries
+from . import calls, compare, document, index, marks, places, report, stories, tries, why
 from . import galley as galleys
-from .column import LANE, PT, ColumnDrawing, draw_float, mark_first
+from .calls import page_file
+from .column import LANE, PT, Around, ColumnDrawing, cut, draw_float, mark_first, words
 from .svg import Drawing
 
 USAGE = """Draws the pages of a report. Frames are columns; boxes stand with their baseline and words; a spring is the
@@ -14,7 +15,10 @@ room between two of them, green where the column stretches through it, orange wh
 in that; floats are hatched by class, with their area; footnotes stand on a ground of their own, marginal notes outside;
 below a column stand its natural height, how far its glue is set, and the badness. With --galley glue and penalties are
 told by what the galley says of them, with --trace the places that were weighed and their costs, and where and why the
-column ends. With --latex a page that differs from LaTeX's stands beside LaTeX's own, with the first difference marked.
+column ends. With --why a mark stands where a float is called, with a line to the float, or a tag that names its page; a
+click on mark, tag or float shows the tests that were made of it, the first that failed in words, and what would have
+passed that test. With --latex a page that differs from LaTeX's stands beside LaTeX's own, with the first difference
+marked. At the head of a page stand its top mark and its first mark, at its foot its bottom mark, if there are any.
 Several reports, as of the parts of one document, are drawn one after another."""
 
 COLUMN_GAP = 22.0
@@ -27,26 +31,27 @@ FOOT = 64.0              # the room below the columns: what is written of them, 
 class PageDrawing:
     """Draws one page. All pages of a document have the same height, and room for marginal notes where any has one."""
 
-    def __init__(self, page, entries, text_height, margins, traced):
-        self.page, self.entries = page, entries
+    def __init__(self, page, book, text_height, margins):
+        self.page, self.book = page, book
         self.at = page.at / PT
         self.height = max([text_height / PT] + [self.at + column.height / PT for column in page.columns])
         self.column_width = 250.0 if page.kind == 'two' else max(300.0, min(370.0, self.height * 0.64))
-        self.lane = LANE if traced else 0.0
-        step = self.column_width + self.lane + COLUMN_GAP
+        self.around = Around(book.entries, LANE if book.traced else 0.0, calls.LANE if book.stories else 0.0, book.notes)
+        step = self.column_width + self.around.lane + COLUMN_GAP + self.around.calls
         self.columns_x = [step * (column.number - 1) for column in page.columns]
         self.width = (self.columns_x[-1] if page.kind == 'two' else 0.0) + self.column_width
-        self.left = MARGIN_ROOM if margins else EDGE
-        self.right = self.left + self.lane
+        edge = MARGIN_ROOM if margins else EDGE
+        self.left, self.right = edge + self.around.calls, edge + self.around.lane
 
     def draw(self, galley=None, title='', marked=None):
         """The drawing. `galley` is that of the page, `marked` the item with the first difference."""
         page, left = self.page, self.left
+        self.around.marked = marked
         drawing = Drawing(self.width + left + self.right, self.height + TOP + FOOT + 6)
         drawing.rect(6, 4, drawing.width - 12, drawing.height - 8, 'sheet', radius=3)
-        drawing.text(left, 22, title or 'page %d' % page.number, 10, 'title')
+        drawing.text(left, 23, title or 'page %d' % page.number, 10, 'title')
         told = page.kind + (', floats over both columns %.1fpt' % self.at if page.at else '')
-        drawing.text(left + self.width, 22, told, 7, 'quiet', 'end')
+        drawing.text(left + self.width, 23, told, 7, 'quiet', 'end')
         if page.warnings:
             told = '; '.join(index.warning_text(warning) for warning in page.warnings[:3])
             drawing.text(left, 32, 'warning: ' + told, 6.5, 'warning')
@@ -54,11 +59,28 @@ class PageDrawing:
             draw_float(drawing, item, left, TOP + item.top / PT, self.width)
             if item is marked:
                 mark_first(drawing, left - 3, TOP + item.top / PT - 2, self.width + 6, item.height / PT + 4)
-        marks = places.of_page(page, self.entries)
-        for column, x, (own, passes) in zip(page.columns, self.columns_x, marks):
-            ColumnDrawing(drawing, column, left + x, TOP + self.at, self.column_width, self.entries, self.lane,
-                          marked).draw(own, passes, galley)
+        self._marks(drawing)
+        weighed = places.of_page(page, self.book.entries)
+        columns = {column.number: ColumnDrawing(drawing, column, left + x, TOP + self.at, self.column_width, self.around)
+                   for column, x in zip(page.columns, self.columns_x)}
+        for column, (own, passes) in zip(columns.values(), weighed):
+            column.draw(own, passes, galley)
+        if page.number in self.book.drawn and self.book.is_own(page):
+            calls.PageCalls(drawing, page.number, columns, (left, TOP, self.width), self.book.drawn).draw(self.book.stories)
         return drawing
+
+    def _marks(self, drawing):
+        """The page's marks: the top and the first at its head, as in a running head, the bottom mark at its foot."""
+        own = self.book.marks.get(id(self.page))
+        if own is None or own.bottom is None:
+            return
+        y, right, letters = drawing.height - 20, self.left + self.width, int(self.width / 2 / (6 * 0.6)) - 12
+        def told(which, name):
+            return '%s mark %s' % (which, cut(words(name)[0], letters))
+        if own.top:
+            drawing.text(self.left, 11.2, told('top', own.top), 6, 'marked', tip=own.top)
+        drawing.text(right, 11.2, told('first', own.first), 6, 'marked', 'end', own.first)
+        drawing.text(right, y, told('bottom', own.bottom), 6, 'marked', 'end', own.bottom)
 
 
 # ---- What is drawn
@@ -79,21 +101,39 @@ class Book:
     """All pages of a document: those of its reports without the ones that the exporter put in."""
 
     def __init__(self, options):
-        self.sheets, self.entries = [], {}
-        pages = []
+        self.sheets, self.entries, self.stories, self.notes = [], {}, [], {}
+        self.traced = bool(options.trace or options.why)
+        read = []
         for k, path in enumerate(options.reports):
             own = report.read(path)
-            if k < len(options.trace):
-                for page, traced in zip(own.pages, report.read(options.trace[k]).pages):
-                    page.tries = traced.tries
+            read += own.pages
             galley = galleys.read(options.galley[k]) if k < len(options.galley) else None
             if galley:
                 self.entries.update(entries_of(own.pages, galley, k))
-            pages += [(page, galley) for page in document.shown_pages(own.pages)]
-        for number, (page, galley) in enumerate(pages, 1):
-            page.number = number
-            self.sheets.append(Sheet(page, galley))
+            self._tell(own, k, options)
+            for page in document.shown_pages(own.pages):
+                self.sheets.append(Sheet(page, galley))
+        for number, sheet in enumerate(self.sheets, 1):
+            sheet.page.number = number
+        stories.find_calls(self.stories, self.pages(), self.entries)
+        self.marks = {id(page): own for page, own in zip(self.pages(), marks.of_pages(read))}
+        self.drawn = {sheet.number() for sheet in chosen(self.sheets, options.pages)}
+        self.own = set(map(id, self.pages()))
         self.comparison = self._compare(options) if options.latex else None
+
+    def _tell(self, own, part, options):
+        """Adds what was told of a part: the places that were weighed, and why floats went where they went."""
+        told = stories.Told(options.why[part], options.galley[part]) if part < len(options.why) else None
+        if told:
+            self.stories += stories.of_part(part, own, told, (len(self.sheets), len(self.stories)))
+            self.notes.update(stories.note_tips(own.pages, told.run.notes, self.entries))
+        traced = report.read(options.trace[part]) if part < len(options.trace) else told.trace if told else None
+        for page, other in zip(own.pages, traced.pages if traced else []):
+            page.tries = other.tries
+
+    def is_own(self, page):
+        """Whether a page is one of the report's, and none of LaTeX's."""
+        return id(page) in self.own
 
     def _compare(self, options):
         """Puts LaTeX's pages beside those that differ."""
@@ -134,11 +174,11 @@ def entries_of(pages, galley, part):
     return entries
 
 
-def chosen(sheets, words):
+def chosen(sheets, asked):
     """The pages A-B, or A alone."""
-    if not words:
+    if not asked:
         return sheets
-    first, _, last = words.partition('-')
+    first, _, last = asked.partition('-')
     return [sheet for sheet in sheets if int(first) <= sheet.number() <= int(last or first)]
 
 
@@ -151,16 +191,12 @@ def drawings(sheet, book, measures):
         theirs, ours = compare.first_items(sheet.latex, sheet.page)
     out = []
     if sheet.latex:
-        page = PageDrawing(sheet.latex, book.entries, *measures)
+        page = PageDrawing(sheet.latex, book, *measures)
         out.append(page.draw(title="page %d, LaTeX's own" % sheet.latex.number, marked=theirs))
     if sheet.page:
         title = 'page %d, galley_pages' % sheet.page.number if sheet.latex else ''
-        out.append(PageDrawing(sheet.page, book.entries, *measures).draw(sheet.galley, title, ours))
+        out.append(PageDrawing(sheet.page, book, *measures).draw(sheet.galley, title, ours))
     return out
-
-
-def file_name(number, latex=False):
-    return 'page%03d%s.svg' % (number, '-latex' if latex else '')
 
 
 def add_links(drawing, number, numbers):
@@ -168,32 +204,33 @@ def add_links(drawing, number, numbers):
     at = numbers.index(number)
     y, middle = drawing.height - 9, drawing.width / 2
     if at > 0:
-        drawing.link(20, y, '\u2039 page %d' % numbers[at - 1], file_name(numbers[at - 1]), 'previous')
+        drawing.link(20, y, '\u2039 page %d' % numbers[at - 1], page_file(numbers[at - 1]), 'previous')
     drawing.link(middle, y, 'all pages', 'index.html#page-%d' % number, anchor='middle')
     if at + 1 < len(numbers):
-        drawing.link(drawing.width - 20, y, 'page %d \u203a' % numbers[at + 1], file_name(numbers[at + 1]), 'next', 'end')
+        drawing.link(drawing.width - 20, y, 'page %d \u203a' % numbers[at + 1], page_file(numbers[at + 1]), 'next', 'end')
 
 
-def write_sheets(folder, book, sheets, options):
+def write_sheets(folder, book, sheets):
     """Writes the SVG files. Gives the figures of the index."""
     figures = []
-    measures = (book.text_height(), book.has_margins(), bool(options.trace))
+    measures = (book.text_height(), book.has_margins())
     numbers = [sheet.page.number for sheet in sheets if sheet.page]
     for sheet in sheets:
         shapes = drawings(sheet, book, measures)
         figures.append(index.figure(sheet, shapes))
         if sheet.page:
             add_links(shapes[-1], sheet.page.number, numbers)
-            shapes[-1].write(os.path.join(folder, file_name(sheet.page.number)))
+            shapes[-1].write(os.path.join(folder, page_file(sheet.page.number)))
         if sheet.latex:
-            shapes[0].write(os.path.join(folder, file_name(sheet.latex.number, latex=True)))
+            shapes[0].write(os.path.join(folder, page_file(sheet.latex.number, latex=True)))
     return figures
 
 
 def facts(book, options):
     """What the index says of the whole document."""
     out = index.Facts(warnings=[(page.number, warning) for page in book.pages() for warning in page.warnings],
-                      floats=index.float_rows(book.pages(), book.entries))
+                      floats=index.float_rows(book.pages(), book.entries, book.stories),
+                      unshipped=[story for story in book.stories if not story.page])
     if book.comparison:
         out.totals.append(compare.totals(book.comparison))
     if options.log and options.trace:
@@ -211,14 +248,17 @@ def parsed(arguments):
     parser.add_argument('reports', nargs='+', help='NAME.report, NAME.2.report ..: or NAME.pages of galleyexport')
     parser.add_argument('--galley', nargs='+', default=[], help='the galleys of these reports, in the same order')
     parser.add_argument('--trace', nargs='+', default=[], help='the traces of these galleys, which need --galley too')
+    parser.add_argument('--why', nargs='+', default=[], metavar='NAME.why',
+                        help='what the mode why writes of these galleys, with --galley; its places too, without --trace')
     parser.add_argument('--latex', metavar='NAME.pages', help="LaTeX's own pages, to stand beside those that differ")
     parser.add_argument('--log', help="LaTeX's log, with the places that TeX weighed, for the index")
     parser.add_argument('--galleylog', help="what the galley can't say, for the index")
     parser.add_argument('--out', help='the folder to write to (NAME.pictures)')
     parser.add_argument('--pages', help='A-B: these pages alone')
     options = parser.parse_args(arguments)
-    if options.trace and not options.galley:
-        parser.error('--trace needs --galley: the places are told by the lines of the galley')
+    for name in ('trace', 'why'):
+        if len(getattr(options, name)) > len(options.galley):
+            parser.error('--%s needs --galley: what it tells is told by the lines of the galley' % name)
     return options
 
 
@@ -230,11 +270,11 @@ def main(arguments):
         book = Book(options)
         sheets = chosen(book.sheets, options.pages)
         told = facts(book, options)
-    except (OSError, ValueError, report.ReportFault) as fault:
+    except (OSError, ValueError, report.ReportFault, why.WhyFault) as fault:
         print('picture: %s' % fault, file=sys.stderr)
         return 2
     os.makedirs(folder, exist_ok=True)
-    figures = write_sheets(folder, book, sheets, options)
+    figures = write_sheets(folder, book, sheets)
     index.write(os.path.join(folder, 'index.html'), os.path.basename(name), len(book.pages()), figures, told)
     print('%d pages drawn in %s' % (len(figures), folder))
     return 0

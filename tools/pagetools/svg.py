@@ -1,5 +1,7 @@
 """One drawing in the form of SVG, in points. Colours are classes, each for a light and for a dark screen; on paper the
 light ones hold. A drawing stands in a file of its own, or within a page of HTML that has the style and patterns once."""
+import re
+from dataclasses import dataclass
 from html import escape
 
 # A class, what it is on a light ground, and on a dark one.
@@ -38,6 +40,9 @@ STYLE = [
     ('first', 'fill:none;stroke:#d62728;stroke-width:1.6', 'stroke:#ff7d6e'),
     ('forbids', 'stroke:#c0392b;stroke-width:1.4', 'stroke:#ff7d6e'),
     ('link', 'fill:#1f5f99;text-decoration:underline', 'fill:#7fb0e0'),
+    ('marked', 'fill:#a04000', 'fill:#ef8c4f'),
+    ('told', 'fill:#1f2d3d;font-weight:bold', 'fill:#dbe2ea'),
+    ('panel', 'fill:#fff;stroke:#1f5f99;stroke-width:1', 'fill:#14181d;stroke:#7fb0e0'),
 ]
 
 # The classes of floats: their colour on a light ground and on a dark one. A class past the last begins again.
@@ -45,7 +50,8 @@ FLOATS = [('#3d6a9b', '#7fb0e0'), ('#b5650a', '#f0a04b'), ('#3b8a42', '#74c97c')
           ('#a81a68', '#ee7cb8'), ('#277a72', '#5fc5ba'), ('#7a4608', '#cf9a55'), ('#555555', '#b3b3b3')]
 
 GENERAL = '''text{stroke:none!important;font-family:"DejaVu Sans",Helvetica,Arial,sans-serif}
-.spring{fill:none!important;stroke-width:.7}.tick{stroke-width:1.6}.thin{stroke-width:.5}'''
+.spring{fill:none!important;stroke-width:.7}.tick{stroke-width:1.6}.thin{stroke-width:.5}
+.ask{fill:transparent;cursor:pointer}.askway{fill:none;stroke:transparent;stroke-width:6;cursor:pointer}.story{display:none}.story.open{display:inline}'''
 
 
 def _float_rules(colour):
@@ -55,6 +61,7 @@ def _float_rules(colour):
         yield '.ground%d{fill:%s;fill-opacity:.13}.stripe%d{stroke:%s;stroke-opacity:.4;stroke-width:1.2}' % (
             number, c, number, c)
         yield '.float%d{fill:%s;font-weight:bold}' % (number, c)
+        yield '.way%d{fill:none;stroke:%s;stroke-width:.8}' % (number, c)
 
 
 # The size of type that a class has unless another is said.
@@ -63,6 +70,35 @@ SIZES = {'words': 6.6, 'label': 5.4, 'hinders': 5.8, 'invites': 5.8}
 # Keys of a page that stands alone: the arrows go to the pages beside it.
 KEYS = '''<script>addEventListener("keydown",function(e){
 var a=document.getElementById({ArrowLeft:"previous",ArrowRight:"next"}[e.key]);if(a)location.href=a.getAttribute("href")})</script>'''
+
+# Shows what is told of a float where it is clicked on, and hides it on a click elsewhere and on Escape.
+STORIES = '''function hideStories(but){
+document.querySelectorAll(".story.open").forEach(function(s){if(s!==but)s.classList.remove("open")})}
+addEventListener("click",function(e){if(e.target.closest(".story"))return
+var a=e.target.closest("[data-story]"),s=a&&a.ownerSVGElement.querySelector('.story[data-of="'+a.dataset.story+'"]')
+hideStories(s);if(s)s.classList.toggle("open")})
+addEventListener("keydown",function(e){if(e.key==="Escape")hideStories()})'''
+
+# What is told of a float: the type of its lines, their height, the room round them, and that of a space at a line's head.
+PANEL_TYPE, PANEL_TITLE, PANEL_LINE, PANEL_EDGE, PANEL_SPACE = 6.6, 8.5, 9.2, 7.0, 3.0
+LETTER = 0.56            # the width of a letter, of the size of the type
+
+
+@dataclass
+class Line:
+    """A line of what is told of a float."""
+    text: str
+    shape: str           # its class
+    target: str = ''     # of a link: the file of a page
+
+    def size(self):
+        return PANEL_TITLE if self.shape == 'title' else PANEL_TYPE
+
+    def indent(self):
+        return PANEL_SPACE * (len(self.text) - len(self.text.lstrip()))
+
+    def width(self):
+        return self.indent() + len(self.text.strip()) * self.size() * LETTER
 
 
 def style():
@@ -136,8 +172,38 @@ class Drawing:
             path = ''.join('M%s %sH%s' % (number(float(x)), number(float(y)), number(float(x2))) for y in heights)
             self._add('path', {'d': path, 'class': shape})
 
-    def dot(self, x, y, shape, tip):
-        self._add('circle', {'cx': float(x), 'cy': float(y), 'r': 1.3, 'class': shape}, tip=tip)
+    def dot(self, x, y, shape, tip, radius=1.3):
+        self._add('circle', {'cx': float(x), 'cy': float(y), 'r': radius, 'class': shape}, tip=tip)
+
+    def path(self, way, shape):
+        self._add('path', {'d': way, 'class': shape})
+
+    def ask(self, x, y, width, height, story, tip):
+        """A place where a click shows the panel with this number."""
+        self._add('rect', {'x': float(x), 'y': float(y), 'width': float(width), 'height': float(height), 'class': 'ask',
+                           'data_story': story}, tip=tip)
+
+    def ask_path(self, way, story, tip):
+        """The same along a line."""
+        self._add('path', {'d': way, 'class': 'askway', 'data_story': story}, tip=tip)
+
+    def panel(self, story, x, y, lines):
+        """Lines on a ground of their own, near a place, made smaller where they would not fit on the sheet."""
+        width = max(line.width() for line in lines) + 2 * PANEL_EDGE
+        height = len(lines) * PANEL_LINE + 2 * PANEL_EDGE
+        scale = min(1.0, (self.width - 16) / width, (self.height - 16) / height)
+        x = max(8.0, min(x, self.width - 8 - width * scale))
+        y = max(8.0, min(y, self.height - 8 - height * scale))
+        ground = element('rect', 'width="%s" height="%s" rx="3" class="panel"' % (number(width), number(height)), '')
+        shown = []
+        for k, line in enumerate(lines):
+            place = 'x="%s" y="%s" font-size="%s" class="%s"' % (
+                number(PANEL_EDGE + line.indent()), number(PANEL_EDGE + (k + 0.75) * PANEL_LINE), number(line.size()),
+                line.shape)
+            words = element('text', place, escape(line.text.strip()))
+            shown.append(element('a', 'href="%s"' % escape(line.target), words) if line.target else words)
+        self._add('g', {'class': 'story', 'data_of': story, 'transform': 'translate(%s %s) scale(%.3g)' % (
+            number(x), number(y), scale)}, ground + ''.join(shown))
 
     def polygon(self, points, shape):
         self._add('polygon', {'points': points_text(points), 'class': shape})
@@ -162,7 +228,11 @@ class Drawing:
         nothing between two shapes: a browser takes its time by the number of nodes."""
         shapes = [element(tag, words + (' data-tip="%s"' % escape(tip) if tip else ''), content)
                   for tag, words, tip, content in self.shapes]
-        return '<svg %s role="img" aria-label="%s">%s</svg>' % (self._view(), escape(label), ''.join(shapes))
+        text = re.sub(r'<a href="page0*(\d+)\.svg">', r'<a href="#page-\1">', ''.join(shapes))
+        return '<svg %s role="img" aria-label="%s">%s</svg>' % (self._view(), escape(label), text)
+
+    def has_stories(self):
+        return any('class="story"' in words for _, words, _, _ in self.shapes)
 
     def write(self, path):
         """The drawing in a file of its own."""
@@ -172,4 +242,6 @@ class Drawing:
             out.write('<style>%s</style>\n<defs>%s</defs>\n' % (style(), patterns()))
             shapes = [element(tag, words, ('<title>%s</title>' % escape(tip) if tip else '') + content)
                       for tag, words, tip, content in self.shapes]
-            out.write('\n'.join(shapes + self.links + ([KEYS] if self.links else [])) + '\n</svg>\n')
+            scripts = [KEYS] if self.links else []
+            scripts += ['<script><![CDATA[%s]]></script>' % STORIES] if self.has_stories() else []
+            out.write('\n'.join(shapes + self.links + scripts) + '\n</svg>\n')

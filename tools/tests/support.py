@@ -1,15 +1,20 @@
-"""What the tests of the tools share: stored files, a folder of its own for each test, and running a tool."""
+"""What the tests of the tools share: stored files, a folder of its own for each test, running a tool, and running the
+commands of a page of the documents."""
 import contextlib
 import io
 import os
+import re
 import shutil
+import subprocess
 import sys
 import tempfile
 import unittest
 
 HERE = os.path.dirname(os.path.abspath(__file__))
 STORED = os.path.join(HERE, 'stored')
-DOCUMENT = os.path.join(HERE, os.pardir, os.pardir, 'examples', 'document')
+TOP = os.path.normpath(os.path.join(HERE, os.pardir, os.pardir))
+DOCUMENT = os.path.join(TOP, 'examples', 'document')
+PROGRAM = os.environ.get('GALLEY_PAGES')
 sys.path.insert(0, os.path.join(HERE, os.pardir))
 
 
@@ -27,6 +32,41 @@ def run(main, *arguments):
     with contextlib.redirect_stdout(out), contextlib.redirect_stderr(out):
         status = main(list(arguments))
     return status, out.getvalue()
+
+
+class Folder:
+    """A copy of some inputs, with the program that GALLEY_PAGES names and the command on the path."""
+
+    def __init__(self, inputs):
+        self.source = inputs
+
+    def __enter__(self):
+        self.folder = tempfile.mkdtemp()
+        names = os.path.join(self.folder, 'bin')
+        os.mkdir(names)
+        os.symlink(os.path.abspath(PROGRAM), os.path.join(names, 'galley_pages'))
+        os.symlink(os.path.join(TOP, 'tools', 'galley-pages'), os.path.join(names, 'galley-pages'))
+        self.inputs = os.path.join(self.folder, 'inputs')
+        shutil.copytree(self.source, self.inputs)
+        self.environment = {**os.environ, 'PATH': names + ':' + os.environ['PATH'], 'LC_ALL': 'C.UTF-8',
+                            'GALLEY_PAGES': os.path.abspath(PROGRAM)}
+        return self
+
+    def __exit__(self, *_):
+        shutil.rmtree(self.folder)
+
+    def run(self, command):
+        """The status of a command, and all that it writes."""
+        ran = subprocess.run(['bash', '-c', command], cwd=self.inputs, env=self.environment, stdin=subprocess.DEVNULL,
+                             stdout=subprocess.PIPE, stderr=subprocess.STDOUT, encoding='utf-8', check=False)
+        return ran.returncode, ran.stdout
+
+    def block(self, block):
+        """A block of commands with what they write, and their statuses."""
+        commands = re.findall(r'^\$ (.*)$', block, re.M)
+        ran = [self.run(command) for command in commands]
+        text = ''.join('$ %s\n%s' % (command, said) for command, (_, said) in zip(commands, ran))
+        return text, [status for status, _ in ran]
 
 
 class Scratch(unittest.TestCase):

@@ -77,6 +77,16 @@ class Exporter(Scratch):
         self.export(FLOAT % 't' + FLOAT % 'b' + r'Words.\footnote{A note.}', preamble=r'\usepackage[bottom]{footmisc}')
         self.assertEqual(re.findall(r'^float figure\.\d 1 (\w+)', self.read('test.pages'), re.M), ['top', 'bottom'])
 
+    def test_marks_have_words_and_those_of_other_classes_are_notes(self):
+        self.export(r"\pagestyle{headings}\section{The \emph{first} caf\'es} Words. \markboth{Left}{Right} Words. \newpage "
+                    r'\mark{plain \kern 3pt mark}Words. \marks5{other}')
+        galley, pages = self.read('test.galley'), self.read('test.pages')
+        names = ['1-The-first-cafes', 'Left-Right', 'plain-mark']
+        for text in (galley, pages):
+            self.assertEqual(re.findall(r'^mark m\d+\.(\S+)', text, re.M), names)
+            self.assertEqual(len(re.findall(r'^note w\d+\.mark5\b', text, re.M)), 1)
+            self.assertEqual(len(re.findall(r'^note w\d+\.mark0', text, re.M)), 0)
+
     def test_which_float_waits(self):
         log = self.export(r'Words.\vspace*{15cm} Words. ' + FLOAT % 'h' + FLOAT % 'h' + 'Words.')
         waits, warning = log.index('galleyexport: waits figure.'), log.index('float specifier changed')

@@ -126,7 +126,8 @@ class Data(unittest.TestCase):
 
     def test_each_table_has_rows(self):
         self.assertEqual(set(tables()), {'Report', 'Page', 'Before', 'Column', 'Set', 'Item', 'Warning', 'Try', 'Left',
-                                         'Totals'})
+                                         'Totals', 'Why', 'Float', 'Spot', 'Landing', 'Reason', 'Decision', 'Test', 'Tried',
+                                         'Margin', 'Marks', 'PageMarks'})
         self.assertTrue(all(tables().values()))
 
 

@@ -20,11 +20,11 @@ for ending in ('galley', 'galleylog', 'pages', 'log'):
 open(name + '.aux', 'w').close()
 '''
 
-# Stands for galley_pages: the stored report and trace of notes.tex.
+# Stands for galley_pages: the stored report and trace of notes.tex. It has no float, so nothing is told besides the trace.
 FAKE_PROGRAM = '''#!/usr/bin/env python3
 import sys
 sys.stdin.read()
-print(open(%r + sys.argv[2]).read(), end='')
+print(open(%r + sys.argv[2].replace('why', 'trace')).read(), end='')
 '''
 
 
@@ -53,7 +53,8 @@ class Documents(Scratch):
         self.assertEqual(status, 0, said)
         self.assertIn('LaTeX, run 2 of at most 3\ngalleyexport: ', said)
         self.assertIn('3 pages are the same in every place\nmy notes: LaTeX made 3 pages', said)
-        self.assertTrue(os.path.exists(self.path('out of it/pictures/index.html')))
+        for name in ('pictures/index.html', 'my notes.why'):
+            self.assertTrue(os.path.exists(self.path('out of it/' + name)), name)
 
     def test_auxiliary_files_of_an_earlier_call_save_a_run(self):
         for _ in range(2):
