@@ -1,1 +1,3 @@
 pub mod WaitingLines
+pub mod FitLemmas
+pub mod DecisionLemmas
