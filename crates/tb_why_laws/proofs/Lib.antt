@@ -1,1 +1,4 @@
 pub mod WaitingLines
+pub mod Once
+pub mod OnceMoves
+pub mod OnceLists
