@@ -2,3 +2,5 @@ pub mod WaitingLines
 pub mod Once
 pub mod OnceMoves
 pub mod OnceLists
+pub mod OnceStarts
+pub mod OnceStates
