@@ -1,3 +1,9 @@
 pub mod WaitingLines
+pub mod Once
+pub mod OnceMoves
+pub mod OnceLists
+pub mod OnceStarts
+pub mod OnceStates
 pub mod FitLemmas
 pub mod DecisionLemmas
+pub mod ColumnTales
