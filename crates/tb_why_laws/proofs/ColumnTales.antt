@@ -30,7 +30,7 @@ use Rattle.tb_story.specs.Summary.{SummaryView, keep, kept_all, keep_all, heads_
 use Rattle.tb_why.specs.SummaryLaws.{AreCurrent, IsTaleInOrder, noted_lines, column_lines}
 use Rattle.tb_laws.specs.Laws.{float_lines}
 use Rattle.tb_laws.proofs.ClassesRise.RisingLists.{IsAmong}
-use Rattle.tb_why_laws.proofs.FitLemmas.{AllFit, weaker, keeps-back, places, waiting-current, placed-current}
+use Rattle.tb_why_laws.proofs.FitLemmas.{AllFit, weaker, keeps-back, places, waiting-current, placed-current, also-now}
 use Rattle.tb_why_laws.proofs.DecisionLemmas.{Tells, tells-then}
 
 module _ (K N W : ℕ → Type 0) where
@@ -139,7 +139,7 @@ module _ (K N W : ℕ → Type 0) where
     joins-wait : (before : List Choice) (fs : List Float) → AllWait fs → AllByRecursion IsOfWaiting (told_joins z before fs)
     joins-wait before [] w = tt
     joins-wait before (f ∷ fs) w =
-        all-join IsOfWaiting (if_of_width z f (Joins f (joins_told z before f))) (told_joins z (before ++ record { float = f; chosen = joins z before f } ∷ []) fs) (by_width (beq f.wide z.wide)) (joins-wait _ fs w.1)
+        all-join IsOfWaiting (if_of_width z f (Joins f (joins_told z before f))) (told_joins z (before ++ record { float = f; chosen = joins z before f } ∷ []) fs) (by_width (beq f.wide z.wide)) (joins-wait (before ++ record { float = f; chosen = joins z before f } ∷ []) fs w.1)
       where
         by_width : (b : Bool) → AllByRecursion IsOfWaiting (if b then Joins f (joins_told z before f) ∷ [] else [])
         by_width true = (w.0, tt)
@@ -225,7 +225,44 @@ module _ (K N W : ℕ → Type 0) where
     pub taken : (n : ℕ) → IsAmong n (float_lines gs) → W n
     pub apart : (n : ℕ) → IsAmong n (float_lines gs) → V n → ⊥
 
+  -- until they are taken, the floats of the company are those that were placed
+  with-taken-now : (gs : List Float) (V : ℕ → Type 0) → TakesOut gs V → (n : ℕ) (ss : List StoryView) → AllFit W N W K n ss → AllFit V (λ n. N n ⊎ IsAmong n (float_lines gs)) (λ n. V n ⊎ IsAmong n (float_lines gs)) K n ss
+  with-taken-now gs V t n ss a = also-now K W N W V (λ n. IsAmong n (float_lines gs)) (λ n. V n ⊎ IsAmong n (float_lines gs)) t.fewer t.taken t.most n ss a
+
   -- what is told where a column is looked for is in order, and its floats wait no more
   pub column-told : (at : Spot) (z : Wanted) (fs : List Float) (V : ℕ → Type 0) → AllByRecursion (λ (f : Float). W f.line) fs → TakesOut (taken_floats (company z fs)) V → (m : SummaryView) → AllFit W N W K m.sheets m.stories
       → Tells (column_tales at z fs) m (λ m. AllFit V N V K m.sheets m.stories)
-  column-told at z fs V w t m a = ?
+  column-told at z fs V w t m a = by_width (has_width z.wide fs) refl
+    where
+      gs : List Float
+      gs = taken_floats (company z fs)
+
+      begun : Noting (after_tale (Begins at z) m)
+      begun = record { fit = a; alone = tt; passed = tt }
+
+      now-or-taken : (m : SummaryView) → Noting m → AllFit V (λ n. N n ⊎ IsAmong n (float_lines gs)) (λ n. V n ⊎ IsAmong n (float_lines gs)) K m.sheets m.stories
+      now-or-taken m x = with-taken-now gs V t m.sheets m.stories x.fit
+
+      then-takes : (ts : List ToldColumn) → Parted z ts (company z fs) → Tells (map (λ t. InColumn t) ts) (after_tale (Begins at z) m) (λ m. AllFit V N V K m.sheets m.stories)
+      then-takes ts x =
+          subst (λ us. Tells us (after_tale (Begins at z) m) (λ m. AllFit V N V K m.sheets m.stories))
+          (sym (ap (map (λ t. InColumn t)) x.whole ∙ map-append (λ t. InColumn t) x.first (map (λ g. Takes g) gs)))
+          (tells-then (map (λ t. InColumn t) x.first) (map (λ t. InColumn t) (map (λ g. Takes g) gs)) (after_tale (Begins at z) m) Noting (λ m. AllFit V N V K m.sheets m.stories)
+          (looks x.first (after_tale (Begins at z) m) x.waiting begun) (λ m x. takes V gs m t.apart (now-or-taken m x)))
+
+      told : Tells (map (λ t. InColumn t) (told_column z fs)) (after_tale (Begins at z) m) (λ m. AllFit V N V K m.sheets m.stories)
+      told = then-takes (told_column z fs) (from-parted z [] fs w)
+
+      none-taken : has_width z.wide fs ≡ false → (n : ℕ) → W n → V n
+      none-taken e n i = only (t.most n i)
+        where
+          none : IsAmong n (float_lines gs) → ⊥
+          none j = subst (λ o. IsAmong n (float_lines (taken_floats o)) → ⊥) (sym (none-wide z [] fs e)) (λ k. k) j
+
+          only : V n ⊎ IsAmong n (float_lines gs) → V n
+          only (inl j) = j
+          only (inr j) = absurd (none j)
+
+      by_width : (b : Bool) → has_width z.wide fs ≡ b → Tells (if b then Begins at z ∷ map (λ t. InColumn t) (told_column z fs) else []) m (λ m. AllFit V N V K m.sheets m.stories)
+      by_width true e = record { order = (tt, told.order); after = told.after }
+      by_width false e = record { order = tt; after = weaker K W N W V N V t.fewer (λ n i. i) (none-taken e) m.sheets m.stories a }

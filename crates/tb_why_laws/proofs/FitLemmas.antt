@@ -82,6 +82,15 @@ module _ (K : ℕ → Type 0) where
   weaker B N W B' N' W' b c w n ss a =
       all-map (Fits B N W K n) (Fits B' N' W' K n) (λ s f. record { back = λ o i. f.back o (b s.float.line i); now = λ o i. f.now o (c s.float.line i); waiting = λ e. w s.float.line (f.waiting e); reason = f.reason; known = f.known }) ss a
 
+  -- what waits is current, and need not wait from now on
+  pub also-now : (B N W B' T W' : ℕ → Type 0) → ((n : ℕ) → B' n → B n) → ((n : ℕ) → T n → B n) → ((n : ℕ) → W n → W' n) → (n : ℕ) (ss : List StoryView) → AllFit B N W K n ss → AllFit B' (λ n. N n ⊎ T n) W' K n ss
+  also-now B N W B' T W' b t w n ss a =
+      all-map (Fits B N W K n) (Fits B' (λ n. N n ⊎ T n) W' K n) (λ s f. record { back = λ o i. f.back o (b s.float.line i); now = λ o i. by_now s f o i; waiting = λ e. w s.float.line (f.waiting e); reason = f.reason; known = f.known }) ss a
+    where
+      by_now : (s : StoryView) → Fits B N W K n s → is_open s ≡ true → N s.float.line ⊎ T s.float.line → counted_to n s ≡ n
+      by_now s f o (inl i) = f.now o i
+      by_now s f o (inr i) = to_now (waits s) n s.put (both-true (is_open s) (is_deferred s.place) o (f.back o (t s.float.line i)))
+
   -- a float is kept back: it is one of those that wait
   pub keeps-back : (B N W B' : ℕ → Type 0) (line : ℕ) (k : Kept) → W line → ((n : ℕ) → B' n → B n ⊎ (n ≡ line)) → (n : ℕ) (ss : List StoryView) → AllFit B N W K n ss → AllFit B' N W K n (with_story line (kept_back k) ss)
   keeps-back B N W B' line k w b n ss a =
