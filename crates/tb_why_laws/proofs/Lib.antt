@@ -7,3 +7,4 @@ pub mod OnceStates
 pub mod FitLemmas
 pub mod DecisionLemmas
 pub mod ColumnTales
+pub mod ShowLemmas
