@@ -8,3 +8,4 @@ pub mod FitLemmas
 pub mod DecisionLemmas
 pub mod ColumnTales
 pub mod ShowLemmas
+pub mod PlacingLemmas
