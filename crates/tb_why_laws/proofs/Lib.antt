@@ -9,3 +9,4 @@ pub mod DecisionLemmas
 pub mod ColumnTales
 pub mod ShowLemmas
 pub mod PlacingLemmas
+pub mod StandLemmas
