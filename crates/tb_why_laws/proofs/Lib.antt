@@ -10,3 +10,4 @@ pub mod ColumnTales
 pub mod ShowLemmas
 pub mod PlacingLemmas
 pub mod StandLemmas
+pub mod PageTales
