@@ -187,3 +187,87 @@ module _ (p : Params) (K : ℕ → Type 0) where
           (λ r q e line place f g. sent-apart nothing u sent q w.sent w.state.page sheet e line place f (subst (λ l. IsAmong line (waiting_lines l)) (sym (ship-floats sheet v)) g))
           (λ c z. stand-shipped p K sheet v c (λ r. fit-put v.state c (empty-placed (wide_part p) (wide-waits p) (left_floats cs) w.state e) z))))
           (λ c z. again u sent (wide-empty cs w e) c z)))
+
+  -- ---- a column is put out
+
+  pair-empty : (sheet : PlainSheet) (w : Work) → Bare w.state.floats → Empty (without_double (ship p sheet w)).state.floats
+  pair-empty sheet w b = by-any-ship (λ c. Empty (without_double c).state.floats) p sheet w (b.0, b.1, refl) (b.0, b.1, refl) (b.0, b.1, refl)
+
+  ship-two : (sheet : PlainSheet) (w : Work) → (ship p sheet w).state.two_columns ≡ w.state.two_columns
+  ship-two sheet w = by-any-ship (λ c. c.state.two_columns ≡ w.state.two_columns) p sheet w refl refl refl
+
+  pair-stands : (sheet : PlainSheet) (w : Work) (m : SummaryView) → Bare w.state.floats → (w.refused ≡ false → FitPut w.state m) → Stand p K (without_double (ship p sheet w)) m
+  pair-stands sheet w m b fit =
+      let h : Stand p K (without_double w) m = (λ r. fit-put (without_double w).state m (none-placed (without_double w).state b (none-double (w.state.two_columns && true) [] refl)) (fit r)) in
+      by-any-ship (λ c. Stand p K (without_double c) m) p sheet w h (λ r. absurd (stopped true refl r)) h
+
+  -- the page of two columns, the pages of wide floats, and the space above the next two columns
+  pair-shown : (c : PlainColumn) (w : Work) → Once (of_column c) w → w.state.two_columns ≡ true → w.state.first_column ≡ false → Bare w.state.floats → (m : SummaryView) → (w.refused ≡ false → FitPut w.state m)
+      → Shows w (ship_pair p c w) (pair_pieces p c w) m (Stand p K (ship_pair p c w))
+  pair-shown c w once two second b m fit =
+      let sheet = pair_sheet p w.state.floats (left_or c w.state.left_column) c in
+      let u = without_double (ship p sheet w) in
+      let v = all_wide_pages p false u in
+      let sent : Once nothing u = column-once {p = p} (ships_pair c w two second) once in
+      shows-then w u (ship_pair p c w) (ship_pieces p w) (after_pair p u) m (Stand p K u) (Stand p K (ship_pair p c w))
+      (shows-before w (ship p sheet w) u (ship_pieces p w) m (Stand p K u) (Stand p K u) refl (λ n x. x)
+      (page-shown sheet w m (Stand p K u) (λ r. stand-stopped p K u m r) fit
+      (λ r q e line place f g. sent-apart nothing u sent q w.sent w.state.page sheet e line place f (subst (λ l. IsAmong line (waiting_lines l)) (sym (ship-floats sheet w)) g))
+      (λ n x. pair-stands sheet w n b (λ r. x))))
+      (λ n x. shows-then u v (fill_double p v) (all_wide_pieces p false u) (fill_double_pieces p v) n (Stand p K v) (Stand p K (fill_double p v))
+      (wide-shown false (length (wide_waiting p u.state.floats)) u sent (pair-empty sheet w b) n x)
+      (λ a y. double-shown p K [] (wide_waiting p v.state.floats) v (columns-once (all_wide-moves p false u) sent) (two-kept (all_wide-moves p false u) ∙ ship-two sheet w ∙ two) refl a y))
+
+  one-column : (two first : Bool) (ls : List ℕ) → two ≡ false → (if two && first then ls else []) ≡ []
+  one-column true first ls e = cc
+  one-column false first ls e = refl
+
+  second-column : (two : Bool) (ls : List ℕ) → (if two && false then ls else []) ≡ []
+  second-column true ls = refl
+  second-column false ls = refl
+
+  -- a column is put out: as a page, as the first of two, or as the second
+  by-columns-shown : (c : PlainColumn) (a : Work) → Once (of_column c) a → Bare a.state.floats → (m : SummaryView) → (a.refused ≡ false → FitPut a.state m) → Shows a (put_out_by p c a) (put_out_pieces_by p c a) m (Stand p K (put_out_by p c a))
+  by-columns-shown c a once b m fit = by_columns a.state.two_columns a.state.first_column refl refl
+    where
+      by_columns : (two first : Bool) → a.state.two_columns ≡ two → a.state.first_column ≡ first
+          → Shows a (if not two then ship p (one c) a else (if first then keep_left c a else ship_pair p c a)) (if not two then ship_pieces p a else (if first then [] else pair_pieces p c a)) m (Stand p K (if not two then ship p (one c) a else (if first then keep_left c a else ship_pair p c a)))
+      by_columns false first t f =
+          page-shown (one c) a m (Stand p K (ship p (one c) a)) (λ r. stand-stopped p K (ship p (one c) a) m r) fit
+          (λ r q e line place g i. sent-apart nothing (ship p (one c) a) (column-once {p = p} (ships_column c a t) once) q a.sent a.state.page (one c) e line place g (subst (λ l. IsAmong line (waiting_lines l)) (sym (ship-floats (one c) a)) i))
+          (λ n x. stand-shipped p K (one c) a n (λ r. fit-put a.state n (none-placed a.state b (one-column a.state.two_columns a.state.first_column (float_lines a.state.floats.double) t)) x))
+      by_columns true true t f =
+          shows-none a (keep_left c a) m (Stand p K (keep_left c a)) refl (λ r. fit-put (keep_left c a).state m (none-placed (keep_left c a).state b (second-column a.state.two_columns (float_lines a.state.floats.double))) (fit r))
+      by_columns true false t f = pair-shown c a once t f b m fit
+
+  pub put_out-shown : (c : PlainColumn) (w : Work) → Once (of_column c) w → Bare w.state.floats → (m : SummaryView) → Stand p K w m → Shows w (put_out p c w) (put_out_pieces p c w) m (Stand p K (put_out p c w))
+  put_out-shown c w once b m h =
+      let a = records_also (output c) w in
+      shows-then w a (put_out p c w) (unless_over w (Says PutOut ∷ [])) (put_out_pieces_by p c a) m (λ n. a.refused ≡ false → FitPut a.state n) (Stand p K (put_out p c w))
+      (shows-before w w a (unless_over w (Says PutOut ∷ [])) m (λ n. w.refused ≡ false → FitPut w.state n) (λ n. a.refused ≡ false → FitPut a.state n) (records-send p K (output c) w) (λ n x. by-records (λ e. e.refused ≡ false → FitPut e.state n) (output c) w x x)
+      (output-by (Waits w.state) (IsInArea w.state) w m h))
+      (λ n x. shows-before a (put_out_by p c a) (put_out p c w) (put_out_pieces_by p c a) n (Stand p K (put_out_by p c a)) (Stand p K (put_out p c w)) refl (λ o y. y)
+      (by-columns-shown c a (column-once {p = p} (records_column c w) once) (by-records (λ e. Bare e.state.floats) (output c) w b b) n x))
+
+  -- ---- text columns
+
+  stands-tell : (w : Work) (ls : List ℕ) → ((n : ℕ) → IsAmong n ls → Waits w.state n → ⊥) → (m : SummaryView) → FitState p K w.state m → Tells (map (λ l. Stands l) ls) m (FitState p K w.state)
+  stands-tell w [] apart m a = record { order = tt; after = a }
+  stands-tell w (l ∷ ls) apart m a =
+      let x = stands-tell w ls (λ n i. apart n (inr i)) (after_tale (Stands l) m) (stands K (Waits w.state) (IsInArea w.state) (Waits w.state) l m.sheets m.stories a) in
+      record { order = (are-placed K (Waits w.state) (IsInArea w.state) (Waits w.state) l m.sheets (apart l (inl refl)) m.stories a, x.order); after = x.after }
+
+  -- a text column is put out
+  pub text-shown : (body : List PlainNode) (w : Work) → Once (of_text body) w → (m : SummaryView) → Stand p K w m → Shows w (put_out_text p body w) (text_pieces p body w) m (Stand p K (put_out_text p body w))
+  text-shown body w once m h =
+      let c = text_column p w.state.floats body (footnotes w.state) in
+      let v = without_column_floats w in
+      shows-then w v (put_out_text p body w) (unless_over w (tales (stands_tales body))) (put_out_pieces p c v) m (Stand p K v) (Stand p K (put_out_text p body w))
+      (shows-before w w v (unless_over w (tales (stands_tales body))) m (Stand p K w) (Stand p K v) refl (λ n x r. weaker K (Waits w.state) (IsInArea w.state) (Waits w.state) (Waits w.state) (IsInArea v.state) (Waits w.state) (λ k i. i) (λ k i. above k i) (λ k i. i) n.sheets n.stories (x r))
+      (shows-tales w (stands_tales body) m (Stand p K w) (λ r. stand-stopped p K w m r) (λ r. let x = stands-tell w (here_lines body) (stands-apart body w once r) m (h r) in record { order = x.order; after = λ q. x.after })))
+      (λ n x. put_out-shown c v (page-once {p = p} (takes_text body w) once) (refl, refl) n x)
+    where
+      above : (k : ℕ) → IsInArea (without_column_floats w).state k → IsInArea w.state k
+      above k i =
+          Rattle.tb_laws.proofs.ClassesRise.RisingLists.among-back k (float_lines w.state.floats.top) (float_lines w.state.floats.bottom ++ (if w.state.two_columns && w.state.first_column then float_lines w.state.floats.double else []))
+          (Rattle.tb_laws.proofs.ClassesRise.RisingLists.among-back k (float_lines w.state.floats.bottom) (if w.state.two_columns && w.state.first_column then float_lines w.state.floats.double else []) i)
