@@ -11,3 +11,4 @@ pub mod ShowLemmas
 pub mod PlacingLemmas
 pub mod StandLemmas
 pub mod PageTales
+pub mod ClearTales

@@ -49,7 +49,7 @@ abbrev pub Bare : FloatLists → Type 0
 Bare l = (l.top ≡ []) × (l.bottom ≡ [])
 
 -- nor above both columns
-abbrev Empty : FloatLists → Type 0
+abbrev pub Empty : FloatLists → Type 0
 Empty l = (l.top ≡ []) × (l.bottom ≡ []) × (l.double ≡ [])
 
 stopped : (b : Bool) → b ≡ true → b ≡ false → ⊥
@@ -122,7 +122,7 @@ module _ (p : Params) (K : ℕ → Type 0) where
         most n (inr i) = inl (waits-so from q (left_floats cs) w.state.floats n (inr i))
 
     -- a column is looked for, and there is none
-    none-told : company z (floats_of from w.state.floats) ≡ None → (m : SummaryView) → Stand p K w m → Shows w w (unless_over w (tales (column_tales (spot_of w.state) z (floats_of from w.state.floats)))) m (Stand p K w)
+    pub none-told : company z (floats_of from w.state.floats) ≡ None → (m : SummaryView) → Stand p K w m → Shows w w (unless_over w (tales (column_tales (spot_of w.state) z (floats_of from w.state.floats)))) m (Stand p K w)
     none-told e m h =
         let fs = floats_of from w.state.floats in
         shows-tales w (column_tales (spot_of w.state) z fs) m (Stand p K w) (λ r. stand-stopped p K w m r)
@@ -130,7 +130,7 @@ module _ (p : Params) (K : ℕ → Type 0) where
             record { order = x.order; after = λ q. x.after })
 
     -- a column is looked for, and there is one
-    some-told : (cs : List Choice) → company z (floats_of from w.state.floats) ≡ Some cs → (m : SummaryView) → Stand p K w m
+    pub some-told : (cs : List Choice) → company z (floats_of from w.state.floats) ≡ Some cs → (m : SummaryView) → Stand p K w m
         → Shows w w (unless_over w (tales (column_tales (spot_of w.state) z (floats_of from w.state.floats)))) m (λ m. w.refused ≡ false → AllFit (Left cs) (IsInArea w.state) (Left cs) K m.sheets m.stories)
     some-told cs e m h =
         let fs = floats_of from w.state.floats in
@@ -157,7 +157,7 @@ module _ (p : Params) (K : ℕ → Type 0) where
   empty-placed parts.Second q gs s e = none-placed s (e.0, e.1) (none-double (s.two_columns && s.first_column) s.floats.double e.2)
   empty-placed from q gs s e = absurd q
 
-  wide-shown : (clearing : Bool) (n : ℕ) (w : Work) → Once nothing w → Empty w.state.floats → (m : SummaryView) → Stand p K w m → Shows w (wide_pages p clearing n w) (wide_pieces p clearing n w) m (Stand p K (wide_pages p clearing n w))
+  pub wide-shown : (clearing : Bool) (n : ℕ) (w : Work) → Once nothing w → Empty w.state.floats → (m : SummaryView) → Stand p K w m → Shows w (wide_pages p clearing n w) (wide_pieces p clearing n w) m (Stand p K (wide_pages p clearing n w))
   wide-shown clearing zero w once e m h = shows-none w w m (Stand p K w) refl h
   wide-shown clearing (suc n) w once e m h = by_company (λ v a b m h. wide-shown clearing n v a b m h) (company z (wide_waiting p w.state.floats)) refl
     where
