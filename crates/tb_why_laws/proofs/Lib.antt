@@ -4,3 +4,5 @@ pub mod OnceMoves
 pub mod OnceLists
 pub mod OnceStarts
 pub mod OnceStates
+pub mod CallWeights
+pub mod ActedLists
