@@ -6,3 +6,4 @@ pub mod OnceStarts
 pub mod OnceStates
 pub mod CallWeights
 pub mod ActedLists
+pub mod CalledLater
