@@ -7,3 +7,5 @@ pub mod OnceStates
 pub mod CallWeights
 pub mod ActedLists
 pub mod CalledLater
+pub mod OutCalls
+pub mod AfterCalls
