@@ -12,3 +12,8 @@ pub mod PlacingLemmas
 pub mod StandLemmas
 pub mod PageTales
 pub mod ClearTales
+pub mod CallWeights
+pub mod ActedLists
+pub mod CalledLater
+pub mod OutCalls
+pub mod AfterCalls

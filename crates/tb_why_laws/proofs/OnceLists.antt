@@ -39,7 +39,7 @@ among-parts n (x ∷ xs) ys (inr i) = by_part (among-parts n xs ys i)
     by_part (inr b) = inr b
 
 -- the float of a line weighs one
-this : (m n : ℕ) → m ≡ n → (of_line n).float m ≡ 1
+pub this : (m n : ℕ) → m ≡ n → (of_line n).float m ≡ 1
 this m n e = ap (λ t. if t then 1 else 0) (eq-eqb m n e)
 
 pub among-weight : (n : ℕ) (fs : List Float) → IsAmong n (float_lines fs) → 1 ≤ floats_weight (of_line n) fs
@@ -56,12 +56,16 @@ weight-among n (f ∷ fs) l = by_line (f.line == n) refl (λ k. weight-among n f
     by_line false e again k = inr (again (omega arith))
 
 -- one that waits
-pub waiting-weight : (n : ℕ) (l : FloatLists) → IsAmong n (waiting_lines l) → 1 ≤ lists_weight (of_line n) l
+pub waiting-weight : (n : ℕ) (l : FloatLists) → IsAmong n (waiting_lines l) → 1 ≤ floats_weight (of_line n) l.deferred + floats_weight (of_line n) l.second
 waiting-weight n l i = by_list (among-parts n (float_lines l.deferred) (float_lines l.second) i)
   where
-    by_list : IsAmong n (float_lines l.deferred) ⊎ IsAmong n (float_lines l.second) → 1 ≤ lists_weight (of_line n) l
+    by_list : IsAmong n (float_lines l.deferred) ⊎ IsAmong n (float_lines l.second) → 1 ≤ floats_weight (of_line n) l.deferred + floats_weight (of_line n) l.second
     by_list (inl a) = let h : 1 ≤ floats_weight (of_line n) l.deferred = among-weight n l.deferred a in omega arith
     by_list (inr b) = let h : 1 ≤ floats_weight (of_line n) l.second = among-weight n l.second b in omega arith
+
+-- so do the lists
+pub listed-weight : (n : ℕ) (l : FloatLists) → IsAmong n (waiting_lines l) → 1 ≤ lists_weight (of_line n) l
+listed-weight n l i = let h : 1 ≤ floats_weight (of_line n) l.deferred + floats_weight (of_line n) l.second = waiting-weight n l i in omega arith
 
 -- one that stands in the text
 pub here-weight : (n : ℕ) (ns : List PlainNode) → IsAmong n (here_lines ns) → 1 ≤ nodes_weight (of_line n) ns
@@ -109,7 +113,7 @@ parts-weight n z fs cs e = parted-weight (of_line n) cs ∙ subst (CompanyOf (of
 pub stands-apart : (body : List PlainNode) (w : Work) → Once (of_text body) w → w.refused ≡ false → (n : ℕ) → IsAmong n (here_lines body) → IsAmong n (waiting_lines w.state.floats) → ⊥
 stands-apart body w o r n i j =
     let a : 1 ≤ nodes_weight (of_line n) body = here-weight n body i in
-    let b : 1 ≤ lists_weight (of_line n) w.state.floats = waiting-weight n w.state.floats j in
+    let b : 1 ≤ lists_weight (of_line n) w.state.floats = listed-weight n w.state.floats j in
     let c : nodes_weight (of_line n) body + work_weight (of_line n) w ≤ 1 = (o r).1 n in
     let no : ⊥ = omega arith in no
 
@@ -117,7 +121,7 @@ stands-apart body w o r n i j =
 pub sent-apart : (h : Hand) (w : Work) → Once h w → w.refused ≡ false → (es : List PlainSent) (page : ℕ) (sheet : PlainSheet) → w.sent ≡ es ++ shipped page sheet ∷ [] → (n : ℕ) (place : Where) → HoldsFloat n place sheet → IsAmong n (waiting_lines w.state.floats) → ⊥
 sent-apart h w o r es page sheet e n place i j =
     let a : 1 ≤ sheet_weight (of_line n) sheet = holds-weight n place sheet i in
-    let b : 1 ≤ lists_weight (of_line n) w.state.floats = waiting-weight n w.state.floats j in
+    let b : 1 ≤ lists_weight (of_line n) w.state.floats = listed-weight n w.state.floats j in
     let s : sent_weight (of_line n) w.sent ≡ sent_weight (of_line n) es + (sheet_weight (of_line n) sheet + 0) = ap (sent_weight (of_line n)) e ∙ sent_weight-append (of_line n) es (shipped page sheet ∷ []) in
     let c : hand_weight (of_line n) h + work_weight (of_line n) w ≤ 1 = (o r).1 n in
     let no : ⊥ = omega arith in no
@@ -126,7 +130,7 @@ sent-apart h w o r es page sheet e n place i j =
 pub left-apart : (h : Hand) (w : Work) → Once h w → w.refused ≡ false → (from : Part) → IsWaiting from → (before rest : List Float) (f : Float) → floats_of from w.state.floats ≡ before ++ f ∷ rest → IsAmong f.line (waiting_lines (with_floats_of from (before ++ rest) w.state.floats)) → ⊥
 left-apart h w o r from q before rest f e i =
     let v = of_line f.line in
-    let b : 1 ≤ lists_weight v (with_floats_of from (before ++ rest) w.state.floats) = waiting-weight f.line (with_floats_of from (before ++ rest) w.state.floats) i in
+    let b : 1 ≤ lists_weight v (with_floats_of from (before ++ rest) w.state.floats) = listed-weight f.line (with_floats_of from (before ++ rest) w.state.floats) i in
     let c : hand_weight v h + work_weight v w ≤ 1 = (o r).1 f.line in
     never (lists_weight v (with_floats_of from (before ++ rest) w.state.floats)) (floats_weight v (floats_of from w.state.floats)) (lists_weight v w.state.floats) (floats_weight v (before ++ rest)) (floats_weight v before) (v.float f.line) (floats_weight v rest)
     (lists-with v from q (before ++ rest) w.state.floats) (ap (floats_weight v) e ∙ floats-append v before (f ∷ rest)) (floats-append v before rest) (this f.line f.line refl) b (within h w f.line c)
@@ -139,7 +143,7 @@ pub company-apart : (h : Hand) (w : Work) → Once h w → w.refused ≡ false �
 company-apart h w o r from q z cs e n i j =
     let v = of_line n in
     let a : 1 ≤ floats_weight v (chosen_floats cs) = among-weight n (chosen_floats cs) i in
-    let b : 1 ≤ lists_weight v (with_floats_of from (left_floats cs) w.state.floats) = waiting-weight n (with_floats_of from (left_floats cs) w.state.floats) j in
+    let b : 1 ≤ lists_weight v (with_floats_of from (left_floats cs) w.state.floats) = listed-weight n (with_floats_of from (left_floats cs) w.state.floats) j in
     never (lists_weight v (with_floats_of from (left_floats cs) w.state.floats)) (floats_weight v (floats_of from w.state.floats)) (lists_weight v w.state.floats) (floats_weight v (left_floats cs)) (floats_weight v (chosen_floats cs))
     (lists-with v from q (left_floats cs) w.state.floats) (parts-weight n z (floats_of from w.state.floats) cs e) a b (within h w n ((o r).1 n))
   where

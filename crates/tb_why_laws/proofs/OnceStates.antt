@@ -2,12 +2,13 @@
 use Rattle.std.proofs.Common.{◌≡◌, sym, ◌∙◌, ap, subst, ℕ, ◌+◌, ◌≤◌, false, List, take, None, arith}
 use Rattle.std.specs.Prelude.{int_le}
 use Rattle.tb_scaled.specs.Scaled.{awful_bad, eject_penalty}
+use Rattle.tb_node.specs.PlainNodes.{PlainNode}
 use Rattle.tb_node.proofs.Weights.{Weight, nodes_weight}
 use Rattle.tb_param.specs.declared.Params.{Params}
 use Rattle.tb_galley.specs.declared.Galley.{Galley}
 use Rattle.tb_galley.specs.Valid.{IsValid}
 use Rattle.tb_galley.specs.GalleyNodes.{expanded}
-use Rattle.tb_insert.specs.Account.{Frozen, Labelled, labelled}
+use Rattle.tb_insert.specs.Account.{labelled}
 use Rattle.tb_builder.specs.FiredPages.{Fired, page_break, fired_of, frozen_for}
 use Rattle.tb_builder.proofs.FiredPages.PageWeights.{AllOfClass, acted_weight, boxes_weight, numbers, fired_weight, fired-weight}
 use Rattle.tb_output.specs.State.{State, begun, ask_of, first_state}
@@ -77,42 +78,47 @@ module _ (p : Params) (s : State) (o : Running p s) where
   abbrev pub fires : Fired
   fires = fired_of (ask_of p now.state) now.state.classes now.state.boxes (page_of p s)
 
-  -- where it begins, with the page in hand
-  pub fires-once : now.fault ≡ None → Once (of_text fires.body) (begun (after_page now.state fires))
-  fires-once e r = (record { box = box-fired ls t.classes t.boxes fit; columns = a.sound.columns; entries = a.sound.entries }, λ n. all n)
-    where
-      t : State
-      t = now.state
+  module _ (e : now.fault ≡ None) where
+    after : (v : Weight) → After v (acted_weight v (page_of p s).reached) s now.state
+    after v = (progressed v).after e
 
-      a : After (of_line 0) (acted_weight (of_line 0) (page_of p s).reached) s t
-      a = (progressed (of_line 0)).after e
+    -- the page up to its break
+    abbrev pub before : List PlainNode
+    before = take (page_break (page_of p s)).place (page_of p s).passed
 
-      z : Frozen
-      z = frozen_for (ask_of p t) t.classes t.boxes
+    fit : BoxesFit now.state.classes now.state.boxes
+    fit = (after (of_line 0)).sound.box
 
-      ls : List Labelled
-      ls = labelled z (take (page_break (page_of p s)).place (page_of p s).passed)
+    whole : AllOfClass (numbers now.state.boxes) before
+    whole = subst (λ ms. AllOfClass ms before) (sym (ap class_numbers (after (of_line 0)).classes) ∙ fit-numbers now.state.classes now.state.boxes fit) (cut_feet (of_line 0) p calm s o.kept).0
 
-      fit : BoxesFit t.classes t.boxes
-      fit = a.sound.box
+    -- each float is in one place at most of the page that fires and of what is left when it does
+    pub fired-times : (n : ℕ) → fired_weight (of_line n) fires + (nodes_weight (of_line n) now.state.held_page + lists_weight (of_line n) now.state.floats + left_weight (of_line n) now.state.left_column) ≤ 1
+    fired-times n =
+        let v = of_line n in
+        let w = page_of p s in
+        let b = after v in
+        let i : fired_weight v fires ≡ boxes_weight v now.state.boxes + (nodes_weight v w.passed + nodes_weight v w.beyond) = fired-weight v (frozen_for (ask_of p now.state) now.state.classes now.state.boxes) now.state.boxes w whole in
+        let k : lists_weight v now.state.floats + left_weight v now.state.left_column ≡ lists_weight v s.floats + left_weight v s.left_column + acted_weight v w.reached = b.weight in
+        let j : nodes_weight v w.passed + acted_weight v w.reached + nodes_weight v w.beyond ≡ nodes_weight v s.waiting = reached v p calm s o.kept in
+        let l : boxes_weight v now.state.boxes ≡ boxes_weight v s.boxes = ap (boxes_weight v) b.boxes in
+        let m : nodes_weight v now.state.held_page ≡ nodes_weight v s.held_page = ap (nodes_weight v) b.held in
+        sums (fired_weight v fires) (nodes_weight v now.state.held_page) (lists_weight v now.state.floats) (left_weight v now.state.left_column) (boxes_weight v now.state.boxes) (nodes_weight v w.passed) (nodes_weight v w.beyond) (acted_weight v w.reached) (nodes_weight v s.waiting) (boxes_weight v s.boxes) (nodes_weight v s.held_page) (lists_weight v s.floats) (left_weight v s.left_column) i k j l m (o.times n)
+      where
+        sums : (F Ht Lt Ct Bt P Y A W Bs Hs Ls Cs : ℕ) → F ≡ Bt + (P + Y) → Lt + Ct ≡ Ls + Cs + A → P + A + Y ≡ W → Bt ≡ Bs → Ht ≡ Hs → W + Bs + Hs + Ls + Cs ≤ 1 → F + (Ht + Lt + Ct) ≤ 1
+        sums F Ht Lt Ct Bt P Y A W Bs Hs Ls Cs i k j l m x = omega arith
 
-      whole : AllOfClass (numbers t.boxes) (take (page_break (page_of p s)).place (page_of p s).passed)
-      whole = subst (λ ms. AllOfClass ms (take (page_break (page_of p s)).place (page_of p s).passed)) (sym (ap class_numbers a.classes) ∙ fit-numbers t.classes t.boxes fit) (cut_feet (of_line 0) p calm s o.kept).0
+    -- where the firing begins, with the page in hand
+    pub fires-once : Once (of_text fires.body) (begun (after_page now.state fires))
+    fires-once r = (record { box = box-fired (labelled (frozen_for (ask_of p now.state) now.state.classes now.state.boxes) before) now.state.classes now.state.boxes fit; columns = (after (of_line 0)).sound.columns; entries = (after (of_line 0)).sound.entries }, λ n. all n)
+      where
+        sums : (F B H R Ht Lt Ct : ℕ) → B + F + H + R + (Ht + Lt + Ct) ≤ 1 → B + (0 + F + Ht + Lt + Ct + 0 + 0) ≤ 1
+        sums F B H R Ht Lt Ct x = omega arith
 
-      all : (n : ℕ) → nodes_weight (of_line n) fires.body + (state_weight (of_line n) (after_page t fires) + 0 + 0) ≤ 1
-      all n =
-          let v = of_line n in
-          let b = (progressed v).after e in
-          let i : fired_weight v fires ≡ boxes_weight v t.boxes + (nodes_weight v (page_of p s).passed + nodes_weight v (page_of p s).beyond) = fired-weight v z t.boxes (page_of p s) whole in
-          let k : lists_weight v t.floats + left_weight v t.left_column ≡ lists_weight v s.floats + left_weight v s.left_column + acted_weight v (page_of p s).reached = b.weight in
-          let j : nodes_weight v (page_of p s).passed + acted_weight v (page_of p s).reached + nodes_weight v (page_of p s).beyond ≡ nodes_weight v s.waiting = reached v p calm s o.kept in
-          let l : boxes_weight v t.boxes ≡ boxes_weight v s.boxes = ap (boxes_weight v) b.boxes in
-          let m : nodes_weight v t.held_page ≡ nodes_weight v s.held_page = ap (nodes_weight v) b.held in
-          let x : state_weight v s ≤ 1 = o.times n in
-          sums (boxes_weight v fires.boxes) (nodes_weight v fires.body) (nodes_weight v fires.held) (nodes_weight v fires.rest) (nodes_weight v t.held_page) (lists_weight v t.floats) (left_weight v t.left_column) (boxes_weight v t.boxes) (nodes_weight v (page_of p s).passed) (nodes_weight v (page_of p s).beyond) (acted_weight v (page_of p s).reached) (nodes_weight v s.waiting) (boxes_weight v s.boxes) (nodes_weight v s.held_page) (lists_weight v s.floats) (left_weight v s.left_column) i k j l m x
-        where
-          sums : (F B H R Ht Lt Ct Bt P Y A W Bs Hs Ls Cs : ℕ) → B + F + H + R ≡ Bt + (P + Y) → Lt + Ct ≡ Ls + Cs + A → P + A + Y ≡ W → Bt ≡ Bs → Ht ≡ Hs → W + Bs + Hs + Ls + Cs ≤ 1 → B + (0 + F + Ht + Lt + Ct + 0 + 0) ≤ 1
-          sums F B H R Ht Lt Ct Bt P Y A W Bs Hs Ls Cs i k j l m x = omega arith
+        all : (n : ℕ) → nodes_weight (of_line n) fires.body + (state_weight (of_line n) (after_page now.state fires) + 0 + 0) ≤ 1
+        all n =
+            let v = of_line n in
+            sums (boxes_weight v fires.boxes) (nodes_weight v fires.body) (nodes_weight v fires.held) (nodes_weight v fires.rest) (nodes_weight v now.state.held_page) (lists_weight v now.state.floats) (left_weight v now.state.left_column) (fired-times n)
 
 -- ---- the start
 
