@@ -36,11 +36,11 @@ use Rattle.tb_why_laws.proofs.Once.{Once}
 use Rattle.tb_why_laws.proofs.OnceMoves.{column-once, columns-once, page-once, pages-once}
 use Rattle.tb_why_laws.proofs.OnceLists.{among-parts}
 use Rattle.tb_why_laws.proofs.FitLemmas.{AllFit, weaker, keeps-back, placed-current}
-use Rattle.tb_why_laws.proofs.DecisionLemmas.{Tells, tells-then}
+use Rattle.tb_why_laws.proofs.DecisionLemmas.{Tells, tells-then, after_tales}
 use Rattle.tb_why_laws.proofs.ShowLemmas.{Shows, shows-then, shows-none, shows-behind, shows-before, shows-tales}
-use Rattle.tb_why_laws.proofs.PlacingLemmas.{area_lines, either-list}
+use Rattle.tb_why_laws.proofs.PlacingLemmas.{area_lines, either-list, in-first, in-second, others, waits-there, waits-so, waits-in, waits-of}
 use Rattle.tb_why_laws.proofs.StandLemmas.{Waits, IsInArea, FitState, Stand, stand-stopped, next-shown}
-use Rattle.tb_why_laws.proofs.PageTales.{Bare, none-told, some-told, wide-shown, put_out-shown, text-shown}
+use Rattle.tb_why_laws.proofs.PageTales.{Bare, Empty, none-told, some-told, same-part, empty-placed, wide-shown, put_out-shown, text-shown}
 
 -- ---- no float comes to the top or bottom while columns of floats are put out
 
@@ -126,7 +126,7 @@ module _ (p : Params) (K : ℕ → Type 0) where
     backs-tell place (g ∷ gs) B at m a =
         let C : ℕ → Type 0 = (λ n. B n ⊎ (n ≡ g.line)) in
         let x = backs-tell place gs C (λ n i. at n (inr i)) (after_tale (Back g place) m) (keeps-back K B N D C g.line (by_clear g) (at g.line (inl refl)).1 (λ n i. i) m.sheets m.stories a) in
-        let l = Rattle.tb_why_laws.proofs.DecisionLemmas.after_tales (back_tales place gs) (after_tale (Back g place) m) in
+        let l = after_tales (back_tales place gs) (after_tale (Back g place) m) in
         record {
           order = ((placed-current K B N D g.line m.sheets (at g.line (inl refl)).0 m.stories a, tt), x.order);
           after = weaker K (λ n. C n ⊎ IsAmong n (float_lines gs)) N D (λ n. B n ⊎ IsAmong n (float_lines (g ∷ gs))) N D (λ n i. shift n i) (λ n i. i) (λ n i. i) l.sheets l.stories x.after;
@@ -157,18 +157,18 @@ module _ (p : Params) (K : ℕ → Type 0) where
       more n i = by_list (among-parts n (float_lines w.state.floats.deferred) (float_lines w.state.floats.second) i)
         where
           by_list : IsAmong n (float_lines w.state.floats.deferred) ⊎ IsAmong n (float_lines w.state.floats.second) → Waits a n
-          by_list (inl j) = among-front n (float_lines a.floats.deferred) (float_lines a.floats.second) (Rattle.tb_why_laws.proofs.PlacingLemmas.in-second n (w.state.floats.top ++ w.state.floats.bottom) w.state.floats.deferred j)
+          by_list (inl j) = among-front n (float_lines a.floats.deferred) (float_lines a.floats.second) (in-second n (w.state.floats.top ++ w.state.floats.bottom) w.state.floats.deferred j)
           by_list (inr j) = among-back n (float_lines a.floats.deferred) (float_lines a.floats.second) j
 
       areas : (n : ℕ) → IsAmong n (float_lines (w.state.floats.top ++ w.state.floats.bottom)) → Waits a n
-      areas n i = among-front n (float_lines a.floats.deferred) (float_lines a.floats.second) (Rattle.tb_why_laws.proofs.PlacingLemmas.in-first n (w.state.floats.top ++ w.state.floats.bottom) w.state.floats.deferred i)
+      areas n i = among-front n (float_lines a.floats.deferred) (float_lines a.floats.second) (in-first n (w.state.floats.top ++ w.state.floats.bottom) w.state.floats.deferred i)
 
       of_top : (n : ℕ) → IsAmong n (float_lines w.state.floats.top) → IsInArea w.state n × Waits a n
-      of_top n i = (among-front n (float_lines w.state.floats.top) (float_lines w.state.floats.bottom ++ above) i, areas n (Rattle.tb_why_laws.proofs.PlacingLemmas.in-first n w.state.floats.top w.state.floats.bottom i))
+      of_top n i = (among-front n (float_lines w.state.floats.top) (float_lines w.state.floats.bottom ++ above) i, areas n (in-first n w.state.floats.top w.state.floats.bottom i))
 
       of_bottom : (n : ℕ) → IsAmong n (float_lines w.state.floats.bottom) → IsInArea w.state n × Waits a n
       of_bottom n i =
-          (among-back n (float_lines w.state.floats.top) (float_lines w.state.floats.bottom ++ above) (among-front n (float_lines w.state.floats.bottom) above i), areas n (Rattle.tb_why_laws.proofs.PlacingLemmas.in-second n w.state.floats.top w.state.floats.bottom i))
+          (among-back n (float_lines w.state.floats.top) (float_lines w.state.floats.bottom ++ above) (among-front n (float_lines w.state.floats.bottom) above i), areas n (in-second n w.state.floats.top w.state.floats.bottom i))
 
       -- each that waits now waited, or was in an area
       fewer : (n : ℕ) → Waits a n → (Waits w.state n ⊎ IsAmong n (float_lines w.state.floats.top)) ⊎ IsAmong n (float_lines w.state.floats.bottom)
@@ -195,8 +195,122 @@ module _ (p : Params) (K : ℕ → Type 0) where
               (λ m. AllFit (λ n. (Waits w.state n ⊎ IsAmong n (float_lines w.state.floats.top)) ⊎ IsAmong n (float_lines w.state.floats.bottom)) (IsInArea w.state) (Waits a) K m.sheets m.stories)
               (backs-tell (IsInArea w.state) (Waits a) places.Top w.state.floats.top (Waits w.state) of_top m (weaker K (Waits w.state) (IsInArea w.state) (Waits w.state) (Waits w.state) (IsInArea w.state) (Waits a) (λ n i. i) (λ n i. i) more m.sheets m.stories f))
               (λ n y. backs-tell (IsInArea w.state) (Waits a) places.Bottom w.state.floats.bottom (λ n. Waits w.state n ⊎ IsAmong n (float_lines w.state.floats.top)) of_bottom n y) in
-          let l = Rattle.tb_why_laws.proofs.DecisionLemmas.after_tales (back_tales places.Top w.state.floats.top ++ back_tales places.Bottom w.state.floats.bottom) m in
+          let l = after_tales (back_tales places.Top w.state.floats.top ++ back_tales places.Bottom w.state.floats.bottom) m in
           record {
             order = x.order;
             after = weaker K (λ n. (Waits w.state n ⊎ IsAmong n (float_lines w.state.floats.top)) ⊎ IsAmong n (float_lines w.state.floats.bottom)) (IsInArea w.state) (Waits a) (Waits a) (IsInArea a) (Waits a) fewer in-area (λ n i. i) l.sheets l.stories x.after;
           }
+
+  -- the floats above both columns are taken back
+  module _ (w : Work) (two : w.state.two_columns ≡ true) (first : w.state.first_column ≡ true) (bare : Bare w.state.floats) where
+    same-others : (from : Part) → IsWaiting from → others from (record w.state.floats { double = [] }) ≡ others from w.state.floats
+    same-others parts.Deferred q = refl
+    same-others parts.Second q = refl
+    same-others from q = absurd q
+
+    waits-again : (n : ℕ) → IsAmong n (float_lines (w.state.floats.double ++ wide_waiting p w.state.floats)) ⊎ IsAmong n (others (wide_part p) w.state.floats) → Waits (with_floats (double_again p w.state.floats) w).state n
+    waits-again n (inl i) = waits-so (wide_part p) (wide-waits p) (w.state.floats.double ++ wide_waiting p w.state.floats) (record w.state.floats { double = [] }) n (inl i)
+    waits-again n (inr i) = waits-so (wide_part p) (wide-waits p) (w.state.floats.double ++ wide_waiting p w.state.floats) (record w.state.floats { double = [] }) n (inr (subst (IsAmong n) (sym (same-others (wide_part p) (wide-waits p))) i))
+
+    double-more : (n : ℕ) → Waits w.state n → Waits (with_floats (double_again p w.state.floats) w).state n
+    double-more n i = by_list (waits-in (wide_part p) (wide-waits p) w.state.floats n i)
+      where
+        by_list : IsAmong n (float_lines (wide_waiting p w.state.floats)) ⊎ IsAmong n (others (wide_part p) w.state.floats) → Waits (with_floats (double_again p w.state.floats) w).state n
+        by_list (inl j) = waits-again n (inl (in-second n w.state.floats.double (wide_waiting p w.state.floats) j))
+        by_list (inr j) = waits-again n (inr j)
+
+    of_double : (n : ℕ) → IsAmong n (float_lines w.state.floats.double) → IsInArea w.state n × Waits (with_floats (double_again p w.state.floats) w).state n
+    of_double n i = (
+      among-back n (float_lines w.state.floats.top) (float_lines w.state.floats.bottom ++ (if w.state.two_columns && w.state.first_column then float_lines w.state.floats.double else []))
+          (among-back n (float_lines w.state.floats.bottom) (if w.state.two_columns && w.state.first_column then float_lines w.state.floats.double else []) (before-first w.state.two_columns w.state.first_column two first)),
+      waits-again n (inl (in-first n w.state.floats.double (wide_waiting p w.state.floats) i)),
+    )
+      where
+        before-first : (t f : Bool) → t ≡ true → f ≡ true → IsAmong n (if t && f then float_lines w.state.floats.double else [])
+        before-first true true e d = i
+        before-first true false e d = cc
+        before-first false f e d = cc
+
+    double-fewer : (n : ℕ) → Waits (with_floats (double_again p w.state.floats) w).state n → Waits w.state n ⊎ IsAmong n (float_lines w.state.floats.double)
+    double-fewer n i = by_list (waits-there (wide_part p) (wide-waits p) (w.state.floats.double ++ wide_waiting p w.state.floats) (record w.state.floats { double = [] }) n i)
+      where
+        by_front : IsAmong n (float_lines w.state.floats.double) ⊎ IsAmong n (float_lines (wide_waiting p w.state.floats)) → Waits w.state n ⊎ IsAmong n (float_lines w.state.floats.double)
+        by_front (inl j) = inr j
+        by_front (inr j) = inl (waits-of (wide_part p) (wide-waits p) w.state.floats n (inl j))
+
+        by_list : IsAmong n (float_lines (w.state.floats.double ++ wide_waiting p w.state.floats)) ⊎ IsAmong n (others (wide_part p) (record w.state.floats { double = [] })) → Waits w.state n ⊎ IsAmong n (float_lines w.state.floats.double)
+        by_list (inl j) = by_front (either-list n w.state.floats.double (wide_waiting p w.state.floats) j)
+        by_list (inr j) = inl (waits-of (wide_part p) (wide-waits p) w.state.floats n (inr (subst (IsAmong n) (same-others (wide_part p) (wide-waits p)) j)))
+
+    again-empty : Empty (with_floats (double_again p w.state.floats) w).state.floats
+    again-empty = same-part p K (wide_part p) (wide-waits p) (w.state.floats.double ++ wide_waiting p w.state.floats) (record w.state.floats { double = [] }) (bare.0, bare.1, refl)
+
+    none-now : (n : ℕ) → IsInArea (with_floats (double_again p w.state.floats) w).state n → IsInArea w.state n
+    none-now n i =
+        absurd (subst (IsAmong n) (empty-placed p K (wide_part p) (wide-waits p) (w.state.floats.double ++ wide_waiting p w.state.floats) (record w.state { floats = record w.state.floats { double = [] } }) (bare.0, bare.1, refl)) i)
+
+    double-back : (m : SummaryView) → Stand p K w m → Shows w (with_floats (double_again p w.state.floats) w) (unless_over w (tales (back_tales places.Double w.state.floats.double))) m (Stand p K (with_floats (double_again p w.state.floats) w))
+    double-back m h =
+        let a = with_floats (double_again p w.state.floats) w in
+        let ts = back_tales places.Double w.state.floats.double in
+        shows-before w w a (unless_over w (tales ts)) m (Stand p K a) (Stand p K a) refl (λ n x. x)
+        (shows-tales w ts m (Stand p K a) (λ r. stand-stopped p K a m r) (λ r. let x = told (h r) in record { order = x.order; after = λ q. x.after }))
+      where
+        told : FitState p K w.state m → Tells (back_tales places.Double w.state.floats.double) m (FitState p K (with_floats (double_again p w.state.floats) w).state)
+        told f =
+            let a = (with_floats (double_again p w.state.floats) w).state in
+            let x = backs-tell (IsInArea w.state) (Waits a) places.Double w.state.floats.double (Waits w.state) of_double m (weaker K (Waits w.state) (IsInArea w.state) (Waits w.state) (Waits w.state) (IsInArea w.state) (Waits a) (λ n i. i) (λ n i. i) double-more m.sheets m.stories f) in
+            let l = after_tales (back_tales places.Double w.state.floats.double) m in
+            record {
+              order = x.order;
+              after = weaker K (λ n. Waits w.state n ⊎ IsAmong n (float_lines w.state.floats.double)) (IsInArea w.state) (Waits a) (Waits a) (IsInArea a) (Waits a) double-fewer none-now (λ n i. i) l.sheets l.stories x.after;
+            }
+
+  -- ---- a clear
+
+  clear_wide-shown : (w : Work) → Once nothing w → Bare w.state.floats → (m : SummaryView) → Stand p K w m → Shows w (clear_wide p w) (clear_wide_pieces p w) m (Stand p K (clear_wide p w))
+  clear_wide-shown w once b m h = by_columns w.state.two_columns w.state.first_column refl refl
+    where
+      by_columns : (two first : Bool) → w.state.two_columns ≡ two → w.state.first_column ≡ first
+          → Shows w (if not two then w else (if first then all_wide_pages p true (with_floats (double_again p w.state.floats) w) else puts (made blank_box ∷ clear_again) w))
+          (if not two then [] else (if first then unless_over w (tales (back_tales places.Double w.state.floats.double)) ++ all_wide_pieces p true (with_floats (double_again p w.state.floats) w) else [])) m
+          (Stand p K (if not two then w else (if first then all_wide_pages p true (with_floats (double_again p w.state.floats) w) else puts (made blank_box ∷ clear_again) w)))
+      by_columns false first t f = shows-none w w m (Stand p K w) refl h
+      by_columns true false t f = shows-none w (puts (made blank_box ∷ clear_again) w) m (Stand p K (puts (made blank_box ∷ clear_again) w)) refl h
+      by_columns true true t f =
+          let a = with_floats (double_again p w.state.floats) w in
+          shows-then w a (all_wide_pages p true a) (unless_over w (tales (back_tales places.Double w.state.floats.double))) (all_wide_pieces p true a) m (Stand p K a) (Stand p K (all_wide_pages p true a))
+          (double-back w t f b m h)
+          (λ n x. wide-shown p K true (length (wide_waiting p a.state.floats)) a (page-once {p = p} (gathers_wide w t f) once) (again-empty w t f b) n x)
+
+  rest-shown : (w : Work) (m : SummaryView) → Stand p K w m → Shows w (clear_rest w) [] m (Stand p K (clear_rest w))
+  rest-shown w m h = by_floats (has_floats w.state.floats.deferred || has_floats w.state.floats.second)
+    where
+      by_floats : (t : Bool) → Shows w (if t then puts clear_again w else w) [] m (Stand p K (if t then puts clear_again w else w))
+      by_floats true = shows-none w (puts clear_again w) m (Stand p K (puts clear_again w)) refl h
+      by_floats false = shows-none w w m (Stand p K w) refl h
+
+  clear_floats-shown : (body : List PlainNode) (w : Work) → Once (of_text body) w → (m : SummaryView) → Stand p K w m → Shows w (clear_floats p body w) (clear_floats_pieces p body w) m (Stand p K (clear_floats p body w))
+  clear_floats-shown body w once m h =
+      let z = puts (cleared_front p body) w in
+      let a = with_floats (deferred_again w.state.floats) z in
+      let b = all_float_columns p true a in
+      let c = clear_wide p b in
+      let front : Once nothing z = page-once {p = p} (keeps_front body w) once in
+      let all : Once nothing a = page-once {p = p} (gathers z) front in
+      let ts = back_tales places.Top w.state.floats.top ++ back_tales places.Bottom w.state.floats.bottom in
+      shows-then w a (clear_rest c) (unless_over w (tales ts)) (clear_columns_pieces p a) m (Stand p K a) (Stand p K (clear_rest c))
+      (shows-behind w z a (unless_over w (tales ts)) m (Stand p K a) refl (areas-back z m h))
+      (λ n x. shows-then a b (clear_rest c) (all_float_pieces p true a) (clear_wide_pieces p b) n (Stand p K b) (Stand p K (clear_rest c))
+      (all_float-shown true a all (refl, refl) n x)
+      (λ k y. subst (λ ps. Shows b (clear_rest c) ps k (Stand p K (clear_rest c))) (append-nil (clear_wide_pieces p b))
+      (shows-then b c (clear_rest c) (clear_wide_pieces p b) [] k (Stand p K c) (Stand p K (clear_rest c))
+      (clear_wide-shown b (columns-once (all_columns-moves p true a) all) (bare-after (all_columns-moves p true a) (refl, refl)) k y)
+      (λ o v. rest-shown c o v))))
+
+  pub clear-shown : (body : List PlainNode) (w : Work) (notes : List Notes) → Once (of_text body) w → (m : SummaryView) → Stand p K w m → Shows w (clear_by p body w notes) (clear_pieces_by p body w notes) m (Stand p K (clear_by p body w notes))
+  clear-shown body w [] once m h = clear_floats-shown body w once m h
+  clear-shown body w (n ∷ ns) once m h =
+      let text = body ++ made (skip filling_glue) ∷ [] in
+      let b = put_out_text p text w in
+      shows-before w b (puts clear_again b) (text_pieces p text w) m (Stand p K b) (Stand p K (puts clear_again b)) refl (λ n x. x) (text-shown p K text w (page-once {p = p} (fills_text body w) once) m h)

@@ -32,7 +32,7 @@ use Rattle.tb_story.specs.Summary.{SummaryView, after_tale, after_page}
 use Rattle.tb_why.specs.Firing.{spot_of, unless_over, ship_pieces, wide_pieces_by, wide_pieces, all_wide_pieces, fill_double_pieces, after_pair, pair_pieces, put_out_pieces_by, put_out_pieces, text_pieces, company_pieces, float_pieces_by, float_pieces, all_float_pieces, fill_pieces, start_pieces, ordinary_pieces}
 use Rattle.tb_why.specs.SummaryLaws.{HoldsFloat, IsSentInOrder}
 use Rattle.tb_laws.specs.Laws.{float_lines}
-use Rattle.tb_laws.proofs.ClassesRise.RisingLists.{IsAmong}
+use Rattle.tb_laws.proofs.ClassesRise.RisingLists.{IsAmong, among-back}
 use Rattle.tb_why_laws.proofs.WaitingLines.{waiting_lines}
 use Rattle.tb_why_laws.proofs.Once.{Once}
 use Rattle.tb_why_laws.proofs.OnceMoves.{column-once, columns-once, page-once, pages-once}
@@ -41,7 +41,7 @@ use Rattle.tb_why_laws.proofs.FitLemmas.{AllFit, NoLine, weaker, are-placed, are
 use Rattle.tb_why_laws.proofs.DecisionLemmas.{Tells}
 use Rattle.tb_why_laws.proofs.ColumnTales.{TakesOut, column-told}
 use Rattle.tb_why_laws.proofs.ShowLemmas.{Shows, shows-then, shows-none, shows-behind, shows-before, shows-tales, shows-page}
-use Rattle.tb_why_laws.proofs.PlacingLemmas.{area_lines, all-lines, waits-there, waits-so, waits-in, waits-of}
+use Rattle.tb_why_laws.proofs.PlacingLemmas.{area_lines, all-lines, others, waits-there, waits-so, waits-in, waits-of}
 use Rattle.tb_why_laws.proofs.StandLemmas.{Waits, IsInArea, FitState, Stand, stand-stopped, stand-shipped, stand-recorded, records-send, next-shown, double-shown}
 
 -- no float is at the top or bottom
@@ -109,7 +109,7 @@ module _ (p : Params) (K : ℕ → Type 0) where
       apart = λ n i j. company-apart nothing w once r from q z cs e n i j;
     }
       where
-        fewer : (n : ℕ) → IsAmong n (float_lines (left_floats cs)) ⊎ IsAmong n (Rattle.tb_why_laws.proofs.PlacingLemmas.others from w.state.floats) → Waits w.state n
+        fewer : (n : ℕ) → IsAmong n (float_lines (left_floats cs)) ⊎ IsAmong n (others from w.state.floats) → Waits w.state n
         fewer n (inl i) = waits-of from q w.state.floats n (inl ((company-parts z (floats_of from w.state.floats) cs e n).2 i))
         fewer n (inr i) = waits-of from q w.state.floats n (inr i)
 
@@ -117,7 +117,7 @@ module _ (p : Params) (K : ℕ → Type 0) where
         by_choice n (inl i) = inr i
         by_choice n (inr i) = inl (waits-so from q (left_floats cs) w.state.floats n (inl i))
 
-        most : (n : ℕ) → IsAmong n (float_lines (floats_of from w.state.floats)) ⊎ IsAmong n (Rattle.tb_why_laws.proofs.PlacingLemmas.others from w.state.floats) → Left cs n ⊎ IsAmong n (float_lines (chosen_floats cs))
+        most : (n : ℕ) → IsAmong n (float_lines (floats_of from w.state.floats)) ⊎ IsAmong n (others from w.state.floats) → Left cs n ⊎ IsAmong n (float_lines (chosen_floats cs))
         most n (inl i) = by_choice n ((company-parts z (floats_of from w.state.floats) cs e n).0 i)
         most n (inr i) = inl (waits-so from q (left_floats cs) w.state.floats n (inr i))
 
@@ -140,7 +140,7 @@ module _ (p : Params) (K : ℕ → Type 0) where
 
   -- ---- pages of wide floats
 
-  same-part : (from : Part) → IsWaiting from → (gs : List Float) (l : FloatLists) → Empty l → Empty (with_floats_of from gs l)
+  pub same-part : (from : Part) → IsWaiting from → (gs : List Float) (l : FloatLists) → Empty l → Empty (with_floats_of from gs l)
   same-part parts.Deferred q gs l e = e
   same-part parts.Second q gs l e = e
   same-part from q gs l e = absurd q
@@ -152,7 +152,7 @@ module _ (p : Params) (K : ℕ → Type 0) where
       by-any-ship (λ c. Empty c.state.floats) p (wide (wide_floats_column p p.textheight (chosen_floats cs))) v k k k
 
   -- with nothing in the areas nothing is in them, whatever waits
-  empty-placed : (from : Part) → IsWaiting from → (gs : List Float) (s : State) → Empty s.floats → area_lines (record s { floats = with_floats_of from gs s.floats }) ≡ []
+  pub empty-placed : (from : Part) → IsWaiting from → (gs : List Float) (s : State) → Empty s.floats → area_lines (record s { floats = with_floats_of from gs s.floats }) ≡ []
   empty-placed parts.Deferred q gs s e = none-placed s (e.0, e.1) (none-double (s.two_columns && s.first_column) s.floats.double e.2)
   empty-placed parts.Second q gs s e = none-placed s (e.0, e.1) (none-double (s.two_columns && s.first_column) s.floats.double e.2)
   empty-placed from q gs s e = absurd q
@@ -269,5 +269,5 @@ module _ (p : Params) (K : ℕ → Type 0) where
     where
       above : (k : ℕ) → IsInArea (without_column_floats w).state k → IsInArea w.state k
       above k i =
-          Rattle.tb_laws.proofs.ClassesRise.RisingLists.among-back k (float_lines w.state.floats.top) (float_lines w.state.floats.bottom ++ (if w.state.two_columns && w.state.first_column then float_lines w.state.floats.double else []))
-          (Rattle.tb_laws.proofs.ClassesRise.RisingLists.among-back k (float_lines w.state.floats.bottom) (if w.state.two_columns && w.state.first_column then float_lines w.state.floats.double else []) i)
+          among-back k (float_lines w.state.floats.top) (float_lines w.state.floats.bottom ++ (if w.state.two_columns && w.state.first_column then float_lines w.state.floats.double else []))
+          (among-back k (float_lines w.state.floats.bottom) (if w.state.two_columns && w.state.first_column then float_lines w.state.floats.double else []) i)
