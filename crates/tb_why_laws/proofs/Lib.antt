@@ -17,3 +17,4 @@ pub mod ActedLists
 pub mod CalledLater
 pub mod OutCalls
 pub mod AfterCalls
+pub mod CallTales
