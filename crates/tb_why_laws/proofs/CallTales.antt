@@ -3,6 +3,7 @@ use Rattle.std.proofs.Common.{◌≡◌, refl, sym, ◌∙◌, ap, subst, inl, i
 use Rattle.std.specs.Prelude.{◌&&◌, ◌==◌}
 use Rattle.std.specs.List.{AllByRecursion}
 use Rattle.tb_break.proofs.EachLemmas.{all-map, all-push}
+use Rattle.tb_scaled.specs.Scaled.{max_ℤ}
 use Rattle.tb_node.specs.declared.Float.{Float}
 use Rattle.tb_node.specs.declared.Margin.{Margin}
 use Rattle.tb_node.specs.declared.Where.{Where}
@@ -17,6 +18,7 @@ use Rattle.tb_float.specs.Lists.{FloatLists, has_class, floats_among}
 use Rattle.tb_float.specs.Rooms.{column_height_of}
 use Rattle.tb_area.specs.Area.{AreaPlace, at_top, at_bottom, deferred, where_of, current_place, may_enter, by_class, here_or_area, fits_column, text_minimum, top_or_bottom, bottom_or_deferred}
 use Rattle.tb_margin.specs.declared.Placed.{Placed}
+use Rattle.tb_margin.specs.Margin.{placed_note}
 use Rattle.tb_sheet.specs.Sheet.{warned}
 use Rattle.tb_sheet.specs.declared.Warn.TheVariants as warnings
 use Rattle.tb_told.specs.declared.Spot.{Spot}
@@ -41,8 +43,8 @@ use Rattle.tb_laws.proofs.ClassesRise.RisingLists.{IsAmong, among-front, among-b
 use Rattle.tb_why_laws.proofs.WaitingLines.{waiting_lines}
 use Rattle.tb_why_laws.proofs.OnceLists.{among-parts}
 use Rattle.tb_why_laws.proofs.FitLemmas.{Fits, AllFit, changed, of_line, weaker}
-use Rattle.tb_why_laws.proofs.DecisionLemmas.{Tells, Leads, Moves, decision, call-leads}
-use Rattle.tb_why_laws.proofs.PlacingLemmas.{area_lines, either-list, in-first, in-second, joins-area}
+use Rattle.tb_why_laws.proofs.DecisionLemmas.{after_tales, Tells, Leads, Moves, decision, call-leads}
+use Rattle.tb_why_laws.proofs.PlacingLemmas.{area_lines, lines-append, either-list, in-first, in-second, joins-area}
 use Rattle.tb_why_laws.proofs.StandLemmas.{Waits, IsInArea, FitState, Stand, moved_to, stand-moved}
 
 yes-or-no : (b : Bool) → b ≡ true → b ≡ false → ⊥
@@ -144,3 +146,139 @@ call-tells K N W N' W' f w at h p l s is fewer more now known gone there m a =
         (subst (Leads false (told_call p l s h f)) is (call-leads p l s h f)) b (λ e d. cc)
         (all-push (Either K N W f.line m.sheets) m.stories (begun f at.page None m.sheets) (all-map (λ s. Fits W N W K m.sheets s × (s.float.line ≡ f.line → ⊥)) (Either K N W f.line m.sheets) (λ s y. inl y) m.stories a) (inr (record { of = refl; open_yet = refl; kept = refl }))) in
     record { order = (tt, x.order); after = x.after }
+
+-- ---- where a float goes at its call
+
+-- a place to which a call leads
+abbrev IsCall : Where → Type 0
+IsCall places.Here = Unit {0}
+IsCall places.Top = Unit {0}
+IsCall places.Bottom = Unit {0}
+IsCall places.Page = ⊥
+IsCall places.Double = ⊥
+IsCall places.Deferred = Unit {0}
+
+call_if : (b : Bool) (x y : Where) → IsCall x → IsCall y → IsCall (if b then x else y)
+call_if true x y h k = h
+call_if false x y h k = k
+
+area_call : (a : AreaPlace) → IsCall (where_of a)
+area_call at_top = tt
+area_call at_bottom = tt
+area_call deferred = tt
+
+current-call : (p : Params) (l : FloatLists) (s : Suppress) (h : ℤ) (f : Float) → IsCall (current_place p l s h f)
+current-call p l s h f =
+    let r = max_ℤ h (text_minimum p l f) +ℤ f.height in
+    let inside = r +ℤ p.intextsep.width in
+    call_if (may_enter p l s l.deferred r f) (by_class p l s r f) places.Deferred
+    (call_if (has_class f.class l.bottom) (where_of (bottom_or_deferred p l s r f)) (here_or_area p l s r f) (area_call (bottom_or_deferred p l s r f))
+    (call_if f.places.h (if fits_column p l inside then places.Here else where_of (top_or_bottom p l s inside f)) (where_of (top_or_bottom p l s r f))
+    (call_if (fits_column p l inside) places.Here (where_of (top_or_bottom p l s inside f)) tt (area_call (top_or_bottom p l s inside f))) (area_call (top_or_bottom p l s r f)))) tt
+
+module _ (p : Params) (K : ℕ → Type 0) where
+  -- ---- the work
+
+  fit-moved : (place : Where) (f : Float) (left : FloatLists) (w : Work) (m : SummaryView) → FitState p K (record w.state { floats = joined_to place f left }) m → FitState p K (moved_to p K place f left w).state m
+  fit-moved place f left w m h = by-records (λ c. FitState p K (with_floats (joined_to place f left) c).state m) (placed f place w.state.floats (column_height_of p w.state.floats)) w h h
+
+  -- a float that waits may go to the top from now on
+  same-waiting : (f g : Float) (l : FloatLists) → g.line ≡ f.line → waiting_lines (joined_to places.Deferred f l) ≡ waiting_lines (joined_to places.Deferred g l)
+  same-waiting f g l e =
+      ap (λ ls. ls ++ float_lines l.second) (lines-append l.deferred (f ∷ []) ∙ ap (λ n. float_lines l.deferred ++ n ∷ []) (sym e) ∙ sym (lines-append l.deferred (g ∷ [])))
+
+  fit-deferred : (f : Float) (left : FloatLists) (w : Work) (m : SummaryView) → FitState p K (record w.state { floats = joined_to places.Deferred f left }) m → FitState p K (defer p f left w).state m
+  fit-deferred f left w m h = by_places (only_here f)
+    where
+      with-top : FitState p K (with_floats (joined_to places.Deferred (with_top f) left) w).state m
+      with-top = subst (λ ls. AllFit (λ n. IsAmong n ls) (IsInArea (record w.state { floats = left })) (λ n. IsAmong n ls) K m.sheets m.stories) (same-waiting f (with_top f) left refl) h
+
+      by_places : (t : Bool) → FitState p K (if t then sends (warned (warnings.Ht f.name)) (place_float p places.Deferred (with_top f) left w) else place_float p places.Deferred f left w).state m
+      by_places true = by-sends (λ c. FitState p K c.state m) (warned (warnings.Ht f.name)) (place_float p places.Deferred (with_top f) left w) with-top with-top
+      by_places false = h
+
+  fit-goes : (vert : Bool) (place : Where) → IsCall place → (f : Float) (left : FloatLists) (w : Work) (m : SummaryView) → FitState p K (record w.state { floats = joined_to place f left }) m → FitState p K (float_goes p vert f left w place).state m
+  fit-goes vert places.Here c f left w m h = fit-moved places.Here f left w m h
+  fit-goes vert places.Top c f left w m h = fit-moved places.Top f left w m h
+  fit-goes vert places.Bottom c f left w m h = fit-moved places.Bottom f left w m h
+  fit-goes vert places.Deferred c f left w m h = fit-deferred f left w m h
+  fit-goes vert places.Page c f left w m h = absurd c
+  fit-goes vert places.Double c f left w m h = absurd c
+
+  -- what is known of the floats before the call of one
+  module _ (Before : ℕ → Type 0) (f : Float) (es : List Entry) (w : Work) (known : (n : ℕ) → Before n → K n) (new : (n : ℕ) → Before n → n ≡ f.line → ⊥) (this : K f.line) (apart : Waits w.state f.line → ⊥) where
+    abbrev after_list : FloatLists
+    after_list = record w.state.floats { current = es }
+
+    others : (m : SummaryView) → FitState p Before w.state m → AllByRecursion (λ s. Fits (Waits w.state) (IsInArea w.state) (Waits w.state) K m.sheets s × (s.float.line ≡ f.line → ⊥)) m.stories
+    others m h =
+        all-map (Fits (Waits w.state) (IsInArea w.state) (Waits w.state) Before m.sheets) (λ s. Fits (Waits w.state) (IsInArea w.state) (Waits w.state) K m.sheets s × (s.float.line ≡ f.line → ⊥))
+        (λ s x. (record { back = x.back; now = x.now; waiting = x.waiting; reason = x.reason; known = known s.float.line x.known }, λ e. new s.float.line x.known e)) m.stories h
+
+    -- the call at each place
+    called : (place : Where) → IsCall place → (at : Spot) (h : ℤ) → place_told (told_call p w.state.floats w.state.suppress h f) ≡ place → (m : SummaryView) → FitState p Before w.state m
+        → Tells (Calls at f h ∷ decisions f (told_call p w.state.floats w.state.suppress h f)) m (FitState p K (record w.state { floats = joined_to place f (record w.state.floats { current = es }) }))
+    called places.Here c at h is m a =
+        call-tells K (IsInArea w.state) (Waits w.state) (IsInArea w.state) (Waits w.state) f places.Here at h p w.state.floats w.state.suppress is (λ n i. inl i) (λ n i. i) (λ n i. inl i) this (λ d i. apart i) (λ d. cc) m (others m a)
+    called places.Top c at h is m a =
+        let s = record w.state { floats = joined_to places.Top f (record w.state.floats { current = es }) } in
+        call-tells K (IsInArea w.state) (Waits w.state) (IsInArea s) (Waits w.state) f places.Top at h p w.state.floats w.state.suppress is (λ n i. inl i) (λ n i. i) (λ n i. joins-area places.Top f (record w.state { floats = record w.state.floats { current = es } }) n i) this (λ d i. apart i) (λ d. cc) m (others m a)
+    called places.Bottom c at h is m a =
+        let s = record w.state { floats = joined_to places.Bottom f (record w.state.floats { current = es }) } in
+        call-tells K (IsInArea w.state) (Waits w.state) (IsInArea s) (Waits w.state) f places.Bottom at h p w.state.floats w.state.suppress is (λ n i. inl i) (λ n i. i) (λ n i. joins-area places.Bottom f (record w.state { floats = record w.state.floats { current = es } }) n i) this (λ d i. apart i) (λ d. cc) m (others m a)
+    called places.Deferred c at h is m a =
+        let s = record w.state { floats = joined_to places.Deferred f (record w.state.floats { current = es }) } in
+        call-tells K (IsInArea w.state) (Waits w.state) (IsInArea w.state) (Waits s) f places.Deferred at h p w.state.floats w.state.suppress is fewer more (λ n i. inl i) this (λ d. cc) (λ d. among-front f.line (float_lines (w.state.floats.deferred ++ f ∷ [])) (float_lines w.state.floats.second) (in-second f.line w.state.floats.deferred (f ∷ []) (inl refl))) m (others m a)
+      where
+        more : (n : ℕ) → Waits w.state n → IsAmong n (float_lines (w.state.floats.deferred ++ f ∷ []) ++ float_lines w.state.floats.second)
+        more n i = by_list (among-parts n (float_lines w.state.floats.deferred) (float_lines w.state.floats.second) i)
+          where
+            by_list : IsAmong n (float_lines w.state.floats.deferred) ⊎ IsAmong n (float_lines w.state.floats.second) → IsAmong n (float_lines (w.state.floats.deferred ++ f ∷ []) ++ float_lines w.state.floats.second)
+            by_list (inl j) = among-front n (float_lines (w.state.floats.deferred ++ f ∷ [])) (float_lines w.state.floats.second) (in-first n w.state.floats.deferred (f ∷ []) j)
+            by_list (inr j) = among-back n (float_lines (w.state.floats.deferred ++ f ∷ [])) (float_lines w.state.floats.second) j
+
+        fewer : (n : ℕ) → IsAmong n (float_lines (w.state.floats.deferred ++ f ∷ []) ++ float_lines w.state.floats.second) → Waits w.state n ⊎ (n ≡ f.line)
+        fewer n i = by_list (among-parts n (float_lines (w.state.floats.deferred ++ f ∷ [])) (float_lines w.state.floats.second) i)
+          where
+            by_front : IsAmong n (float_lines w.state.floats.deferred) ⊎ IsAmong n (float_lines (f ∷ [])) → Waits w.state n ⊎ (n ≡ f.line)
+            by_front (inl j) = inl (among-front n (float_lines w.state.floats.deferred) (float_lines w.state.floats.second) j)
+            by_front (inr (inl e)) = inr (sym e)
+            by_front (inr (inr j)) = absurd j
+
+            by_list : IsAmong n (float_lines (w.state.floats.deferred ++ f ∷ [])) ⊎ IsAmong n (float_lines w.state.floats.second) → Waits w.state n ⊎ (n ≡ f.line)
+            by_list (inl j) = by_front (either-list n w.state.floats.deferred (f ∷ []) j)
+            by_list (inr j) = inl (among-back n (float_lines w.state.floats.deferred) (float_lines w.state.floats.second) j)
+    called places.Page c at h is m a = absurd c
+    called places.Double c at h is m a = absurd c
+
+  -- ---- the first of the current list
+
+  fit-note : (depth : ℤ) (n : Margin) (left : FloatLists) (w : Work) (at : Placed) (m : SummaryView) → FitState p K (record w.state { floats = left }) m → FitState p K (note_goes p depth n left w at).state m
+  fit-note depth n left w at m h = by_moved at.moved
+    where
+      by_moved : (t : Bool) → FitState p K (if t then sends (warned (warnings.Moved n.name at.shift)) (with_note_bottom at.bottom (with_floats left w)) else with_note_bottom at.bottom (with_floats left w)).state m
+      by_moved true = by-sends (λ c. FitState p K c.state m) (warned (warnings.Moved n.name at.shift)) (with_note_bottom at.bottom (with_floats left w)) h h
+      by_moved false = h
+
+  -- the float or note that is served, if one is: of a float it is not called yet, and does not wait
+  pub first-told : (Before : ℕ → Type 0) (vert : Bool) (height depth page_height : ℤ) (es : List Entry) (w : Work) → ((n : ℕ) → Before n → K n)
+      → ((g : Float) (fs : List Entry) → es ≡ entries.Float g ∷ fs → ((n : ℕ) → Before n → n ≡ g.line → ⊥) × K g.line × (Waits w.state g.line → ⊥)) → (m : SummaryView) → FitState p Before w.state m
+      → Tells (first_tales p height page_height es w.state) m (λ n. FitState p K (first_goes p vert height depth page_height es w).state n)
+  first-told Before vert height depth page_height es w known called-new m a = by_first es called-new
+    where
+      now : FitState p K w.state m
+      now =
+          all-map (Fits (Waits w.state) (IsInArea w.state) (Waits w.state) Before m.sheets) (Fits (Waits w.state) (IsInArea w.state) (Waits w.state) K m.sheets)
+          (λ s x. record { back = x.back; now = x.now; waiting = x.waiting; reason = x.reason; known = known s.float.line x.known }) m.stories a
+
+      by_first : (es : List Entry) → ((g : Float) (fs : List Entry) → es ≡ entries.Float g ∷ fs → ((n : ℕ) → Before n → n ≡ g.line → ⊥) × K g.line × (Waits w.state g.line → ⊥))
+          → Tells (first_tales p height page_height es w.state) m (λ n. FitState p K (first_goes p vert height depth page_height es w).state n)
+      by_first (entries.Float f ∷ fs) h =
+          let c = h f fs refl in
+          let place = current_place p w.state.floats w.state.suppress page_height f in
+          let x = called Before f fs w known c.0 c.1 c.2 place (current-call p w.state.floats w.state.suppress page_height f) (spot_of w.state) page_height (call_decides p w.state.floats w.state.suppress page_height f) m a in
+          record { order = x.order; after = fit-goes vert place (current-call p w.state.floats w.state.suppress page_height f) f (record w.state.floats { current = fs }) w (after_tales (Calls (spot_of w.state) f page_height ∷ decisions f (told_call p w.state.floats w.state.suppress page_height f)) m) x.after }
+      by_first (entries.Left n ∷ []) h = record { order = (tt, tt); after = fit-note depth n (record w.state.floats { current = [] }) w (placed_note p w.state.page w.state.two_columns w.state.first_column height w.state.note_bottom n) m now }
+      by_first (entries.Left n ∷ e ∷ fs) h = record { order = (tt, tt); after = fit-note depth n (record w.state.floats { current = fs }) w (placed_note p w.state.page w.state.two_columns w.state.first_column height w.state.note_bottom n) m now }
+      by_first (entries.Right n ∷ fs) h = record { order = tt; after = now }
+      by_first [] h = record { order = tt; after = now }
