@@ -18,3 +18,4 @@ pub mod CalledLater
 pub mod OutCalls
 pub mod AfterCalls
 pub mod CallTales
+pub mod FiringTales
