@@ -19,3 +19,4 @@ pub mod OutCalls
 pub mod AfterCalls
 pub mod CallTales
 pub mod FiringTales
+pub mod RunTales
