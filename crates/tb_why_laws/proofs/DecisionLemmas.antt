@@ -1,5 +1,5 @@
 -- What is told of a decision about a float is in order, and keeps how the stories fit what waits.
-use Rattle.std.proofs.Common.{◌≡◌, refl, sym, ◌∙◌, ap, subst, inl, inr, ◌⊎◌, ℕ, ℤ, Bool, true, false, List, [], ◌∷◌, ◌++◌, map, Option, Some, None, if◌then◌else◌, is_some}
+use Rattle.std.proofs.Common.{◌≡◌, refl, sym, subst, inl, inr, ◌⊎◌, ℕ, ℤ, Bool, true, false, List, [], ◌∷◌, ◌++◌, Option, Some, None, if◌then◌else◌, is_some}
 use Rattle.std.specs.Prelude.{⊤, ◌&&◌, ◌||◌, ◌==◌, ◌+ℤ◌}
 use Rattle.std.specs.List.{AllByRecursion}
 use Rattle.tb_scaled.specs.Scaled.{max_ℤ}
@@ -14,9 +14,8 @@ use Rattle.tb_told.specs.Tested.{Tested, first_failed, all_hold}
 use Rattle.tb_told.specs.declared.Test.{Test}
 use Rattle.tb_told.specs.declared.Told.{Told}
 use Rattle.tb_told.specs.declared.Told.TheVariants.{Enters, TestsHere, TestsTop, TestsBottom, TestsWide, Goes}
-use Rattle.tb_told.specs.AreaTold.{enter_tests, here_tests, top_tests, bottom_tests, wide_tests, told_bottom, told_areas, told_column, told_call, told_next, told_wide, place_told, failed_in}
+use Rattle.tb_told.specs.AreaTold.{enter_tests, here_tests, top_tests, bottom_tests, told_bottom, told_areas, told_column, told_call, told_next, told_wide, place_told, failed_in}
 use Rattle.tb_told.specs.declared.Tale.{Tale}
-use Rattle.tb_told.specs.declared.Tale.TheVariants.{Decides}
 use Rattle.tb_told.specs.Tales.{decisions}
 use Rattle.tb_story.specs.declared.Area.{Area}
 use Rattle.tb_story.specs.declared.Kept.{Kept}
