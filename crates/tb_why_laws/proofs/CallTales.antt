@@ -184,9 +184,6 @@ module _ (p : Params) (K : ℕ → Type 0) where
 
   -- what is known of the floats before the call of one
   module _ (Before : ℕ → Type 0) (f : Float) (es : List Entry) (w : Work) (known : (n : ℕ) → Before n → K n) (new : (n : ℕ) → Before n → n ≡ f.line → ⊥) (this : K f.line) (apart : Waits w.state f.line → ⊥) where
-    abbrev after_list : FloatLists
-    after_list = record w.state.floats { current = es }
-
     others : (m : SummaryView) → FitState p Before w.state m → AllByRecursion (λ s. Fits (Waits w.state) (IsInArea w.state) (Waits w.state) K m.sheets s × (s.float.line ≡ f.line → ⊥)) m.stories
     others m h =
         all-map (Fits (Waits w.state) (IsInArea w.state) (Waits w.state) Before m.sheets) (λ s. Fits (Waits w.state) (IsInArea w.state) (Waits w.state) K m.sheets s × (s.float.line ≡ f.line → ⊥))

@@ -43,7 +43,7 @@ use Rattle.tb_why_laws.proofs.FiringTales.{Ends, firing-ends}
 -- ---- what happens while a page is filled
 
 -- no page is shipped
-abbrev IsQuiet : RunEvent → Type 0
+abbrev pub IsQuiet : RunEvent → Type 0
 IsQuiet (offered t) = ⊤
 IsQuiet (sent (warned w)) = ⊤
 IsQuiet (sent (shipped page sheet)) = ⊥
@@ -56,7 +56,7 @@ progress-quiet-by : (later : State → Progress) → ((s : State) → AllByRecur
 progress-quiet-by later f s (went t ws rs) = all-join IsQuiet (map (λ w. sent (warned w)) ws) (later t).events (warnings-quiet ws) (f t)
 progress-quiet-by later f s (full line live) = tt
 
-progress-quiet : (p : Params) (rs : List Reached) (least : ℤ) (s : State) → AllByRecursion IsQuiet (progress p rs least s).events
+pub progress-quiet : (p : Params) (rs : List Reached) (least : ℤ) (s : State) → AllByRecursion IsQuiet (progress p rs least s).events
 progress-quiet p [] least s = tt
 progress-quiet p (acted a ∷ rs) least s = progress-quiet-by (λ t. progress p rs least t) (λ t. progress-quiet p rs least t) s (act_on p s a)
 progress-quiet p (tried line b ∷ rs) least s = (tt, progress-quiet p rs (min_ℤ least b.cost) s)
@@ -70,11 +70,11 @@ quiet-order (sent (shipped page sheet) ∷ es) a later m h = absurd a.0
 
 -- ---- wide floats of release 2014 that wait
 
-abbrev after-waits : State → List Float → SummaryView → SummaryView
+abbrev pub after-waits : State → List Float → SummaryView → SummaryView
 after-waits s [] m = m
 after-waits s (f ∷ fs) m = after-waits s fs (after_tale (tale.Waits (spot_of s) f) m)
 
-waits-order : (s : State) (fs : List Float) (later : List Shown) (m : SummaryView) → IsOrderly later (after-waits s fs m) → IsOrderly (map (λ f. tells (tale.Waits (spot_of s) f)) fs ++ later) m
+pub waits-order : (s : State) (fs : List Float) (later : List Shown) (m : SummaryView) → IsOrderly later (after-waits s fs m) → IsOrderly (map (λ f. tells (tale.Waits (spot_of s) f)) fs ++ later) m
 waits-order s [] later m h = h
 waits-order s (f ∷ fs) later m h = (tt, waits-order s fs later (after_tale (tale.Waits (spot_of s) f) m) h)
 

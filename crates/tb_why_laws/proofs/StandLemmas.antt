@@ -59,14 +59,8 @@ module _ (p : Params) (K : ℕ → Type 0) where
   pub stand-shipped : (sheet : PlainSheet) (w : Work) (m : SummaryView) → Stand w m → Stand (ship p sheet w) m
   stand-shipped sheet w m h = by-any-ship (λ c. Stand c m) p sheet w h (λ r. absurd (true-not-false true refl r)) h
 
-  pub stand-recorded : (r : Recorded) (w : Work) (m : SummaryView) → Stand w m → Stand (records_also r w) m
-  stand-recorded r w m h = by-records (λ c. Stand c m) r w h h
-
   pub records-send : (r : Recorded) (w : Work) → (records_also r w).sent ≡ w.sent
   records-send r w = by-records (λ c. c.sent ≡ w.sent) r w refl refl
-
-  pub records-refuse : (r : Recorded) (w : Work) → (records_also r w).refused ≡ w.refused
-  records-refuse r w = by-records (λ c. c.refused ≡ w.refused) r w refl refl
 
   -- a float goes to a list
   abbrev pub moved_to : Where → Float → FloatLists → Work → Work
