@@ -9,3 +9,6 @@ pub mod ActedLists
 pub mod CalledLater
 pub mod OutCalls
 pub mod AfterCalls
+pub mod HereNodes
+pub mod HereWorks
+pub mod HereColumns
