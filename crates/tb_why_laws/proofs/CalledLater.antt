@@ -54,7 +54,7 @@ module _ (p : Params) (s : State) (o : Running p s) (e : (now p s o).fault ≡ N
   page_cut = cut (of_line 0) p o.calm s o.kept
 
   -- the acts that wait are those that were done and those behind the break
-  does : deeds s.waiting ≡ acted_of (page_of p s).reached ++ deeds page.rest
+  pub does : deeds s.waiting ≡ acted_of (page_of p s).reached ++ deeds page.rest
   does =
       sym (pruned-deeds p.topskip s.waiting) ∙ all-deeds (pruned_nodes p.topskip s.waiting) (page_of p s) page_cut
       ∙ ap (λ l. acted_of (page_of p s).reached ++ l) (sym (spent-deeds (from_break (page_of p s)) ∙ rest-deeds (pruned_nodes p.topskip s.waiting) (page_of p s) page_cut))

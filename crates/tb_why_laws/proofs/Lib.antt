@@ -12,3 +12,4 @@ pub mod AfterCalls
 pub mod HereNodes
 pub mod HereWorks
 pub mod HereColumns
+pub mod GoingOn
