@@ -13,3 +13,5 @@ pub mod HereNodes
 pub mod HereWorks
 pub mod HereColumns
 pub mod GoingOn
+pub mod HereStates
+pub mod OneColumnStates
