@@ -4,6 +4,14 @@ pub mod OnceMoves
 pub mod OnceLists
 pub mod OnceStarts
 pub mod OnceStates
+pub mod FitLemmas
+pub mod DecisionLemmas
+pub mod ColumnTales
+pub mod ShowLemmas
+pub mod PlacingLemmas
+pub mod StandLemmas
+pub mod PageTales
+pub mod ClearTales
 pub mod CallWeights
 pub mod ActedLists
 pub mod CalledLater
