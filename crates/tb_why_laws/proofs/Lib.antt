@@ -23,3 +23,4 @@ pub mod HereColumns
 pub mod GoingOn
 pub mod HereStates
 pub mod OneColumnStates
+pub mod DueStories
