@@ -82,7 +82,7 @@ stood-due N M n line h ss a = due-changed N M n line (carried n) (λ s. by_put s
     by_put s false e = refl
 
 module _ (N : ℕ → Type 0) where
-  kept-due : (n line : ℕ) (k : Kept) (ss : List StoryView) → AllDue N n ss → AllDue N n (with_story line (kept_back k) ss)
+  pub kept-due : (n line : ℕ) (k : Kept) (ss : List StoryView) → AllDue N n ss → AllDue N n (with_story line (kept_back k) ss)
   kept-due n line k ss a = all_mapped (IsDue N n) (IsDue N n) (if_of line (kept_back k)) (λ s d. if_changed (IsDue N n) s (kept_back k s) (is_story_of line s) d (λ e. d)) ss a
 
   -- what is kept back or placed leaves the stories due
@@ -93,10 +93,10 @@ module _ (N : ℕ → Type 0) where
     placed = λ line w ss n f a. placed-due N N n line w (λ k i. inl i) ss a;
   }
 
-  begun-due : (f : Float) (page : ℕ) (last : Option Kept) (n : ℕ) (ss : List StoryView) → AllDue N n ss → AllDue N n (ss ++ begun f page last n ∷ [])
+  pub begun-due : (f : Float) (page : ℕ) (last : Option Kept) (n : ℕ) (ss : List StoryView) → AllDue N n ss → AllDue N n (ss ++ begun f page last n ∷ [])
   begun-due f page last n ss a = all-push (IsDue N n) ss (begun f page last n) a (λ o i. refl)
 
-  missed-due : (n : ℕ) (ss : List StoryView) → AllDue N n ss → AllDue N n (map missed_sheet ss)
+  pub missed-due : (n : ℕ) (ss : List StoryView) → AllDue N n ss → AllDue N n (map missed_sheet ss)
   missed-due n ss a = all_mapped (IsDue N n) (IsDue N n) missed_sheet (λ s d. if_changed (IsDue N n) s (missed_by 1 s.last s) (waits s) d (λ e. by_last s d s.last)) ss a
     where
       by_last : (s : StoryView) → IsDue N n s → (o : Option Kept) → IsDue N n (missed_by 1 o s)

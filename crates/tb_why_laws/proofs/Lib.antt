@@ -24,3 +24,4 @@ pub mod GoingOn
 pub mod HereStates
 pub mod OneColumnStates
 pub mod DueStories
+pub mod TimelyShows
