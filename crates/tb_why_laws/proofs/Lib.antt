@@ -25,3 +25,4 @@ pub mod HereStates
 pub mod OneColumnStates
 pub mod DueStories
 pub mod TimelyShows
+pub mod TimelyPages
