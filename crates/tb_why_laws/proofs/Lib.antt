@@ -17,6 +17,9 @@ pub mod ActedLists
 pub mod CalledLater
 pub mod OutCalls
 pub mod AfterCalls
+pub mod CallTales
+pub mod FiringTales
+pub mod RunTales
 pub mod HereNodes
 pub mod HereWorks
 pub mod HereColumns

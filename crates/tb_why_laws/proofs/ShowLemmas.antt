@@ -56,7 +56,7 @@ shows-before a b c ps m P Q e h x = record { now = x.now; sent = x.sent; whole =
 -- ---- tales
 
 -- what follows tales is in order
-then-order : (ts : List Tale) (m : SummaryView) → AreInOrder ts m → (qs : List Piece) (es : List PlainSent) (later : List Shown) → IsOrderly (all_shown (woven qs es) ++ later) (after_tales ts m) → IsOrderly (all_shown (woven (tales ts ++ qs) es) ++ later) m
+pub then-order : (ts : List Tale) (m : SummaryView) → AreInOrder ts m → (qs : List Piece) (es : List PlainSent) (later : List Shown) → IsOrderly (all_shown (woven qs es) ++ later) (after_tales ts m) → IsOrderly (all_shown (woven (tales ts ++ qs) es) ++ later) m
 then-order [] m o qs es later h = h
 then-order (t ∷ ts) m o qs es later h = (o.0, then-order ts (after_tale t m) o.1 qs es later h)
 

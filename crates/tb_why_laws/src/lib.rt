@@ -2,3 +2,5 @@
 #![tactic(auto)]
 
 mod laws;
+
+pub use laws::{shown_runs_are_in_order, times_of_runs_are_sheets};
