@@ -128,7 +128,7 @@ pub timely-none : (N : ℕ → Type 0) (m : SummaryView) → DueIn N m → Tells
 timely-none N m a = record { order = tt; sheets = refl; due = a }
 
 -- one tale before others
-timely-more : (t : Tale) (ts : List Tale) (m : SummaryView) (M : ℕ → Type 0) → IsTaleTimely t m → (after_tale t m).sheets ≡ m.sheets → TellsTimely ts (after_tale t m) M → TellsTimely (t ∷ ts) m M
+pub timely-more : (t : Tale) (ts : List Tale) (m : SummaryView) (M : ℕ → Type 0) → IsTaleTimely t m → (after_tale t m).sheets ≡ m.sheets → TellsTimely ts (after_tale t m) M → TellsTimely (t ∷ ts) m M
 timely-more t ts m M o e x = record { order = (o, x.order); sheets = x.sheets ∙ e; due = x.due }
 
 -- ---- decisions

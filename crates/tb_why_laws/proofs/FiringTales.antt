@@ -49,20 +49,20 @@ use Rattle.tb_why_laws.proofs.CallTales.{first-told}
 
 -- ---- warnings
 
-abbrev IsWarned : PlainSent → Type 0
+abbrev pub IsWarned : PlainSent → Type 0
 IsWarned (warned w) = ⊤
 IsWarned (shipped page sheet) = ⊥
 
 -- warnings alone are sent
-record Warns (a b : Work) : Type 0 where
-  also : List PlainSent
-  whole : b.sent ≡ a.sent ++ also
-  warnings : AllByRecursion IsWarned also
+pub record Warns (a b : Work) : Type 0 where
+  pub also : List PlainSent
+  pub whole : b.sent ≡ a.sent ++ also
+  pub warnings : AllByRecursion IsWarned also
 
-warns-none : (a b : Work) → b.sent ≡ a.sent → Warns a b
+pub warns-none : (a b : Work) → b.sent ≡ a.sent → Warns a b
 warns-none a b e = record { also = []; whole = e ∙ sym (append-nil a.sent); warnings = tt }
 
-warns-then : (a b c : Work) → Warns a b → Warns b c → Warns a c
+pub warns-then : (a b c : Work) → Warns a b → Warns b c → Warns a c
 warns-then a b c x y = record { also = x.also ++ y.also; whole = y.whole ∙ ap (λ es. es ++ y.also) x.whole ∙ append_assoc a.sent x.also y.also; warnings = all-join IsWarned x.also y.also x.warnings y.warnings }
 
 warns-if : (a : Work) (t : Bool) (b c : Work) → Warns a b → Warns a c → Warns a (if t then b else c)
@@ -104,14 +104,14 @@ module _ (p : Params) where
       warns-back w (moved_warning m at b) (note_goes p depth m left w at) refl
       (warns-if w at.moved (sends (warned (warnings.Moved m.name at.shift)) b) b (warns-then w b (sends (warned (warnings.Moved m.name at.shift)) b) (warns-none w b refl) (warns-one (warnings.Moved m.name at.shift) b)) (warns-none w b refl))
 
-  warns-first : (vert : Bool) (height depth page_height : ℤ) (es : List Entry) (w : Work) → Warns w (first_goes p vert height depth page_height es w)
+  pub warns-first : (vert : Bool) (height depth page_height : ℤ) (es : List Entry) (w : Work) → Warns w (first_goes p vert height depth page_height es w)
   warns-first vert height depth page_height (entries.Float f ∷ es) w = warns-goes vert f (record w.state.floats { current = es }) w (current_place p w.state.floats w.state.suppress page_height f)
   warns-first vert height depth page_height (entries.Left m ∷ []) w = warns-note depth m (record w.state.floats { current = [] }) w (placed_note p w.state.page w.state.two_columns w.state.first_column height w.state.note_bottom m)
   warns-first vert height depth page_height (entries.Left m ∷ e ∷ es) w = warns-note depth m (record w.state.floats { current = es }) w (placed_note p w.state.page w.state.two_columns w.state.first_column height w.state.note_bottom m)
   warns-first vert height depth page_height (entries.Right m ∷ es) w = warns-none w (puts_interline p w) refl
   warns-first vert height depth page_height [] w = warns-none w (puts_interline p w) refl
 
-  warns-goal : (n : ℤ) (w : Work) → Warns w (next_goal p n w)
+  pub warns-goal : (n : ℤ) (w : Work) → Warns w (next_goal p n w)
   warns-goal n w =
       let room = column_room_of p w.state.floats in
       let b = sends (warned (warnings.Floats w.state.page)) w in

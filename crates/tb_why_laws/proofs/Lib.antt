@@ -29,3 +29,4 @@ pub mod OneColumnStates
 pub mod DueStories
 pub mod TimelyShows
 pub mod TimelyPages
+pub mod TimelyFirings

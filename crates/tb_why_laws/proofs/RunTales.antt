@@ -47,7 +47,7 @@ use Rattle.tb_why_laws.proofs.FiringTales.{Ends, firing-ends}
 -- ---- what happens while a page is filled
 
 -- no page is shipped
-abbrev IsQuiet : RunEvent → Type 0
+abbrev pub IsQuiet : RunEvent → Type 0
 IsQuiet (offered t) = ⊤
 IsQuiet (sent (warned w)) = ⊤
 IsQuiet (sent (shipped page sheet)) = ⊥
@@ -60,7 +60,7 @@ progress-quiet-by : (later : State → Progress) → ((s : State) → AllByRecur
 progress-quiet-by later f s (went t ws rs) = all-join IsQuiet (map (λ w. sent (warned w)) ws) (later t).events (warnings-quiet ws) (f t)
 progress-quiet-by later f s (full line live) = tt
 
-progress-quiet : (p : Params) (rs : List Reached) (least : ℤ) (s : State) → AllByRecursion IsQuiet (progress p rs least s).events
+pub progress-quiet : (p : Params) (rs : List Reached) (least : ℤ) (s : State) → AllByRecursion IsQuiet (progress p rs least s).events
 progress-quiet p [] least s = tt
 progress-quiet p (acted a ∷ rs) least s = progress-quiet-by (λ t. progress p rs least t) (λ t. progress-quiet p rs least t) s (act_on p s a)
 progress-quiet p (tried line b ∷ rs) least s = (tt, progress-quiet p rs (min_ℤ least b.cost) s)

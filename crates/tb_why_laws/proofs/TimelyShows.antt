@@ -102,7 +102,7 @@ times-before a b c ps m P Q e h x = record { now = x.now; sent = x.sent; whole =
 -- ---- tales
 
 -- what follows tales is told in time
-then-timely : (ts : List Tale) (m : SummaryView) → AreTalesTimely ts m → (qs : List Piece) (es : List PlainSent) (later : List Shown) → AreTimely (all_shown (woven qs es) ++ later) (after_tales ts m) → AreTimely (all_shown (woven (tales ts ++ qs) es) ++ later) m
+pub then-timely : (ts : List Tale) (m : SummaryView) → AreTalesTimely ts m → (qs : List Piece) (es : List PlainSent) (later : List Shown) → AreTimely (all_shown (woven qs es) ++ later) (after_tales ts m) → AreTimely (all_shown (woven (tales ts ++ qs) es) ++ later) m
 then-timely [] m o qs es later h = h
 then-timely (t ∷ ts) m o qs es later h = (o.0, then-timely ts (after_tale t m) o.1 qs es later h)
 
