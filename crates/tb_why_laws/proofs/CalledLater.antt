@@ -40,7 +40,7 @@ module _ (t : List PlainNode) (w : Reach) (c : CutAt [] t w) where
   rest-deeds : deeds (from_break w) ≡ deeds w.beyond
   rest-deeds = deeds-append (drop (page_break w).place w.passed) w.beyond ∙ ap (λ l. l ++ deeds w.beyond) (append-none (deeds (take (page_break w).place w.passed)) (deeds (drop (page_break w).place w.passed)) parts)
 
-  all-deeds : deeds t ≡ acted_of w.reached ++ deeds w.beyond
+  pub all-deeds : deeds t ≡ acted_of w.reached ++ deeds w.beyond
   all-deeds = ap deeds c.whole ∙ deeds-append c.front w.beyond ∙ ap (λ l. l ++ deeds w.beyond) (deeds-of c.front ∙ sym c.acts)
 
 module _ (p : Params) (s : State) (o : Running p s) (e : (now p s o).fault ≡ None) where

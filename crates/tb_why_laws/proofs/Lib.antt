@@ -30,3 +30,4 @@ pub mod DueStories
 pub mod TimelyShows
 pub mod TimelyPages
 pub mod TimelyFirings
+pub mod TimelyRuns

@@ -14,6 +14,7 @@ use Rattle.tb_galley.specs.declared.ItemKind.{ItemKind}
 use Rattle.tb_galley.specs.declared.ItemKind.TheVariants as items
 use Rattle.tb_galley.specs.declared.Galley.{Galley}
 use Rattle.tb_galley.specs.GalleyNodes.{with_firings, item_kinds, two_after, item_nodes, expanded}
+use Rattle.tb_break.specs.PageTop.{pruned_nodes}
 use Rattle.tb_builder.specs.Reach.{Reached, acted, tried}
 use Rattle.tb_builder.specs.FiredPages.{frozen_for}
 use Rattle.tb_builder.proofs.Cutting.CutLemmas.{acted_of}
@@ -23,11 +24,12 @@ use Rattle.tb_items.specs.RunEvents.{RunEvent}
 use Rattle.tb_output.specs.State.{State, Recorded, ask_of, first_state}
 use Rattle.tb_output.specs.Act.{Acted, went, full, act_on}
 use Rattle.tb_steps.specs.Run.{Progress, progress_by, progress, goes_on, step}
-use Rattle.tb_laws.proofs.ClassesRise.PageLines.{deeds, deeds-append}
-use Rattle.tb_laws.proofs.NothingLost.RunWeights.{page_of}
+use Rattle.tb_laws.proofs.ClassesRise.PageLines.{deeds, deeds-append, pruned-deeds}
+use Rattle.tb_laws.proofs.NothingLost.RunWeights.{page_of, cut}
 use Rattle.tb_laws.proofs.NothingLost.ClosingRuns.{progressed, fired_closes}
+use Rattle.tb_why_laws.proofs.Once.{of_line}
 use Rattle.tb_why_laws.proofs.OnceStates.{Running, now, progressed as reached-adds}
-use Rattle.tb_why_laws.proofs.CalledLater.{does}
+use Rattle.tb_why_laws.proofs.CalledLater.{all-deeds, does}
 use Rattle.tb_why_laws.proofs.AfterCalls.{waiting_deeds}
 use Rattle.tb_why_laws.proofs.GoingOn.{GoesOn, going-on}
 
@@ -79,17 +81,23 @@ progress-kept p (tried line b ∷ rs) least s h = progress-kept p rs (min_ℤ le
 -- ---- a step
 
 module _ (p : Params) (s : State) (o : Running p s) (one : OneColumn s) where
-  module _ (e : (now p s o).fault ≡ None) where
-    done : Kept s (now p s o).state
-    done = progress-kept p (page_of p s).reached awful_bad s (all-front IsSingleAct (acted_of (page_of p s).reached) _ (subst (AllByRecursion IsSingleAct) (does p s o e) one.acts))
+  -- the acts that were done are single
+  acts-single : AllByRecursion IsSingleAct (acted_of (page_of p s).reached)
+  acts-single =
+      all-front IsSingleAct (acted_of (page_of p s).reached) (deeds (page_of p s).beyond)
+      (subst (AllByRecursion IsSingleAct) (sym (pruned-deeds p.topskip s.waiting) ∙ all-deeds (pruned_nodes p.topskip s.waiting) (page_of p s) (cut (of_line 0) p o.calm s o.kept)) one.acts)
 
-    -- once the page is filled there is one column
+  done : Kept s (now p s o).state
+  done = progress-kept p (page_of p s).reached awful_bad s acts-single
+
+  -- the page that is made once the page is filled is the same
+  pub filled-page : (now p s o).state.page ≡ s.page
+  filled-page = done.page
+
+  module _ (e : (now p s o).fault ≡ None) where
+    -- and there is one column
     pub filled-single : (now p s o).state.two_columns ≡ false
     filled-single = done.two one.two
-
-    -- and the page that is made is the same
-    pub filled-page : (now p s o).state.page ≡ s.page
-    filled-page = done.page
 
     -- no float is above both columns
     pub filled-double : (now p s o).state.floats.double ≡ []
