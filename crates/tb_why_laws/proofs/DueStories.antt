@@ -136,7 +136,7 @@ timely-more t ts m M o e x = record { order = (o, x.order); sheets = x.sheets �
 sheets-stay : (n : ℕ) → StaysMoved (λ ss k. k ≡ n) (λ line ss k. ⊤)
 sheets-stay n = record { back = λ line k ss m f p. p; free = λ line other k ss m f g. tt; placed = λ line w ss m f p. p }
 
-told-sheets : (f : Float) (t : Told) (m : SummaryView) → (after_told f t m).sheets ≡ m.sheets
+pub told-sheets : (f : Float) (t : Told) (m : SummaryView) → (after_told f t m).sheets ≡ m.sheets
 told-sheets f t m = told_stays (λ ss k. k ≡ m.sheets) (λ line ss k. ⊤) (sheets-stay m.sheets) f t m tt refl
 
 told-due : (N : ℕ → Type 0) (f : Float) (t : Told) (m : SummaryView) → DueIn N m → DueIn N (after_told f t m)
@@ -186,7 +186,7 @@ decision-timely N M f (TestsWide t ∷ ts) h m a = timely-more (Decides f (Tests
 
 -- ---- columns of floats
 
-column-sheets : (t : ToldColumn) (m : SummaryView) → (after_column t m).sheets ≡ m.sheets
+pub column-sheets : (t : ToldColumn) (m : SummaryView) → (after_column t m).sheets ≡ m.sheets
 column-sheets t m = column_stays (λ ss k. k ≡ m.sheets) (λ line ss k. ⊤) (sheets-stay m.sheets) t m (all_trivial (column_lines t m)) refl
 
 column-due : (N : ℕ → Type 0) (t : ToldColumn) (m : SummaryView) → DueIn N m → DueIn N (after_column t m)

@@ -31,3 +31,4 @@ pub mod TimelyShows
 pub mod TimelyPages
 pub mod TimelyFirings
 pub mod TimelyRuns
+pub mod LandingTimes

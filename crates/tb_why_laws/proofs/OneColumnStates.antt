@@ -27,6 +27,7 @@ use Rattle.tb_steps.specs.Run.{Progress, progress_by, progress, goes_on, step}
 use Rattle.tb_laws.proofs.ClassesRise.PageLines.{deeds, deeds-append, pruned-deeds}
 use Rattle.tb_laws.proofs.NothingLost.RunWeights.{page_of, cut}
 use Rattle.tb_laws.proofs.NothingLost.ClosingRuns.{progressed, fired_closes}
+use Rattle.tb_why_laws.specs.OneColumn.{IsSingleItem, HasOneColumn}
 use Rattle.tb_why_laws.proofs.Once.{of_line}
 use Rattle.tb_why_laws.proofs.OnceStates.{Running, now, progressed as reached-adds}
 use Rattle.tb_why_laws.proofs.CalledLater.{all-deeds, does}
@@ -116,11 +117,6 @@ module _ (p : Params) (s : State) (o : Running p s) (one : OneColumn s) where
 
 -- ---- the start
 
--- the item does not change to two columns
-abbrev pub IsSingleItem : ItemKind → Type 0
-IsSingleItem items.TwoColumn = ⊥
-IsSingleItem k = Unit {0}
-
 item-single : (p : Params) (two : Bool) (n : ℕ) (k : ItemKind) → IsSingleItem k → AllByRecursion IsSingleAct (deeds (on_line n (item_kinds p two k)))
 item-single p two n (items.Float f vert) h = by_taking (has_second p && two && f.wide)
   where
@@ -140,7 +136,7 @@ items-single p two (n ∷ ns) h =
     (all-join IsSingleAct (deeds (on_line n.line (item_kinds p two n.kind))) (deeds (item_nodes p (two_after two n.kind) ns)) (item-single p two n.line n.kind h.0) (items-single p (two_after two n.kind) ns h.1))
 
 -- a galley without an item `twocolumn` begins in one column and stays there
-pub starts-single : (g : Galley) → AllByRecursion (λ (n : Item). IsSingleItem n.kind) g.items → OneColumn (first_state g.params (classes_of g) (expanded g))
+pub starts-single : (g : Galley) → HasOneColumn g → OneColumn (first_state g.params (classes_of g) (expanded g))
 unfolding expanded
 starts-single g h = record {
   two = refl;

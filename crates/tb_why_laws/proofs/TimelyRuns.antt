@@ -24,12 +24,13 @@ use Rattle.tb_why.specs.WhyRun.{Shown, tells, all_happen, all_shown, wait_tales,
 use Rattle.tb_laws.specs.Laws.{float_lines}
 use Rattle.tb_laws.proofs.ClassesRise.RisingLists.{IsAmong}
 use Rattle.tb_laws.proofs.NothingLost.RunWeights.{page_of}
+use Rattle.tb_why_laws.specs.OneColumn.{HasOneColumn}
 use Rattle.tb_why_laws.proofs.OnceStates.{Running, now, fires, goes, starts}
 use Rattle.tb_why_laws.proofs.CalledLater.{acts-lists}
 use Rattle.tb_why_laws.proofs.GoingOn.{GoesOn, going-on}
 use Rattle.tb_why_laws.proofs.HereWorks.{HereState}
 use Rattle.tb_why_laws.proofs.HereStates.{fires-here, begins-here, step-here, starts-here}
-use Rattle.tb_why_laws.proofs.OneColumnStates.{OneColumn, filled-single, filled-page, step-single, starts-single, IsSingleItem}
+use Rattle.tb_why_laws.proofs.OneColumnStates.{OneColumn, filled-single, filled-page, step-single, starts-single}
 use Rattle.tb_why_laws.proofs.DecisionLemmas.{after_tales}
 use Rattle.tb_why_laws.proofs.RunTales.{IsQuiet, progress-quiet}
 use Rattle.tb_why_laws.proofs.DueStories.{DueIn, fewer-due, none-due, AreTalesTimely, TellsTimely, wait-timely}
@@ -152,7 +153,7 @@ module _ (p : Params) where
           x.order (shown_from p fuel t) (again t (goes p s o es rs t e) (step-single p s o one es rs t e) (step-here p s o here es rs t e) x.done (x.after t (going-on p s o es rs t e)))
 
 -- what is shown of the run of a valid galley of one column comes in time
-pub shown-in-time : (g : Galley) → IsValid g → AllByRecursion (λ (n : Item). IsSingleItem n.kind) g.items → AreTimely (shown_run g) no_stories
+pub shown-in-time : (g : Galley) → IsValid g → HasOneColumn g → AreTimely (shown_run g) no_stories
 unfolding shown_run
 shown-in-time g v one = by_nodes (int_lt g.params.maxnodes (pos (held_count (first_state g.params (classes_of g) (expanded g)))))
   where
