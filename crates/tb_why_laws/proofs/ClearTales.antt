@@ -1,7 +1,6 @@
 -- What is told of columns of floats, of an ordinary firing and of a clear is in order.
-use Rattle.std.proofs.Common.{◌≡◌, refl, sym, ◌∙◌, ap, subst, inl, inr, ◌⊎◌, ℕ, zero, suc, pos, ◌+◌, Bool, true, false, List, [], ◌∷◌, ◌++◌, map, length, Option, Some, None, if◌then◌else◌, append_assoc, append-nil}
+use Rattle.std.proofs.Common.{◌≡◌, refl, sym, subst, inl, inr, ◌⊎◌, ℕ, zero, suc, Bool, true, false, List, [], ◌∷◌, ◌++◌, length, Option, Some, None, if◌then◌else◌, append-nil}
 use Rattle.std.specs.Prelude.{◌&&◌, ◌||◌, not}
-use Rattle.std.specs.List.{AllByRecursion}
 use Rattle.tb_scaled.specs.Glue.{filling_glue}
 use Rattle.tb_node.specs.declared.Float.{Float}
 use Rattle.tb_node.specs.declared.Where.{Where}
@@ -10,35 +9,32 @@ use Rattle.tb_node.specs.PlainNodes.{PlainNode, skip, made, blank_box}
 use Rattle.tb_param.specs.declared.Params.{Params}
 use Rattle.tb_float.specs.declared.Part.{Part}
 use Rattle.tb_float.specs.declared.Part.TheVariants as parts
-use Rattle.tb_float.specs.Lists.{FloatLists, IsWaiting, floats_of, with_floats_of, wide_part, wide_waiting, with_wide_waiting}
+use Rattle.tb_float.specs.Lists.{IsWaiting, with_floats_of, wide_part, wide_waiting, with_wide_waiting}
 use Rattle.tb_float.proofs.WaitingLemmas.{wide-waits}
 use Rattle.tb_float.specs.Rooms.{column_height_of}
-use Rattle.tb_fpage.specs.declared.Wanted.{Wanted}
 use Rattle.tb_fpage.specs.Company.{Choice, company, chosen_floats, left_floats}
-use Rattle.tb_column.specs.Column.{PlainColumn, Notes, single_floats_column}
-use Rattle.tb_sheet.specs.Sheet.{one, wide, pair_sheet}
-use Rattle.tb_told.specs.declared.Piece.{Piece}
+use Rattle.tb_column.specs.Column.{Notes, single_floats_column}
+use Rattle.tb_sheet.specs.Sheet.{one, pair_sheet}
 use Rattle.tb_told.specs.declared.Tale.TheVariants.{Back}
 use Rattle.tb_told.specs.Tales.{tales, column_tales, back_tales}
-use Rattle.tb_output.specs.State.{State, Work, placed, output, puts, records_also, with_floats, footnotes, has_floats}
-use Rattle.tb_output.specs.Pages.{with_deferred, left_or, without_double, ship, put_out, all_wide_pages}
+use Rattle.tb_output.specs.State.{State, Work, output, puts, with_floats, has_floats}
+use Rattle.tb_output.specs.Pages.{with_deferred, left_or, without_double, all_wide_pages}
 use Rattle.tb_output.specs.Columns.{put_out_text, put_out_company, single_wanted, float_columns, float_columns_by, all_float_columns, fill_column, ordinary}
 use Rattle.tb_output.specs.Clear.{clear_again, cleared_front, deferred_again, double_again, clear_wide, clear_rest, clear_floats, clear_by}
 use Rattle.tb_output.proofs.StepLaws.RefusedSteps.{by-records, by-any-ship}
 use Rattle.tb_output.proofs.StepLaws.Moves.{Hand, nothing, of_text, of_column, ColumnMove, takes_company, records_column, ships_column, keeps_left, ships_pair, ends_column, ships_wide, places_double, fills_text, keeps_front, gathers, gathers_wide, Moves, holds-on}
 use Rattle.tb_output.proofs.StepLaws.FiringTree.{put_out-moves, put_out_text-moves, all_columns-moves}
 use Rattle.tb_story.specs.Summary.{SummaryView, by_clear, after_tale}
-use Rattle.tb_why.specs.Firing.{spot_of, unless_over, all_wide_pieces, put_out_pieces, text_pieces, company_pieces, float_pieces_by, float_pieces, all_float_pieces, fill_pieces, start_pieces, ordinary_pieces, clear_wide_pieces, clear_columns_pieces, clear_floats_pieces, clear_pieces_by}
+use Rattle.tb_why.specs.Firing.{spot_of, unless_over, all_wide_pieces, text_pieces, company_pieces, float_pieces_by, float_pieces, all_float_pieces, fill_pieces, start_pieces, ordinary_pieces, clear_wide_pieces, clear_columns_pieces, clear_floats_pieces, clear_pieces_by}
 use Rattle.tb_laws.specs.Laws.{float_lines}
 use Rattle.tb_laws.proofs.ClassesRise.RisingLists.{IsAmong, among-front, among-back}
-use Rattle.tb_why_laws.proofs.WaitingLines.{waiting_lines}
 use Rattle.tb_why_laws.proofs.Once.{Once}
 use Rattle.tb_why_laws.proofs.OnceMoves.{column-once, columns-once, page-once, pages-once}
 use Rattle.tb_why_laws.proofs.OnceLists.{among-parts}
 use Rattle.tb_why_laws.proofs.FitLemmas.{AllFit, weaker, keeps-back, placed-current}
 use Rattle.tb_why_laws.proofs.DecisionLemmas.{Tells, tells-then, after_tales}
 use Rattle.tb_why_laws.proofs.ShowLemmas.{Shows, shows-then, shows-none, shows-behind, shows-before, shows-tales}
-use Rattle.tb_why_laws.proofs.PlacingLemmas.{area_lines, either-list, in-first, in-second, others, waits-there, waits-so, waits-in, waits-of}
+use Rattle.tb_why_laws.proofs.PlacingLemmas.{either-list, in-first, in-second, others, waits-there, waits-so, waits-in, waits-of}
 use Rattle.tb_why_laws.proofs.StandLemmas.{Waits, IsInArea, FitState, Stand, stand-stopped, next-shown}
 use Rattle.tb_why_laws.proofs.PageTales.{Bare, Empty, none-told, some-told, same-part, empty-placed, wide-shown, put_out-shown, text-shown}
 
@@ -192,9 +188,9 @@ module _ (p : Params) (K : ℕ → Type 0) where
       told : FitState p K w.state m → Tells (back_tales places.Top w.state.floats.top ++ back_tales places.Bottom w.state.floats.bottom) m (FitState p K a)
       told f =
           let x = tells-then (back_tales places.Top w.state.floats.top) (back_tales places.Bottom w.state.floats.bottom) m (λ m. AllFit (λ n. Waits w.state n ⊎ IsAmong n (float_lines w.state.floats.top)) (IsInArea w.state) (Waits a) K m.sheets m.stories)
-              (λ m. AllFit (λ n. (Waits w.state n ⊎ IsAmong n (float_lines w.state.floats.top)) ⊎ IsAmong n (float_lines w.state.floats.bottom)) (IsInArea w.state) (Waits a) K m.sheets m.stories)
-              (backs-tell (IsInArea w.state) (Waits a) places.Top w.state.floats.top (Waits w.state) of_top m (weaker K (Waits w.state) (IsInArea w.state) (Waits w.state) (Waits w.state) (IsInArea w.state) (Waits a) (λ n i. i) (λ n i. i) more m.sheets m.stories f))
-              (λ n y. backs-tell (IsInArea w.state) (Waits a) places.Bottom w.state.floats.bottom (λ n. Waits w.state n ⊎ IsAmong n (float_lines w.state.floats.top)) of_bottom n y) in
+          (λ m. AllFit (λ n. (Waits w.state n ⊎ IsAmong n (float_lines w.state.floats.top)) ⊎ IsAmong n (float_lines w.state.floats.bottom)) (IsInArea w.state) (Waits a) K m.sheets m.stories)
+          (backs-tell (IsInArea w.state) (Waits a) places.Top w.state.floats.top (Waits w.state) of_top m (weaker K (Waits w.state) (IsInArea w.state) (Waits w.state) (Waits w.state) (IsInArea w.state) (Waits a) (λ n i. i) (λ n i. i) more m.sheets m.stories f))
+          (λ n y. backs-tell (IsInArea w.state) (Waits a) places.Bottom w.state.floats.bottom (λ n. Waits w.state n ⊎ IsAmong n (float_lines w.state.floats.top)) of_bottom n y) in
           let l = after_tales (back_tales places.Top w.state.floats.top ++ back_tales places.Bottom w.state.floats.bottom) m in
           record {
             order = x.order;

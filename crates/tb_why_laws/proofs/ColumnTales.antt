@@ -1,10 +1,10 @@
 -- What is told of a column of floats is in order, and keeps how the stories fit what waits: those that are taken wait no more.
 use Rattle.std.proofs.Common.{◌≡◌, refl, sym, ◌∙◌, ap, subst, inl, inr, ◌⊎◌, ℕ, Bool, true, false, List, [], ◌∷◌, ◌++◌, map, Option, Some, None, if◌then◌else◌, append_assoc}
-use Rattle.std.specs.Prelude.{⊤, ◌&&◌, ◌||◌, not, int_le}
+use Rattle.std.specs.Prelude.{◌&&◌, ◌||◌, not, int_le}
 use Rattle.std.specs.Bool.{beq}
-use Rattle.std.specs.List.{AllByRecursion, list_any}
+use Rattle.std.specs.List.{AllByRecursion}
 use Rattle.std.proofs.lemmas.List.{map-append}
-use Rattle.tb_break.proofs.EachLemmas.{all-join, all-push, all-map}
+use Rattle.tb_break.proofs.EachLemmas.{all-join, all-push}
 use Rattle.tb_node.specs.declared.Float.{Float}
 use Rattle.tb_node.specs.declared.Where.TheVariants as places
 use Rattle.tb_float.specs.Lists.{has_class}
@@ -20,14 +20,13 @@ use Rattle.tb_told.specs.declared.ToldColumn.{ToldColumn}
 use Rattle.tb_told.specs.declared.ToldColumn.TheVariants.{Heads, Joins, Companied, Takes}
 use Rattle.tb_told.specs.ColumnTold.{alone_tests, alone_told, joins_told, if_of_width, made_told, told_joins, told_made, told_head, told_float, told_from, told_column, taken_floats}
 use Rattle.tb_told.proofs.ColumnLemmas.{heads_if}
-use Rattle.tb_told.specs.declared.Tale.{Tale}
 use Rattle.tb_told.specs.declared.Tale.TheVariants.{Begins, InColumn}
 use Rattle.tb_told.specs.Tales.{has_width, column_tales}
 use Rattle.tb_story.specs.declared.Kept.{Kept}
 use Rattle.tb_story.specs.declared.Noted.{Noted}
 use Rattle.tb_story.specs.Story.{StoryView, kept_back, with_story}
-use Rattle.tb_story.specs.Summary.{SummaryView, keep, kept_all, keep_all, heads_none, after_heads, after_joining, after_company, after_column, after_tale}
-use Rattle.tb_why.specs.SummaryLaws.{AreCurrent, IsTaleInOrder, noted_lines, column_lines}
+use Rattle.tb_story.specs.Summary.{SummaryView, keep, kept_all, heads_none, after_heads, after_joining, after_company, after_column, after_tale}
+use Rattle.tb_why.specs.SummaryLaws.{AreCurrent, IsTaleInOrder, noted_lines}
 use Rattle.tb_laws.specs.Laws.{float_lines}
 use Rattle.tb_laws.proofs.ClassesRise.RisingLists.{IsAmong}
 use Rattle.tb_why_laws.proofs.FitLemmas.{AllFit, weaker, keeps-back, places, waiting-current, placed-current, also-now}
@@ -66,7 +65,7 @@ module _ (K N W : ℕ → Type 0) where
   companied f t (Some x) m w a = none-heads f _ m m.clearing w a
 
   -- it is told of a float that waits, and takes none
-  abbrev IsOfWaiting : ToldColumn → Type 0
+  abbrev pub IsOfWaiting : ToldColumn → Type 0
   IsOfWaiting (Heads f t) = W f.line
   IsOfWaiting (Joins f t) = W f.line
   IsOfWaiting (Companied f t) = W f.line
@@ -112,7 +111,7 @@ module _ (K N W : ℕ → Type 0) where
         without n (inr i) = absurd i
     takes (g ∷ gs) m apart a =
         let x = takes gs (after_tale (InColumn (Takes g)) m) (λ n i. apart n (inr i))
-            (places K V (λ n. N n ⊎ Among (g ∷ gs) n) (λ n. V n ⊎ Among (g ∷ gs) n) V (λ n. N n ⊎ Among gs n) (λ n. V n ⊎ Among gs n) g.line places.Page refl (λ n i. i) (apart g.line (inl refl)) (λ n i. inl (now n i)) (λ n i. wait n i) m.sheets m.stories a) in
+        (places K V (λ n. N n ⊎ Among (g ∷ gs) n) (λ n. V n ⊎ Among (g ∷ gs) n) V (λ n. N n ⊎ Among gs n) (λ n. V n ⊎ Among gs n) g.line places.Page refl (λ n i. i) (apart g.line (inl refl)) (λ n i. inl (now n i)) (λ n i. wait n i) m.sheets m.stories a) in
         record { order = ((placed-current K V (λ n. N n ⊎ Among (g ∷ gs) n) (λ n. V n ⊎ Among (g ∷ gs) n) g.line m.sheets (inr (inl refl)) m.stories a, tt), x.order); after = x.after }
       where
         now : (n : ℕ) → N n ⊎ Among gs n → N n ⊎ Among (g ∷ gs) n
@@ -128,12 +127,12 @@ module _ (K N W : ℕ → Type 0) where
 
   module _ (z : Wanted) where
     -- tales of floats that wait come first, and then those of the floats that are taken
-    record Parted (ts : List ToldColumn) (o : Option (List Choice)) : Type 0 where
-      first : List ToldColumn
-      whole : ts ≡ first ++ map (λ g. Takes g) (taken_floats o)
-      waiting : AllByRecursion IsOfWaiting first
+    pub record Parted (ts : List ToldColumn) (o : Option (List Choice)) : Type 0 where
+      pub first : List ToldColumn
+      pub whole : ts ≡ first ++ map (λ g. Takes g) (taken_floats o)
+      pub waiting : AllByRecursion IsOfWaiting first
 
-    abbrev AllWait : List Float → Type 0
+    abbrev pub AllWait : List Float → Type 0
     AllWait fs = AllByRecursion (λ (f : Float). W f.line) fs
 
     joins-wait : (before : List Choice) (fs : List Float) → AllWait fs → AllByRecursion IsOfWaiting (told_joins z before fs)
@@ -177,7 +176,7 @@ module _ (K N W : ℕ → Type 0) where
     wide-by true x later o h k = h refl
     wide-by false x later o h k = k refl
 
-    from-parted : (before fs : List Float) → AllWait fs → Parted (told_from z before fs) (company_from z before fs)
+    pub from-parted : (before fs : List Float) → AllWait fs → Parted (told_from z before fs) (company_from z before fs)
     from-parted before [] w = record { first = []; whole = refl; waiting = tt }
     from-parted before (f ∷ fs) w =
         let cs = company_of_head z before f fs in
@@ -199,7 +198,7 @@ module _ (K N W : ℕ → Type 0) where
             (float-by (all_hold (alone_tests z before f)) (is_head z before f) (is_made z cs) (told_head z before f fs later) later cs found (heads_if z before f wide) h k)
 
     -- a list that has no float of the width has no company
-    none-wide : (before fs : List Float) → has_width z.wide fs ≡ false → company_from z before fs ≡ None
+    pub none-wide : (before fs : List Float) → has_width z.wide fs ≡ false → company_from z before fs ≡ None
     none-wide before [] e = refl
     none-wide before (f ∷ fs) e =
         no-head (f.places.p || z.clearing) (beq f.wide z.wide) (int_le f.height z.height) (not (has_class f.class before)) (is_made z (company_of_head z before f fs)) (company_of_head z before f fs) (company_from z (before ++ f ∷ []) fs)

@@ -1,7 +1,6 @@
 -- What is told of a decision about a float is in order, and keeps how the stories fit what waits.
-use Rattle.std.proofs.Common.{◌≡◌, refl, sym, ◌∙◌, ap, subst, inl, inr, ◌⊎◌, ℕ, ℤ, Bool, true, false, List, [], ◌∷◌, ◌++◌, map, Option, Some, None, if◌then◌else◌, is_some}
-use Rattle.std.specs.Prelude.{⊤, ◌&&◌, ◌||◌, ◌==◌, ◌+ℤ◌}
-use Rattle.std.specs.List.{AllByRecursion}
+use Rattle.std.proofs.Common.{◌≡◌, refl, sym, subst, inl, inr, ◌⊎◌, ℕ, ℤ, Bool, true, false, List, [], ◌∷◌, ◌++◌, Option, Some, None, if◌then◌else◌, is_some}
+use Rattle.std.specs.Prelude.{⊤, not, ◌&&◌, ◌||◌, ◌+ℤ◌}
 use Rattle.tb_scaled.specs.Scaled.{max_ℤ}
 use Rattle.tb_node.specs.declared.Float.{Float}
 use Rattle.tb_node.specs.declared.Where.{Where}
@@ -14,9 +13,8 @@ use Rattle.tb_told.specs.Tested.{Tested, first_failed, all_hold}
 use Rattle.tb_told.specs.declared.Test.{Test}
 use Rattle.tb_told.specs.declared.Told.{Told}
 use Rattle.tb_told.specs.declared.Told.TheVariants.{Enters, TestsHere, TestsTop, TestsBottom, TestsWide, Goes}
-use Rattle.tb_told.specs.AreaTold.{enter_tests, here_tests, top_tests, bottom_tests, wide_tests, told_bottom, told_areas, told_column, told_call, told_next, told_wide, place_told, failed_in}
+use Rattle.tb_told.specs.AreaTold.{enter_tests, here_tests, top_tests, bottom_tests, told_bottom, told_areas, told_column, told_call, told_next, told_wide, place_told, failed_in}
 use Rattle.tb_told.specs.declared.Tale.{Tale}
-use Rattle.tb_told.specs.declared.Tale.TheVariants.{Decides}
 use Rattle.tb_told.specs.Tales.{decisions}
 use Rattle.tb_story.specs.declared.Area.{Area}
 use Rattle.tb_story.specs.declared.Kept.{Kept}
@@ -133,15 +131,10 @@ module _ (p : Params) (l : FloatLists) (s : Suppress) where
 
 -- ---- the summary at a decision
 
--- the stories and the number of sheets stay while tests are told
-record Same (m n : SummaryView) : Type 0 where
-  stories : n.stories ≡ m.stories
-  sheets : n.sheets ≡ m.sheets
-
 -- what failed is found
 found_by : (k : Kept) (o : Option Kept) → is_some (found_with k o) ≡ true
 found_by k None = refl
-found_by k (Some first) = either_some (is_by_places first.cause && Rattle.std.specs.Prelude.not (is_by_places k.cause))
+found_by k (Some first) = either_some (is_by_places first.cause && not (is_by_places k.cause))
   where
     either_some : (b : Bool) → is_some (if b then Some k else Some first) ≡ true
     either_some true = refl
@@ -159,6 +152,7 @@ tested-found area f way room share None failed m h e = h (or_none failed e)
     or_none false e = cc
 tested-found area f way room share (Some t) failed m h e = found_by _ m.found
 
+-- the stories and the number of sheets stay while tests are told
 tested-same : (P : List StoryView → ℕ → Type 0) (area : Area) (f : Float) (way : Option Float) (room share : ℤ) (o : Option Test) (m : SummaryView) → P m.stories m.sheets → P (tested_in area f way room share o m).stories (tested_in area f way room share o m).sheets
 tested-same P area f way room share None m h = h
 tested-same P area f way room share (Some t) m h = h

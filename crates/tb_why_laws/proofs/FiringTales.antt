@@ -1,5 +1,5 @@
 -- What is shown of a firing is in order, and the stories fit the state after it.
-use Rattle.std.proofs.Common.{◌≡◌, refl, sym, ◌∙◌, ap, subst, inl, inr, ◌⊎◌, ℕ, ℤ, ◌+ℤ◌, ◌-ℤ◌, Bool, true, false, List, [], ◌∷◌, ◌++◌, map, if◌then◌else◌, append_assoc, append-nil}
+use Rattle.std.proofs.Common.{◌≡◌, refl, sym, ◌∙◌, ap, subst, ℕ, ℤ, ◌+ℤ◌, ◌-ℤ◌, Bool, true, false, List, [], ◌∷◌, ◌++◌, map, if◌then◌else◌, append_assoc, append-nil}
 use Rattle.std.specs.Prelude.{⊤, ◌&&◌, ◌||◌, not, int_le}
 use Rattle.std.specs.List.{AllByRecursion}
 use Rattle.tb_break.proofs.EachLemmas.{all-join, all-map}
@@ -8,7 +8,7 @@ use Rattle.tb_node.specs.declared.Float.{Float}
 use Rattle.tb_node.specs.declared.Margin.{Margin}
 use Rattle.tb_node.specs.declared.Where.{Where}
 use Rattle.tb_node.specs.declared.Where.TheVariants as places
-use Rattle.tb_node.specs.PlainNodes.{PlainNode, node_shape}
+use Rattle.tb_node.specs.PlainNodes.{node_shape}
 use Rattle.tb_node.specs.Sums.{size_of, last_depth}
 use Rattle.tb_param.specs.declared.Params.{Params}
 use Rattle.tb_builder.specs.FiredPages.{Fired}
@@ -26,24 +26,24 @@ use Rattle.tb_sheet.specs.Asked.{clear_penalty, par_penalty, vert_penalty, hold_
 use Rattle.tb_told.specs.declared.Piece.{Piece}
 use Rattle.tb_told.specs.declared.Tale.{Tale}
 use Rattle.tb_told.specs.Tales.{tales}
-use Rattle.tb_output.specs.State.{State, Work, placed, begun, puts, sends, records_also, with_floats, footnotes}
-use Rattle.tb_output.specs.FloatMoves.{is_placed, place_float}
+use Rattle.tb_output.specs.State.{State, Work, placed, begun, sends, records_also, with_floats, footnotes}
+use Rattle.tb_output.specs.FloatMoves.{joined_to, is_placed, place_float}
 use Rattle.tb_output.specs.Columns.{ordinary}
-use Rattle.tb_output.specs.Text.{puts_interline, list_back, only_here, with_top, defer, float_goes, note_nodes, note_goes, moved_warning, with_note_bottom, first_goes, float_or_note, without_firing_box, notes_height, here_nodes}
+use Rattle.tb_output.specs.Text.{puts_interline, list_back, only_here, with_top, defer, float_goes, note_goes, moved_warning, with_note_bottom, first_goes, float_or_note, without_firing_box, notes_height}
 use Rattle.tb_output.specs.Clear.{clear}
-use Rattle.tb_output.specs.Output.{is_int, hold, output_by, with_goal, is_crowded, leave_column, goal_by, next_goal, after_page, out, blank_column}
+use Rattle.tb_output.specs.Output.{is_int, hold, output_by, with_goal, is_crowded, leave_column, goal_by, next_goal, after_page, out}
 use Rattle.tb_output.proofs.StepLaws.RefusedSteps.{by-records, by-sends}
 use Rattle.tb_output.proofs.StepLaws.Moves.{of_text}
 use Rattle.tb_story.specs.Summary.{SummaryView}
-use Rattle.tb_why.specs.Firing.{unless_over, ordinary_pieces, clear_pieces, text_tales, text_float_pieces, output_pieces, firing_pieces, all_sent, woven}
+use Rattle.tb_why.specs.Firing.{ordinary_pieces, clear_pieces, text_tales, text_float_pieces, output_pieces, firing_pieces, all_sent, woven}
 use Rattle.tb_why.specs.WhyRun.{Shown, all_shown}
 use Rattle.tb_why.specs.SummaryLaws.{IsOrderly}
 use Rattle.tb_why_laws.proofs.Once.{Once}
 use Rattle.tb_why_laws.proofs.OutCalls.{is_text}
-use Rattle.tb_why_laws.proofs.FitLemmas.{Fits, AllFit}
+use Rattle.tb_why_laws.proofs.FitLemmas.{Fits}
 use Rattle.tb_why_laws.proofs.DecisionLemmas.{Tells, after_tales}
 use Rattle.tb_why_laws.proofs.ShowLemmas.{Shows, then-order}
-use Rattle.tb_why_laws.proofs.StandLemmas.{Waits, IsInArea, FitState, Stand, moved_to, records-send}
+use Rattle.tb_why_laws.proofs.StandLemmas.{Waits, IsInArea, FitState, Stand}
 use Rattle.tb_why_laws.proofs.ClearTales.{ordinary-shown, clear-shown}
 use Rattle.tb_why_laws.proofs.CallTales.{first-told}
 
@@ -65,32 +65,32 @@ warns-none a b e = record { also = []; whole = e ∙ sym (append-nil a.sent); wa
 pub warns-then : (a b c : Work) → Warns a b → Warns b c → Warns a c
 warns-then a b c x y = record { also = x.also ++ y.also; whole = y.whole ∙ ap (λ es. es ++ y.also) x.whole ∙ append_assoc a.sent x.also y.also; warnings = all-join IsWarned x.also y.also x.warnings y.warnings }
 
-warns-if : (a : Work) (t : Bool) (b c : Work) → Warns a b → Warns a c → Warns a (if t then b else c)
+pub warns-if : (a : Work) (t : Bool) (b c : Work) → Warns a b → Warns a c → Warns a (if t then b else c)
 warns-if a true b c h k = h
 warns-if a false b c h k = k
 
-warns-one : (e : Warn) (w : Work) → Warns w (sends (warned e) w)
+pub warns-one : (e : Warn) (w : Work) → Warns w (sends (warned e) w)
 warns-one e w = by-sends (λ c. Warns w c) (warned e) w (warns-none w w refl) (record { also = warned e ∷ []; whole = refl; warnings = (tt, tt) })
 
 module _ (p : Params) where
-  warns-placed : (place : Where) (f : Float) (left : FloatLists) (w : Work) → Warns w (place_float p place f left w)
+  pub warns-placed : (place : Where) (f : Float) (left : FloatLists) (w : Work) → Warns w (place_float p place f left w)
   warns-placed place f left w = by_placed (is_placed place)
     where
-      by_placed : (t : Bool) → Warns w (with_floats (Rattle.tb_output.specs.FloatMoves.joined_to place f left) (if t then records_also (placed f place w.state.floats (column_height_of p w.state.floats)) w else w))
-      by_placed true = by-records (λ c. Warns w (with_floats (Rattle.tb_output.specs.FloatMoves.joined_to place f left) c)) (placed f place w.state.floats (column_height_of p w.state.floats)) w (warns-none w _ refl) (warns-none w _ refl)
-      by_placed false = warns-none w _ refl
+      by_placed : (t : Bool) → Warns w (with_floats (joined_to place f left) (if t then records_also (placed f place w.state.floats (column_height_of p w.state.floats)) w else w))
+      by_placed true = by-records (λ c. Warns w (with_floats (joined_to place f left) c)) (placed f place w.state.floats (column_height_of p w.state.floats)) w (warns-none w (with_floats (joined_to place f left) w) refl) (warns-none w (with_floats (joined_to place f left) (record w { records = w.records ++ placed f place w.state.floats (column_height_of p w.state.floats) ∷ [] })) refl)
+      by_placed false = warns-none w (with_floats (joined_to place f left) w) refl
 
-  warns-defer : (f : Float) (left : FloatLists) (w : Work) → Warns w (defer p f left w)
+  pub warns-defer : (f : Float) (left : FloatLists) (w : Work) → Warns w (defer p f left w)
   warns-defer f left w =
       let a = place_float p places.Deferred (with_top f) left w in
       warns-if w (only_here f) (sends (warned (warnings.Ht f.name)) a) (place_float p places.Deferred f left w)
       (warns-then w a (sends (warned (warnings.Ht f.name)) a) (warns-placed places.Deferred (with_top f) left w) (warns-one (warnings.Ht f.name) a)) (warns-placed places.Deferred f left w)
 
   -- what goes back sends nothing
-  warns-back : (a b c : Work) → c.sent ≡ b.sent → Warns a b → Warns a c
+  pub warns-back : (a b c : Work) → c.sent ≡ b.sent → Warns a b → Warns a c
   warns-back a b c e x = record { also = x.also; whole = e ∙ x.whole; warnings = x.warnings }
 
-  warns-goes : (vert : Bool) (f : Float) (left : FloatLists) (w : Work) (place : Where) → Warns w (float_goes p vert f left w place)
+  pub warns-goes : (vert : Bool) (f : Float) (left : FloatLists) (w : Work) (place : Where) → Warns w (float_goes p vert f left w place)
   warns-goes vert f left w places.Here = warns-back w (place_float p places.Here f left w) (float_goes p vert f left w places.Here) refl (warns-placed places.Here f left w)
   warns-goes vert f left w places.Top = warns-back w (place_float p places.Top f left w) (float_goes p vert f left w places.Top) refl (warns-placed places.Top f left w)
   warns-goes vert f left w places.Bottom = warns-back w (place_float p places.Bottom f left w) (float_goes p vert f left w places.Bottom) refl (warns-placed places.Bottom f left w)
@@ -98,7 +98,7 @@ module _ (p : Params) where
   warns-goes vert f left w places.Double = warns-back w (defer p f left w) (float_goes p vert f left w places.Double) refl (warns-defer f left w)
   warns-goes vert f left w places.Deferred = warns-back w (defer p f left w) (float_goes p vert f left w places.Deferred) refl (warns-defer f left w)
 
-  warns-note : (depth : ℤ) (m : Margin) (left : FloatLists) (w : Work) (at : Placed) → Warns w (note_goes p depth m left w at)
+  pub warns-note : (depth : ℤ) (m : Margin) (left : FloatLists) (w : Work) (at : Placed) → Warns w (note_goes p depth m left w at)
   warns-note depth m left w at =
       let b = with_note_bottom at.bottom (with_floats left w) in
       warns-back w (moved_warning m at b) (note_goes p depth m left w at) refl
@@ -119,7 +119,7 @@ module _ (p : Params) where
       (warns-if w (is_crowded p room) (leave_column w) (with_goal room w) (warns-back w b (leave_column w) refl (warns-one (warnings.Floats w.state.page) w)) (warns-none w (with_goal room w) refl))
 
 -- warnings are in order, and change nothing
-warned-order : (es : List PlainSent) → AllByRecursion IsWarned es → (later : List Shown) (m : SummaryView) → IsOrderly later m → IsOrderly (all_shown (all_sent es) ++ later) m
+pub warned-order : (es : List PlainSent) → AllByRecursion IsWarned es → (later : List Shown) (m : SummaryView) → IsOrderly later m → IsOrderly (all_shown (all_sent es) ++ later) m
 warned-order [] a later m h = h
 warned-order (warned e ∷ es) a later m h = (tt, warned-order es a.1 later m h)
 warned-order (shipped page sheet ∷ es) a later m h = absurd a.0
@@ -171,10 +171,6 @@ module _ (p : Params) (K : ℕ → Type 0) (n : ℤ) where
   abbrev Ended : Work → List Piece → SummaryView → Type 0
   Ended b ps m = Ends ps (next_goal p n b).sent m (λ k. (next_goal p n b).refused ≡ false → FitState p K (next_goal p n b).state k)
 
-  ended-if : (m : SummaryView) (t : Bool) (b c : Work) (ps qs : List Piece) → (t ≡ true → Ended b ps m) → (t ≡ false → Ended c qs m) → Ended (if t then b else c) (if t then ps else qs) m
-  ended-if m true b c ps qs h k = h refl
-  ended-if m false b c ps qs h k = k refl
-
   ended-shows : (a b : Work) (ps : List Piece) (m : SummaryView) → a.sent ≡ [] → Shows a b ps m (Stand p K b) → Ended b ps m
   ended-shows a b ps m e x =
       let g = warns-goal p n b in
@@ -195,9 +191,6 @@ pub firing-ends : (p : Params) (Before K : ℕ → Type 0) (s : State) (f : Fire
 unfolding out firing_pieces
 firing-ends p Before K s f once known new m a = ended
   where
-    w : Work
-    w = begun (after_page s f)
-
     stand : Stand p K (begun (after_page s f)) m
     stand r =
         all-map (Fits (Waits s) (IsInArea s) (Waits s) Before m.sheets) (Fits (Waits s) (IsInArea s) (Waits s) K m.sheets)
@@ -221,21 +214,19 @@ firing-ends p Before K s f once known new m a = ended
     is-text false true x y e d i = cc
     is-text false false x y e d i = i
 
-    or-first : (x y : Bool) → x ≡ true → (x || y) ≡ true
-    or-first true y e = refl
-    or-first false y e = cc
-
-    or-second : (x y : Bool) → y ≡ true → (x || y) ≡ true
-    or-second true y e = refl
-    or-second false y e = e
+    by_penalty : (t c x y : Bool) → (t ≡ false → c ≡ false → (x || y) ≡ true → is_text f.penalty ≡ true)
+        → Ended p K f.penalty (if t then ordinary p f.body (begun (after_page s f)) else (if c then clear p f.body (begun (after_page s f)) else (if x then float_or_note p false f.body (begun (after_page s f)) else (if y then float_or_note p true f.body (begun (after_page s f)) else hold f.body (begun (after_page s f))))))
+        (if t then ordinary_pieces p f.body (begun (after_page s f)) else (if c then clear_pieces p f.body (begun (after_page s f)) else (if x then text_float_pieces p f.body (begun (after_page s f)) else (if y then text_float_pieces p f.body (begun (after_page s f)) else [])))) m
+    by_penalty true c x y i = let w = begun (after_page s f) in ended-shows p K f.penalty w (ordinary p f.body w) (ordinary_pieces p f.body w) m refl (ordinary-shown p K f.body w once m stand)
+    by_penalty false true x y i = let w = begun (after_page s f) in ended-shows p K f.penalty w (clear p f.body w) (clear_pieces p f.body w) m refl (clear-shown p K f.body w (footnotes w.state) once m stand)
+    by_penalty false false true y i = text-ends false (i refl refl refl)
+    by_penalty false false false true i = text-ends true (i refl refl refl)
+    by_penalty false false false false i = let w = begun (after_page s f) in ended-tells p K f.penalty w (hold f.body w) [] m refl (warns-none w (hold f.body w) refl) (record { order = tt; after = stand refl })
 
     ended : Ended p K f.penalty (output_by p f (begun (after_page s f))) (output_pieces p f (begun (after_page s f))) m
     ended =
-        let w = begun (after_page s f) in
-        let par = is_int f.penalty par_penalty in
-        let vert = is_int f.penalty vert_penalty in
-        ended-if p K f.penalty m (int_le eject_penalty f.penalty) (ordinary p f.body w) _ (ordinary_pieces p f.body w) _ (λ e. ended-shows p K f.penalty w (ordinary p f.body w) (ordinary_pieces p f.body w) m refl (ordinary-shown p K f.body w once m stand))
-        (λ e. ended-if p K f.penalty m (is_int f.penalty clear_penalty) (clear p f.body w) _ (clear_pieces p f.body w) _ (λ d. ended-shows p K f.penalty w (clear p f.body w) (clear_pieces p f.body w) m refl (clear-shown p K f.body w (footnotes w.state) once m stand))
-        (λ d. ended-if p K f.penalty m par (float_or_note p false f.body w) _ (text_float_pieces p f.body w) _ (λ i. text-ends false (is-text _ _ par vert e d (or-first par vert i)))
-        (λ i. ended-if p K f.penalty m vert (float_or_note p true f.body w) (hold f.body w) (text_float_pieces p f.body w) [] (λ j. text-ends true (is-text _ _ par vert e d (or-second par vert j)))
-        (λ j. ended-tells p K f.penalty w (hold f.body w) [] m refl (warns-none w (hold f.body w) refl) (record { order = tt; after = stand refl })))))
+        let t = int_le eject_penalty f.penalty in
+        let c = is_int f.penalty clear_penalty in
+        let x = is_int f.penalty par_penalty in
+        let y = is_int f.penalty vert_penalty in
+        by_penalty t c x y (λ e d i. is-text t c x y e d i)

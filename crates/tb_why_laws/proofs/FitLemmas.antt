@@ -1,6 +1,6 @@
 -- How each story fits what waits: what is so of it while floats are kept back, placed and shipped, and where a column is put out.
-use Rattle.std.proofs.Common.{◌≡◌, refl, sym, ◌∙◌, ap, subst, inl, inr, ◌⊎◌, ℕ, ◌+◌, ◌-◌, Bool, true, false, List, [], ◌∷◌, ◌++◌, map, Option, Some, None, if◌then◌else◌, is_some, arith}
-use Rattle.std.specs.Prelude.{⊤, ◌&&◌, ◌==◌}
+use Rattle.std.proofs.Common.{◌≡◌, refl, sym, subst, inl, inr, ◌⊎◌, ℕ, ◌+◌, ◌-◌, Bool, true, false, List, [], ◌∷◌, ◌++◌, map, Option, Some, None, if◌then◌else◌, is_some, arith}
+use Rattle.std.specs.Prelude.{◌&&◌, ◌==◌}
 use Rattle.std.specs.List.{AllByRecursion}
 use Rattle.tb_break.proofs.EachLemmas.{all-push, all-map}
 use Rattle.tb_node.specs.declared.Float.{Float}
@@ -10,8 +10,8 @@ use Rattle.tb_node.specs.declared.Where.{Where}
 use Rattle.tb_node.specs.PlainNodes.{hbox, PlainKind, plain, PlainNode}
 use Rattle.tb_sheet.specs.Sheet.{PlainSheet, one, wide, two}
 use Rattle.tb_story.specs.declared.Kept.{Kept}
-use Rattle.tb_story.specs.Story.{StoryView, is_open, is_open_by, is_deferred, is_story_of, begun, kept_back, placed_at, landed_at, missed, missed_by, missed_sheet, by_break, carried, waits, if_of, with_story}
-use Rattle.tb_story.specs.Summary.{SummaryView, after_output, after_stands, after_box, after_node, after_nodes, after_sheet}
+use Rattle.tb_story.specs.Story.{StoryView, is_open, is_deferred, is_story_of, begun, kept_back, placed_at, landed_at, missed, missed_by, missed_sheet, by_break, carried, waits, if_of, with_story}
+use Rattle.tb_story.specs.Summary.{after_box, after_node, after_nodes, after_sheet}
 use Rattle.tb_why.specs.SummaryLaws.{counted_to, IsCurrent, AreCurrent, IsPlaced, HasReason, IsNotOn}
 use Rattle.tb_why.proofs.MovingLemmas.{all_mapped}
 use Rattle.tb_why.proofs.LandingLemmas.{open_of, line_of}
@@ -35,18 +35,22 @@ NoLine n = ⊥
 
 -- ---- tests
 
-both-true : (a b : Bool) → a ≡ true → b ≡ true → (a && b) ≡ true
+pub both-true : (a b : Bool) → a ≡ true → b ≡ true → (a && b) ≡ true
 both-true true b e d = d
 both-true false b e d = cc
 
-left-true : (a b : Bool) → (a && b) ≡ true → a ≡ true
+pub left-true : (a b : Bool) → (a && b) ≡ true → a ≡ true
 left-true true b e = refl
 left-true false b e = cc
 
 same-line : (n : ℕ) → (n == n) ≡ true
 same-line n = grind arith
 
-true-not-false : (b : Bool) → b ≡ true → b ≡ false → ⊥
+pub right-true : (a b : Bool) → (a && b) ≡ true → b ≡ true
+right-true true b e = e
+right-true false b e = cc
+
+pub true-not-false : (b : Bool) → b ≡ true → b ≡ false → ⊥
 true-not-false b e d = cc
 
 -- the float of an open story of the line
@@ -57,11 +61,11 @@ of_line line s o e = both-true (is_open s) (s.float.line == line) o (subst (λ n
 not-of : (line : ℕ) (s : StoryView) → is_story_of line s ≡ false → is_open s ≡ true → s.float.line ≡ line → ⊥
 not-of line s f o e = true-not-false (is_story_of line s) (of_line line s o e) f
 
-to_now : (b : Bool) (n p : ℕ) → b ≡ true → (if b then n else p) ≡ n
+pub to_now : (b : Bool) (n p : ℕ) → b ≡ true → (if b then n else p) ≡ n
 to_now true n p e = refl
 to_now false n p e = cc
 
-either_now : (b : Bool) (n : ℕ) → (if b then n else n) ≡ n
+pub either_now : (b : Bool) (n : ℕ) → (if b then n else n) ≡ n
 either_now true n = refl
 either_now false n = refl
 
@@ -122,10 +126,6 @@ module _ (K : ℕ → Type 0) where
         known = f.known;
       }) ss a
     where
-      right-true : (x y : Bool) → (x && y) ≡ true → y ≡ true
-      right-true true y e = e
-      right-true false y e = cc
-
       never : (s : StoryView) → (is_open s && is_deferred w) ≡ true → ⊥
       never s i = true-not-false (is_deferred w) (right-true (is_open s) (is_deferred w) i) d
 

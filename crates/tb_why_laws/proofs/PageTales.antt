@@ -1,6 +1,6 @@
 -- What is told of pages and columns that are put out is in order.
-use Rattle.std.proofs.Common.{◌≡◌, refl, sym, ◌∙◌, ap, subst, inl, inr, ◌⊎◌, ℕ, zero, suc, pos, ◌+◌, Bool, true, false, List, [], ◌∷◌, ◌++◌, map, length, Option, Some, None, if◌then◌else◌, append_assoc, append-nil}
-use Rattle.std.specs.Prelude.{◌&&◌, not, int_lt}
+use Rattle.std.proofs.Common.{◌≡◌, refl, sym, ◌∙◌, ap, subst, inl, inr, ◌⊎◌, ℕ, zero, suc, Bool, true, false, List, [], ◌∷◌, ◌++◌, map, length, Option, Some, None, if◌then◌else◌}
+use Rattle.std.specs.Prelude.{◌&&◌, not}
 use Rattle.std.specs.List.{AllByRecursion}
 use Rattle.tb_break.proofs.EachLemmas.{all-map}
 use Rattle.tb_node.specs.declared.Float.{Float}
@@ -11,38 +11,35 @@ use Rattle.tb_float.specs.declared.Part.{Part}
 use Rattle.tb_float.specs.declared.Part.TheVariants as parts
 use Rattle.tb_float.specs.Lists.{FloatLists, IsWaiting, floats_of, with_floats_of, wide_part, wide_waiting, with_wide_waiting}
 use Rattle.tb_float.proofs.WaitingLemmas.{wide-waits}
-use Rattle.tb_float.specs.Rooms.{column_height_of}
 use Rattle.tb_fpage.specs.declared.Wanted.{Wanted}
 use Rattle.tb_fpage.specs.Company.{Choice, company, chosen_floats, left_floats}
-use Rattle.tb_column.specs.Column.{PlainColumn, text_column, single_floats_column, wide_floats_column}
-use Rattle.tb_sheet.specs.Sheet.{PlainSheet, PlainSent, shipped, one, wide, pair_sheet}
-use Rattle.tb_told.specs.declared.Piece.{Piece}
+use Rattle.tb_column.specs.Column.{PlainColumn, text_column, wide_floats_column}
+use Rattle.tb_sheet.specs.Sheet.{PlainSheet, shipped, one, wide, pair_sheet}
 use Rattle.tb_told.specs.declared.Piece.TheVariants.{Says}
-use Rattle.tb_told.specs.declared.Tale.{Tale}
 use Rattle.tb_told.specs.declared.Tale.TheVariants.{PutOut, Stands}
 use Rattle.tb_told.specs.ColumnTold.{taken_floats}
 use Rattle.tb_told.specs.Tales.{tales, column_tales, here_lines, stands_tales}
 use Rattle.tb_output.specs.State.{State, Work, output, records_also, with_floats, footnotes}
-use Rattle.tb_output.specs.Pages.{ship, wide_wanted, with_deferred, ship_wide, wide_pages, wide_pages_by, all_wide_pages, after_column, keep_left, left_or, without_double, fill_double, ship_pair, put_out_by, put_out}
-use Rattle.tb_output.specs.Columns.{without_column_floats, put_out_text, put_out_company, single_wanted, float_columns, float_columns_by, all_float_columns, fill_column, ordinary}
+use Rattle.tb_output.specs.Pages.{ship, wide_wanted, ship_wide, wide_pages, wide_pages_by, all_wide_pages, keep_left, left_or, without_double, fill_double, ship_pair, put_out_by, put_out}
+use Rattle.tb_output.specs.Columns.{without_column_floats, put_out_text}
 use Rattle.tb_output.proofs.StepLaws.RefusedSteps.{by-records, by-any-ship}
-use Rattle.tb_output.proofs.StepLaws.Moves.{Hand, nothing, of_text, of_column, ships_column, keeps_left, ships_pair, ships_wide, takes_company, records_column, by_column, takes_text}
-use Rattle.tb_output.proofs.StepLaws.FiringTree.{all_wide-moves, two-kept, put_out-moves, put_out_text-moves, all_columns-moves}
+use Rattle.tb_output.proofs.StepLaws.Moves.{nothing, of_text, of_column, ships_column, ships_pair, ships_wide, records_column, takes_text}
+use Rattle.tb_output.proofs.StepLaws.FiringTree.{all_wide-moves, two-kept}
 use Rattle.tb_story.specs.Summary.{SummaryView, after_tale, after_page}
-use Rattle.tb_why.specs.Firing.{spot_of, unless_over, ship_pieces, wide_pieces_by, wide_pieces, all_wide_pieces, fill_double_pieces, after_pair, pair_pieces, put_out_pieces_by, put_out_pieces, text_pieces, company_pieces, float_pieces_by, float_pieces, all_float_pieces, fill_pieces, start_pieces, ordinary_pieces}
-use Rattle.tb_why.specs.SummaryLaws.{HoldsFloat, IsSentInOrder}
+use Rattle.tb_why.specs.Firing.{spot_of, unless_over, ship_pieces, wide_pieces_by, wide_pieces, all_wide_pieces, fill_double_pieces, after_pair, pair_pieces, put_out_pieces_by, put_out_pieces, text_pieces}
+use Rattle.tb_why.specs.SummaryLaws.{HoldsFloat}
 use Rattle.tb_laws.specs.Laws.{float_lines}
 use Rattle.tb_laws.proofs.ClassesRise.RisingLists.{IsAmong, among-back}
 use Rattle.tb_why_laws.proofs.WaitingLines.{waiting_lines}
 use Rattle.tb_why_laws.proofs.Once.{Once}
-use Rattle.tb_why_laws.proofs.OnceMoves.{column-once, columns-once, page-once, pages-once}
+use Rattle.tb_why_laws.proofs.OnceMoves.{column-once, columns-once, page-once}
 use Rattle.tb_why_laws.proofs.OnceLists.{stands-apart, sent-apart, company-apart, company-parts}
-use Rattle.tb_why_laws.proofs.FitLemmas.{AllFit, NoLine, weaker, are-placed, are-not-on, have-reasons, puts-out, stands, lands}
+use Rattle.tb_why_laws.proofs.FitLemmas.{AllFit, NoLine, true-not-false, weaker, are-placed, are-not-on, have-reasons, puts-out, stands, lands}
 use Rattle.tb_why_laws.proofs.DecisionLemmas.{Tells}
 use Rattle.tb_why_laws.proofs.ColumnTales.{TakesOut, column-told}
 use Rattle.tb_why_laws.proofs.ShowLemmas.{Shows, shows-then, shows-none, shows-behind, shows-before, shows-tales, shows-page}
 use Rattle.tb_why_laws.proofs.PlacingLemmas.{area_lines, all-lines, others, waits-there, waits-so, waits-in, waits-of}
-use Rattle.tb_why_laws.proofs.StandLemmas.{Waits, IsInArea, FitState, Stand, stand-stopped, stand-shipped, stand-recorded, records-send, next-shown, double-shown}
+use Rattle.tb_why_laws.proofs.StandLemmas.{Waits, IsInArea, FitState, Stand, stand-stopped, stand-shipped, records-send, double-shown}
 
 -- no float is at the top or bottom
 abbrev pub Bare : FloatLists → Type 0
@@ -51,9 +48,6 @@ Bare l = (l.top ≡ []) × (l.bottom ≡ [])
 -- nor above both columns
 abbrev pub Empty : FloatLists → Type 0
 Empty l = (l.top ≡ []) × (l.bottom ≡ []) × (l.double ≡ [])
-
-stopped : (b : Bool) → b ≡ true → b ≡ false → ⊥
-stopped b e d = cc
 
 none-double : (b : Bool) (fs : List Float) → fs ≡ [] → (if b then float_lines fs else []) ≡ []
 none-double true fs e = ap float_lines e
@@ -80,7 +74,7 @@ module _ (p : Params) (K : ℕ → Type 0) where
   -- a column is put out
   output-by : (V N : ℕ → Type 0) (w : Work) (m : SummaryView) → (w.refused ≡ false → AllFit V N V K m.sheets m.stories) → Shows w w (unless_over w (Says PutOut ∷ [])) m (λ n. w.refused ≡ false → AllFit V NoLine V K n.sheets n.stories)
   output-by V N w m h =
-      shows-tales w (PutOut ∷ []) m (λ n. w.refused ≡ false → AllFit V NoLine V K n.sheets n.stories) (λ r q. absurd (stopped w.refused r q))
+      shows-tales w (PutOut ∷ []) m (λ n. w.refused ≡ false → AllFit V NoLine V K n.sheets n.stories) (λ r q. absurd (true-not-false w.refused r q))
       (λ r. record { order = (have-reasons K V N V m.sheets m.stories (h r), tt); after = λ q. puts-out K V N V m.sheets m.stories (h r) })
 
   ship-floats : (sheet : PlainSheet) (w : Work) → (ship p sheet w).state.floats ≡ w.state.floats
@@ -127,16 +121,16 @@ module _ (p : Params) (K : ℕ → Type 0) where
         let fs = floats_of from w.state.floats in
         shows-tales w (column_tales (spot_of w.state) z fs) m (Stand p K w) (λ r. stand-stopped p K w m r)
         (λ r. let x = column-told K (IsInArea w.state) (Waits w.state) (spot_of w.state) z fs (Waits w.state) (all-wait from q w.state) (subst (λ o. TakesOut K (IsInArea w.state) (Waits w.state) (taken_floats o) (Waits w.state)) (sym e) (record { fewer = λ n i. i; most = λ n i. inl i; taken = λ n i. absurd i; apart = λ n i. absurd i })) m (h r) in
-            record { order = x.order; after = λ q. x.after })
+        record { order = x.order; after = λ q. x.after })
 
     -- a column is looked for, and there is one
     pub some-told : (cs : List Choice) → company z (floats_of from w.state.floats) ≡ Some cs → (m : SummaryView) → Stand p K w m
         → Shows w w (unless_over w (tales (column_tales (spot_of w.state) z (floats_of from w.state.floats)))) m (λ m. w.refused ≡ false → AllFit (Left cs) (IsInArea w.state) (Left cs) K m.sheets m.stories)
     some-told cs e m h =
         let fs = floats_of from w.state.floats in
-        shows-tales w (column_tales (spot_of w.state) z fs) m (λ m. w.refused ≡ false → AllFit (Left cs) (IsInArea w.state) (Left cs) K m.sheets m.stories) (λ r k. absurd (stopped w.refused r k))
+        shows-tales w (column_tales (spot_of w.state) z fs) m (λ m. w.refused ≡ false → AllFit (Left cs) (IsInArea w.state) (Left cs) K m.sheets m.stories) (λ r k. absurd (true-not-false w.refused r k))
         (λ r. let x = column-told K (IsInArea w.state) (Waits w.state) (spot_of w.state) z fs (Left cs) (all-wait from q w.state) (subst (λ o. TakesOut K (IsInArea w.state) (Waits w.state) (taken_floats o) (Left cs)) (sym e) (takes-out cs r e)) m (h r) in
-            record { order = x.order; after = λ k. x.after })
+        record { order = x.order; after = λ k. x.after })
 
   -- ---- pages of wide floats
 
@@ -199,7 +193,7 @@ module _ (p : Params) (K : ℕ → Type 0) where
   pair-stands : (sheet : PlainSheet) (w : Work) (m : SummaryView) → Bare w.state.floats → (w.refused ≡ false → FitPut w.state m) → Stand p K (without_double (ship p sheet w)) m
   pair-stands sheet w m b fit =
       let h : Stand p K (without_double w) m = (λ r. fit-put (without_double w).state m (none-placed (without_double w).state b (none-double (w.state.two_columns && true) [] refl)) (fit r)) in
-      by-any-ship (λ c. Stand p K (without_double c) m) p sheet w h (λ r. absurd (stopped true refl r)) h
+      by-any-ship (λ c. Stand p K (without_double c) m) p sheet w h (λ r. absurd (true-not-false true refl r)) h
 
   -- the page of two columns, the pages of wide floats, and the space above the next two columns
   pair-shown : (c : PlainColumn) (w : Work) → Once (of_column c) w → w.state.two_columns ≡ true → w.state.first_column ≡ false → Bare w.state.floats → (m : SummaryView) → (w.refused ≡ false → FitPut w.state m)

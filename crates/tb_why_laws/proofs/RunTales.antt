@@ -10,10 +10,7 @@ use Rattle.tb_galley.specs.declared.Galley.{Galley}
 use Rattle.tb_galley.specs.GalleyNodes.{expanded}
 use Rattle.tb_galley.specs.Valid.{IsValid}
 use Rattle.tb_builder.specs.Reach.{Reached, acted, tried}
-use Rattle.tb_builder.specs.FiredPages.{Fired}
 use Rattle.tb_builder.proofs.Cutting.CutLemmas.{acted_of}
-use Rattle.tb_float.specs.declared.Entry.{Entry}
-use Rattle.tb_float.specs.declared.Entry.TheVariants as entries
 use Rattle.tb_sheet.specs.declared.Warn.{Warn}
 use Rattle.tb_sheet.specs.Sheet.{warned, shipped}
 use Rattle.tb_output.specs.State.{State, Work, Recorded, emptied, first_state}
@@ -25,22 +22,21 @@ use Rattle.tb_steps.specs.Run.{End, done, pool_full, dead_cycles, page_limit, no
 use Rattle.tb_told.specs.declared.Tale.TheVariants as tale
 use Rattle.tb_story.specs.Summary.{SummaryView, no_stories, by_width, after_tale}
 use Rattle.tb_why.specs.Firing.{spot_of, firing_pieces, woven}
-use Rattle.tb_why.specs.WhyRun.{Shown, tells, all_happen, all_shown, wait_tales, firing_shown, fired_shown, step_shown, shown_after, shown_from, shown_run}
+use Rattle.tb_why.specs.WhyRun.{Shown, tells, all_happen, all_shown, firing_shown, fired_shown, step_shown, shown_after, shown_from, shown_run}
 use Rattle.tb_why.specs.SummaryLaws.{IsOrderly}
 use Rattle.tb_laws.specs.Laws.{float_lines}
 use Rattle.tb_laws.proofs.ClassesRise.PageLines.{deeds}
 use Rattle.tb_laws.proofs.ClassesRise.RisingLists.{IsAmong, among-front, among-back}
 use Rattle.tb_laws.proofs.NothingLost.RunWeights.{page_of}
-use Rattle.tb_why_laws.proofs.WaitingLines.{waiting_lines, uncalled}
+use Rattle.tb_why_laws.proofs.WaitingLines.{uncalled}
 use Rattle.tb_why_laws.proofs.OnceLists.{among-parts}
 use Rattle.tb_why_laws.proofs.OnceStates.{Running, now, fires, fires-once, goes, starts}
 use Rattle.tb_why_laws.proofs.CallWeights.{called_later}
 use Rattle.tb_why_laws.proofs.ActedLists.{ActedLists}
-use Rattle.tb_why_laws.proofs.CalledLater.{acts-lists, still-uncalled, news-uncalled, news-apart, later-apart, first-apart, first-once}
+use Rattle.tb_why_laws.proofs.CalledLater.{acts-lists, still-uncalled, news-uncalled, news-apart, first-apart, first-once}
 use Rattle.tb_why_laws.proofs.AfterCalls.{after-uncalled, after-first}
-use Rattle.tb_why_laws.proofs.OutCalls.{is_text}
 use Rattle.tb_why_laws.proofs.FitLemmas.{Fits, AllFit, begins}
-use Rattle.tb_why_laws.proofs.PlacingLemmas.{area_lines, either-list, in-first, in-second}
+use Rattle.tb_why_laws.proofs.PlacingLemmas.{either-list, in-first, in-second}
 use Rattle.tb_why_laws.proofs.StandLemmas.{Waits, IsInArea, FitState}
 use Rattle.tb_why_laws.proofs.FiringTales.{Ends, firing-ends}
 
@@ -74,11 +70,11 @@ quiet-order (sent (shipped page sheet) ∷ es) a later m h = absurd a.0
 
 -- ---- wide floats of release 2014 that wait
 
-abbrev after-waits : State → List Float → SummaryView → SummaryView
+abbrev pub after-waits : State → List Float → SummaryView → SummaryView
 after-waits s [] m = m
 after-waits s (f ∷ fs) m = after-waits s fs (after_tale (tale.Waits (spot_of s) f) m)
 
-waits-order : (s : State) (fs : List Float) (later : List Shown) (m : SummaryView) → IsOrderly later (after-waits s fs m) → IsOrderly (map (λ f. tells (tale.Waits (spot_of s) f)) fs ++ later) m
+pub waits-order : (s : State) (fs : List Float) (later : List Shown) (m : SummaryView) → IsOrderly later (after-waits s fs m) → IsOrderly (map (λ f. tells (tale.Waits (spot_of s) f)) fs ++ later) m
 waits-order s [] later m h = h
 waits-order s (f ∷ fs) later m h = (tt, waits-order s fs later (after_tale (tale.Waits (spot_of s) f) m) h)
 

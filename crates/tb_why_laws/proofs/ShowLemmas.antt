@@ -1,13 +1,13 @@
 -- What is shown of a part of a firing is in order: tales, and the pages that are sent among them.
-use Rattle.std.proofs.Common.{◌≡◌, refl, sym, ◌∙◌, ap, subst, ℕ, pos, ◌+◌, Bool, true, false, List, [], ◌∷◌, ◌++◌, map, if◌then◌else◌, append_assoc, append-nil}
-use Rattle.std.specs.Prelude.{⊤, int_lt}
+use Rattle.std.proofs.Common.{◌≡◌, refl, sym, ◌∙◌, ap, subst, pos, ◌+◌, Bool, true, false, List, [], ◌∷◌, ◌++◌, if◌then◌else◌, append_assoc, append-nil}
+use Rattle.std.specs.Prelude.{int_lt}
 use Rattle.tb_param.specs.declared.Params.{Params}
-use Rattle.tb_sheet.specs.Sheet.{PlainSheet, PlainSent, warned, shipped}
+use Rattle.tb_sheet.specs.Sheet.{PlainSheet, PlainSent, shipped}
 use Rattle.tb_output.specs.State.{Work}
 use Rattle.tb_output.specs.Pages.{ship, ship_now}
 use Rattle.tb_told.specs.declared.Tale.{Tale}
 use Rattle.tb_told.specs.declared.Piece.{Piece}
-use Rattle.tb_told.specs.declared.Piece.TheVariants.{Says, NextSent}
+use Rattle.tb_told.specs.declared.Piece.TheVariants.{NextSent}
 use Rattle.tb_told.specs.Tales.{tales}
 use Rattle.tb_story.specs.Summary.{SummaryView, after_tale, after_page}
 use Rattle.tb_why.specs.Firing.{unless_over, ship_pieces, woven}

@@ -1,38 +1,34 @@
 -- How the stories stand to a work: what its moves make of it, and the floats that are tried for the next column or pair.
-use Rattle.std.proofs.Common.{◌≡◌, refl, sym, ◌∙◌, ap, subst, inl, inr, ◌⊎◌, ℕ, pos, ◌+◌, Bool, true, false, List, [], ◌∷◌, ◌++◌, if◌then◌else◌, append_assoc, append-nil}
-use Rattle.std.specs.Prelude.{◌&&◌, int_lt}
-use Rattle.std.specs.List.{AllByRecursion}
+use Rattle.std.proofs.Common.{◌≡◌, refl, sym, ◌∙◌, ap, subst, inl, inr, ◌⊎◌, ℕ, Bool, true, false, List, [], ◌∷◌, ◌++◌, if◌then◌else◌, append_assoc}
 use Rattle.tb_node.specs.declared.Float.{Float}
 use Rattle.tb_node.specs.declared.Where.{Where}
 use Rattle.tb_node.specs.declared.Where.TheVariants as places
 use Rattle.tb_param.specs.declared.Params.{Params}
 use Rattle.tb_float.specs.declared.Part.{Part}
 use Rattle.tb_float.specs.declared.Part.TheVariants as parts
-use Rattle.tb_float.specs.Lists.{FloatLists, IsWaiting, floats_of, with_floats_of, wide_part, wide_waiting}
+use Rattle.tb_float.specs.Lists.{FloatLists, IsWaiting, floats_of, with_floats_of, wide_part}
 use Rattle.tb_float.proofs.WaitingLemmas.{wide-waits}
 use Rattle.tb_float.specs.Rooms.{column_height_of}
-use Rattle.tb_area.specs.Area.{AreaPlace, at_top, at_bottom, deferred, where_of, next_place, next_area_place, double_place, goes_double}
+use Rattle.tb_area.specs.Area.{AreaPlace, at_top, at_bottom, deferred, where_of, next_area_place, double_place, goes_double}
 use Rattle.tb_sheet.specs.Sheet.{PlainSheet}
-use Rattle.tb_told.specs.declared.Piece.{Piece}
 use Rattle.tb_told.specs.declared.Told.{Told}
 use Rattle.tb_told.specs.AreaTold.{told_next, told_wide, place_told}
 use Rattle.tb_told.proofs.AreaLemmas.{next_decides, wide_decides}
 use Rattle.tb_told.specs.Tales.{tales, decisions}
 use Rattle.tb_output.specs.State.{State, Work, Recorded, placed, records_also, with_floats}
-use Rattle.tb_output.specs.FloatMoves.{is_placed, joined_to, place_float, still_deferred, place_waiting, place_next, place_double}
+use Rattle.tb_output.specs.FloatMoves.{joined_to, still_deferred, place_waiting, place_next, place_double}
 use Rattle.tb_output.specs.Pages.{ship}
 use Rattle.tb_output.proofs.StepLaws.RefusedSteps.{by-records, by-any-ship}
-use Rattle.tb_output.proofs.StepLaws.Moves.{Hand, nothing, places_next, places_double, by_fill, by_column}
-use Rattle.tb_story.specs.Story.{StoryView, is_deferred}
+use Rattle.tb_output.proofs.StepLaws.Moves.{nothing, places_next, places_double, by_fill}
+use Rattle.tb_story.specs.Story.{is_deferred}
 use Rattle.tb_story.specs.Summary.{SummaryView}
 use Rattle.tb_why.specs.Firing.{unless_over, next_pieces, double_pieces}
-use Rattle.tb_laws.specs.Laws.{float_lines}
 use Rattle.tb_laws.proofs.ClassesRise.RisingLists.{IsAmong}
 use Rattle.tb_why_laws.proofs.WaitingLines.{waiting_lines}
 use Rattle.tb_why_laws.proofs.Once.{Once}
 use Rattle.tb_why_laws.proofs.OnceMoves.{column-once, page-once}
 use Rattle.tb_why_laws.proofs.OnceLists.{left-apart}
-use Rattle.tb_why_laws.proofs.FitLemmas.{AllFit, weaker, keeps-back, places, waiting-current}
+use Rattle.tb_why_laws.proofs.FitLemmas.{AllFit, true-not-false, keeps-back, places, waiting-current}
 use Rattle.tb_why_laws.proofs.DecisionLemmas.{Tells, Leads, IsAsked, Moves, decision, next-leads, wide-leads}
 use Rattle.tb_why_laws.proofs.ShowLemmas.{Shows, shows-then, shows-none, shows-before, shows-tales}
 use Rattle.tb_why_laws.proofs.PlacingLemmas.{area_lines, waited, waited-too, waits-still, same-areas, joins-area}
@@ -45,10 +41,6 @@ Waits s n = IsAmong n (waiting_lines s.floats)
 abbrev pub IsInArea : State → ℕ → Type 0
 IsInArea s n = IsAmong n (area_lines s)
 
--- a work that was stopped before is stopped
-no-limit : (b : Bool) → b ≡ true → b ≡ false → ⊥
-no-limit b e d = cc
-
 module _ (p : Params) (K : ℕ → Type 0) where
   -- the stories fit the state: what waits there waits, and what is in its areas was placed since the last sheet
   abbrev pub FitState : State → SummaryView → Type 0
@@ -59,22 +51,16 @@ module _ (p : Params) (K : ℕ → Type 0) where
   Stand w m = w.refused ≡ false → FitState w.state m
 
   pub stand-stopped : (w : Work) (m : SummaryView) → w.refused ≡ true → Stand w m
-  stand-stopped w m e r = absurd (no-limit w.refused e r)
+  stand-stopped w m e r = absurd (true-not-false w.refused e r)
 
   -- ---- moves
 
   -- a page is shipped: the lists stay
   pub stand-shipped : (sheet : PlainSheet) (w : Work) (m : SummaryView) → Stand w m → Stand (ship p sheet w) m
-  stand-shipped sheet w m h = by-any-ship (λ c. Stand c m) p sheet w h (λ r. absurd (no-limit true refl r)) h
-
-  pub stand-recorded : (r : Recorded) (w : Work) (m : SummaryView) → Stand w m → Stand (records_also r w) m
-  stand-recorded r w m h = by-records (λ c. Stand c m) r w h h
+  stand-shipped sheet w m h = by-any-ship (λ c. Stand c m) p sheet w h (λ r. absurd (true-not-false true refl r)) h
 
   pub records-send : (r : Recorded) (w : Work) → (records_also r w).sent ≡ w.sent
   records-send r w = by-records (λ c. c.sent ≡ w.sent) r w refl refl
-
-  pub records-refuse : (r : Recorded) (w : Work) → (records_also r w).refused ≡ w.refused
-  records-refuse r w = by-records (λ c. c.refused ≡ w.refused) r w refl refl
 
   -- a float goes to a list
   abbrev pub moved_to : Where → Float → FloatLists → Work → Work
@@ -125,8 +111,8 @@ module _ (p : Params) (K : ℕ → Type 0) where
         current = λ ss n a. waiting-current K (Waits w.state) (IsInArea w.state) (Waits w.state) f.line n this ss a;
         placed = λ d ss n a. places K (Waits w.state) (IsInArea w.state) (Waits w.state) Still N Still f.line place area (λ n i. waited-too from waiting before rest f w.state.floats e n i) (left-apart nothing w once r from waiting before rest f e) now
             (λ n i. waits-still from waiting before rest f w.state.floats e n i) n ss a;
-        kept = λ d. absurd (no-limit (is_deferred place) d area);
-        stays = λ d. absurd (no-limit (is_deferred place) d area);
+        kept = λ d. absurd (true-not-false (is_deferred place) d area);
+        stays = λ d. absurd (true-not-false (is_deferred place) d area);
       }
 
     -- the area that it joins has it as its only new float
@@ -155,7 +141,7 @@ module _ (p : Params) (K : ℕ → Type 0) where
     goes-there : (place : Where) → Joins place → (place ≡ places.Deferred → ⊥) → (ts : List Told) → IsAsked ts → place_told ts ≡ place → (m : SummaryView) → Stand w m → Shows w (moved_to place f left w) (unless_over w (tales (decisions f ts))) m (Stand (moved_to place f left w))
     goes-there place j other ts asked is m h =
         shows-before w w (moved_to place f left w) (unless_over w (tales (decisions f ts))) m (λ n. w.refused ≡ false → FitState (record w.state { floats = joined_to place f left }) n) (Stand (moved_to place f left w)) (moved-sends place f left w) (λ n x. stand-moved place f left w n x)
-        (shows-tales w (decisions f ts) m (λ n. w.refused ≡ false → FitState (record w.state { floats = joined_to place f left }) n) (λ r q. absurd (no-limit w.refused r q))
+        (shows-tales w (decisions f ts) m (λ n. w.refused ≡ false → FitState (record w.state { floats = joined_to place f left }) n) (λ r q. absurd (true-not-false w.refused r q))
         (λ r. let x = tells-moved place j ts (asked-leads ts place asked is other) m r (h r) in record { order = x.order; after = λ q. x.after }))
 
     -- it goes where it is told to go, or stays
@@ -164,7 +150,7 @@ module _ (p : Params) (K : ℕ → Type 0) where
     tries places.Bottom j ts asked is m h = goes-there places.Bottom tt (λ q. cc) ts asked is m h
     tries places.Double j ts asked is m h = goes-there places.Double tt (λ q. cc) ts asked is m h
     tries places.Deferred j ts asked is m h =
-        shows-tales w (decisions f ts) m (Stand w) (λ r q. absurd (no-limit w.refused r q)) (λ r. let x = tells-stays ts (asked-stays ts asked is) m (h r) in record { order = x.order; after = λ q. x.after })
+        shows-tales w (decisions f ts) m (Stand w) (λ r q. absurd (true-not-false w.refused r q)) (λ r. let x = tells-stays ts (asked-stays ts asked is) m (h r) in record { order = x.order; after = λ q. x.after })
     tries places.Here (inl j) ts asked is m h = absurd j
     tries places.Here (inr e) ts asked is m h = cc
     tries places.Page (inl j) ts asked is m h = absurd j
