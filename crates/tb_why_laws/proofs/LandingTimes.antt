@@ -2,7 +2,6 @@
 use Rattle.std.proofs.Common.{◌≡◌, refl, sym, ◌∙◌, ap, subst, inl, inr, ℕ, ◌+◌, ◌-◌, Bool, true, false, List, [], ◌∷◌, ◌++◌, map, Option, Some, None, if◌then◌else◌, append-nil, append_assoc, arith}
 use Rattle.std.specs.Prelude.{⊤, ◌&&◌, ◌==◌}
 use Rattle.std.specs.List.{AllByRecursion}
-use Rattle.tb_node.specs.declared.Float.{Float}
 use Rattle.tb_node.specs.declared.What.{What}
 use Rattle.tb_node.specs.declared.What.TheVariants as what
 use Rattle.tb_node.specs.declared.Where.{Where}
@@ -18,7 +17,7 @@ use Rattle.tb_story.specs.Story.{StoryView, is_open, is_open_by, is_deferred, is
 use Rattle.tb_story.specs.Summary.{SummaryView, no_stories, by_clear, by_width, after_told, after_column, after_tale, after_box, after_node, after_nodes, after_sheet, after_sent}
 use Rattle.tb_why.specs.WhyRun.{Shown, happens, tells, shown_run}
 use Rattle.tb_why.specs.Summary.{after_shown, summed}
-use Rattle.tb_why.specs.SummaryLaws.{IsBoxOf, IsNodeOf, HasFloat, HoldsFloat, column_lines, times_of, IsTimed, AreTimed, sheets_after, sheets_of, if_called, sheets_at_calls}
+use Rattle.tb_why.specs.SummaryLaws.{IsBoxOf, IsNodeOf, HasFloat, HoldsFloat, column_lines, times_of, AreTimed, sheets_after, if_called, sheets_at_calls}
 use Rattle.tb_why.proofs.MovingLemmas.{StaysMoved, told_stays, column_stays, all_mapped, if_changed}
 use Rattle.tb_why.proofs.LandingLemmas.{open_of, line_of, all_trivial}
 use Rattle.tb_why.proofs.TimeLemmas.{stories_are_timed}
@@ -26,7 +25,7 @@ use Rattle.tb_why_laws.specs.WholeRuns.{summary_of}
 use Rattle.tb_why_laws.specs.OneColumn.{HasOneColumn, IsPageOf, LandsInTime}
 use Rattle.tb_why_laws.proofs.RunTales.{shown-in-order}
 use Rattle.tb_why_laws.proofs.DueStories.{IsTaleTimely, told-sheets, column-sheets}
-use Rattle.tb_why_laws.proofs.TimelyShows.{IsPlacedFor, IsSentTimely, IsShownTimely, AreTimely}
+use Rattle.tb_why_laws.proofs.TimelyShows.{IsSentTimely, IsShownTimely, AreTimely}
 use Rattle.tb_why_laws.proofs.TimelyRuns.{shown-in-time}
 
 -- ---- one story
@@ -107,10 +106,11 @@ module _ (bs : List ℕ) where
     Lands Holds ss = AllByRecursion (For Holds) ss × AreOnTime bs ss
 
     land-on : (Holds : ℕ → Where → Type 0) (item : ℕ) (place : Where) → Holds item place → (ss : List StoryView) → Lands Holds ss → Lands Holds (with_story item (landed_at page place) ss)
-    land-on Holds item place i ss t =
-        (all_mapped (For Holds) (For Holds) (if_of item (landed_at page place)) (λ s c. if_changed (For Holds) s (landed_at page place s) (is_story_of item s) c (λ e o. cc)) ss t.0,
-        on-mapped (For Holds) (if_of item (landed_at page place))
-        (λ b s c x. if_changed (IsOnTime b) s (landed_at page place s) (is_story_of item s) x (λ e. record { called = x.called; landed = c (open_of item s e) place (subst (λ l. Holds l place) (sym (line_of item s e)) i) })) bs ss t.0 t.1)
+    land-on Holds item place i ss t = (
+      all_mapped (For Holds) (For Holds) (if_of item (landed_at page place)) (λ s c. if_changed (For Holds) s (landed_at page place s) (is_story_of item s) c (λ e o. cc)) ss t.0,
+      on-mapped (For Holds) (if_of item (landed_at page place))
+          (λ b s c x. if_changed (IsOnTime b) s (landed_at page place s) (is_story_of item s) x (λ e. record { called = x.called; landed = c (open_of item s e) place (subst (λ l. Holds l place) (sym (line_of item s e)) i) })) bs ss t.0 t.1,
+    )
 
     box-on : (Holds : ℕ → Where → Type 0) (w : What) (ss : List StoryView) → ((line : ℕ) (place : Where) → IsBoxOf line place w → Holds line place) → Lands Holds ss → Lands Holds (after_box page w ss)
     box-on Holds (what.Float name class place item) ss h t = land-on Holds item place (h item place (refl, refl)) ss t

@@ -7,7 +7,7 @@ use Rattle.tb_node.specs.declared.Float.{Float}
 use Rattle.tb_node.specs.declared.Margin.{Margin}
 use Rattle.tb_node.specs.declared.Where.{Where}
 use Rattle.tb_node.specs.declared.Where.TheVariants as places
-use Rattle.tb_node.specs.PlainNodes.{PlainNode, node_shape}
+use Rattle.tb_node.specs.PlainNodes.{node_shape}
 use Rattle.tb_node.specs.Sums.{size_of, last_depth}
 use Rattle.tb_param.specs.declared.Params.{Params}
 use Rattle.tb_builder.specs.FiredPages.{Fired}
@@ -23,14 +23,13 @@ use Rattle.tb_sheet.specs.declared.Warn.TheVariants as warnings
 use Rattle.tb_sheet.specs.Asked.{clear_penalty, par_penalty, vert_penalty, hold_penalty}
 use Rattle.tb_told.specs.declared.Piece.{Piece}
 use Rattle.tb_told.specs.declared.Tale.{Tale}
-use Rattle.tb_told.specs.declared.Tale.TheVariants.{Beside}
-use Rattle.tb_told.specs.AreaTold.{told_call, place_told}
+use Rattle.tb_told.specs.AreaTold.{told_call}
 use Rattle.tb_told.specs.Tales.{tales}
 use Rattle.tb_told.proofs.AreaLemmas.{call_decides}
 use Rattle.tb_output.specs.State.{State, Work, placed, begun, sends, records_also, with_floats, footnotes}
 use Rattle.tb_output.specs.FloatMoves.{is_placed, place_float}
 use Rattle.tb_output.specs.Columns.{ordinary}
-use Rattle.tb_output.specs.Text.{list_back, only_here, with_top, defer, float_goes, note_at, note_goes, with_note_bottom, first_goes, float_or_note, without_firing_box, notes_height}
+use Rattle.tb_output.specs.Text.{list_back, only_here, with_top, defer, float_goes, note_goes, with_note_bottom, first_goes, float_or_note, without_firing_box, notes_height}
 use Rattle.tb_output.specs.Clear.{clear}
 use Rattle.tb_output.specs.Output.{is_int, hold, output_by, with_goal, is_crowded, leave_column, next_goal, after_page, out}
 use Rattle.tb_output.proofs.StepLaws.RefusedSteps.{by-sends}

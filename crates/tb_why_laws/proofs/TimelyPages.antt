@@ -1,14 +1,13 @@
 -- In one column the floats of each page that is put out were placed since the sheet before it.
-use Rattle.std.proofs.Common.{◌≡◌, refl, sym, ◌∙◌, ap, subst, inl, inr, ◌⊎◌, ℕ, zero, suc, pos, ◌+◌, Bool, true, false, List, [], ◌∷◌, ◌++◌, map, length, append-nil, Option, Some, None, if◌then◌else◌}
-use Rattle.std.specs.Prelude.{int_lt, not, ◌||◌}
+use Rattle.std.proofs.Common.{◌≡◌, refl, sym, ◌∙◌, ap, subst, inl, inr, ◌⊎◌, ℕ, zero, suc, ◌+◌, Bool, true, false, List, [], ◌∷◌, ◌++◌, length, append-nil, Option, Some, None, if◌then◌else◌}
+use Rattle.std.specs.Prelude.{not, ◌||◌}
 use Rattle.std.specs.List.{AllByRecursion}
 use Rattle.tb_break.proofs.EachLemmas.{all-map}
-use Rattle.tb_break.specs.Split.{split_of}
 use Rattle.tb_scaled.specs.Glue.{filling_glue}
 use Rattle.tb_node.specs.declared.Float.{Float}
 use Rattle.tb_node.specs.declared.Where.{Where}
 use Rattle.tb_node.specs.declared.Where.TheVariants as places
-use Rattle.tb_node.specs.PlainNodes.{PlainNode, node_shape, made, skip}
+use Rattle.tb_node.specs.PlainNodes.{PlainNode, made, skip}
 use Rattle.tb_param.specs.declared.Params.{Params}
 use Rattle.tb_float.specs.declared.Part.TheVariants as parts
 use Rattle.tb_float.specs.Lists.{FloatLists}
@@ -16,7 +15,7 @@ use Rattle.tb_float.specs.Rooms.{column_height_of}
 use Rattle.tb_area.specs.Area.{AreaPlace, at_top, at_bottom, deferred, where_of, next_area_place}
 use Rattle.tb_fpage.specs.Company.{Choice, company, chosen_floats, left_floats}
 use Rattle.tb_column.specs.Column.{PlainColumn, Notes, text_column, single_floats_column}
-use Rattle.tb_sheet.specs.Sheet.{PlainSheet, one, shipped}
+use Rattle.tb_sheet.specs.Sheet.{PlainSheet, one}
 use Rattle.tb_told.specs.declared.Piece.{Piece}
 use Rattle.tb_told.specs.declared.Piece.TheVariants.{Says}
 use Rattle.tb_told.specs.declared.Told.{Told}
@@ -28,16 +27,16 @@ use Rattle.tb_told.specs.Tales.{tales, decisions, column_tales, back_tales, here
 use Rattle.tb_told.proofs.AreaLemmas.{next_decides}
 use Rattle.tb_output.specs.State.{State, Work, Recorded, placed, output, puts, records_also, with_floats, footnotes, has_floats}
 use Rattle.tb_output.specs.FloatMoves.{joined_to, still_deferred, place_waiting, place_next}
-use Rattle.tb_output.specs.Pages.{ship, with_deferred, after_column, keep_left, ship_pair, put_out_by, put_out}
+use Rattle.tb_output.specs.Pages.{ship, with_deferred, after_column, keep_left, ship_pair, put_out}
 use Rattle.tb_output.specs.Columns.{without_column_floats, put_out_text, put_out_company, single_wanted, float_columns, float_columns_by, all_float_columns, fill_column, ordinary}
-use Rattle.tb_output.specs.Clear.{clear_again, cleared_front, deferred_again, clear_wide, clear_rest, clear_floats, clear_by}
+use Rattle.tb_output.specs.Clear.{clear_again, cleared_front, deferred_again, clear_wide, clear_rest, clear_by}
 use Rattle.tb_output.proofs.StepLaws.RefusedSteps.{by-records, by-ship, by-any-ship}
 use Rattle.tb_output.proofs.StepLaws.FollowLemmas.{records-state}
-use Rattle.tb_output.proofs.StepLaws.ColumnSteps.{no_law, put_out-step, put_out_company-step, stays}
+use Rattle.tb_output.proofs.StepLaws.ColumnSteps.{no_law, put_out-step, stays}
 use Rattle.tb_story.specs.Story.{StoryView, is_deferred}
 use Rattle.tb_story.specs.Summary.{SummaryView, after_page}
-use Rattle.tb_why.specs.Firing.{spot_of, unless_over, ship_pieces, pair_pieces, put_out_pieces_by, put_out_pieces, text_pieces, company_pieces, float_pieces_by, float_pieces, all_float_pieces, next_pieces, fill_pieces, start_pieces, ordinary_pieces, clear_wide_pieces, clear_columns_pieces, clear_floats_pieces, clear_pieces_by}
-use Rattle.tb_why.specs.SummaryLaws.{HasFloat, HoldsFloat}
+use Rattle.tb_why.specs.Firing.{spot_of, unless_over, ship_pieces, pair_pieces, put_out_pieces_by, put_out_pieces, text_pieces, company_pieces, float_pieces_by, float_pieces, all_float_pieces, next_pieces, fill_pieces, start_pieces, ordinary_pieces, clear_wide_pieces, clear_columns_pieces, clear_pieces_by}
+use Rattle.tb_why.specs.SummaryLaws.{HasFloat}
 use Rattle.tb_laws.specs.Laws.{float_lines}
 use Rattle.tb_laws.proofs.ClassesRise.RisingLists.{IsAmong}
 use Rattle.tb_laws.proofs.Closed.SparedLists.{all_columns-spares}
@@ -47,7 +46,7 @@ use Rattle.tb_why_laws.proofs.HereNodes.{AllHere, nodes-join}
 use Rattle.tb_why_laws.proofs.HereWorks.{FloatlessNotes}
 use Rattle.tb_why_laws.proofs.HereColumns.{text-has, floats-has}
 use Rattle.tb_why_laws.proofs.DueStories.{IsDue, DueIn, AllDue, fewer-due, none-due, TellsTimely, decision-timely, company-timely, back-timely, timely-none, stands-timely}
-use Rattle.tb_why_laws.proofs.TimelyShows.{IsPlacedFor, IsSentTimely, Punctual, Leaves, Leaving, stopped, Times, times-then, times-none, times-behind, times-before, times-tales, times-output, times-page}
+use Rattle.tb_why_laws.proofs.TimelyShows.{IsPlacedFor, Punctual, Leaving, stopped, Times, times-then, times-none, times-behind, times-before, times-tales, times-output, times-page}
 
 -- the line is of a float at the top or bottom of the column that is made
 abbrev pub IsInColumn : FloatLists → ℕ → Type 0

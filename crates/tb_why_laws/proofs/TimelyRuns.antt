@@ -1,17 +1,16 @@
 -- In one column all that is shown of the run of a valid galley comes in time.
-use Rattle.std.proofs.Common.{◌≡◌, refl, sym, ◌∙◌, ap, subst, inl, inr, ◌⊎◌, ℕ, zero, suc, pos, ◌+◌, Bool, true, false, List, [], ◌∷◌, ◌++◌, map, length, drop, Option, Some, None, if◌then◌else◌, append_assoc}
-use Rattle.std.specs.Prelude.{⊤, int_lt}
+use Rattle.std.proofs.Common.{◌≡◌, refl, sym, ◌∙◌, ap, subst, inl, inr, ℕ, zero, suc, pos, ◌+◌, Bool, true, false, List, [], ◌∷◌, ◌++◌, map, length, drop, Option, Some, None, if◌then◌else◌, append_assoc}
+use Rattle.std.specs.Prelude.{int_lt}
 use Rattle.std.specs.List.{AllByRecursion}
 use Rattle.std.proofs.lemmas.Option.{none-some}
 use Rattle.tb_scaled.specs.Scaled.{awful_bad}
 use Rattle.tb_node.specs.declared.Float.{Float}
 use Rattle.tb_param.specs.declared.Params.{Params}
-use Rattle.tb_galley.specs.declared.Item.{Item}
 use Rattle.tb_galley.specs.declared.Galley.{Galley}
 use Rattle.tb_galley.specs.GalleyNodes.{expanded}
 use Rattle.tb_galley.specs.Valid.{IsValid}
 use Rattle.tb_sheet.specs.Sheet.{warned, shipped}
-use Rattle.tb_output.specs.State.{State, Recorded, first_state}
+use Rattle.tb_output.specs.State.{State, first_state}
 use Rattle.tb_output.specs.Output.{out}
 use Rattle.tb_items.specs.RunEvents.{RunEvent, offered, sent}
 use Rattle.tb_items.specs.Classes.{classes_of}
@@ -37,7 +36,7 @@ use Rattle.tb_why_laws.proofs.DueStories.{DueIn, fewer-due, none-due, AreTalesTi
 use Rattle.tb_why_laws.proofs.FitLemmas.{NoLine}
 use Rattle.tb_why_laws.proofs.TimelyShows.{AreTimely}
 use Rattle.tb_why_laws.proofs.TimelyPages.{IsInColumn}
-use Rattle.tb_why_laws.proofs.TimelyFirings.{Comes, firing-comes}
+use Rattle.tb_why_laws.proofs.TimelyFirings.{firing-comes}
 
 -- ---- what happens while a page is filled
 

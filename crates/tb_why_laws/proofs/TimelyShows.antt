@@ -1,6 +1,6 @@
 -- What is shown of a part of a firing in one column comes in time: a page holds floats that were placed since the sheet before it,
 -- and its number is that of the sheets.
-use Rattle.std.proofs.Common.{◌≡◌, refl, sym, ◌∙◌, ap, subst, ℕ, pos, ◌+◌, Bool, true, false, List, [], ◌∷◌, ◌++◌, map, if◌then◌else◌, append_assoc, append-nil}
+use Rattle.std.proofs.Common.{◌≡◌, refl, sym, ◌∙◌, ap, subst, ℕ, pos, ◌+◌, Bool, true, false, List, [], ◌∷◌, ◌++◌, if◌then◌else◌, append_assoc, append-nil}
 use Rattle.std.specs.Prelude.{⊤, int_lt}
 use Rattle.std.specs.List.{AllByRecursion}
 use Rattle.tb_node.specs.declared.Where.{Where}
