@@ -36,7 +36,7 @@ module _ (p : Params) (s : State) (o : Running p s) (e : (now p s o).fault ≡ N
       let before = take (page_break (page_of p s)).place (page_of p s).passed in
       ins-deeds ks (fires p s o).held (held-ins ks (labelled z before) (labelled-class ks z [] [] before tt (cut_feet (of_line 0) p o.calm s o.kept).0))
 
-  waiting_deeds : deeds (out p next (fires p s o)).state.waiting ≡ deeds (fires p s o).rest
+  pub waiting_deeds : deeds (out p next (fires p s o)).state.waiting ≡ deeds (fires p s o).rest
   waiting_deeds = out-deeds p next (fires p s o) page_held (page-deeds p s o e) notes_held
 
   -- those that are still to be called after the firing were to be called before it

@@ -40,7 +40,7 @@ module _ (t : List PlainNode) (w : Reach) (c : CutAt [] t w) where
   rest-deeds : deeds (from_break w) ≡ deeds w.beyond
   rest-deeds = deeds-append (drop (page_break w).place w.passed) w.beyond ∙ ap (λ l. l ++ deeds w.beyond) (append-none (deeds (take (page_break w).place w.passed)) (deeds (drop (page_break w).place w.passed)) parts)
 
-  all-deeds : deeds t ≡ acted_of w.reached ++ deeds w.beyond
+  pub all-deeds : deeds t ≡ acted_of w.reached ++ deeds w.beyond
   all-deeds = ap deeds c.whole ∙ deeds-append c.front w.beyond ∙ ap (λ l. l ++ deeds w.beyond) (deeds-of c.front ∙ sym c.acts)
 
 module _ (p : Params) (s : State) (o : Running p s) (e : (now p s o).fault ≡ None) where
@@ -54,7 +54,7 @@ module _ (p : Params) (s : State) (o : Running p s) (e : (now p s o).fault ≡ N
   page_cut = cut (of_line 0) p o.calm s o.kept
 
   -- the acts that wait are those that were done and those behind the break
-  does : deeds s.waiting ≡ acted_of (page_of p s).reached ++ deeds page.rest
+  pub does : deeds s.waiting ≡ acted_of (page_of p s).reached ++ deeds page.rest
   does =
       sym (pruned-deeds p.topskip s.waiting) ∙ all-deeds (pruned_nodes p.topskip s.waiting) (page_of p s) page_cut
       ∙ ap (λ l. acted_of (page_of p s).reached ++ l) (sym (spent-deeds (from_break (page_of p s)) ∙ rest-deeds (pruned_nodes p.topskip s.waiting) (page_of p s) page_cut))

@@ -20,3 +20,15 @@ pub mod AfterCalls
 pub mod CallTales
 pub mod FiringTales
 pub mod RunTales
+pub mod HereNodes
+pub mod HereWorks
+pub mod HereColumns
+pub mod GoingOn
+pub mod HereStates
+pub mod OneColumnStates
+pub mod DueStories
+pub mod TimelyShows
+pub mod TimelyPages
+pub mod TimelyFirings
+pub mod TimelyRuns
+pub mod LandingTimes

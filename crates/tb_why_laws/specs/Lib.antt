@@ -1,1 +1,2 @@
 pub mod WholeRuns
+pub mod OneColumn

@@ -1,5 +1,6 @@
 //! Laws of what is shown of whole runs: each function is a theorem, stated by its contract, and does nothing.
 
+ghost use Rattle.tb_why_laws.specs.OneColumn.{OneColumnFloatsLandInTime};
 ghost use Rattle.tb_why_laws.specs.WholeRuns.{ShownInOrder, TimesAreSheets};
 
 /// What is shown of the run of a valid galley is in order, however the run ends. Where a column is put out, each float that
@@ -13,4 +14,10 @@ pub fn shown_runs_are_in_order()
 /// up to now while the float waits, and up to where it was placed else.
 pub fn times_of_runs_are_sheets()
     ensures { TimesAreSheets }
+{}
+
+/// In the summary of the run of a valid galley without an item `twocolumn`, each float that landed did so as many pages behind
+/// the page of its call as its times add up to.
+pub fn one_column_floats_land_in_time()
+    ensures { OneColumnFloatsLandInTime }
 {}

@@ -3,4 +3,4 @@
 
 mod laws;
 
-pub use laws::{shown_runs_are_in_order, times_of_runs_are_sheets};
+pub use laws::{one_column_floats_land_in_time, shown_runs_are_in_order, times_of_runs_are_sheets};
