@@ -1,4 +1,4 @@
-use Rattle.tb_why_laws.proofs.RunTales.{shown-in-order}
+use Rattle.tb_why_laws.proofs.InOrder.RunTales.{shown-in-order}
 use Rattle.tb_why_laws.proofs.laws.shown_runs_are_in_order.Goals as goal
 
 pub returns : goal.returns

@@ -18,7 +18,7 @@ use Rattle.tb_laws.proofs.NothingLost.StateWeights.{floats_weight, lists_weight,
 use Rattle.tb_laws.proofs.NothingLost.FloatWeights.{lists-adds, lists-with, paired-with, next-adds}
 use Rattle.tb_laws.proofs.NothingLost.PutOutWeights.{column-weighs, text-taken}
 use Rattle.tb_laws.proofs.NothingLost.TextWeights.{puts-nothing}
-use Rattle.tb_why_laws.proofs.Once.{of_line, Once}
+use Rattle.tb_why_laws.proofs.OnePlace.Once.{of_line, Once}
 
 -- from one moment of a firing to another that the page limit does not stop nothing is added
 pub record Lessens (h : Hand) (a : Work) (i : Hand) (b : Work) : Type 0 where

@@ -23,11 +23,11 @@ use Rattle.tb_output.specs.State.{State, Recorded, ask_of, first_state, void_box
 use Rattle.tb_output.specs.Output.{after_page}
 use Rattle.tb_steps.specs.Run.{goes_on, step}
 use Rattle.tb_laws.proofs.NothingLost.RunWeights.{page_of}
-use Rattle.tb_why_laws.proofs.Once.{of_line}
-use Rattle.tb_why_laws.proofs.OnceStates.{Running, now, progressed, fires}
-use Rattle.tb_why_laws.proofs.GoingOn.{going-on}
-use Rattle.tb_why_laws.proofs.HereNodes.{IsFloatless, FloatlessLeaves, AllHere, nodes-join, nodes-pruned, HereReach, reached-here, FloatlessBoxes, HereFired, fired-here}
-use Rattle.tb_why_laws.proofs.HereWorks.{Here, HereState, out-here}
+use Rattle.tb_why_laws.proofs.OnePlace.Once.{of_line}
+use Rattle.tb_why_laws.proofs.OnePlace.OnceStates.{Running, now, progressed, fires}
+use Rattle.tb_why_laws.proofs.InTime.GoingOn.{going-on}
+use Rattle.tb_why_laws.proofs.InTime.HereNodes.{IsFloatless, FloatlessLeaves, AllHere, nodes-join, nodes-pruned, HereReach, reached-here, FloatlessBoxes, HereFired, fired-here}
+use Rattle.tb_why_laws.proofs.InTime.HereWorks.{Here, HereState, out-here}
 
 -- ---- a step
 

@@ -28,15 +28,15 @@ use Rattle.tb_story.specs.Summary.{SummaryView, by_clear, after_tale}
 use Rattle.tb_why.specs.Firing.{spot_of, unless_over, all_wide_pieces, text_pieces, company_pieces, float_pieces_by, float_pieces, all_float_pieces, fill_pieces, start_pieces, ordinary_pieces, clear_wide_pieces, clear_columns_pieces, clear_floats_pieces, clear_pieces_by}
 use Rattle.tb_laws.specs.Laws.{float_lines}
 use Rattle.tb_laws.proofs.ClassesRise.RisingLists.{IsAmong, among-front, among-back}
-use Rattle.tb_why_laws.proofs.Once.{Once}
-use Rattle.tb_why_laws.proofs.OnceMoves.{column-once, columns-once, page-once, pages-once}
-use Rattle.tb_why_laws.proofs.OnceLists.{among-parts}
-use Rattle.tb_why_laws.proofs.FitLemmas.{AllFit, weaker, keeps-back, placed-current}
-use Rattle.tb_why_laws.proofs.DecisionLemmas.{Tells, tells-then, after_tales}
-use Rattle.tb_why_laws.proofs.ShowLemmas.{Shows, shows-then, shows-none, shows-behind, shows-before, shows-tales}
-use Rattle.tb_why_laws.proofs.PlacingLemmas.{either-list, in-first, in-second, others, waits-there, waits-so, waits-in, waits-of}
-use Rattle.tb_why_laws.proofs.StandLemmas.{Waits, IsInArea, FitState, Stand, stand-stopped, next-shown}
-use Rattle.tb_why_laws.proofs.PageTales.{Bare, Empty, none-told, some-told, same-part, empty-placed, wide-shown, put_out-shown, text-shown}
+use Rattle.tb_why_laws.proofs.OnePlace.Once.{Once}
+use Rattle.tb_why_laws.proofs.OnePlace.OnceMoves.{column-once, columns-once, page-once, pages-once}
+use Rattle.tb_why_laws.proofs.OnePlace.OnceLists.{among-parts}
+use Rattle.tb_why_laws.proofs.InOrder.FitLemmas.{AllFit, weaker, keeps-back, placed-current}
+use Rattle.tb_why_laws.proofs.InOrder.DecisionLemmas.{Tells, tells-then, after_tales}
+use Rattle.tb_why_laws.proofs.InOrder.ShowLemmas.{Shows, shows-then, shows-none, shows-behind, shows-before, shows-tales}
+use Rattle.tb_why_laws.proofs.InOrder.PlacingLemmas.{either-list, in-first, in-second, others, waits-there, waits-so, waits-in, waits-of}
+use Rattle.tb_why_laws.proofs.InOrder.StandLemmas.{Waits, IsInArea, FitState, Stand, stand-stopped, next-shown}
+use Rattle.tb_why_laws.proofs.InOrder.PageTales.{Bare, Empty, none-told, some-told, same-part, empty-placed, wide-shown, put_out-shown, text-shown}
 
 -- ---- no float comes to the top or bottom while columns of floats are put out
 

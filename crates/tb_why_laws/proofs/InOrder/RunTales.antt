@@ -28,17 +28,17 @@ use Rattle.tb_laws.specs.Laws.{float_lines}
 use Rattle.tb_laws.proofs.ClassesRise.PageLines.{deeds}
 use Rattle.tb_laws.proofs.ClassesRise.RisingLists.{IsAmong, among-front, among-back}
 use Rattle.tb_laws.proofs.NothingLost.RunWeights.{page_of}
-use Rattle.tb_why_laws.proofs.WaitingLines.{uncalled}
-use Rattle.tb_why_laws.proofs.OnceLists.{among-parts}
-use Rattle.tb_why_laws.proofs.OnceStates.{Running, now, fires, fires-once, goes, starts}
-use Rattle.tb_why_laws.proofs.CallWeights.{called_later}
-use Rattle.tb_why_laws.proofs.ActedLists.{ActedLists}
-use Rattle.tb_why_laws.proofs.CalledLater.{acts-lists, still-uncalled, news-uncalled, news-apart, first-apart, first-once}
-use Rattle.tb_why_laws.proofs.AfterCalls.{after-uncalled, after-first}
-use Rattle.tb_why_laws.proofs.FitLemmas.{Fits, AllFit, begins}
-use Rattle.tb_why_laws.proofs.PlacingLemmas.{either-list, in-first, in-second}
-use Rattle.tb_why_laws.proofs.StandLemmas.{Waits, IsInArea, FitState}
-use Rattle.tb_why_laws.proofs.FiringTales.{Ends, firing-ends}
+use Rattle.tb_why_laws.proofs.OnePlace.WaitingLines.{uncalled}
+use Rattle.tb_why_laws.proofs.OnePlace.OnceLists.{among-parts}
+use Rattle.tb_why_laws.proofs.OnePlace.OnceStates.{Running, now, fires, fires-once, goes, starts}
+use Rattle.tb_why_laws.proofs.OnePlace.CallWeights.{called_later}
+use Rattle.tb_why_laws.proofs.OnePlace.ActedLists.{ActedLists}
+use Rattle.tb_why_laws.proofs.OnePlace.CalledLater.{acts-lists, still-uncalled, news-uncalled, news-apart, first-apart, first-once}
+use Rattle.tb_why_laws.proofs.OnePlace.AfterCalls.{after-uncalled, after-first}
+use Rattle.tb_why_laws.proofs.InOrder.FitLemmas.{Fits, AllFit, begins}
+use Rattle.tb_why_laws.proofs.InOrder.PlacingLemmas.{either-list, in-first, in-second}
+use Rattle.tb_why_laws.proofs.InOrder.StandLemmas.{Waits, IsInArea, FitState}
+use Rattle.tb_why_laws.proofs.InOrder.FiringTales.{Ends, firing-ends}
 
 -- ---- what happens while a page is filled
 

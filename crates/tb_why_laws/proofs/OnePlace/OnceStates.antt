@@ -26,8 +26,8 @@ use Rattle.tb_laws.proofs.NothingLost.ClosingStarts.{start-closing}
 use Rattle.tb_laws.proofs.NothingLost.ClassLemmas.{valid-differ, valid-fit}
 use Rattle.tb_laws.proofs.Closed.ClosingStates.{Closing}
 use Rattle.tb_laws.proofs.DeadCycles.ValidPenalties.{interline-calm}
-use Rattle.tb_why_laws.proofs.OnceStarts.{start-times}
-use Rattle.tb_why_laws.proofs.Once.{of_line, Once}
+use Rattle.tb_why_laws.proofs.OnePlace.OnceStarts.{start-times}
+use Rattle.tb_why_laws.proofs.OnePlace.Once.{of_line, Once}
 
 -- between two firings: what runs keep, and each float is in one place at most
 pub record Running (p : Params) (s : State) : Type 0 where

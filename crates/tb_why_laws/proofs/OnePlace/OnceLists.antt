@@ -23,8 +23,8 @@ use Rattle.tb_laws.proofs.NothingLost.StateWeights.{floats_weight, lists_weight,
 use Rattle.tb_laws.proofs.NothingLost.FloatWeights.{lists-with}
 use Rattle.tb_laws.proofs.NothingLost.ColumnWeights.{CompanyOf, company-weight, parted-weight}
 use Rattle.tb_why.specs.SummaryLaws.{IsNodeOf, HasFloat, HoldsFloat}
-use Rattle.tb_why_laws.proofs.WaitingLines.{waiting_lines}
-use Rattle.tb_why_laws.proofs.Once.{of_line, Once}
+use Rattle.tb_why_laws.proofs.OnePlace.WaitingLines.{waiting_lines}
+use Rattle.tb_why_laws.proofs.OnePlace.Once.{of_line, Once}
 
 -- ---- what is there weighs one at least
 

@@ -24,19 +24,19 @@ use Rattle.tb_laws.specs.Laws.{float_lines}
 use Rattle.tb_laws.proofs.ClassesRise.RisingLists.{IsAmong}
 use Rattle.tb_laws.proofs.NothingLost.RunWeights.{page_of}
 use Rattle.tb_why_laws.specs.OneColumn.{HasOneColumn}
-use Rattle.tb_why_laws.proofs.OnceStates.{Running, now, fires, goes, starts}
-use Rattle.tb_why_laws.proofs.CalledLater.{acts-lists}
-use Rattle.tb_why_laws.proofs.GoingOn.{GoesOn, going-on}
-use Rattle.tb_why_laws.proofs.HereWorks.{HereState}
-use Rattle.tb_why_laws.proofs.HereStates.{fires-here, begins-here, step-here, starts-here}
-use Rattle.tb_why_laws.proofs.OneColumnStates.{OneColumn, filled-single, filled-page, step-single, starts-single}
-use Rattle.tb_why_laws.proofs.DecisionLemmas.{after_tales}
-use Rattle.tb_why_laws.proofs.RunTales.{IsQuiet, progress-quiet}
-use Rattle.tb_why_laws.proofs.DueStories.{DueIn, fewer-due, none-due, AreTalesTimely, TellsTimely, wait-timely}
-use Rattle.tb_why_laws.proofs.FitLemmas.{NoLine}
-use Rattle.tb_why_laws.proofs.TimelyShows.{AreTimely}
-use Rattle.tb_why_laws.proofs.TimelyPages.{IsInColumn}
-use Rattle.tb_why_laws.proofs.TimelyFirings.{firing-comes}
+use Rattle.tb_why_laws.proofs.OnePlace.OnceStates.{Running, now, fires, goes, starts}
+use Rattle.tb_why_laws.proofs.OnePlace.CalledLater.{acts-lists}
+use Rattle.tb_why_laws.proofs.InTime.GoingOn.{GoesOn, going-on}
+use Rattle.tb_why_laws.proofs.InTime.HereWorks.{HereState}
+use Rattle.tb_why_laws.proofs.InTime.HereStates.{fires-here, begins-here, step-here, starts-here}
+use Rattle.tb_why_laws.proofs.InTime.OneColumnStates.{OneColumn, filled-single, filled-page, step-single, starts-single}
+use Rattle.tb_why_laws.proofs.InOrder.DecisionLemmas.{after_tales}
+use Rattle.tb_why_laws.proofs.InOrder.RunTales.{IsQuiet, progress-quiet}
+use Rattle.tb_why_laws.proofs.InTime.DueStories.{DueIn, fewer-due, none-due, AreTalesTimely, TellsTimely, wait-timely}
+use Rattle.tb_why_laws.proofs.InOrder.FitLemmas.{NoLine}
+use Rattle.tb_why_laws.proofs.InTime.TimelyShows.{AreTimely}
+use Rattle.tb_why_laws.proofs.InTime.TimelyPages.{IsInColumn}
+use Rattle.tb_why_laws.proofs.InTime.TimelyFirings.{firing-comes}
 
 -- ---- what happens while a page is filled
 

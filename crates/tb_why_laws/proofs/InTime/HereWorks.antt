@@ -34,7 +34,7 @@ use Rattle.tb_output.specs.Output
 use Rattle.tb_output.proofs.StepLaws.RefusedSteps.{by-sends}
 use Rattle.tb_output.proofs.StepLaws.FollowLemmas.{Follows, follows-put_out, follows-float_columns, follows-wide_pages, follows-next}
 use Rattle.tb_output.proofs.StepLaws.ColumnSteps.{stays, no_law, place_float-step}
-use Rattle.tb_why_laws.proofs.HereNodes.{FloatlessLeaves, AllHere, nodes-join, nodes-take, FloatlessContent, FloatlessBoxes, HereFired}
+use Rattle.tb_why_laws.proofs.InTime.HereNodes.{FloatlessLeaves, AllHere, nodes-join, nodes-take, FloatlessContent, FloatlessBoxes, HereFired}
 
 -- ---- the insertions of a page
 

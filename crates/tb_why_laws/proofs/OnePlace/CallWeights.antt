@@ -12,9 +12,9 @@ use Rattle.tb_laws.specs.Laws.{float_lines}
 use Rattle.tb_laws.proofs.ClassesRise.RisingLists.{IsAmong, among-front, among-back}
 use Rattle.tb_laws.proofs.ClassesRise.PageLines.{kind_deeds, deeds}
 use Rattle.tb_laws.proofs.NothingLost.StateWeights.{floats_weight, entries_weight}
-use Rattle.tb_why_laws.proofs.WaitingLines.{taken_line, act_takes}
-use Rattle.tb_why_laws.proofs.Once.{of_line}
-use Rattle.tb_why_laws.proofs.OnceLists.{among-parts, among-weight, weight-among}
+use Rattle.tb_why_laws.proofs.OnePlace.WaitingLines.{taken_line, act_takes}
+use Rattle.tb_why_laws.proofs.OnePlace.Once.{of_line}
+use Rattle.tb_why_laws.proofs.OnePlace.OnceLists.{among-parts, among-weight, weight-among}
 
 -- what acts take weighs this
 abbrev pub deeds_weight : Weight → List Act → ℕ

@@ -40,14 +40,14 @@ use Rattle.tb_why.specs.Firing.{spot_of, ordinary_pieces, clear_pieces, first_ta
 use Rattle.tb_why.specs.WhyRun.{Shown, all_shown}
 use Rattle.tb_laws.specs.Laws.{float_lines}
 use Rattle.tb_laws.proofs.ClassesRise.RisingLists.{IsAmong}
-use Rattle.tb_why_laws.proofs.DecisionLemmas.{after_tales}
-use Rattle.tb_why_laws.proofs.PlacingLemmas.{either-list}
-use Rattle.tb_why_laws.proofs.FiringTales.{IsWarned, Warns, warns-none, warns-then, warns-first, warns-goal}
-use Rattle.tb_why_laws.proofs.HereNodes.{AllHere}
-use Rattle.tb_why_laws.proofs.HereWorks.{Here, notes-floatless}
-use Rattle.tb_why_laws.proofs.DueStories.{DueIn, TellsTimely, timely-none, timely-more, call-timely}
-use Rattle.tb_why_laws.proofs.TimelyShows.{AreTimely, Punctual, Times, times-none, then-timely}
-use Rattle.tb_why_laws.proofs.TimelyPages.{IsInColumn, ordinary-timely, clear-timely}
+use Rattle.tb_why_laws.proofs.InOrder.DecisionLemmas.{after_tales}
+use Rattle.tb_why_laws.proofs.InOrder.PlacingLemmas.{either-list}
+use Rattle.tb_why_laws.proofs.InOrder.FiringTales.{IsWarned, Warns, warns-none, warns-then, warns-first, warns-goal}
+use Rattle.tb_why_laws.proofs.InTime.HereNodes.{AllHere}
+use Rattle.tb_why_laws.proofs.InTime.HereWorks.{Here, notes-floatless}
+use Rattle.tb_why_laws.proofs.InTime.DueStories.{DueIn, TellsTimely, timely-none, timely-more, call-timely}
+use Rattle.tb_why_laws.proofs.InTime.TimelyShows.{AreTimely, Punctual, Times, times-none, then-timely}
+use Rattle.tb_why_laws.proofs.InTime.TimelyPages.{IsInColumn, ordinary-timely, clear-timely}
 
 -- warnings come in time, and change nothing
 warned-timely : (es : List PlainSent) → AllByRecursion IsWarned es → (later : List Shown) (m : SummaryView) → AreTimely later m → AreTimely (all_shown (all_sent es) ++ later) m

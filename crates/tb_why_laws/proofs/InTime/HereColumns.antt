@@ -15,8 +15,8 @@ use Rattle.tb_told.specs.Tales.{and_here, here_lines}
 use Rattle.tb_why.specs.SummaryLaws.{IsNodeOf, HasFloat}
 use Rattle.tb_laws.specs.Laws.{float_lines}
 use Rattle.tb_laws.proofs.ClassesRise.RisingLists.{IsAmong}
-use Rattle.tb_why_laws.proofs.HereNodes.{IsFloatless, FloatlessLeaves, IsHereKind, AllHere}
-use Rattle.tb_why_laws.proofs.HereWorks.{FloatlessNotes}
+use Rattle.tb_why_laws.proofs.InTime.HereNodes.{IsFloatless, FloatlessLeaves, IsHereKind, AllHere}
+use Rattle.tb_why_laws.proofs.InTime.HereWorks.{FloatlessNotes}
 
 -- a float of two lists is in one of them
 pub has-parts : (n : ℕ) (place : Where) (xs ys : List PlainNode) → HasFloat n place (xs ++ ys) → HasFloat n place xs ⊎ HasFloat n place ys

@@ -20,8 +20,8 @@ use Rattle.tb_why.specs.Firing.{unless_over, ship_pieces, woven}
 use Rattle.tb_why.specs.WhyRun.{Shown, happens, tells, all_shown}
 use Rattle.tb_why.specs.Summary.{after_shown}
 use Rattle.tb_why.specs.SummaryLaws.{HoldsFloat}
-use Rattle.tb_why_laws.proofs.DecisionLemmas.{after_tales}
-use Rattle.tb_why_laws.proofs.DueStories.{AllDue, DueIn, missed-due, IsTaleTimely, AreTalesTimely, TellsTimely}
+use Rattle.tb_why_laws.proofs.InOrder.DecisionLemmas.{after_tales}
+use Rattle.tb_why_laws.proofs.InTime.DueStories.{AllDue, DueIn, missed-due, IsTaleTimely, AreTalesTimely, TellsTimely}
 
 -- ---- in time
 

@@ -7,7 +7,7 @@ use Rattle.tb_output.specs.Output.{out}
 use Rattle.tb_items.specs.RunEvents.{RunEvent, sent}
 use Rattle.tb_steps.specs.Run.{done, dead_cycles, page_limit, node_limit, Step, ends, goes_on, held_count, after_firing, fire, after_progress, step}
 use Rattle.tb_laws.proofs.NothingLost.RunWeights.{page_of}
-use Rattle.tb_why_laws.proofs.OnceStates.{Running, now, fires}
+use Rattle.tb_why_laws.proofs.OnePlace.OnceStates.{Running, now, fires}
 
 -- the state after a step, if the run goes on
 abbrev state_after : State → Step → State

@@ -28,11 +28,11 @@ use Rattle.tb_laws.proofs.ClassesRise.PageLines.{deeds, deeds-append, pruned-dee
 use Rattle.tb_laws.proofs.NothingLost.RunWeights.{page_of, cut}
 use Rattle.tb_laws.proofs.NothingLost.ClosingRuns.{progressed, fired_closes}
 use Rattle.tb_why_laws.specs.OneColumn.{IsSingleItem, HasOneColumn}
-use Rattle.tb_why_laws.proofs.Once.{of_line}
-use Rattle.tb_why_laws.proofs.OnceStates.{Running, now, progressed as reached-adds}
-use Rattle.tb_why_laws.proofs.CalledLater.{all-deeds, does}
-use Rattle.tb_why_laws.proofs.AfterCalls.{waiting_deeds}
-use Rattle.tb_why_laws.proofs.GoingOn.{GoesOn, going-on}
+use Rattle.tb_why_laws.proofs.OnePlace.Once.{of_line}
+use Rattle.tb_why_laws.proofs.OnePlace.OnceStates.{Running, now, progressed as reached-adds}
+use Rattle.tb_why_laws.proofs.OnePlace.CalledLater.{all-deeds, does}
+use Rattle.tb_why_laws.proofs.OnePlace.AfterCalls.{waiting_deeds}
+use Rattle.tb_why_laws.proofs.InTime.GoingOn.{GoesOn, going-on}
 
 -- the act does not change to two columns
 abbrev pub IsSingleAct : Act → Type 0

@@ -29,7 +29,7 @@ use Rattle.tb_why.proofs.MovingLemmas.{StaysMoved, told_stays, column_stays, all
 use Rattle.tb_why.proofs.LandingLemmas.{all_trivial}
 use Rattle.tb_laws.specs.Laws.{float_lines}
 use Rattle.tb_laws.proofs.ClassesRise.RisingLists.{IsAmong}
-use Rattle.tb_why_laws.proofs.DecisionLemmas.{after_tales}
+use Rattle.tb_why_laws.proofs.InOrder.DecisionLemmas.{after_tales}
 
 -- ---- stories
 

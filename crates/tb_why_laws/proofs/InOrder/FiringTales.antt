@@ -38,14 +38,14 @@ use Rattle.tb_story.specs.Summary.{SummaryView}
 use Rattle.tb_why.specs.Firing.{ordinary_pieces, clear_pieces, text_tales, text_float_pieces, output_pieces, firing_pieces, all_sent, woven}
 use Rattle.tb_why.specs.WhyRun.{Shown, all_shown}
 use Rattle.tb_why.specs.SummaryLaws.{IsOrderly}
-use Rattle.tb_why_laws.proofs.Once.{Once}
-use Rattle.tb_why_laws.proofs.OutCalls.{is_text}
-use Rattle.tb_why_laws.proofs.FitLemmas.{Fits}
-use Rattle.tb_why_laws.proofs.DecisionLemmas.{Tells, after_tales}
-use Rattle.tb_why_laws.proofs.ShowLemmas.{Shows, then-order}
-use Rattle.tb_why_laws.proofs.StandLemmas.{Waits, IsInArea, FitState, Stand}
-use Rattle.tb_why_laws.proofs.ClearTales.{ordinary-shown, clear-shown}
-use Rattle.tb_why_laws.proofs.CallTales.{first-told}
+use Rattle.tb_why_laws.proofs.OnePlace.Once.{Once}
+use Rattle.tb_why_laws.proofs.OnePlace.OutCalls.{is_text}
+use Rattle.tb_why_laws.proofs.InOrder.FitLemmas.{Fits}
+use Rattle.tb_why_laws.proofs.InOrder.DecisionLemmas.{Tells, after_tales}
+use Rattle.tb_why_laws.proofs.InOrder.ShowLemmas.{Shows, then-order}
+use Rattle.tb_why_laws.proofs.InOrder.StandLemmas.{Waits, IsInArea, FitState, Stand}
+use Rattle.tb_why_laws.proofs.InOrder.ClearTales.{ordinary-shown, clear-shown}
+use Rattle.tb_why_laws.proofs.InOrder.CallTales.{first-told}
 
 -- ---- warnings
 

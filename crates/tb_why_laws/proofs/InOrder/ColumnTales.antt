@@ -29,8 +29,8 @@ use Rattle.tb_story.specs.Summary.{SummaryView, keep, kept_all, heads_none, afte
 use Rattle.tb_why.specs.SummaryLaws.{AreCurrent, IsTaleInOrder, noted_lines}
 use Rattle.tb_laws.specs.Laws.{float_lines}
 use Rattle.tb_laws.proofs.ClassesRise.RisingLists.{IsAmong}
-use Rattle.tb_why_laws.proofs.FitLemmas.{AllFit, weaker, keeps-back, places, waiting-current, placed-current, also-now}
-use Rattle.tb_why_laws.proofs.DecisionLemmas.{Tells, tells-then}
+use Rattle.tb_why_laws.proofs.InOrder.FitLemmas.{AllFit, weaker, keeps-back, places, waiting-current, placed-current, also-now}
+use Rattle.tb_why_laws.proofs.InOrder.DecisionLemmas.{Tells, tells-then}
 
 module _ (K N W : ℕ → Type 0) where
   -- the stories while a column is looked for: all that is noted is of floats that wait

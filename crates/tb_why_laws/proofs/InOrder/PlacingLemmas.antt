@@ -12,8 +12,8 @@ use Rattle.tb_output.specs.State.{State}
 use Rattle.tb_output.specs.FloatMoves.{joined_to}
 use Rattle.tb_laws.specs.Laws.{float_lines}
 use Rattle.tb_laws.proofs.ClassesRise.RisingLists.{IsAmong, among-front, among-back}
-use Rattle.tb_why_laws.proofs.WaitingLines.{waiting_lines}
-use Rattle.tb_why_laws.proofs.OnceLists.{among-parts}
+use Rattle.tb_why_laws.proofs.OnePlace.WaitingLines.{waiting_lines}
+use Rattle.tb_why_laws.proofs.OnePlace.OnceLists.{among-parts}
 
 -- the lines of the floats that were placed for the column or page that is being made
 abbrev pub area_lines : State → List ℕ

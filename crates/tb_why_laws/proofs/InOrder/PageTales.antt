@@ -30,16 +30,16 @@ use Rattle.tb_why.specs.Firing.{spot_of, unless_over, ship_pieces, wide_pieces_b
 use Rattle.tb_why.specs.SummaryLaws.{HoldsFloat}
 use Rattle.tb_laws.specs.Laws.{float_lines}
 use Rattle.tb_laws.proofs.ClassesRise.RisingLists.{IsAmong, among-back}
-use Rattle.tb_why_laws.proofs.WaitingLines.{waiting_lines}
-use Rattle.tb_why_laws.proofs.Once.{Once}
-use Rattle.tb_why_laws.proofs.OnceMoves.{column-once, columns-once, page-once}
-use Rattle.tb_why_laws.proofs.OnceLists.{stands-apart, sent-apart, company-apart, company-parts}
-use Rattle.tb_why_laws.proofs.FitLemmas.{AllFit, NoLine, true-not-false, weaker, are-placed, are-not-on, have-reasons, puts-out, stands, lands}
-use Rattle.tb_why_laws.proofs.DecisionLemmas.{Tells}
-use Rattle.tb_why_laws.proofs.ColumnTales.{TakesOut, column-told}
-use Rattle.tb_why_laws.proofs.ShowLemmas.{Shows, shows-then, shows-none, shows-behind, shows-before, shows-tales, shows-page}
-use Rattle.tb_why_laws.proofs.PlacingLemmas.{area_lines, all-lines, others, waits-there, waits-so, waits-in, waits-of}
-use Rattle.tb_why_laws.proofs.StandLemmas.{Waits, IsInArea, FitState, Stand, stand-stopped, stand-shipped, records-send, double-shown}
+use Rattle.tb_why_laws.proofs.OnePlace.WaitingLines.{waiting_lines}
+use Rattle.tb_why_laws.proofs.OnePlace.Once.{Once}
+use Rattle.tb_why_laws.proofs.OnePlace.OnceMoves.{column-once, columns-once, page-once}
+use Rattle.tb_why_laws.proofs.OnePlace.OnceLists.{stands-apart, sent-apart, company-apart, company-parts}
+use Rattle.tb_why_laws.proofs.InOrder.FitLemmas.{AllFit, NoLine, true-not-false, weaker, are-placed, are-not-on, have-reasons, puts-out, stands, lands}
+use Rattle.tb_why_laws.proofs.InOrder.DecisionLemmas.{Tells}
+use Rattle.tb_why_laws.proofs.InOrder.ColumnTales.{TakesOut, column-told}
+use Rattle.tb_why_laws.proofs.InOrder.ShowLemmas.{Shows, shows-then, shows-none, shows-behind, shows-before, shows-tales, shows-page}
+use Rattle.tb_why_laws.proofs.InOrder.PlacingLemmas.{area_lines, all-lines, others, waits-there, waits-so, waits-in, waits-of}
+use Rattle.tb_why_laws.proofs.InOrder.StandLemmas.{Waits, IsInArea, FitState, Stand, stand-stopped, stand-shipped, records-send, double-shown}
 
 -- no float is at the top or bottom
 abbrev pub Bare : FloatLists → Type 0

@@ -13,7 +13,7 @@ use Rattle.tb_story.specs.Summary.{SummaryView, after_tale, after_page}
 use Rattle.tb_why.specs.Firing.{unless_over, ship_pieces, woven}
 use Rattle.tb_why.specs.WhyRun.{Shown, all_shown}
 use Rattle.tb_why.specs.SummaryLaws.{IsOrderly, IsSentInOrder}
-use Rattle.tb_why_laws.proofs.DecisionLemmas.{AreInOrder, after_tales, Tells}
+use Rattle.tb_why_laws.proofs.InOrder.DecisionLemmas.{AreInOrder, after_tales, Tells}
 
 -- ---- a part of a firing
 

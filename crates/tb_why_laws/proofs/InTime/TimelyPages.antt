@@ -40,13 +40,13 @@ use Rattle.tb_why.specs.SummaryLaws.{HasFloat}
 use Rattle.tb_laws.specs.Laws.{float_lines}
 use Rattle.tb_laws.proofs.ClassesRise.RisingLists.{IsAmong}
 use Rattle.tb_laws.proofs.Closed.SparedLists.{all_columns-spares}
-use Rattle.tb_why_laws.proofs.FitLemmas.{NoLine}
-use Rattle.tb_why_laws.proofs.PlacingLemmas.{either-list}
-use Rattle.tb_why_laws.proofs.HereNodes.{AllHere, nodes-join}
-use Rattle.tb_why_laws.proofs.HereWorks.{FloatlessNotes}
-use Rattle.tb_why_laws.proofs.HereColumns.{text-has, floats-has}
-use Rattle.tb_why_laws.proofs.DueStories.{IsDue, DueIn, AllDue, fewer-due, none-due, TellsTimely, decision-timely, company-timely, back-timely, timely-none, stands-timely}
-use Rattle.tb_why_laws.proofs.TimelyShows.{IsPlacedFor, Punctual, Leaving, stopped, Times, times-then, times-none, times-behind, times-before, times-tales, times-output, times-page}
+use Rattle.tb_why_laws.proofs.InOrder.FitLemmas.{NoLine}
+use Rattle.tb_why_laws.proofs.InOrder.PlacingLemmas.{either-list}
+use Rattle.tb_why_laws.proofs.InTime.HereNodes.{AllHere, nodes-join}
+use Rattle.tb_why_laws.proofs.InTime.HereWorks.{FloatlessNotes}
+use Rattle.tb_why_laws.proofs.InTime.HereColumns.{text-has, floats-has}
+use Rattle.tb_why_laws.proofs.InTime.DueStories.{IsDue, DueIn, AllDue, fewer-due, none-due, TellsTimely, decision-timely, company-timely, back-timely, timely-none, stands-timely}
+use Rattle.tb_why_laws.proofs.InTime.TimelyShows.{IsPlacedFor, Punctual, Leaving, stopped, Times, times-then, times-none, times-behind, times-before, times-tales, times-output, times-page}
 
 -- the line is of a float at the top or bottom of the column that is made
 abbrev pub IsInColumn : FloatLists → ℕ → Type 0

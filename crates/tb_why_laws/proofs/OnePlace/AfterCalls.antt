@@ -14,12 +14,12 @@ use Rattle.tb_laws.proofs.ClassesRise.RisingLists.{IsAmong}
 use Rattle.tb_laws.proofs.ClassesRise.PageLines.{deeds, ins-deeds}
 use Rattle.tb_laws.proofs.NothingLost.StateWeights.{entries_weight, class_numbers}
 use Rattle.tb_laws.proofs.NothingLost.RunWeights.{page_of, cut_feet}
-use Rattle.tb_why_laws.proofs.WaitingLines.{uncalled}
-use Rattle.tb_why_laws.proofs.Once.{of_line}
-use Rattle.tb_why_laws.proofs.OnceStates.{Running, now, progressed, fires}
-use Rattle.tb_why_laws.proofs.CallWeights.{deeds_weight, called_later, later-weighs, weighs-later}
-use Rattle.tb_why_laws.proofs.CalledLater.{page-deeds}
-use Rattle.tb_why_laws.proofs.OutCalls.{steady-deeds, is_text, out-current, out-behind, out-deeds}
+use Rattle.tb_why_laws.proofs.OnePlace.WaitingLines.{uncalled}
+use Rattle.tb_why_laws.proofs.OnePlace.Once.{of_line}
+use Rattle.tb_why_laws.proofs.OnePlace.OnceStates.{Running, now, progressed, fires}
+use Rattle.tb_why_laws.proofs.OnePlace.CallWeights.{deeds_weight, called_later, later-weighs, weighs-later}
+use Rattle.tb_why_laws.proofs.OnePlace.CalledLater.{page-deeds}
+use Rattle.tb_why_laws.proofs.OnePlace.OutCalls.{steady-deeds, is_text, out-current, out-behind, out-deeds}
 
 module _ (p : Params) (s : State) (o : Running p s) (e : (now p s o).fault ≡ None) where
   abbrev next : State

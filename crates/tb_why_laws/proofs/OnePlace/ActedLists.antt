@@ -21,7 +21,7 @@ use Rattle.tb_output.specs.Act.{Acted, went, full, act_on, taken_float}
 use Rattle.tb_steps.specs.Run.{Progress, progress_by, progress}
 use Rattle.tb_laws.specs.Laws.{IsEmptied}
 use Rattle.tb_laws.proofs.NothingLost.StateWeights.{floats_weight, floats-append, entries_weight}
-use Rattle.tb_why_laws.proofs.CallWeights.{deeds_weight}
+use Rattle.tb_why_laws.proofs.OnePlace.CallWeights.{deeds_weight}
 
 -- the lists after acts, with the wide floats that were taken into the second one; the columns changed only with all lists empty
 pub record ActedLists (ds : List Act) (s t : State) : Type 0 where

@@ -19,12 +19,12 @@ use Rattle.tb_laws.proofs.ClassesRise.PageLines.{deeds, deeds-append, pruned-dee
 use Rattle.tb_laws.proofs.NothingLost.StateWeights.{floats_weight, floats-append, entries_weight, lists_weight, left_weight}
 use Rattle.tb_laws.proofs.NothingLost.RunWeights.{page_of, cut}
 use Rattle.tb_laws.proofs.NothingLost.ClosingRuns.{progressed}
-use Rattle.tb_why_laws.proofs.WaitingLines.{waiting_lines, uncalled}
-use Rattle.tb_why_laws.proofs.Once.{of_line}
-use Rattle.tb_why_laws.proofs.OnceLists.{this, among-weight, waiting-weight}
-use Rattle.tb_why_laws.proofs.OnceStates.{Running, now, fires, fired-times}
-use Rattle.tb_why_laws.proofs.ActedLists.{ActedLists, progress-lists}
-use Rattle.tb_why_laws.proofs.CallWeights.{deeds_weight, deeds_weight-append, deeds-within, called_later, later_weight, later-weighs, weighs-later}
+use Rattle.tb_why_laws.proofs.OnePlace.WaitingLines.{waiting_lines, uncalled}
+use Rattle.tb_why_laws.proofs.OnePlace.Once.{of_line}
+use Rattle.tb_why_laws.proofs.OnePlace.OnceLists.{this, among-weight, waiting-weight}
+use Rattle.tb_why_laws.proofs.OnePlace.OnceStates.{Running, now, fires, fired-times}
+use Rattle.tb_why_laws.proofs.OnePlace.ActedLists.{ActedLists, progress-lists}
+use Rattle.tb_why_laws.proofs.OnePlace.CallWeights.{deeds_weight, deeds_weight-append, deeds-within, called_later, later_weight, later-weighs, weighs-later}
 
 -- ---- the acts of a page
 

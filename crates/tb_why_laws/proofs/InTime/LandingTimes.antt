@@ -23,10 +23,10 @@ use Rattle.tb_why.proofs.LandingLemmas.{open_of, line_of, all_trivial}
 use Rattle.tb_why.proofs.TimeLemmas.{stories_are_timed}
 use Rattle.tb_why_laws.specs.WholeRuns.{summary_of}
 use Rattle.tb_why_laws.specs.OneColumn.{HasOneColumn, IsPageOf, LandsInTime}
-use Rattle.tb_why_laws.proofs.RunTales.{shown-in-order}
-use Rattle.tb_why_laws.proofs.DueStories.{IsTaleTimely, told-sheets, column-sheets}
-use Rattle.tb_why_laws.proofs.TimelyShows.{IsSentTimely, IsShownTimely, AreTimely}
-use Rattle.tb_why_laws.proofs.TimelyRuns.{shown-in-time}
+use Rattle.tb_why_laws.proofs.InOrder.RunTales.{shown-in-order}
+use Rattle.tb_why_laws.proofs.InTime.DueStories.{IsTaleTimely, told-sheets, column-sheets}
+use Rattle.tb_why_laws.proofs.InTime.TimelyShows.{IsSentTimely, IsShownTimely, AreTimely}
+use Rattle.tb_why_laws.proofs.InTime.TimelyRuns.{shown-in-time}
 
 -- ---- one story
 

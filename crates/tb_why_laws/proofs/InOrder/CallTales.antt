@@ -36,12 +36,12 @@ use Rattle.tb_why.specs.SummaryLaws.{counted_to, IsCurrent}
 use Rattle.tb_why.proofs.LandingLemmas.{line_of}
 use Rattle.tb_laws.specs.Laws.{float_lines}
 use Rattle.tb_laws.proofs.ClassesRise.RisingLists.{IsAmong, among-front, among-back}
-use Rattle.tb_why_laws.proofs.WaitingLines.{waiting_lines}
-use Rattle.tb_why_laws.proofs.OnceLists.{among-parts}
-use Rattle.tb_why_laws.proofs.FitLemmas.{Fits, AllFit, both-true, right-true, true-not-false, to_now, either_now, changed, of_line}
-use Rattle.tb_why_laws.proofs.DecisionLemmas.{after_tales, Tells, Leads, Moves, decision, call-leads}
-use Rattle.tb_why_laws.proofs.PlacingLemmas.{lines-append, either-list, in-first, in-second, joins-area}
-use Rattle.tb_why_laws.proofs.StandLemmas.{Waits, IsInArea, FitState, moved_to}
+use Rattle.tb_why_laws.proofs.OnePlace.WaitingLines.{waiting_lines}
+use Rattle.tb_why_laws.proofs.OnePlace.OnceLists.{among-parts}
+use Rattle.tb_why_laws.proofs.InOrder.FitLemmas.{Fits, AllFit, both-true, right-true, true-not-false, to_now, either_now, changed, of_line}
+use Rattle.tb_why_laws.proofs.InOrder.DecisionLemmas.{after_tales, Tells, Leads, Moves, decision, call-leads}
+use Rattle.tb_why_laws.proofs.InOrder.PlacingLemmas.{lines-append, either-list, in-first, in-second, joins-area}
+use Rattle.tb_why_laws.proofs.InOrder.StandLemmas.{Waits, IsInArea, FitState, moved_to}
 
 -- ---- a story that has just begun
 

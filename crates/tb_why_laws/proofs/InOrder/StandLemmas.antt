@@ -24,14 +24,14 @@ use Rattle.tb_story.specs.Story.{is_deferred}
 use Rattle.tb_story.specs.Summary.{SummaryView}
 use Rattle.tb_why.specs.Firing.{unless_over, next_pieces, double_pieces}
 use Rattle.tb_laws.proofs.ClassesRise.RisingLists.{IsAmong}
-use Rattle.tb_why_laws.proofs.WaitingLines.{waiting_lines}
-use Rattle.tb_why_laws.proofs.Once.{Once}
-use Rattle.tb_why_laws.proofs.OnceMoves.{column-once, page-once}
-use Rattle.tb_why_laws.proofs.OnceLists.{left-apart}
-use Rattle.tb_why_laws.proofs.FitLemmas.{AllFit, true-not-false, keeps-back, places, waiting-current}
-use Rattle.tb_why_laws.proofs.DecisionLemmas.{Tells, Leads, IsAsked, Moves, decision, next-leads, wide-leads}
-use Rattle.tb_why_laws.proofs.ShowLemmas.{Shows, shows-then, shows-none, shows-before, shows-tales}
-use Rattle.tb_why_laws.proofs.PlacingLemmas.{area_lines, waited, waited-too, waits-still, same-areas, joins-area}
+use Rattle.tb_why_laws.proofs.OnePlace.WaitingLines.{waiting_lines}
+use Rattle.tb_why_laws.proofs.OnePlace.Once.{Once}
+use Rattle.tb_why_laws.proofs.OnePlace.OnceMoves.{column-once, page-once}
+use Rattle.tb_why_laws.proofs.OnePlace.OnceLists.{left-apart}
+use Rattle.tb_why_laws.proofs.InOrder.FitLemmas.{AllFit, true-not-false, keeps-back, places, waiting-current}
+use Rattle.tb_why_laws.proofs.InOrder.DecisionLemmas.{Tells, Leads, IsAsked, Moves, decision, next-leads, wide-leads}
+use Rattle.tb_why_laws.proofs.InOrder.ShowLemmas.{Shows, shows-then, shows-none, shows-before, shows-tales}
+use Rattle.tb_why_laws.proofs.InOrder.PlacingLemmas.{area_lines, waited, waited-too, waits-still, same-areas, joins-area}
 
 -- the float of the line waits
 abbrev pub Waits : State → ℕ → Type 0

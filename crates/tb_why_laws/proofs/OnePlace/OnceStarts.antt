@@ -18,7 +18,7 @@ use Rattle.tb_output.specs.State.{first_state}
 use Rattle.tb_laws.proofs.ClassesRise.NamedLines.{AllAbove, rise-first, rise-above, rise-behind}
 use Rattle.tb_laws.proofs.NothingLost.StateWeights.{state_weight}
 use Rattle.tb_laws.proofs.NothingLost.StartLemmas.{leaf_line, foot_weight, item_weight, items_weight, start-weight}
-use Rattle.tb_why_laws.proofs.Once.{of_line}
+use Rattle.tb_why_laws.proofs.OnePlace.Once.{of_line}
 
 -- a foot has no float
 no-leaf : (m n : ℕ) (k : LeafKind) → leaf_line (of_line m) n k ≡ 0
