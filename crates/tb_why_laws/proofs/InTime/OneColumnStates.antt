@@ -100,10 +100,6 @@ module _ (p : Params) (s : State) (o : Running p s) (one : OneColumn s) where
     pub filled-single : (now p s o).state.two_columns ≡ false
     filled-single = done.two one.two
 
-    -- no float is above both columns
-    pub filled-double : (now p s o).state.floats.double ≡ []
-    filled-double = ((progressed p o.calm s o.kept o.closing).after e).single filled-single
-
   pub step-single : (es : List RunEvent) (rs : List Recorded) (t : State) → step p s ≡ goes_on es rs t → OneColumn t
   step-single es rs t e = record {
     two = subst (λ (x : State). x.two_columns ≡ false) (sym g.state)

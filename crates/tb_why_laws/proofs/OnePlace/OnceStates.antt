@@ -64,16 +64,6 @@ module _ (p : Params) (s : State) (o : Running p s) where
   pub progressed : (v : Weight) → Progressed v (acted_weight v (page_of p s).reached) s now
   progressed v = progress-adds v p (page_of p s).reached awful_bad s o.kept.sound (changes-fit p calm s o.kept o.closing v)
 
-  -- once the page is filled, each float is in one list of the state at most
-  pub filled-once : now.fault ≡ None → (n : ℕ) → lists_weight (of_line n) now.state.floats ≤ 1
-  filled-once e n =
-      let a = (progressed (of_line n)).after e in
-      let v = of_line n in
-      let k : lists_weight v now.state.floats + left_weight v now.state.left_column ≡ lists_weight v s.floats + left_weight v s.left_column + acted_weight v (page_of p s).reached = a.weight in
-      let j : nodes_weight v (page_of p s).passed + acted_weight v (page_of p s).reached + nodes_weight v (page_of p s).beyond ≡ nodes_weight v s.waiting = reached v p calm s o.kept in
-      let i : state_weight v s ≤ 1 = o.times n in
-      omega arith
-
   -- the firing of the page
   abbrev pub fires : Fired
   fires = fired_of (ask_of p now.state) now.state.classes now.state.boxes (page_of p s)

@@ -100,9 +100,6 @@ puts-brings ns w e = record { quiet = λ h. both-deeds w.put_back ns h e; curren
 then-puts : (a b : Work) (ns : List PlainNode) → deeds ns ≡ [] → Brings a b → Brings a (puts ns b)
 then-puts a b ns e x = brings-then a b (puts ns b) x (puts-brings ns b e)
 
-sends-brings : (e : PlainSent) (w : Work) → Brings w (sends e w)
-sends-brings e w = by-sends (Brings w) e w (same w w refl refl) (same w _ refl refl)
-
 interline-brings : (p : Params) (a b : Work) → Brings a b → Brings a (Text.puts_interline p b)
 interline-brings p a b x = then-puts a b (Text.penalty_after p.interlinepenalty b.put_back) (penalty-deeds p.interlinepenalty (Text.glue_at_end (last_or (plain (pen p.interlinepenalty)) (map (λ (m : PlainNode). m.kind) b.put_back)))) x
 
