@@ -64,33 +64,21 @@ foot-leaves (l ∷ ls) = (by_kind l.line l.kind, foot-leaves ls)
   where
     by_kind : (n : ℕ) (k : LeafKind) → IsFloatless (plain_leaf (record { line = n; kind = k })).matter
     by_kind n (leaves.Hbox name h d) = tt
-    by_kind n (leaves.Rule name h d) = tt
-    by_kind n (leaves.Skip g) = tt
-    by_kind n (leaves.Kern w) = tt
-    by_kind n (leaves.Penalty q) = tt
+    by_kind n k = tt
 
 item-here : (p : Params) (two : Bool) (n : ℕ) (k : ItemKind) → AllHere (on_line n (item_kinds p two k))
-item-here p two n (items.Hbox name h d) = (tt, tt)
-item-here p two n (items.Rule name h d) = (tt, tt)
-item-here p two n (items.Skip g) = (tt, tt)
-item-here p two n (items.Kern w) = (tt, tt)
-item-here p two n (items.Penalty q) = (tt, tt)
-item-here p two n (items.Mark name) = (tt, tt)
-item-here p two n (items.Note name) = (tt, tt)
 item-here p two n (items.Margin m vert) = (tt, (tt, (tt, (tt, tt))))
 item-here p two n items.NewPage = (tt, (tt, tt))
 item-here p two n items.ClearPage = (tt, (tt, (tt, (tt, (tt, tt)))))
-item-here p two n (items.PageBreak q) = (tt, tt)
-item-here p two n (items.NoPageBreak q) = (tt, tt)
 item-here p two n items.OneColumn = (tt, (tt, (tt, (tt, (tt, (tt, tt))))))
 item-here p two n items.TwoColumn = (tt, (tt, (tt, (tt, (tt, (tt, tt))))))
-item-here p two n (items.Suppress area) = (tt, tt)
 item-here p two n (items.Foot class ls) = (foot-leaves ls, tt)
 item-here p two n (items.Float f vert) = by_taking (has_second p && two && f.wide)
   where
     by_taking : (t : Bool) → AllHere (on_line n (if t then act (acts.Take f) ∷ [] else with_firings (acts.Take f) vert))
     by_taking true = (tt, tt)
     by_taking false = (tt, (tt, (tt, (tt, tt))))
+item-here p two n k = (tt, tt)
 
 items-here : (p : Params) (two : Bool) (ns : List Item) → AllHere (item_nodes p two ns)
 items-here p two [] = tt
