@@ -1,0 +1,140 @@
+-- Along the run of a galley without an item `twocolumn` there is one column.
+use Rattle.std.proofs.Common.{◌≡◌, refl, sym, ◌∙◌, subst, ℕ, pos, ◌+◌, Bool, true, false, List, [], ◌∷◌, None}
+use Rattle.std.specs.Prelude.{ℤ, int_lt, int_le, ◌&&◌, if◌then◌else◌}
+use Rattle.std.specs.List.{AllByRecursion}
+use Rattle.tb_scaled.specs.Scaled.{awful_bad, min_ℤ}
+use Rattle.tb_break.proofs.EachLemmas.{all-front, all-back, all-join}
+use Rattle.tb_node.specs.declared.Act.{Act}
+use Rattle.tb_node.specs.declared.Act.TheVariants as acts
+use Rattle.tb_node.specs.PlainNodes.{act, on_line, clearpage_kinds}
+use Rattle.tb_param.specs.declared.Params.{Params}
+use Rattle.tb_param.specs.Release.{has_second}
+use Rattle.tb_galley.specs.declared.Item.{Item}
+use Rattle.tb_galley.specs.declared.ItemKind.{ItemKind}
+use Rattle.tb_galley.specs.declared.ItemKind.TheVariants as items
+use Rattle.tb_galley.specs.declared.Galley.{Galley}
+use Rattle.tb_galley.specs.GalleyNodes.{with_firings, item_kinds, two_after, item_nodes, expanded}
+use Rattle.tb_break.specs.PageTop.{pruned_nodes}
+use Rattle.tb_builder.specs.Reach.{Reached, acted, tried}
+use Rattle.tb_builder.specs.FiredPages.{frozen_for}
+use Rattle.tb_builder.proofs.Cutting.CutLemmas.{acted_of}
+use Rattle.tb_float.specs.Lists.{live_count}
+use Rattle.tb_items.specs.Classes.{classes_of}
+use Rattle.tb_items.specs.RunEvents.{RunEvent}
+use Rattle.tb_output.specs.State.{State, Recorded, ask_of, first_state}
+use Rattle.tb_output.specs.Act.{Acted, went, full, act_on}
+use Rattle.tb_steps.specs.Run.{Progress, progress_by, progress, goes_on, step}
+use Rattle.tb_laws.proofs.ClassesRise.PageLines.{deeds, deeds-append, pruned-deeds}
+use Rattle.tb_laws.proofs.NothingLost.RunWeights.{page_of, cut}
+use Rattle.tb_laws.proofs.NothingLost.ClosingRuns.{progressed, fired_closes}
+use Rattle.tb_why_laws.specs.OneColumn.{IsSingleItem, HasOneColumn}
+use Rattle.tb_why_laws.proofs.OnePlace.Once.{of_line}
+use Rattle.tb_why_laws.proofs.OnePlace.OnceStates.{Running, now, progressed as reached-adds}
+use Rattle.tb_why_laws.proofs.OnePlace.CalledLater.{all-deeds, does}
+use Rattle.tb_why_laws.proofs.OnePlace.AfterCalls.{waiting_deeds}
+use Rattle.tb_why_laws.proofs.InTime.GoingOn.{GoesOn, going-on}
+
+-- the act does not change to two columns
+abbrev pub IsSingleAct : Act → Type 0
+IsSingleAct (acts.Take f) = Unit {0}
+IsSingleAct (acts.TakeMargin m) = Unit {0}
+IsSingleAct (acts.Suppress area) = Unit {0}
+IsSingleAct (acts.Columns two) = two ≡ false
+
+-- there is one column, and none of the acts that wait changes this
+pub record OneColumn (s : State) : Type 0 where
+  pub two : s.two_columns ≡ false
+  pub acts : AllByRecursion IsSingleAct (deeds s.waiting)
+
+-- ---- the acts of a page
+
+-- they keep the number of the page, and the one column
+record Kept (s t : State) : Type 0 where
+  page : t.page ≡ s.page
+  two : s.two_columns ≡ false → t.two_columns ≡ false
+
+Acts : State → Acted → Type 0
+Acts s (went t ws rs) = Kept s t
+Acts s (full line live) = Unit {0}
+
+room-kept : (s : State) (u : Bool) (line live : ℕ) (x : Acted) → Acts s x → Acts s (if u then full line live else x)
+unfolding Acts
+room-kept s true line live x h = tt
+room-kept s false line live x h = h
+
+act-kept : (p : Params) (s : State) (a : Act) → IsSingleAct a → Acts s (act_on p s a)
+unfolding Acts
+act-kept p s (acts.Take f) h = room-kept s (int_le p.pool (pos (live_count s.floats))) _ _ _ (record { page = refl; two = λ e. e })
+act-kept p s (acts.TakeMargin m) h = room-kept s (int_lt p.pool (pos (live_count s.floats + 2))) _ _ _ (record { page = refl; two = λ e. e })
+act-kept p s (acts.Suppress area) h = record { page = refl; two = λ e. e }
+act-kept p s (acts.Columns two) h = record { page = refl; two = λ e. h }
+
+by_act-kept : (s : State) (later : State → Progress) → ((t : State) → Kept t (later t).state) → (x : Acted) → Acts s x → Kept s (progress_by later s x).state
+unfolding Acts
+by_act-kept s later h (went t ws rs) k = let x = h t in record { page = x.page ∙ k.page; two = λ e. x.two (k.two e) }
+by_act-kept s later h (full line live) k = record { page = refl; two = λ e. e }
+
+progress-kept : (p : Params) (rs : List Reached) (least : ℤ) (s : State) → AllByRecursion IsSingleAct (acted_of rs) → Kept s (progress p rs least s).state
+progress-kept p [] least s h = record { page = refl; two = λ e. e }
+progress-kept p (acted a ∷ rs) least s h = by_act-kept s (λ t. progress p rs least t) (λ t. progress-kept p rs least t h.1) (act_on p s a) (act-kept p s a h.0)
+progress-kept p (tried line b ∷ rs) least s h = progress-kept p rs (min_ℤ least b.cost) s h
+
+-- ---- a step
+
+module _ (p : Params) (s : State) (o : Running p s) (one : OneColumn s) where
+  -- the acts that were done are single
+  acts-single : AllByRecursion IsSingleAct (acted_of (page_of p s).reached)
+  acts-single =
+      all-front IsSingleAct (acted_of (page_of p s).reached) (deeds (page_of p s).beyond)
+      (subst (AllByRecursion IsSingleAct) (sym (pruned-deeds p.topskip s.waiting) ∙ all-deeds (pruned_nodes p.topskip s.waiting) (page_of p s) (cut (of_line 0) p o.calm s o.kept)) one.acts)
+
+  done : Kept s (now p s o).state
+  done = progress-kept p (page_of p s).reached awful_bad s acts-single
+
+  -- the page that is made once the page is filled is the same
+  pub filled-page : (now p s o).state.page ≡ s.page
+  filled-page = done.page
+
+  module _ (e : (now p s o).fault ≡ None) where
+    -- and there is one column
+    pub filled-single : (now p s o).state.two_columns ≡ false
+    filled-single = done.two one.two
+
+  pub step-single : (es : List RunEvent) (rs : List Recorded) (t : State) → step p s ≡ goes_on es rs t → OneColumn t
+  step-single es rs t e = record {
+    two = subst (λ (x : State). x.two_columns ≡ false) (sym g.state)
+        ((fired_closes p o.calm s o.kept o.closing (now p s o).state (λ v. (reached-adds p s o v).after g.fault) ((progressed p o.calm s o.kept o.closing).after g.fault) (frozen_for (ask_of p (now p s o).state) (now p s o).state.classes (now p s o).state.boxes)).1 ∙ filled-single g.fault);
+    acts = subst (λ (x : State). AllByRecursion IsSingleAct (deeds x.waiting)) (sym g.state)
+        (subst (AllByRecursion IsSingleAct) (sym (waiting_deeds p s o g.fault)) (all-back IsSingleAct (acted_of (page_of p s).reached) _ (subst (AllByRecursion IsSingleAct) (does p s o g.fault) one.acts)));
+  }
+    where
+      g : GoesOn p s o t
+      g = going-on p s o es rs t e
+
+-- ---- the start
+
+item-single : (p : Params) (two : Bool) (n : ℕ) (k : ItemKind) → IsSingleItem k → AllByRecursion IsSingleAct (deeds (on_line n (item_kinds p two k)))
+item-single p two n (items.Float f vert) h = by_taking (has_second p && two && f.wide)
+  where
+    by_taking : (t : Bool) → AllByRecursion IsSingleAct (deeds (on_line n (if t then act (acts.Take f) ∷ [] else with_firings (acts.Take f) vert)))
+    by_taking true = (tt, tt)
+    by_taking false = (tt, tt)
+item-single p two n items.TwoColumn h = absurd h
+item-single p two n items.OneColumn h = (refl, tt)
+item-single p two n (items.Margin m vert) h = (tt, tt)
+item-single p two n (items.Suppress area) h = (tt, tt)
+item-single p two n k h = tt
+
+items-single : (p : Params) (two : Bool) (ns : List Item) → AllByRecursion (λ (n : Item). IsSingleItem n.kind) ns → AllByRecursion IsSingleAct (deeds (item_nodes p two ns))
+items-single p two [] h = tt
+items-single p two (n ∷ ns) h =
+    subst (AllByRecursion IsSingleAct) (sym (deeds-append (on_line n.line (item_kinds p two n.kind)) (item_nodes p (two_after two n.kind) ns)))
+    (all-join IsSingleAct (deeds (on_line n.line (item_kinds p two n.kind))) (deeds (item_nodes p (two_after two n.kind) ns)) (item-single p two n.line n.kind h.0) (items-single p (two_after two n.kind) ns h.1))
+
+-- a galley without an item `twocolumn` begins in one column and stays there
+pub starts-single : (g : Galley) → HasOneColumn g → OneColumn (first_state g.params (classes_of g) (expanded g))
+unfolding expanded
+starts-single g h = record {
+  two = refl;
+  acts = subst (AllByRecursion IsSingleAct) (sym (deeds-append (item_nodes g.params false g.items) (on_line g.end_line clearpage_kinds))) (all-join IsSingleAct (deeds (item_nodes g.params false g.items)) _ (items-single g.params false g.items h) tt);
+}

@@ -1,0 +1,120 @@
+-- The float lists after the acts of a page: the current list and the second one grow by what the acts take.
+use Rattle.std.proofs.Common.{◌≡◌, refl, sym, ◌∙◌, ap, ℕ, pos, ◌+◌, ◌⊎◌, inl, inr, Bool, true, false, List, [], ◌∷◌, ◌++◌, append_assoc, append-nil, None, arith}
+use Rattle.std.specs.Prelude.{ℤ, int_lt, int_le, ◌&&◌, if◌then◌else◌}
+use Rattle.std.specs.List.{AllByRecursion}
+use Rattle.std.proofs.lemmas.Option.{none-some}
+use Rattle.tb_scaled.specs.Scaled.{min_ℤ}
+use Rattle.tb_break.proofs.EachLemmas.{all-front, all-back}
+use Rattle.tb_node.specs.declared.Act.{Act}
+use Rattle.tb_node.specs.declared.Act.TheVariants as acts
+use Rattle.tb_node.specs.declared.Float.{Float}
+use Rattle.tb_node.proofs.Weights.{Weight, act_weight}
+use Rattle.tb_param.specs.declared.Params.{Params}
+use Rattle.tb_param.specs.Release.{has_second}
+use Rattle.tb_builder.specs.Reach.{Reached, acted, tried}
+use Rattle.tb_builder.proofs.Cutting.CutLemmas.{acted_of}
+use Rattle.tb_float.specs.declared.Entry.{Entry}
+use Rattle.tb_float.specs.declared.Entry.TheVariants as entries
+use Rattle.tb_float.specs.Lists.{FloatLists, live_count}
+use Rattle.tb_output.specs.State.{State}
+use Rattle.tb_output.specs.Act.{Acted, went, full, act_on, taken_float}
+use Rattle.tb_steps.specs.Run.{Progress, progress_by, progress}
+use Rattle.tb_laws.specs.Laws.{IsEmptied}
+use Rattle.tb_laws.proofs.NothingLost.StateWeights.{floats_weight, floats-append, entries_weight}
+use Rattle.tb_why_laws.proofs.OnePlace.CallWeights.{deeds_weight}
+
+-- the lists after acts, with the wide floats that were taken into the second one; the columns changed only with all lists empty
+pub record ActedLists (ds : List Act) (s t : State) : Type 0 where
+  pub here : t.floats.here ≡ s.floats.here
+  pub top : t.floats.top ≡ s.floats.top
+  pub bottom : t.floats.bottom ≡ s.floats.bottom
+  pub deferred : t.floats.deferred ≡ s.floats.deferred
+  pub double : t.floats.double ≡ s.floats.double
+  pub news : List Float
+  pub second : t.floats.second ≡ s.floats.second ++ news
+  pub columns : ((t.two_columns ≡ s.two_columns) × (t.first_column ≡ s.first_column)) ⊎ (t.floats.double ≡ [])
+  pub taken : (v : Weight) → entries_weight v t.floats.current + floats_weight v news ≡ entries_weight v s.floats.current + deeds_weight v ds
+
+nothing-done : (s : State) → ActedLists [] s s
+nothing-done s = record { here = refl; top = refl; bottom = refl; deferred = refl; double = refl; news = []; second = sym (append-nil s.floats.second); columns = inl (refl, refl); taken = λ v. refl }
+
+-- one act, and those after it
+both-done : (a : Act) (ds : List Act) (s t u : State) → ActedLists (a ∷ []) s t → ActedLists ds t u → ActedLists (a ∷ ds) s u
+both-done a ds s t u x y = record {
+  here = y.here ∙ x.here;
+  top = y.top ∙ x.top;
+  bottom = y.bottom ∙ x.bottom;
+  deferred = y.deferred ∙ x.deferred;
+  double = y.double ∙ x.double;
+  news = x.news ++ y.news;
+  second = y.second ∙ ap (λ l. l ++ y.news) x.second ∙ append_assoc s.floats.second x.news y.news;
+  columns = by_columns x.columns y.columns;
+  taken = λ v. sums v (floats-append v x.news y.news) (x.taken v) (y.taken v);
+}
+  where
+    by_columns : ((t.two_columns ≡ s.two_columns) × (t.first_column ≡ s.first_column)) ⊎ (t.floats.double ≡ []) → ((u.two_columns ≡ t.two_columns) × (u.first_column ≡ t.first_column)) ⊎ (u.floats.double ≡ []) → ((u.two_columns ≡ s.two_columns) × (u.first_column ≡ s.first_column)) ⊎ (u.floats.double ≡ [])
+    by_columns (inl a) (inl b) = inl (b.0 ∙ a.0, b.1 ∙ a.1)
+    by_columns (inr a) b = inr (y.double ∙ a)
+    by_columns (inl a) (inr b) = inr b
+
+    sums : (v : Weight) → floats_weight v (x.news ++ y.news) ≡ floats_weight v x.news + floats_weight v y.news → entries_weight v t.floats.current + floats_weight v x.news ≡ entries_weight v s.floats.current + (act_weight v a + 0) → entries_weight v u.floats.current + floats_weight v y.news ≡ entries_weight v t.floats.current + deeds_weight v ds
+        → entries_weight v u.floats.current + floats_weight v (x.news ++ y.news) ≡ entries_weight v s.floats.current + (act_weight v a + deeds_weight v ds)
+    sums v e g h = omega arith
+
+-- ---- an act
+
+Done : State → Act → Acted → Type 0
+Done s a (went t ws rs) = AllByRecursion IsEmptied rs → ActedLists (a ∷ []) s t
+Done s a (full line live) = Unit {0}
+
+room-done : (s : State) (a : Act) (u : Bool) (line live : ℕ) (x : Acted) → Done s a x → Done s a (if u then full line live else x)
+unfolding Done
+room-done s a true line live x h = tt
+room-done s a false line live x h = h
+
+entries-append : (v : Weight) (xs ys : List Entry) → entries_weight v (xs ++ ys) ≡ entries_weight v xs + entries_weight v ys
+entries-append v [] ys = omega arith
+entries-append v (entries.Float f ∷ xs) ys = let h : entries_weight v (xs ++ ys) ≡ entries_weight v xs + entries_weight v ys = entries-append v xs ys in omega arith
+entries-append v (entries.Left m ∷ xs) ys = let h : entries_weight v (xs ++ ys) ≡ entries_weight v xs + entries_weight v ys = entries-append v xs ys in omega arith
+entries-append v (entries.Right m ∷ xs) ys = let h : entries_weight v (xs ++ ys) ≡ entries_weight v xs + entries_weight v ys = entries-append v xs ys in omega arith
+
+-- entries join the current list
+joins : (a : Act) (s : State) (es : List Entry) → ((v : Weight) → entries_weight v es ≡ act_weight v a) → ActedLists (a ∷ []) s (record s { floats = record s.floats { current = s.floats.current ++ es } })
+joins a s es h = record {
+  here = refl;
+  top = refl;
+  bottom = refl;
+  deferred = refl;
+  double = refl;
+  news = [];
+  second = sym (append-nil s.floats.second);
+  columns = inl (refl, refl);
+  taken = λ v. sums (entries_weight v (s.floats.current ++ es)) (entries_weight v s.floats.current) (entries_weight v es) (act_weight v a) (entries-append v s.floats.current es) (h v);
+}
+  where
+    sums : (x y z w : ℕ) → x ≡ y + z → z ≡ w → x + 0 ≡ y + (w + 0)
+    sums x y z w e g = omega arith
+
+act-done : (p : Params) (s : State) (a : Act) → Done s a (act_on p s a)
+unfolding Done
+act-done p s (acts.Take f) = room-done s (acts.Take f) (int_le p.pool (pos (live_count s.floats))) _ _ _ (λ e. by_list (has_second p && (f.wide && s.two_columns)))
+  where
+    by_list : (t : Bool) → ActedLists (acts.Take f ∷ []) s (record s { floats = if t then record s.floats { second = s.floats.second ++ taken_float p s f ∷ [] } else record s.floats { current = s.floats.current ++ entries.Float (taken_float p s f) ∷ [] } })
+    by_list true = record { here = refl; top = refl; bottom = refl; deferred = refl; double = refl; news = taken_float p s f ∷ []; second = refl; columns = inl (refl, refl); taken = λ v. refl }
+    by_list false = joins (acts.Take f) s (entries.Float (taken_float p s f) ∷ []) (λ v. omega arith)
+act-done p s (acts.TakeMargin m) = room-done s (acts.TakeMargin m) (int_lt p.pool (pos (live_count s.floats + 2))) _ _ _ (λ e. joins (acts.TakeMargin m) s (entries.Left m ∷ entries.Right m ∷ []) (λ v. omega arith))
+act-done p s (acts.Suppress area) = λ e. record { here = refl; top = refl; bottom = refl; deferred = refl; double = refl; news = []; second = sym (append-nil s.floats.second); columns = inl (refl, refl); taken = λ v. refl }
+act-done p s (acts.Columns two) = λ e. record { here = refl; top = refl; bottom = refl; deferred = refl; double = refl; news = []; second = sym (append-nil s.floats.second); columns = inr (ap (λ (l : FloatLists). l.double) e.0); taken = λ v. refl }
+
+-- ---- all acts of a page
+
+by_act-done : (a : Act) (ds : List Act) (s : State) (later : State → Progress) → ((t : State) → AllByRecursion IsEmptied (later t).records → (later t).fault ≡ None → ActedLists ds t (later t).state)
+    → (x : Acted) → Done s a x → AllByRecursion IsEmptied (progress_by later s x).records → (progress_by later s x).fault ≡ None → ActedLists (a ∷ ds) s (progress_by later s x).state
+unfolding Done
+by_act-done a ds s later h (went t ws rs) k e f = both-done a ds s t (later t).state (k (all-front IsEmptied rs (later t).records e)) (h t (all-back IsEmptied rs (later t).records e) f)
+by_act-done a ds s later h (full line live) k e f = absurd (none-some (line, live) (sym f))
+
+pub progress-lists : (p : Params) (rs : List Reached) (least : ℤ) (s : State) → AllByRecursion IsEmptied (progress p rs least s).records → (progress p rs least s).fault ≡ None → ActedLists (acted_of rs) s (progress p rs least s).state
+progress-lists p [] least s e f = nothing-done s
+progress-lists p (acted a ∷ rs) least s e f = by_act-done a (acted_of rs) s (λ t. progress p rs least t) (λ t x y. progress-lists p rs least t x y) (act_on p s a) (act-done p s a) e f
+progress-lists p (tried line b ∷ rs) least s e f = progress-lists p rs (min_ℤ least b.cost) s e f
