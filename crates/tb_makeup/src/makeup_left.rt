@@ -68,6 +68,7 @@ impl<'a> MakeupLeft<'a> {
         }
         count
     }
+
     // How many nodes an item of the galley has, with those of its footnote.
     fn item_nodes(&self, item: &Item) -> u64
         requires { node_count (on_line item.now.line (makeup_kinds self.now.galley.now.params item.now.kind)) ≤ 8388608 }
@@ -75,10 +76,8 @@ impl<'a> MakeupLeft<'a> {
     {
         match &item.kind {
             ItemKind::Foot { class: _, leaves } => 1 + leaves.len() as u64,
-            ItemKind::Float { .. } => 2,
+            ItemKind::Float { .. } | ItemKind::NewPage | ItemKind::ClearPage => 2,
             ItemKind::Margin { .. } => 4,
-            ItemKind::NewPage => 2,
-            ItemKind::ClearPage => 2,
             ItemKind::OneColumn | ItemKind::TwoColumn => 6,
             _ => 1,
         }

@@ -1,7 +1,7 @@
 -- The items that are left under the page makeup, batch by batch.
-use Rattle.std.proofs.Common.{◌≡◌, refl, sym, subst, ◌∙◌, ap, ℕ, ◌+◌, ◌<◌, ◌≤◌, Bool, true, false, List, [], ◌∷◌, ◌++◌, length, take, drop, get_or, None, Some, append_assoc, append-nil, arith}
+use Rattle.std.proofs.Common.{◌≡◌, refl, sym, subst, ◌∙◌, ap, ℕ, ◌+◌, ◌≤◌, Bool, true, false, List, [], ◌∷◌, ◌++◌, length, take, drop, None, Some, append_assoc, append-nil, arith}
 use Rattle.std.proofs.lemmas.Bool.{true≢false}
-use Rattle.std.proofs.lemmas.List.{take_all, take-append-drop, length-drop, at_drop_more}
+use Rattle.std.proofs.lemmas.List.{take_all, take-append-drop, length-drop}
 use Rattle.std.proofs.lemmas.List.Elements.{All-from_recursion, recursion_from_All}
 use Rattle.tb_pool.specs.Lists.{Lists}
 use Rattle.tb_break.proofs.EachLemmas.{all-drop}
@@ -80,14 +80,6 @@ module _ (l : MakeupLeft) (b : Builder) (s : Lists Node) (d : Builder) (t : List
   }
 
 -- ---- their nodes are counted
-
--- one item further
-pub count-more : (p : Params) (ns : List Item) (i : ℕ) (x : Item) → i < length ns → x ≡ get_or ns i x
-    → node_count (makeup_nodes p (drop i ns)) ≡ node_count (on_line x.line (makeup_kinds p x.kind)) + node_count (makeup_nodes p (drop (i + 1) ns))
-count-more p ns i x within is =
-    at_drop_more (λ ms. node_count (makeup_nodes p ms)) ns i x within
-    ∙ ap (λ y. node_count (makeup_nodes p (y ∷ drop (i + 1) ns))) (sym is)
-    ∙ count-append (on_line x.line (makeup_kinds p x.kind)) (makeup_nodes p (drop (i + 1) ns))
 
 -- with the nodes of a clear
 pub count-all : (l : MakeupLeft) → node_count (nodes_of l) ≡ node_count (makeup_nodes l.galley.now.params l.items.now) + 2
