@@ -47,7 +47,8 @@ batch-ends d p two (n ∷ m ∷ ms) e =
     kern-both d (on_line n.line (item_kinds p two n.kind)) (item_nodes p (two_after two n.kind) (m ∷ ms))
     ∙ batch-ends (kern_last d (on_line n.line (item_kinds p two n.kind))) p (two_after two n.kind) (m ∷ ms) e
 
-some-ended : (k : ℕ) (ns : List Item) → are_ended (take k ns) ≡ true → 0 < k
+-- it is not empty
+pub some-ended : (k : ℕ) (ns : List Item) → are_ended (take k ns) ≡ true → 0 < k
 some-ended zero ns e = absurd (true≢false (sym e))
 some-ended (suc k) ns e = omega arith
 

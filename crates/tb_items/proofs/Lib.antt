@@ -2,6 +2,8 @@ pub mod ItemLemmas
 pub mod WaitsLemmas
 pub mod FootLemmas
 pub mod OpenLemmas
+pub mod MoreReached
+pub mod MoreEvents
 pub mod LeftLemmas
 pub mod ItemAmounts
 pub mod GalleyClasses

@@ -50,8 +50,8 @@ fn ends_batch(kind: &ItemKind) -> bool
     )
 }
 
-// How many items are handed over at once: all, or up to one that ends a batch.
-fn batch_len(items: &[Item]) -> usize
+/// How many items are handed over at once: all, or some up to one that ends a batch.
+pub fn batch_len(items: &[Item]) -> usize
     ensures within { result ≤ length items.now }
     ensures ended { result < length items.now → are_ended (take result items.now) ≡ true }
 {

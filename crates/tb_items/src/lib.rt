@@ -9,5 +9,5 @@ mod spent_lists;
 
 pub use galley_nodes::{put, put_item};
 pub use happenings::{Event, Happening, note_sent, note_try};
-pub use items_left::{ItemsLeft, all_items};
+pub use items_left::{ItemsLeft, all_items, batch_len};
 pub use spent_lists::{close_happened, close_list};

@@ -1,3 +1,4 @@
 pub mod LedActs
+pub mod MakeupLeft
 pub mod Makeup
 pub mod MakeupPages

@@ -11,19 +11,26 @@ use Rattle.tb_builder.specs.BuilderLists.{builder_lists}
 use Rattle.tb_sheet.specs.ApartLists.{AreNoneOf}
 use Rattle.tb_items.specs.declared.happenings.Happening.{Happening}
 use Rattle.tb_items.specs.RunEvents.{RunEvent, offered, sent}
+use Rattle.tb_items.specs.ItemsLeft.{kern_last, with_more}
 use Rattle.tb_items.specs.Happenings.{events_of, noted, happened_lists, ArePages}
 use Rattle.tb_plain.specs.Firing.{holds_any}
-use Rattle.tb_plain.specs.Run.{MakeupEvent, offers, sends, sent_among, MakeupState, MakeupRun, MakeupEnd, done, page_limit, node_limit, builder_holds, makeup_ask, makeup_from, steps_left, act_count, run_after, ejecting_nodes, waiting_after}
+use Rattle.tb_plain.specs.Run.{MakeupEvent, offers, sends, sent_among, MakeupState, MakeupRun, MakeupEnd, done, page_limit, node_limit, builder_holds, makeup_ask, makeup_classes, makeup_from, steps_left, act_count, run_after, ejecting_nodes, waiting_after}
 use Rattle.tb_plain.specs.MakeupCalls.{AreMakeupParams, IsPlain}
 use Rattle.tb_makeup.specs.declared.makeup.Makeup.{Makeup}
 use Rattle.tb_makeup.specs.declared.makeup.NodeBound.{NodeBound}
 use Rattle.tb_makeup.specs.declared.makeup.MakeupEnding.{MakeupEnding}
 use Rattle.tb_makeup.specs.declared.makeup.MakeupEnding.TheVariants as endings
+use Rattle.tb_makeup.specs.declared.makeup_left.MakeupLeft.{MakeupLeft}
 use Rattle.tb_makeup.specs.LedActs.{ActsAreLed}
+use Rattle.tb_makeup.specs.MakeupLeft.{nodes_left, AreItemsLeft}
 
 -- what the builder holds
+abbrev pub built_in : Makeup → Contents
+built_in r = contents_of r.builder r.store
+
+-- the same, with the nodes of the items that are left behind those that wait
 abbrev pub held_in : Makeup → Contents
-held_in r = contents_of r.builder r.store
+held_in r = with_more (nodes_left r.left) (built_in r)
 
 -- the state that the makeup shows
 abbrev pub state_of : Makeup → MakeupState
@@ -73,6 +80,11 @@ pub record IsBounded (more : ℕ) (s : MakeupState) (b : NodeBound) : Type 0 whe
 abbrev pub unsaid_nodes : MakeupState → ℕ
 unsaid_nodes s = if holds_any s.page then 4 else 0
 
+-- if anything is left, the page is empty, and the nodes that wait do not end with a kern
+abbrev pub IsOpenAtStart : Option MakeupLeft → Contents → Type 0
+IsOpenAtStart None c = Unit {0}
+IsOpenAtStart (Some l) c = (c.page ≡ []) × (kern_last false c.waiting ≡ false)
+
 -- a page can be filled and shipped
 pub record IsReady (r : Makeup) : Type 0 where
   pub sound : IsSound r.builder r.store
@@ -84,6 +96,8 @@ pub record IsReady (r : Makeup) : Type 0 where
   pub nodes : AreRunNodes (state_of r)
   pub phase : Phase (state_of r)
   pub bounded : IsBounded (unsaid_nodes (state_of r)) (state_of r) r.bound
+  pub items : AreItemsLeft (makeup_classes r.plain.params) r.left
+  pub ends : IsOpenAtStart r.left (built_in r)
 
 -- ---- what a turn shows
 

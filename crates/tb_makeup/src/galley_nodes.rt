@@ -17,22 +17,8 @@ use tb_param::Params;
 use tb_plain::{CLEARING_PENALTY, clearing_glue};
 use tb_pool::Lists;
 
-/// Hands over the nodes of a galley: those of its items in order, and those of a clear with the line of its end. The page
-/// is empty, and the builder has the class of each footnote.
-pub(crate) fn expand(
-    store: &mut Lists<Node>,
-    builder: &mut Builder,
-    galley: &Galley,
-) -> Result<(), AllocError>
-    requires can { CanTake builder.old store.old }
-    requires items { AreItems (contents_of builder.old store.old).classes galley.now.items }
-    ensures { OnOk result (Waits (made_up galley.now) builder.old store.old builder.new store.new) }
-{
-    expand_items(store, builder, &galley.params, galley.items.as_slice())?;
-    put_clearing(store, builder, galley.end_line)
-}
-
-fn expand_items(
+/// Hands over the nodes of items.
+pub(crate) fn put_items(
     store: &mut Lists<Node>,
     builder: &mut Builder,
     p: &Params,
@@ -42,6 +28,8 @@ fn expand_items(
     requires items { AreItems (contents_of builder.old store.old).classes items.now }
     ensures { OnOk result (Waits (makeup_nodes p.now items.now) builder.old store.old builder.new store.new) }
 {
+    // Most items have one node, and few have more.
+    store.reserve(items.len() + items.len() / 8)?;
     for item in items {
         put_makeup(store, builder, p, item.line, &item.kind)?;
     }
@@ -81,8 +69,12 @@ fn put_take(
     put(store, builder, line, Kind::Act(Act::Take(float)))
 }
 
-// The end of a page, and of those that held insertions need (plain.tex, \supereject).
-fn put_clearing(store: &mut Lists<Node>, builder: &mut Builder, line: u32) -> Result<(), AllocError>
+/// Hands over the end of a page, and of those that held insertions need (plain.tex, \supereject).
+pub(crate) fn put_clearing(
+    store: &mut Lists<Node>,
+    builder: &mut Builder,
+    line: u32,
+) -> Result<(), AllocError>
     requires can { CanTake builder.old store.old }
     ensures { OnOk result (Waits (on_line line clearing_kinds) builder.old store.old builder.new store.new) }
 {

@@ -4,6 +4,7 @@
 
 mod galley_nodes;
 mod makeup;
+mod makeup_left;
 mod suitability;
 
 pub use makeup::{Makeup, MakeupEnding};

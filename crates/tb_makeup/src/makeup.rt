@@ -1,24 +1,27 @@
 //! The page makeup over one store: the page builder fills a page, and it ships.
 
-ghost use Rattle.std.specs.Prelude.{◌≡◌, ◌≢◌, ◌≤◌, ◌≤ℤ◌, ◌+◌, ◌++◌, ℕ, pos, [], None, IfOk, IfNone, OnOk};
+ghost use Rattle.std.specs.Prelude.{◌≡◌, ◌≢◌, ◌≤◌, ◌≤ℤ◌, ◌+◌, ◌++◌, ℕ, pos, false, [], None, IfOk, IfNone, OnOk};
 ghost use Rattle.std.specs.List.{AllByRecursion};
 ghost use Rattle.std.specs.FinMap.{get};
 ghost use Rattle.tb_pool.specs.Lists.{IsLive, list_at};
+ghost use Rattle.tb_pool.specs.Frame.{IsNoneOf};
 ghost use Rattle.tb_node.specs.PlainNodes.{plain_list};
 ghost use Rattle.tb_builder.specs.Contents.{node_count, box_count};
 ghost use Rattle.tb_builder.specs.Courses.{IsSound};
 ghost use Rattle.tb_builder.specs.PageEvents.{NextFits};
 ghost use Rattle.tb_builder.specs.Ownership.{Lacks, ids_of, inner_ids, inner_of, owned};
-ghost use Rattle.tb_builder.specs.Contributions.{ListJoins, MayWait, NoPage, with_void};
+ghost use Rattle.tb_builder.specs.Contributions.{ListJoins, MayWait, NoPage, ends_in_kern, with_void};
 ghost use Rattle.tb_items.specs.WaitingNodes.{lone, AreItems};
 ghost use Rattle.tb_items.specs.Happenings.{happened_lists, ArePages};
 ghost use Rattle.tb_plain.specs.GalleyNodes.{made_up};
-ghost use Rattle.tb_plain.specs.MakeupCalls.{IsPlain, CanFire, fired_with};
+ghost use Rattle.tb_plain.specs.MakeupCalls.{IsPlain, CanFire};
 ghost use Rattle.tb_plain.specs.Run.{makeup_ask, makeup_classes, first_makeup, waiting_after};
-ghost use Rattle.tb_makeup.specs.Makeup.{held_in, state_of, over_limit, node_total, AreRunParams, AreRunNodes, IsBounded, IsReady, IsTurned, AreHappened};
-ghost use Rattle.tb_makeup.specs.MakeupPages.{HasComeTo, Fills, AreTries, IsBoundedPage, Ships, Contributes, Ejects, Finishes};
+ghost use Rattle.tb_makeup.specs.MakeupLeft.{nodes_left};
+ghost use Rattle.tb_makeup.specs.Makeup.{built_in, held_in, state_of, over_limit, node_total, AreRunParams, AreRunNodes, IsBounded, IsReady, IsTurned, AreHappened};
+ghost use Rattle.tb_makeup.specs.MakeupPages.{fired_whole, HasComeTo, IsSupplied, Fills, AreTries, IsBoundedPage, Ships, Contributes, Ejects, Finishes};
 
-use crate::galley_nodes::{act_count, expand};
+use crate::galley_nodes::act_count;
+use crate::makeup_left::{MakeupLeft, all_left};
 use std::alloc::{AllocError, Global};
 use tb_builder::{Ask, Builder, Event, Page, new_builder};
 use tb_galley::Galley;
@@ -33,7 +36,7 @@ use tb_sheet::{Sent, Sheet};
 
 /// Between two firings: one store, the page builder with the nodes that wait, and the state of the page makeup.
 #[derive(Drop)]
-pub struct Makeup {
+pub struct Makeup<'a> {
     /// Holds the lists of the builder, and of a page that was shipped until it is done with.
     pub store: Lists<Node>,
     /// Holds what waits.
@@ -45,6 +48,8 @@ pub struct Makeup {
     /// The most nodes that may wait.
     pub limit: i64,
     bound: NodeBound,
+    // The items whose nodes do not wait yet, until all wait.
+    left: Option<MakeupLeft<'a>>,
 }
 
 // A bound on the nodes of the page and of what waits, so that they need not be counted after each page.
@@ -111,9 +116,20 @@ fn makeup_ask(p: &Params) -> Ask
     }
 }
 
-impl Makeup {
-    /// All nodes of a galley wait for its first page. It fails only if memory runs out.
-    pub fn new(alloc: Global, galley: &Galley) -> Result<Self, AllocError>
+// How many nodes do not wait yet.
+fn nodes_left(left: &Option<MakeupLeft<'_>>) -> u64
+    requires { node_count (nodes_left left.now) ≤ 8388608 }
+    ensures { result ≡ node_count (nodes_left left.now) }
+{
+    match left {
+        Some(left) => left.nodes(),
+        None => 0,
+    }
+}
+
+impl<'a> Makeup<'a> {
+    /// All of a galley is left for its first page. It fails only if memory runs out.
+    pub fn new(alloc: Global, galley: &'a Galley) -> Result<Self, AllocError>
         requires params { AreRunParams galley.now.params }
         requires items { AreItems (makeup_classes galley.now.params) galley.now.items }
         requires nodes { AreRunNodes (first_makeup (made_up galley.now)) }
@@ -124,8 +140,7 @@ impl Makeup {
     {
         let mut store = Lists::new(alloc);
         let classes = makeup_classes(alloc, &galley.params)?;
-        let mut builder = new_builder(alloc, &mut store, classes.as_slice())?;
-        expand(&mut store, &mut builder, galley)?;
+        let builder = new_builder(alloc, &mut store, classes.as_slice())?;
         let bound = NodeBound {
             most: MOST_NODES,
             acts: act_count(galley),
@@ -137,6 +152,7 @@ impl Makeup {
             ask: makeup_ask(&galley.params),
             limit: galley.params.maxnodes,
             bound,
+            left: Some(all_left(galley)),
         })
     }
 
@@ -147,7 +163,7 @@ impl Makeup {
         requires void { box_count (held_in self.now).boxes ≡ 0 }
         ensures { result ≡ over_limit self.now.limit (node_count (held_in self.now).waiting) }
     {
-        over_limit(self.builder.nodes(&self.store), self.limit)
+        over_limit(self.waiting_nodes(), self.limit)
     }
 
     /// Makes the next page of what waits, and ships it; or, if nothing waits any more, ends the last page or the run.
@@ -177,7 +193,8 @@ impl Makeup {
         }
     }
 
-    /// Closes the list of a page that was shipped, once it was written: its places in the store are free then.
+    /// Closes the list of a page that was shipped, once it was written: its places in the store are free then. Other lists
+    /// are as before.
     pub fn done_with(&mut self, happened: &[Happening])
         requires ready { IsReady self.old }
         requires lists { AreHappened self.old happened.now }
@@ -186,6 +203,7 @@ impl Makeup {
         ensures state { state_of self.new ≡ state_of self.old }
         ensures plain { self.new.plain ≡ self.old.plain }
         ensures closed { AllByRecursion (λ l. get self.new.store.lists l ≡ None) (happened_lists happened.now) }
+        ensures others { (q : ℕ) → IsNoneOf q (happened_lists happened.now) → get self.new.store.lists q ≡ get self.old.store.lists q }
     {
         close_happened(&mut self.store, happened);
     }
@@ -205,16 +223,32 @@ impl Makeup {
                 Event::Try(tried) => note_try(happened, wanted, tried)?,
                 Event::Act(act) => self.plain.act(&mut self.store, &mut self.builder, act)?,
                 Event::Fired(page) => return Ok(Some(page)),
-                Event::Empty => return Ok(None),
+                Event::Empty => {
+                    let Some(left) = self.left else {
+                        return Ok(None);
+                    };
+                    self.supply(left)?;
+                }
             }
         }
+    }
+
+    // Hands over more of the items that are left.
+    fn supply(&mut self, left: MakeupLeft<'a>) -> Result<(), AllocError>
+        requires sound { IsSound self.old.builder self.old.store }
+        requires items { AreItems (built_in self.old).classes left.items.now }
+        requires no_kern { ends_in_kern (built_in self.old).page ≡ false }
+        ensures { OnOk result (IsSupplied left.entry self.old self.new) }
+    {
+        self.left = left.hand_over(&mut self.store, &mut self.builder)?;
+        Ok(())
     }
 
     // The next event of the builder. Places that were tried are passed over unless `wanted` is set.
     fn next_event(&mut self, wanted: bool) -> Result<Event, AllocError>
         requires sound { IsSound self.old.builder self.old.store }
-        requires fits { NextFits (held_in self.old) self.old.ask }
-        requires none_held { (held_in self.old).held ≡ [] }
+        requires fits { NextFits (built_in self.old) self.old.ask }
+        requires none_held { (built_in self.old).held ≡ [] }
         ensures { IfOk result (λ e. HasComeTo wanted e self.old self.new) }
     {
         if wanted {
@@ -231,7 +265,7 @@ impl Makeup {
     ) -> Result<Option<MakeupEnding>, AllocError>
         requires plain { IsPlain self.old.plain }
         requires can { CanFire self.old.builder self.old.store page }
-        requires few { node_count (waiting_after self.old.plain.params (fired_with self.old.builder self.old.store page)) ≤ 8388608 }
+        requires few { node_count (waiting_after self.old.plain.params (fired_whole self.old page)) ≤ 8388608 }
         requires void { box_count (with_void 254 (with_void 253 (held_in self.old).boxes)) ≡ 0 }
         requires bounded { IsBoundedPage page self.old }
         requires limit { self.old.limit ≤ℤ pos 4194304 }
@@ -247,6 +281,16 @@ impl Makeup {
             Err(PlainFault::PageLimit { pages }) => Ok(Some(MakeupEnding::PageLimit { pages })),
             Err(PlainFault::Memory) => Err(AllocError),
         }
+    }
+
+    // How many nodes wait, with those of the items that are left.
+    fn waiting_nodes(&self) -> u64
+        requires sound { IsSound self.now.builder self.now.store }
+        requires few { node_count (held_in self.now).waiting ≤ 8388608 }
+        requires void { box_count (held_in self.now).boxes ≡ 0 }
+        ensures { result ≡ node_count (held_in self.now).waiting }
+    {
+        self.builder.nodes(&self.store) + nodes_left(&self.left)
     }
 
     // The ending if more nodes wait than `maxnodes` after a page. They are counted only if the bound on them is more than
@@ -266,7 +310,7 @@ impl Makeup {
         if !exceeds(self.bound.most, self.limit) {
             return None;
         }
-        let count = self.builder.nodes(&self.store);
+        let count = self.waiting_nodes();
         self.bound.most = count + ACT_NODES * self.bound.acts;
         over_limit(count, self.limit)
     }
@@ -274,11 +318,11 @@ impl Makeup {
     // Puts the nodes of a list back before what waits, and closes the list.
     fn put_back(&mut self, list: ListId)
         requires sound { IsSound self.old.builder self.old.store }
-        requires awaits { NoPage (held_in self.old) }
+        requires awaits { NoPage (built_in self.old) }
         requires joins { ListJoins (ids_of self.old.builder) self.old.store list }
         ensures sound { IsSound self.new.builder self.new.store }
-        ensures contents { held_in self.new ≡ record (held_in self.old) {
-          waiting = (held_in self.old).held ++ (plain_list self.old.store list ++ (held_in self.old).waiting);
+        ensures contents { built_in self.new ≡ record (built_in self.old) {
+          waiting = (built_in self.old).held ++ (plain_list self.old.store list ++ (built_in self.old).waiting);
           held = [];
         } }
         ensures others { (q : ℕ) → q ≢ list → Lacks q (owned (ids_of self.old.builder) self.old.store) → get self.new.store.lists q ≡ get self.old.store.lists q }
@@ -287,6 +331,7 @@ impl Makeup {
         ensures ask { self.new.ask ≡ self.old.ask }
         ensures limit { self.new.limit ≡ self.old.limit }
         ensures bound { self.new.bound ≡ self.old.bound }
+        ensures left { self.new.left ≡ self.old.left }
     {
         self.builder.put_back(&mut self.store, list);
         self.store.close(list);
@@ -295,7 +340,7 @@ impl Makeup {
     // Nothing waits: the run is done, unless the page has a node; then the page is ended.
     fn finish(&mut self) -> Result<Option<MakeupEnding>, AllocError>
         requires sound { IsSound self.old.builder self.old.store }
-        requires over { (held_in self.old).waiting ≡ [] }
+        requires over { (built_in self.old).waiting ≡ [] }
         ensures { IfOk result (λ o. Finishes self.old o self.new) }
     {
         if self.store.len(self.builder.on_page()) == 0 {
@@ -308,7 +353,7 @@ impl Makeup {
     // Appends what ends a page that has a node to the waiting nodes (TeX: The Program §1054).
     fn eject(&mut self) -> Result<(), AllocError>
         requires sound { IsSound self.old.builder self.old.store }
-        requires over { (held_in self.old).waiting ≡ [] }
+        requires over { (built_in self.old).waiting ≡ [] }
         ensures { OnOk result (Ejects self.old self.new) }
     {
         let blank = Kind::Hbox {
@@ -325,7 +370,7 @@ impl Makeup {
     fn contribute(&mut self, kind: Kind) -> Result<(), AllocError>
         requires sound { IsSound self.old.builder self.old.store }
         requires lone { inner_of kind ≡ None }
-        requires may_wait { MayWait (held_in self.old) (lone 0 kind) }
+        requires may_wait { MayWait (built_in self.old) (lone 0 kind) }
         ensures { OnOk result (Contributes (lone 0 kind) self.old self.new) }
     {
         self.builder

@@ -1,4 +1,3 @@
-pub mod Behind
 pub mod Filling
 pub mod ServedAgain
 pub mod Turns

@@ -87,7 +87,7 @@ pub fn paginate_plain<K: Sink>(
 // Runs a page makeup from its first page on to its end.
 fn run_on<K: Sink>(
     alloc: Global,
-    makeup: &mut Makeup,
+    makeup: &mut Makeup<'_>,
     view: View,
     out: &mut K,
 ) -> Result<Totals, PlainRunFault>

@@ -1,5 +1,5 @@
 -- A page that is filled, event by event, as steps of the run.
-use Rattle.std.proofs.Common.{◌≡◌, refl, sym, ◌∙◌, ap, subst, ℕ, true, false, List, [], ◌∷◌, ◌++◌, append_assoc, append-nil}
+use Rattle.std.proofs.Common.{◌≡◌, refl, sym, ◌∙◌, ap, subst, ℕ, true, false, List, [], ◌∷◌, ◌++◌, Option, append_assoc, append-nil}
 use Rattle.std.specs.Prelude.{if◌then◌else◌}
 use Rattle.std.proofs.lemmas.Bool.{true≢false}
 use Rattle.tb_pool.specs.Lists.{Lists}
@@ -22,9 +22,13 @@ use Rattle.tb_builder.specs.Courses.{IsSound}
 use Rattle.tb_builder.proofs.Turns.PastLemmas.{past-none, past-after}
 use Rattle.tb_builder.proofs.Events.SoFarLemmas.{AllTried, ComesSoFar, comes-so-far}
 use Rattle.tb_builder.specs.PageSums.{page_sums_of}
+use Rattle.tb_items.specs.ItemsLeft.{with_more}
 use Rattle.tb_plain.specs.TakenFloats.{act_nodes}
 use Rattle.tb_plain.specs.Run.{MakeupState, goes_on, makeup_ask, makeup_classes, void_boxes, builder_holds, makeup_reach, at_act, after_node, first_act_by, first_act, meets_act, act_step, firing_step, last_step, step_of, makeup_step, tries_first, step_tries}
-use Rattle.tb_makeup.proofs.Filled.HoldLemmas.{holds-state, state-frozen}
+use Rattle.tb_makeup.specs.declared.makeup_left.MakeupLeft.{MakeupLeft}
+use Rattle.tb_makeup.specs.MakeupLeft.{nodes_left}
+use Rattle.tb_makeup.proofs.Filled.HoldLemmas.{holds-more, state-frozen}
+use Rattle.tb_makeup.proofs.Filled.MoreLemmas.{IsOpenFor, so-far-left}
 use Rattle.tb_makeup.proofs.Filled.TriedLemmas.{tries-more, tries-cut, tried-both, same-rest}
 
 -- ---- the first act
@@ -70,23 +74,26 @@ pub record IsComing (p : Params) (s : MakeupState) (ts : List Try) (c : Contents
   pub all : laid c (makeup_ask p) ≡ laid_out p.topskip s.page s.waiting
   pub past : c.stopped ≡ false → ComesPast c.waiting (builder_holds p s) c (makeup_ask p)
 
--- if it holds what the state says
-pub coming-start : (p : Params) (s : MakeupState) (b : Builder) (t : Lists Node) → IsSound b t → contents_of b t ≡ builder_holds p s → IsComing p s [] (contents_of b t)
-coming-start p s b t sound e =
+-- if it holds what the state says, with the nodes of the items that are left
+pub coming-start : (p : Params) (s : MakeupState) (b : Builder) (t : Lists Node) (o : Option MakeupLeft) → IsSound b t → with_more (nodes_left o) (contents_of b t) ≡ builder_holds p s → IsOpenFor o (contents_of b t) (makeup_ask p)
+    → IsComing p s [] (with_more (nodes_left o) (contents_of b t))
+coming-start p s b t o sound e ends =
+    let c = with_more (nodes_left o) (contents_of b t) in
+    let going = ap (λ (c : Contents). c.stopped) e in
     let frozen : frozen_of (contents_of b t) (makeup_ask p) ≡ frozen_for (makeup_ask p) (contents_of b t).classes (contents_of b t).boxes =
     ((λ i. frozen_of (e i) (makeup_ask p)) ∙ state-frozen p s ∙ (λ i. frozen_for (makeup_ask p) (sym e i).classes (sym e i).boxes))
     in
-    let so-far : ComesSoFar (contents_of b t) (makeup_ask p) = comes-so-far b t (makeup_ask p) sound (ap (λ (c : Contents). c.stopped) e) frozen in
+    let so-far : ComesSoFar c (makeup_ask p) = so-far-left o (contents_of b t) (makeup_ask p) going ends (comes-so-far b t (makeup_ask p) sound going frozen) in
     record {
       first = so-far.rs;
       new = [];
-      begun = subst (λ c. GoesFrom c so-far.rs c (makeup_ask p)) e (so-far.come.goes (ap (λ (c : Contents). c.stopped) e));
-      come = subst (λ rs. HasCome (builder_holds p s) rs (contents_of b t) (makeup_ask p)) (sym (append-nil so-far.rs)) (subst (λ c. HasCome c so-far.rs (contents_of b t) (makeup_ask p)) e so-far.come);
+      begun = subst (λ c. GoesFrom c so-far.rs c (makeup_ask p)) e (so-far.come.goes going);
+      come = subst (λ rs. HasCome (builder_holds p s) rs c (makeup_ask p)) (sym (append-nil so-far.rs)) (subst (λ x. HasCome x so-far.rs c (makeup_ask p)) e so-far.come);
       front = so-far.tried;
       tried = tt;
       are = refl;
       all = ap (λ c. laid c (makeup_ask p)) e;
-      past = λ on. past-none (contents_of b t).waiting (builder_holds p s) (contents_of b t) (makeup_ask p) (ap (λ (c : Contents). c.waiting) (sym e)) (ap (λ (c : Contents). c.page) e);
+      past = λ on. past-none c.waiting (builder_holds p s) c (makeup_ask p) (ap (λ (c : Contents). c.waiting) (sym e)) (ap (λ (c : Contents). c.page) e);
     }
 
 module _ (p : Params) (s : MakeupState) (ts : List Try) (c : Contents) (h : IsComing p s ts c) where
@@ -153,9 +160,9 @@ module _ (p : Params) (s : MakeupState) (ts : List Try) (c : Contents) (h : IsCo
           ∙ ap (act_step p s) (ap first_act acted-past.is.waiting ∙ first-is acted-past.before d.waiting q.line a acted-past.is.no_acts)
 
       -- the builder holds what the state says
-      pub acted-state : (e : Builder) (u : Lists Node) → contents_of e u ≡ d → IsSound e u → d ≡ builder_holds p reached
-      acted-state e u is snd =
-          let held = holds-state p s e u s.number snd (ap (λ (x : Contents). x.stopped) is ∙ n.stop) (subst (λ x. KeepsStart start x ask) (sym is) n.come.stays) in
+      pub acted-state : (e : Builder) (u : Lists Node) (more : List PlainNode) → with_more more (contents_of e u) ≡ d → IsSound e u → d ≡ builder_holds p reached
+      acted-state e u more is snd =
+          let held = holds-more p s e u more s.number snd (ap (λ (x : Contents). x.stopped) is ∙ n.stop) (subst (λ x. KeepsStart start x ask) (sym is) n.come.stays) in
           sym is ∙ held ∙ ap (λ (x : Contents). builder_holds p (record { page = x.page; waiting = x.waiting; number = s.number })) is
           ∙ ap (λ ns. builder_holds p (record { page = ns; waiting = d.waiting; number = s.number })) acted-past.is.page
 

@@ -23,6 +23,7 @@ use Rattle.tb_builder.proofs.Ranges.PageableLemmas.{count-append, IsSizedFrozen,
 use Rattle.tb_builder.proofs.Handover.CallLemmas.{class-fits}
 use Rattle.tb_builder.proofs.Ranges.PrunedLemmas.{front-sized, back-sized}
 use Rattle.tb_builder.specs.declared.PageSums.{PageSums}
+use Rattle.tb_items.specs.ItemsLeft.{kern_last}
 use Rattle.tb_plain.specs.TakenFloats.{top_class, with_float, taken_nodes, act_nodes, here_nodes, top_leaves, page_leaves, top_insertion}
 use Rattle.tb_plain.specs.Run.{MakeupState, builder_holds, makeup_ask, makeup_classes, void_boxes, act_count}
 use Rattle.tb_plain.specs.MakeupCalls.{AreMakeupParams, IsTake}
@@ -148,20 +149,21 @@ module _ (p : Params) (h : AreMakeupParams p) (f : Float) (height : IsExtent f.h
       by_places false g true = inserted-sized (top_leaves p f) top-leaves-sized
       by_places false g false = inserted-sized (page_leaves p f) page-leaves-sized
 
--- few nodes, and no act among them
+-- few nodes, no act among them, and no kern at their end
 pub record IsFewPut (ns : List PlainNode) : Type 0 where
   pub count : node_count ns ≤ 5
   pub length_is : length ns ≤ 4
   pub none : NoActs ns
+  pub ends : kern_last false ns ≡ false
 
 taken-few : (p : Params) (s : PageSums) (f : Float) → IsFewPut (taken_nodes p s f)
 taken-few p s f = by_places f.places.h (int_lt s.goal (with_float p s f)) (f.places.t || f.places.b)
   where
     by_places : (x g t : Bool) → IsFewPut (if x then (if g then top_insertion (top_leaves p f) ∷ [] else here_nodes p f) else (if t then top_insertion (top_leaves p f) ∷ [] else top_insertion (page_leaves p f) ∷ []))
-    by_places true true t = record { count = omega arith; length_is = omega arith; none = (refl, tt) }
-    by_places true false t = record { count = omega arith; length_is = omega arith; none = (refl, (refl, (refl, (refl, tt)))) }
-    by_places false g true = record { count = omega arith; length_is = omega arith; none = (refl, tt) }
-    by_places false g false = record { count = omega arith; length_is = omega arith; none = (refl, tt) }
+    by_places true true t = record { count = omega arith; length_is = omega arith; none = (refl, tt); ends = refl }
+    by_places true false t = record { count = omega arith; length_is = omega arith; none = (refl, (refl, (refl, (refl, tt)))); ends = refl }
+    by_places false g true = record { count = omega arith; length_is = omega arith; none = (refl, tt); ends = refl }
+    by_places false g false = record { count = omega arith; length_is = omega arith; none = (refl, tt); ends = refl }
 
 pub put-few : (p : Params) (s : PageSums) (a : Act) → IsTake a → IsFewPut (act_nodes p s a)
 put-few p s (acts.Take f) h = taken-few p s f

@@ -1,5 +1,5 @@
 -- What a builder holds while a page is filled, as the state of the run.
-use Rattle.std.proofs.Common.{◌≡◌, refl, sym, ◌∙◌, ap, subst, ℕ, ℤ, Bool, true, false, ◌||◌, List, [], ◌∷◌, Option, None, Some}
+use Rattle.std.proofs.Common.{◌≡◌, refl, sym, ◌∙◌, ap, subst, ℕ, ℤ, Bool, true, false, ◌||◌, List, [], ◌∷◌, ◌++◌, Option, None, Some}
 use Rattle.std.specs.Prelude.{IsSome, if◌then◌else◌}
 use Rattle.std.proofs.lemmas.Bool.{true≢false}
 use Rattle.tb_pool.specs.Lists.{Lists}
@@ -14,6 +14,7 @@ use Rattle.tb_builder.specs.declared.Course.{Course}
 use Rattle.tb_builder.specs.FiredPages.{Boxed, frozen_for}
 use Rattle.tb_builder.specs.Contents.{Contents, contents_of, frozen_or, frozen_of}
 use Rattle.tb_builder.specs.PageProgress.{KeepsStart}
+use Rattle.tb_items.specs.ItemsLeft.{with_more}
 use Rattle.tb_builder.specs.Courses.{IsSound, IsPageSoFar, AllLoose, is_loose, freezes}
 use Rattle.tb_plain.specs.Run.{MakeupState, makeup_ask, makeup_classes, void_boxes, builder_holds}
 
@@ -36,7 +37,7 @@ frozen-by p (Some f) k c st met e =
     ∙ sym (ap (λ b. if b then Some (p.textheight, p.maxdepth) else None) (met refl))
 
 -- a sound builder on the page of a state holds what a state says
-pub holds-state : (p : Params) (of : MakeupState) (b : Builder) (s : Lists Node) (number : ℕ) → IsSound b s → b.stopped ≡ false → KeepsStart (builder_holds p of) (contents_of b s) (makeup_ask p)
+holds-state : (p : Params) (of : MakeupState) (b : Builder) (s : Lists Node) (number : ℕ) → IsSound b s → b.stopped ≡ false → KeepsStart (builder_holds p of) (contents_of b s) (makeup_ask p)
     → contents_of b s ≡ builder_holds p (record { page = (contents_of b s).page; waiting = (contents_of b s).waiting; number = number })
 holds-state p of b s number sound going h =
     let c : Contents = contents_of b s in
@@ -46,6 +47,11 @@ holds-state p of b s number sound going h =
   where
     holding : List Class → List Boxed → List PlainNode → List PlainNode → List PlainNode → Option (ℤ × ℤ) → Bool → Contents
     holding classes boxes page waiting held frozen stopped = record { classes = classes; boxes = boxes; page = page; waiting = waiting; held = held; frozen = frozen; stopped = stopped }
+
+-- with more nodes behind what waits
+pub holds-more : (p : Params) (of : MakeupState) (b : Builder) (s : Lists Node) (more : List PlainNode) (number : ℕ) → IsSound b s → b.stopped ≡ false → KeepsStart (builder_holds p of) (with_more more (contents_of b s)) (makeup_ask p)
+    → with_more more (contents_of b s) ≡ builder_holds p (record { page = (contents_of b s).page; waiting = (contents_of b s).waiting ++ more; number = number })
+holds-more p of b s more number sound going h = ap (with_more more) (holds-state p of b s number sound going (record { classes = h.classes; boxes = h.boxes; held = h.held; frozen = h.frozen }))
 
 -- the goal and the depth limit that the state says
 pub state-frozen : (p : Params) (s : MakeupState) → frozen_of (builder_holds p s) (makeup_ask p) ≡ frozen_for (makeup_ask p) (makeup_classes p) void_boxes

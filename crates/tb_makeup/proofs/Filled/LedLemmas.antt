@@ -12,6 +12,8 @@ use Rattle.tb_builder.specs.Contributions.{is_kern, ends_in_kern}
 use Rattle.tb_builder.specs.FiredPages.{spent_kind, with_spent_break}
 use Rattle.tb_builder.proofs.Cutting.CutLemmas.{FirstFree, ActFree}
 use Rattle.tb_builder.proofs.Turns.PastLemmas.{laid-more}
+use Rattle.tb_items.specs.ItemsLeft.{kern_last}
+use Rattle.tb_items.proofs.OpenLemmas.{kern-both}
 use Rattle.tb_plain.specs.MakeupCalls.{IsTake}
 use Rattle.tb_makeup.specs.LedActs.{is_whatsit, LedBy, ActsAreLed}
 
@@ -135,8 +137,15 @@ lone-laid t page l = by_box (holds_box page)
     by_box true = refl
     by_box false = refl
 
+-- such a page as a list with its last node, a whatsit
+led-last : (t : ℤ) (page before : List PlainNode) (h : EndsLed before) → laid_out t page before ≡ laid_out t page h.front ++ record { line = h.line; kind = plain whatsit } ∷ []
+led-last t page before h = ap (laid_out t page) h.whole ∙ sym (laid-more t page h.front (record { line = h.line; kind = plain whatsit } ∷ [])) ∙ lone-laid t (laid_out t page h.front) h.line
+
 -- a page that is laid out up to there does not end in a kern
 pub led-no-kern : (t : ℤ) (page before : List PlainNode) → EndsLed before → ends_in_kern (laid_out t page before) ≡ false
 led-no-kern t page before h =
-    ap ends_in_kern (ap (laid_out t page) h.whole ∙ sym (laid-more t page h.front (record { line = h.line; kind = plain whatsit } ∷ [])) ∙ lone-laid t (laid_out t page h.front) h.line)
-    ∙ kern-front false (laid_out t page h.front) h.line
+    ap ends_in_kern (led-last t page before h) ∙ kern-front false (laid_out t page h.front) h.line
+
+-- nor does it with its acts left out
+pub led-open : (t : ℤ) (page before : List PlainNode) → EndsLed before → kern_last false (laid_out t page before) ≡ false
+led-open t page before h = ap (kern_last false) (led-last t page before h) ∙ kern-both false (laid_out t page h.front) (record { line = h.line; kind = plain whatsit } ∷ [])

@@ -1,5 +1,5 @@
 -- The page makeup while a page is filled.
-use Rattle.std.proofs.Common.{◌≡◌, inl, inr, refl, sym, ◌∙◌, ap, subst, ℕ, ◌+◌, ◌*◌, ◌<◌, ◌≤◌, Bool, true, false, List, [], ◌∷◌, ◌++◌, length, map, append_assoc, arith}
+use Rattle.std.proofs.Common.{◌≡◌, inl, inr, refl, sym, ◌∙◌, ap, subst, ℕ, ◌+◌, ◌*◌, ◌<◌, ◌≤◌, ℤ, Bool, true, false, List, [], ◌∷◌, ◌++◌, length, map, Option, None, Some, append_assoc, arith}
 use Rattle.std.specs.Prelude.{All, ◌⊎◌}
 use Rattle.std.proofs.lemmas.Int.{ints}
 use Rattle.std.proofs.lemmas.Bool.{true≢false}
@@ -12,6 +12,7 @@ use Rattle.tb_node.specs.declared.Kind.TheVariants as kinds
 use Rattle.tb_node.specs.declared.Node.{Node}
 use Rattle.tb_node.specs.PlainNodes.{PlainNode, act, plain_of, plain_kind, plain_list}
 use Rattle.tb_param.specs.declared.Params.{Params}
+use Rattle.tb_builder.specs.declared.Ask.{Ask}
 use Rattle.tb_builder.specs.declared.Event.{Event}
 use Rattle.tb_builder.specs.declared.Event.TheVariants as events
 use Rattle.tb_builder.specs.declared.Page.{Page}
@@ -29,7 +30,7 @@ use Rattle.tb_builder.specs.Pageable.{IsSizedOnPage, IsSizedBox}
 use Rattle.tb_builder.specs.LegalPlaces.{NoActs}
 use Rattle.tb_builder.specs.PassedNodes.{ComesPast, EventPast}
 use Rattle.tb_builder.specs.Courses.{IsSound}
-use Rattle.tb_builder.specs.PageSums.{page_sums_of}
+use Rattle.tb_builder.specs.PageSums.{sums_by, page_sums_of}
 use Rattle.tb_builder.proofs.Ranges.SizedLemmas.{FiredSized}
 use Rattle.tb_builder.proofs.Ownership.StoreSized.{list-back, list-length}
 use Rattle.tb_builder.proofs.Events.PagingLemmas.{calls_left}
@@ -37,19 +38,25 @@ use Rattle.tb_builder.proofs.Events.WholeLemmas.{IsMatterKind, AreMatter}
 use Rattle.tb_column.specs.Page.{is_leaf_kind, AreLeaves}
 use Rattle.tb_items.specs.declared.happenings.Happening.{Happening}
 use Rattle.tb_items.specs.Happenings.{noted_try}
+use Rattle.tb_items.specs.ItemsLeft.{kern_last, with_more}
+use Rattle.tb_items.proofs.OpenLemmas.{kern-both}
+use Rattle.tb_items.proofs.MoreEvents.{fits-front, open-laid, open-start}
 use Rattle.tb_plain.specs.declared.Plain.{Plain}
 use Rattle.tb_plain.specs.TakenFloats.{act_nodes}
 use Rattle.tb_plain.specs.Run.{MakeupState, try_events, step_tries, step_events, run_after, firing_step, builder_holds, makeup_ask, makeup_classes, act_count, ejecting_nodes, waiting_after}
-use Rattle.tb_plain.specs.MakeupCalls.{IsTake, CanAct, HasActed, fired_with}
+use Rattle.tb_plain.specs.MakeupCalls.{IsTake, CanAct, HasActed}
 use Rattle.tb_plain.proofs.StepLemmas.{acts-append, put-acts, ejected-fires}
 use Rattle.tb_makeup.specs.declared.makeup.Makeup.{Makeup}
+use Rattle.tb_makeup.specs.declared.makeup_left.MakeupLeft.{MakeupLeft}
 use Rattle.tb_makeup.specs.LedActs.{ActsAreLed}
-use Rattle.tb_makeup.specs.Makeup.{held_in, state_of, node_total, Phase, begins, ejects, AreRunNodes, AreAfter, IsReady, run_at}
-use Rattle.tb_makeup.specs.MakeupPages.{Continues, noted_tries, Takes, HasGrown, IsFiring, IsOver}
+use Rattle.tb_makeup.specs.MakeupLeft.{nodes_left, pieces_left, AreItemsLeft, IsOpen}
+use Rattle.tb_makeup.specs.Makeup.{built_in, held_in, state_of, node_total, Phase, begins, ejects, AreRunNodes, AreAfter, IsOpenAtStart, IsReady, run_at}
+use Rattle.tb_makeup.specs.MakeupPages.{fired_whole, Continues, noted_tries, Takes, HasGrown, IsFiring, IsOver}
 use Rattle.tb_makeup.proofs.Filled.RunLemmas.{run-goes, run-append}
 use Rattle.tb_makeup.proofs.Filled.TriedLemmas.{none-tried, tries-noted, turn-parts}
-use Rattle.tb_makeup.proofs.Filled.LedLemmas.{led-ends, led-no-kern}
-use Rattle.tb_makeup.proofs.Filled.HoldLemmas.{holds-state}
+use Rattle.tb_makeup.proofs.Filled.LedLemmas.{EndsLed, led-ends, led-no-kern, led-open}
+use Rattle.tb_makeup.proofs.Filled.HoldLemmas.{holds-more}
+use Rattle.tb_makeup.proofs.Filled.MoreLemmas.{IsOpenFor}
 use Rattle.tb_makeup.proofs.Filled.ComingLemmas.{IsComing, coming-start, coming-tried, acted-past, acted-tries, acted-step, acted-state, over-tries, over-step, over-fires, over-past, fires-tries, fires-step}
 use Rattle.tb_makeup.proofs.Filled.FillLemmas.{zero-extent, zero-dimension, run-fits, laid-sized, laid-count, none-laid, acted-nodes, acted-total, acted-acts, acted-takes, put-few}
 use Rattle.tb_makeup.proofs.Shipping.FiredLemmas.{labels, void-after, fired, fired-sized, fired-few, fired-text, fired-after, Grows, fired-grows}
@@ -66,14 +73,25 @@ pub record IsUnderway (wanted : Bool) (r q : Makeup) (hs : List Happening) : Typ
   pub noted : hs ≡ noted_tries wanted (ts ++ us)
   pub sound : IsSound q.builder q.store
   pub same : Continues r q
+  pub items : AreItemsLeft (makeup_classes r.plain.params) q.left
+  pub ends : IsOpenFor q.left (built_in q) (makeup_ask r.plain.params)
 
 -- calls of the builder that are left, at most
 abbrev pub left_of_page : Makeup → ℕ
 left_of_page q = calls_left (held_in q).stopped (length (held_in q).waiting + 5 * act_count (held_in q).waiting)
 
+-- the same, and the batches that are handed over
+abbrev pub rounds_left : Makeup → ℕ
+rounds_left q = left_of_page q + pieces_left q.left
+
 start-phase : (s : MakeupState) → Phase s → (s.page ≡ []) ⊎ (s.waiting ≡ ejecting_nodes)
 start-phase s (begins e few) = inl e
 start-phase s (ejects e) = inr e
+
+-- what is left changes nothing on the page that begins
+start-open : (o : Option MakeupLeft) (c : Contents) (ask : Ask) → c.stopped ≡ false → IsOpenAtStart o c → IsOpenFor o c ask
+start-open None c ask going h = tt
+start-open (Some l) c ask going h = (open-start c ask h.0 going h.1, λ on. h.1)
 
 pub underway-start : (wanted : Bool) (r : Makeup) (hs : List Happening) → IsReady r → hs ≡ [] → IsUnderway wanted r r hs
 underway-start wanted r hs h none = record {
@@ -81,11 +99,16 @@ underway-start wanted r hs h none = record {
   ts = [];
   us = [];
   takes = record { run = refl; nodes = h.nodes; total = omega arith; acts = omega arith; number = refl; phase = start-phase (state_of r) h.phase };
-  coming = coming-start r.plain.params (state_of r) r.builder r.store h.sound h.holds;
+  coming = coming-start r.plain.params (state_of r) r.builder r.store r.left h.sound h.holds open_now;
   noted = none ∙ none-tried wanted;
   sound = h.sound;
   same = record { plain = refl; ask = refl; limit = refl; bound = refl };
+  items = h.items;
+  ends = open_now;
 }
+  where
+    open_now : IsOpenFor r.left (built_in r) (makeup_ask r.plain.params)
+    open_now = start-open r.left (built_in r) (makeup_ask r.plain.params) (ap (λ (c : Contents). c.stopped) h.holds) h.ends
 
 -- ---- nodes of a page
 
@@ -107,6 +130,11 @@ ejecting-sized = All-from_recursion IsSizedOnPage ejecting_nodes (
   ),
 )
 
+-- what waits is of no account to the sums of a page
+sums-behind : (o : Option (ℤ × ℤ)) (c : Contents) (more : List PlainNode) → sums_by o (with_more more c) ≡ sums_by o c
+sums-behind None c more = refl
+sums-behind (Some f) c more = refl
+
 -- ---- the next event
 
 module _ (wanted : Bool) (r q d : Makeup) (hs : List Happening) (ready : IsReady r) (h : IsUnderway wanted r q hs) where
@@ -117,21 +145,24 @@ module _ (wanted : Bool) (r q d : Makeup) (hs : List Happening) (ready : IsReady
   asked = h.same.ask ∙ ready.ask
 
   -- all that is added up fits
-  pub underway-fits : NextFits (held_in q) q.ask
-  underway-fits = subst (NextFits (held_in q)) (sym asked) (run-fits p ready.params.makeup h.s (held_in q) h.takes.nodes h.coming.come.stays h.coming.all)
+  pub underway-fits : NextFits (built_in q) q.ask
+  underway-fits = fits-front (built_in q) q.ask (nodes_left q.left) (subst (NextFits (held_in q)) (sym asked) (run-fits p ready.params.makeup h.s (held_in q) h.takes.nodes h.coming.come.stays h.coming.all))
 
-  pub underway-none : (held_in q).held ≡ []
+  pub underway-none : (built_in q).held ≡ []
   underway-none = h.coming.come.stays.held
 
   abbrev seen : List Reached
   seen = h.coming.first ++ h.coming.new
 
-  module _ (e : Event) (of_page : IsNextOfPage e (held_in q) q.ask (held_in d) d.store) (past : q.builder.stopped ≡ false → EventPast e (held_in q) (held_in d) q.ask) (sound : IsSound d.builder d.store) (same : Continues q d) where
+  module _ (e : Event) (of_page : IsNextOfPage e (held_in q) q.ask (held_in d) d.store) (past : q.builder.stopped ≡ false → EventPast e (held_in q) (held_in d) q.ask) (sound : IsSound d.builder d.store) (same : Continues q d) (left : d.left ≡ q.left) where
     next-is : (f : Event) → e ≡ f → ComesTo f (builder_holds p h.s) seen (held_in q) (makeup_ask p) (held_in d) d.store
     next-is f is = subst (λ x. IsNextOfPage f (held_in q) x (held_in d) d.store) asked (subst (λ x. IsNextOfPage x (held_in q) q.ask (held_in d) d.store) is of_page) (builder_holds p h.s) seen h.coming.come
 
     past-is : (f : Event) → e ≡ f → q.builder.stopped ≡ false → EventPast f (held_in q) (held_in d) (makeup_ask p)
     past-is f is on = subst (λ x. EventPast f (held_in q) (held_in d) x) asked (subst (λ x. EventPast x (held_in q) (held_in d) q.ask) is (past on))
+
+    items-now : AreItemsLeft (makeup_classes p) d.left
+    items-now = subst (AreItemsLeft (makeup_classes p)) (sym left) h.items
 
     continues : Continues r d
     continues = record { plain = same.plain ∙ h.same.plain; ask = same.ask ∙ h.same.ask; limit = same.limit ∙ h.same.limit; bound = same.bound ∙ h.same.bound }
@@ -145,8 +176,8 @@ module _ (wanted : Bool) (r q d : Makeup) (hs : List Happening) (ready : IsReady
       on : q.builder.stopped ≡ false
       on = tries.going
 
-      pub underway-tried : (new : List Happening) → new ≡ hs ++ noted_try wanted x → IsUnderway wanted r d new
-      underway-tried new same_new = record {
+      pub underway-tried : IsOpenFor d.left (built_in d) q.ask → (new : List Happening) → new ≡ hs ++ noted_try wanted x → IsUnderway wanted r d new
+      underway-tried open_so new same_new = record {
         s = h.s;
         ts = h.ts;
         us = h.us ++ x ∷ [];
@@ -159,6 +190,8 @@ module _ (wanted : Bool) (r q d : Makeup) (hs : List Happening) (ready : IsReady
             ∙ ap (noted_tries wanted) (append_assoc h.ts h.us (x ∷ []));
         sound = sound;
         same = continues;
+        items = items-now;
+        ends = subst (IsOpenFor d.left (built_in d)) asked open_so;
       }
 
       pub fewer-tried : left_of_page d < left_of_page q
@@ -188,7 +221,7 @@ module _ (wanted : Bool) (r q d : Makeup) (hs : List Happening) (ready : IsReady
       came = acted-past p h.s h.us (held_in q) h.coming (held_in d) a acts (past-is (events.Act a) is on-act)
 
       holding : held_in d ≡ builder_holds p (record h.s { page = laid_out p.topskip h.s.page came.before; waiting = (held_in d).waiting })
-      holding = acted-state p h.s h.us (held_in q) h.coming (held_in d) a acts (past-is (events.Act a) is on-act) d.builder d.store refl sound
+      holding = acted-state p h.s h.us (held_in q) h.coming (held_in d) a acts (past-is (events.Act a) is on-act) d.builder d.store (nodes_left d.left) refl sound
 
       abbrev sums : PageSums
       sums = page_sums_of (builder_holds p (record h.s { page = laid_out p.topskip h.s.page came.before; waiting = (held_in d).waiting }))
@@ -202,13 +235,14 @@ module _ (wanted : Bool) (r q d : Makeup) (hs : List Happening) (ready : IsReady
       pub act-takes : IsTake a
       act-takes = acted-takes p ready.params.makeup h.s h.takes.nodes came.before (held_in d).waiting line a came.is.waiting came.is.no_acts (page_sums_of (held_in d))
 
+      ends-led : EndsLed came.before
+      ends-led = led-ends came.before line a (held_in d).waiting (subst (ActsAreLed false) came.is.waiting h.takes.nodes.led)
+
       pub act-can : CanAct d.builder d.store
       act-can = record {
         sound = sound;
         going = acts.stop;
-        no_kern =
-            ap ends_in_kern came.is.page
-            ∙ led-no-kern p.topskip h.s.page came.before (led-ends came.before line a (held_in d).waiting (subst (ActsAreLed false) came.is.waiting h.takes.nodes.led));
+        no_kern = ap ends_in_kern came.is.page ∙ led-no-kern p.topskip h.s.page came.before ends-led;
         known = ap (λ cs. has_class cs 253) acts.come.stays.classes;
       }
 
@@ -225,15 +259,35 @@ module _ (wanted : Bool) (r q d : Makeup) (hs : List Happening) (ready : IsReady
       still-phase (inr e) = absurd (no-eject e)
 
       -- it was done
-      module _ (f : Makeup) (acted : HasActed d.plain.params a d.builder d.store f.builder f.store) (kept : Continues d f) where
-        sums-same : page_sums_of (held_in d) ≡ page_sums_of (builder_holds p (record h.s { page = laid_out p.topskip h.s.page came.before; waiting = (held_in d).waiting }))
-        sums-same = ap page_sums_of holding
+      module _ (f : Makeup) (acted : HasActed d.plain.params a d.builder d.store f.builder f.store) (kept : Continues d f) (f_left : f.left ≡ d.left) (open_so : IsOpenFor d.left (built_in d) q.ask) where
+        sums-same : page_sums_of (built_in d) ≡ page_sums_of (builder_holds p (record h.s { page = laid_out p.topskip h.s.page came.before; waiting = (held_in d).waiting }))
+        sums-same = sym (sums-behind (built_in d).frozen (built_in d) (nodes_left d.left)) ∙ ap page_sums_of holding
 
-        put-same : act_nodes d.plain.params (page_sums_of (held_in d)) a ≡ put
+        put-same : act_nodes d.plain.params (page_sums_of (built_in d)) a ≡ put
         put-same = (λ i. act_nodes (ap (λ (x : Plain). x.params) continues.plain i) (sums-same i) a)
 
+        built-now : built_in f ≡ record (built_in d) { waiting = put ++ (built_in d).waiting }
+        built-now = acted.contents ∙ (λ i. record (built_in d) { waiting = put-same i ++ (built_in d).waiting })
+
         holds-now : held_in f ≡ builder_holds p now
-        holds-now = acted.contents ∙ (λ i. record (holding i) { waiting = put-same i ++ (held_in d).waiting })
+        holds-now =
+            (λ i. with_more (nodes_left (f_left i)) (built-now i))
+            ∙ ap (λ ns. record (built_in d) { waiting = ns }) (append_assoc put (built_in d).waiting (nodes_left d.left))
+            ∙ ap (λ (c : Contents). record c { waiting = put ++ (held_in d).waiting }) holding
+
+        open-put : (o : Option MakeupLeft) → IsOpenFor o (built_in d) q.ask → IsOpenFor o (record (built_in d) { waiting = put ++ (built_in d).waiting }) (makeup_ask p)
+        open-put None k = tt
+        open-put (Some l) k =
+            let waits : kern_last false (put ++ (built_in d).waiting) ≡ false = kern-both false put (built_in d).waiting ∙ ap (λ b. kern_last b (built_in d).waiting) (put-few p sums a act-takes).ends ∙ k.1 acts.stop in (
+              record {
+                ends = open-laid (record (built_in d) { waiting = put ++ (built_in d).waiting }) (makeup_ask p) (ap (kern_last false) came.is.page ∙ led-open p.topskip h.s.page came.before ends-led) waits;
+                stop = λ off. absurd (true≢false (sym off ∙ acts.stop));
+              },
+              λ on. waits,
+            )
+
+        open-now : IsOpenFor f.left (built_in f) (makeup_ask p)
+        open-now = subst (λ c. IsOpenFor f.left c (makeup_ask p)) (sym built-now) (subst (λ o. IsOpenFor o (record (built_in d) { waiting = put ++ (built_in d).waiting }) (makeup_ask p)) (sym f_left) (open-put d.left open_so))
 
         tried_so : step_tries p h.s ≡ h.us
         tried_so = acted-tries p h.s h.us (held_in q) h.coming (held_in d) a acts (past-is (events.Act a) is on-act)
@@ -256,9 +310,11 @@ module _ (wanted : Bool) (r q d : Makeup) (hs : List Happening) (ready : IsReady
             number = h.takes.number;
             phase = still-phase h.takes.phase;
           };
-          coming = coming-start p now f.builder f.store acted.sound holds-now;
+          coming = coming-start p now f.builder f.store f.left acted.sound holds-now open-now;
           sound = acted.sound;
           same = record { plain = kept.plain ∙ continues.plain; ask = kept.ask ∙ continues.ask; limit = kept.limit ∙ continues.limit; bound = kept.bound ∙ continues.bound };
+          items = subst (AreItemsLeft (makeup_classes p)) (sym f_left) items-now;
+          ends = open-now;
         }
 
         pub fewer-acted : left_of_page f < left_of_page q
@@ -276,7 +332,7 @@ module _ (wanted : Bool) (r q d : Makeup) (hs : List Happening) (ready : IsReady
 
     -- ---- nothing waits any more
 
-    module _ (is : e ≡ events.Empty) where
+    module _ (is : e ≡ events.Empty) (none : d.left ≡ None) where
       ends : ComesToEnd (builder_holds p h.s) seen (held_in q) (makeup_ask p) (held_in d)
       ends = next-is events.Empty is
 
@@ -341,30 +397,31 @@ module _ (wanted : Bool) (r q d : Makeup) (hs : List Happening) (ready : IsReady
             begun = begun;
             step = over-step p h.s h.us (held_in q) h.coming (held_in d) ends;
             holds =
-                holds-state p h.s d.builder d.store h.s.number sound ends.stop ends.stays
+                holds-more p h.s d.builder d.store (nodes_left d.left) h.s.number sound ends.stop ends.stays
                 ∙ ap (λ ns. builder_holds p (record { page = (held_in d).page; waiting = ns; number = h.s.number })) none-waits;
             sound = sound;
             nodes = over-nodes (omega (arith, room, t));
             grown = over-grown;
             same = continues;
+            left = none;
           }
 
     -- ---- the page fires
 
-    module _ (page : Page) (is : e ≡ events.Fired page) (given : IsGivenOut e q.store (ids_of d.builder) d.store) where
+    module _ (page : Page) (is : e ≡ events.Fired page) (given : IsGivenOut e q.store (ids_of d.builder) d.store) (open_so : q.builder.stopped ≡ true → (before : List PlainNode) → IsOpen d.left (before ++ (built_in d).waiting)) where
       fires : ComesToPage page (builder_holds p h.s) (held_in q) (makeup_ask p) (held_in d) d.store
       fires = next-is (events.Fired page) is
 
       abbrev f : Fired
       f = fired p ready.params.makeup h.s h.takes.nodes
 
-      left : IsGivenOut (events.Fired page) q.store (ids_of d.builder) d.store
-      left = subst (λ x. IsGivenOut x q.store (ids_of d.builder) d.store) is given
+      out : IsGivenOut (events.Fired page) q.store (ids_of d.builder) d.store
+      out = subst (λ x. IsGivenOut x q.store (ids_of d.builder) d.store) is given
 
       after : held_in d ≡ after_fired (held_in q) f
       after = fires.after
 
-      with-is : fired_with d.builder d.store page ≡ f
+      with-is : fired_whole d page ≡ f
       with-is = λ i. record {
         body = fires.page.body i;
         boxes = (after i).boxes;
@@ -388,7 +445,7 @@ module _ (wanted : Bool) (r q d : Makeup) (hs : List Happening) (ready : IsReady
       text-is : AreMatter (plain_list d.store page.body)
       text-is = subst AreMatter (sym fires.page.body) (fired-text p ready.params.makeup h.s h.takes.nodes)
 
-      grown-is : HasGrown r (waiting_after p (fired_with d.builder d.store page))
+      grown-is : HasGrown r (waiting_after p (fired_whole d page))
       grown-is =
           let g = subst (Grows p h.s) (sym with-is) (fired-grows p ready.params.makeup h.s h.takes.nodes) in
           let a = g.total in
@@ -416,7 +473,7 @@ module _ (wanted : Bool) (r q d : Makeup) (hs : List Happening) (ready : IsReady
             sized = list-back d.store page.body (subst (All IsSizedOnPage) (sym fires.page.body) sized-is.body);
             few = (let a = list-length d.store page.body in let b = ap node_count fires.page.body in let c = few-is in let k = h.takes.nodes.few in omega (arith, a, b, c, k));
           };
-          free = left.2;
+          free = out.2;
           boxes = subst (All IsSizedBox) (sym (ap (λ (c : Contents). c.boxes) after)) sized-is.boxes;
           few =
               (let a = list-length d.store page.body in
@@ -432,4 +489,6 @@ module _ (wanted : Bool) (r q d : Makeup) (hs : List Happening) (ready : IsReady
         stopped = ap (λ (c : Contents). c.stopped) after;
         void = ap (λ (c : Contents). with_void 254 (with_void 253 c.boxes)) after ∙ void-after (labels p h.s);
         same = continues;
+        items = items-now;
+        ends = open_so fires.stopped;
       }

@@ -24,7 +24,7 @@ kinds-same p (items.Float f vert) float clear = absurd (float f vert refl)
 kinds-same p items.ClearPage float clear = absurd (clear refl)
 kinds-same p k float clear = refl
 
-makeup_nodes-append : (p : Params) (xs ys : List Item) → makeup_nodes p (xs ++ ys) ≡ makeup_nodes p xs ++ makeup_nodes p ys
+pub makeup_nodes-append : (p : Params) (xs ys : List Item) → makeup_nodes p (xs ++ ys) ≡ makeup_nodes p xs ++ makeup_nodes p ys
 makeup_nodes-append p [] ys = refl
 makeup_nodes-append p (x ∷ xs) ys =
     ap (λ ns. on_line x.line (makeup_kinds p x.kind) ++ ns) (makeup_nodes-append p xs ys)

@@ -1,5 +1,5 @@
 -- A page ships, and what is put back waits.
-use Rattle.std.proofs.Common.{◌≡◌, ◌≢◌, refl, sym, subst, ◌∙◌, ap, ℕ, ◌+◌, ◌≤◌, ℤ, pos, Bool, true, false, List, [], ◌∷◌, ◌++◌, Option, Some, None, arith}
+use Rattle.std.proofs.Common.{◌≡◌, ◌≢◌, refl, sym, subst, ◌∙◌, ap, ℕ, ◌+◌, ◌≤◌, ℤ, pos, Bool, true, false, List, [], ◌∷◌, ◌++◌, Option, Some, None, append_assoc, arith}
 use Rattle.std.specs.Prelude.{min, int_lt, IfNone, ◌≤ℤ◌, if◌then◌else◌}
 use Rattle.std.specs.FinMap.{get}
 use Rattle.std.proofs.lemmas.Int.{ints}
@@ -11,10 +11,11 @@ use Rattle.tb_node.specs.PlainNodes.{PlainNode, plain_list}
 use Rattle.tb_builder.specs.declared.Builder.{Builder}
 use Rattle.tb_builder.specs.declared.Page.{Page}
 use Rattle.tb_builder.specs.FiredPages.{Fired}
-use Rattle.tb_builder.specs.Contents.{Contents, contents_of, node_count, box_count}
+use Rattle.tb_builder.specs.Contents.{Contents, contents_of, contents_count, node_count, box_count}
 use Rattle.tb_builder.specs.Ownership.{Lacks, inner_ids, ids_of, owned}
 use Rattle.tb_builder.specs.Courses.{IsSound}
 use Rattle.tb_builder.specs.Contributions.{NoPage, with_void}
+use Rattle.tb_builder.proofs.Ranges.PageableLemmas.{count-append}
 use Rattle.tb_builder.proofs.Ownership.FrameLemmas.{frame_sound, live_all_same}
 use Rattle.tb_builder.proofs.Ownership.OwnedLemmas.{lacks-append}
 use Rattle.tb_sheet.specs.declared.Sent.TheVariants as sents
@@ -28,25 +29,47 @@ use Rattle.tb_sheet.proofs.StandLemmas.{column-stands, column-shows}
 use Rattle.tb_items.specs.declared.happenings.Happening.{Happening}
 use Rattle.tb_items.specs.declared.happenings.Happening.TheVariants as happenings
 use Rattle.tb_items.specs.RunEvents.{sent}
+use Rattle.tb_items.specs.ItemsLeft.{with_more}
 use Rattle.tb_items.specs.Happenings.{events_of, happened_lists, IsPage, ArePages}
 use Rattle.tb_items.proofs.HappenedLemmas.{lists-append, events-append}
 use Rattle.tb_plain.specs.declared.Plain.{Plain}
 use Rattle.tb_plain.specs.declared.PlainPage.{PlainPage}
-use Rattle.tb_plain.specs.MakeupCalls.{CanFire, HasFired, fired_with}
+use Rattle.tb_plain.specs.Firing.{put_back_after}
+use Rattle.tb_plain.specs.MakeupCalls.{CanFire, HasFired}
 use Rattle.tb_plain.specs.Run.{waiting_after}
 use Rattle.tb_makeup.specs.declared.makeup.Makeup.{Makeup}
 use Rattle.tb_makeup.specs.declared.makeup.MakeupEnding.{MakeupEnding}
 use Rattle.tb_makeup.specs.declared.makeup.MakeupEnding.TheVariants as endings
-use Rattle.tb_makeup.specs.Makeup.{held_in, state_of, over_limit, IsBounded}
-use Rattle.tb_makeup.specs.MakeupPages.{AreTries, IsBoundedPage, HasShipped, Ships}
+use Rattle.tb_makeup.specs.MakeupLeft.{nodes_left}
+use Rattle.tb_makeup.specs.Makeup.{built_in, held_in, state_of, over_limit, IsBounded}
+use Rattle.tb_makeup.specs.MakeupPages.{fired_whole, AreTries, IsBoundedPage, HasShipped, Ships}
 use Rattle.tb_makeup.proofs.Filled.TriedLemmas.{tries-lists, tries-pages}
 use Rattle.tb_makeup.proofs.Shipping.BackLemmas.{back-inner}
 
 -- ---- the nodes that wait, against the limit on them
 
 -- where the boxes are void, the nodes that are counted are those that wait
-pub counted : (w b n : ℕ) → w ≤ 8388608 → b ≡ 0 → n ≡ min (w + b) 18446744073709551615 → n ≡ w
+counted : (w b n : ℕ) → w ≤ 8388608 → b ≡ 0 → n ≡ min (w + b) 18446744073709551615 → n ≡ w
 counted w b n few void e = grind (arith, few, void, e)
+
+module _ (r : Makeup) (few : node_count (held_in r).waiting ≤ 8388608) where
+  both : node_count (held_in r).waiting ≡ node_count (built_in r).waiting + node_count (nodes_left r.left)
+  both = count-append (built_in r).waiting (nodes_left r.left)
+
+  -- the nodes of the items that are left are not too many
+  pub left-few : node_count (nodes_left r.left) ≤ 8388608
+  left-few = let e = both in omega (arith, e, few)
+
+  module _ (nodes : ℕ) (void : box_count (held_in r).boxes ≡ 0) (e : nodes ≡ contents_count (built_in r)) where
+    built-counted : nodes ≡ node_count (built_in r).waiting
+    built-counted = counted (node_count (built_in r).waiting) (box_count (built_in r).boxes) nodes (let k = both in omega (arith, k, few)) void e
+
+    pub nodes-few : nodes ≤ 8388608
+    nodes-few = let k = both in let n = built-counted in omega (arith, k, n, few)
+
+    -- with them all that wait are counted
+    pub all-counted : (left : ℕ) → left ≡ node_count (nodes_left r.left) → nodes + left ≡ node_count (held_in r).waiting
+    all-counted left l = let k = both in let n = built-counted in omega (arith, k, n, l)
 
 pub some-over : (limit : ℤ) (n w : ℕ) → n ≡ w → int_lt limit (pos n) ≡ true → Some (endings.NodeLimit n) ≡ over_limit limit w
 some-over limit n w same e = subst (λ x. Some (endings.NodeLimit n) ≡ over_limit limit x) same (sym (ap (λ t. if t then Some (endings.NodeLimit n) else None) e))
@@ -74,7 +97,7 @@ not-pages k n false e = cc
 
 module _ (r : Makeup) (page : Page) (made : PlainPage) (now : Plain) (d : Builder) (t : Lists Node) (can : CanFire r.builder r.store page) (fired : HasFired made r.plain now r.builder r.store d t page) where
   abbrev f : Fired
-  f = fired_with r.builder r.store page
+  f = fired_whole r page
 
   pub still-awaits : NoPage (contents_of d t)
   still-awaits = record { page = ap (λ (c : Contents). c.page) fired.contents ∙ can.awaits.page; frozen = ap (λ (c : Contents). c.frozen) fired.contents ∙ can.awaits.frozen }
@@ -90,12 +113,25 @@ module _ (r : Makeup) (page : Page) (made : PlainPage) (now : Plain) (d : Builde
   column-apart : made.column.list ≢ made.put_back
   column-apart = λ e. fresh_apart r.store made.column.list page.body fired.fresh can.body.live (sym (e ∙ fired.body))
 
-  module _ (q : Makeup) (sound : IsSound q.builder q.store) (contents : held_in q ≡ back (contents_of d t) (plain_list t made.put_back))
+  module _ (q : Makeup) (sound : IsSound q.builder q.store) (contents : built_in q ≡ back (contents_of d t) (plain_list t made.put_back))
       (others : (l : ℕ) → l ≢ made.put_back → Lacks l (owned (ids_of d) t) → get q.store.lists l ≡ get t.lists l)
       (keeps : (l : ℕ) → Lacks l (owned (ids_of d) t ++ inner_ids (list_at t made.put_back)) → Lacks l (owned (ids_of q.builder) q.store))
-      (plain : q.plain ≡ now) (ask : q.ask ≡ r.ask) (limit : q.limit ≡ r.limit) where
+      (plain : q.plain ≡ now) (ask : q.ask ≡ r.ask) (limit : q.limit ≡ r.limit) (left : q.left ≡ r.left) where
+    -- what goes back
+    abbrev put : List PlainNode
+    put = put_back_after r.plain.params f
+
+    built-now : built_in q ≡ record (built_in r) { boxes = with_void 254 (with_void 253 (built_in r).boxes); waiting = (built_in r).held ++ (put ++ (built_in r).waiting); held = [] }
+    built-now = contents ∙ (λ i. back (fired.contents i) (fired.put_back i))
+
+    waits-now : (built_in q).waiting ≡ ((built_in r).held ++ put) ++ (built_in r).waiting
+    waits-now = ap (λ (c : Contents). c.waiting) built-now ∙ sym (append_assoc (built_in r).held put (built_in r).waiting)
+
     pub contents-now : held_in q ≡ record (held_in r) { boxes = with_void 254 (with_void 253 (held_in r).boxes); waiting = waiting_after r.plain.params f; held = [] }
-    contents-now = contents ∙ (λ i. back (fired.contents i) (fired.put_back i))
+    contents-now =
+        (λ i. with_more (nodes_left (left i)) (built-now i))
+        ∙ ap (λ ns. record (built_in r) { boxes = with_void 254 (with_void 253 (built_in r).boxes); waiting = ns; held = [] })
+        (append_assoc (built_in r).held (put ++ (built_in r).waiting) (nodes_left r.left) ∙ ap (λ ns. (built_in r).held ++ ns) (append_assoc put (built_in r).waiting (nodes_left r.left)))
 
     -- the nodes that wait now
     pub waiting-now : (held_in q).waiting ≡ waiting_after r.plain.params f
@@ -139,6 +175,9 @@ module _ (r : Makeup) (page : Page) (made : PlainPage) (now : Plain) (d : Builde
         };
         ask = ask;
         limit = limit;
+        left = left;
+        front = (built_in r).held ++ put;
+        waits = waits-now;
       }
 
       ships-by : (o : Option MakeupEnding) → IfNone o (IsBounded 0 (state_of q) q.bound) → o ≡ over_limit r.limit (node_count (waiting_after r.plain.params f)) → Ships page r o q before hs

@@ -11,16 +11,17 @@ use Rattle.tb_builder.specs.BuilderLists.{builder_lists}
 use Rattle.tb_sheet.specs.ApartLists.{AreNoneOf}
 use Rattle.tb_items.specs.declared.happenings.Happening.{Happening}
 use Rattle.tb_items.specs.RunEvents.{sent}
-use Rattle.tb_items.specs.Happenings.{events_of, noted, happened_lists, ArePages}
+use Rattle.tb_items.specs.Happenings.{events_of, noted, ArePages}
 use Rattle.tb_plain.specs.declared.Plain.{Plain}
 use Rattle.tb_plain.specs.Firing.{holds_any, makeup_column}
 use Rattle.tb_plain.specs.Run.{MakeupEvent, sent_among, MakeupState, step_tries, waiting_after}
-use Rattle.tb_plain.specs.MakeupCalls.{IsPlain, fired_with}
+use Rattle.tb_plain.specs.MakeupCalls.{IsPlain}
 use Rattle.tb_makeup.specs.declared.makeup.Makeup.{Makeup}
 use Rattle.tb_makeup.specs.declared.makeup.MakeupEnding.{MakeupEnding}
 use Rattle.tb_makeup.specs.declared.makeup.MakeupEnding.TheVariants as endings
-use Rattle.tb_makeup.specs.Makeup.{held_in, state_of, IsBounded, unsaid_nodes, run_events, IsReady, IsTurned, AreHappened}
-use Rattle.tb_makeup.specs.MakeupPages.{noted_tries, AreTries, IsFiring, IsOver, IsBoundedPage, HasShipped, Ships, Finishes}
+use Rattle.tb_makeup.specs.MakeupLeft.{nodes_left}
+use Rattle.tb_makeup.specs.Makeup.{built_in, held_in, state_of, IsBounded, unsaid_nodes, run_events, IsReady, IsTurned, AreHappened}
+use Rattle.tb_makeup.specs.MakeupPages.{fired_whole, noted_tries, AreTries, IsFiring, IsOver, IsBoundedPage, HasShipped, Ships, Finishes}
 use Rattle.tb_makeup.proofs.Filled.TriedLemmas.{are-tries, tries-lists, tries-pages, turn_events, turn-noted, turn-sent}
 use Rattle.tb_makeup.proofs.Turns.TurnedLemmas.{sent-same, shipped-goes, shipped-ready, shipped-limit, shipped-pages, over-done, over-goes, over-ready}
 
@@ -50,16 +51,16 @@ module _ (wanted : Bool) (r d : Makeup) (page : Page) (before : List Happening) 
   pub fired-plain : IsPlain d.plain
   fired-plain = subst IsPlain (sym h.same.plain) ready.plain
 
-  pub fired-few : node_count (waiting_after d.plain.params (fired_with d.builder d.store page)) ≤ 8388608
-  fired-few = subst (λ (x : Plain). node_count (waiting_after x.params (fired_with d.builder d.store page)) ≤ 8388608) (sym h.same.plain) h.after.few
+  pub fired-few : node_count (waiting_after d.plain.params (fired_whole d page)) ≤ 8388608
+  fired-few = subst (λ (x : Plain). node_count (waiting_after x.params (fired_whole d page)) ≤ 8388608) (sym h.same.plain) h.after.few
 
   pub fired-void : box_count (with_void 254 (with_void 253 (held_in d).boxes)) ≡ 0
   fired-void = ap box_count h.void
 
   pub fired-bounded : IsBoundedPage page d
   fired-bounded =
-      subst (λ (x : Plain). IsBounded 10 (record { page = []; waiting = waiting_after x.params (fired_with d.builder d.store page); number = x.page + 1 }) d.bound) (sym h.same.plain)
-      (subst (IsBounded 10 (record { page = []; waiting = waiting_after r.plain.params (fired_with d.builder d.store page); number = r.plain.page + 1 })) (sym h.same.bound)
+      subst (λ (x : Plain). IsBounded 10 (record { page = []; waiting = waiting_after x.params (fired_whole d page); number = x.page + 1 }) d.bound) (sym h.same.plain)
+      (subst (IsBounded 10 (record { page = []; waiting = waiting_after r.plain.params (fired_whole d page); number = r.plain.page + 1 })) (sym h.same.bound)
       (let a = h.grown.total in
       let b = h.grown.acts in
       let t = ready.bounded.total in
@@ -72,7 +73,7 @@ module _ (wanted : Bool) (r d : Makeup) (page : Page) (before : List Happening) 
 
 module _ (wanted : Bool) (r d q : Makeup) (page : Page) (before hs : List Happening) (ready : IsReady r) (h : IsFiring wanted r page d before) where
   abbrev es : List PlainSent
-  es = shipped h.s.number (one (makeup_column r.plain.params (fired_with d.builder d.store page))) ∷ []
+  es = shipped h.s.number (one (makeup_column r.plain.params (fired_whole d page))) ∷ []
 
   -- the events of the turn, if it sends these
   abbrev turned_with : List PlainSent → List MakeupEvent
@@ -93,7 +94,7 @@ module _ (wanted : Bool) (r d q : Makeup) (page : Page) (before hs : List Happen
   pub fired-turns : (o : Option MakeupEnding) → Ships page d o q before hs → TurnsTo wanted r hs o q
   fired-turns None s = record {
     turned = record { es = turned_with es; events = shipped-events s.0; few = sends-few es (omega arith); goes = shipped-goes wanted r d q page before ready h s.0.within s.0.number s.0.contents s.1 };
-    ready = shipped-ready wanted r d q page before ready h s.0.within s.0.number s.0.contents s.1 s.0.sound s.0.ask s.0.limit s.2;
+    ready = shipped-ready wanted r d q page before ready h s.0.within s.0.number s.0.contents s.1 s.0.sound s.0.ask s.0.limit s.0.left s.0.front s.0.waits s.2;
     params = shipped-params s.0;
     live = s.0.sound.own.live.0;
     pages = s.0.happened.pages;
@@ -124,8 +125,8 @@ module _ (wanted : Bool) (r d q : Makeup) (page : Page) (before hs : List Happen
 
 -- ---- nothing waits
 
-pub over-waiting : (wanted : Bool) (r d : Makeup) (hs : List Happening) → IsOver wanted r d hs → (held_in d).waiting ≡ []
-over-waiting wanted r d hs h = ap (λ (c : Contents). c.waiting) h.holds
+pub over-waiting : (wanted : Bool) (r d : Makeup) (hs : List Happening) → IsOver wanted r d hs → (built_in d).waiting ≡ []
+over-waiting wanted r d hs h = sym (ap (λ o. (built_in d).waiting ++ nodes_left o) h.left ∙ append-nil (built_in d).waiting) ∙ ap (λ (c : Contents). c.waiting) h.holds
 
 module _ (wanted : Bool) (r d q : Makeup) (hs : List Happening) (ready : IsReady r) (h : IsOver wanted r d hs) where
   -- the events of the turn

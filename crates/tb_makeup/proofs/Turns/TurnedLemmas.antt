@@ -1,5 +1,5 @@
 -- A turn of the page makeup, as steps of the run.
-use Rattle.std.proofs.Common.{◌≡◌, refl, sym, ◌∙◌, ap, subst, ℕ, ◌+◌, ◌*◌, ◌-◌, ◌<◌, ◌≤◌, ℤ, pos, Bool, true, false, List, [], ◌∷◌, Option, Some, None, arith}
+use Rattle.std.proofs.Common.{◌≡◌, refl, sym, ◌∙◌, ap, subst, ℕ, ◌+◌, ◌*◌, ◌-◌, ◌<◌, ◌≤◌, ℤ, pos, Bool, true, false, List, [], ◌∷◌, ◌++◌, Option, Some, None, arith}
 use Rattle.std.specs.Prelude.{pred, nat_abs, int_lt, ◌≤ℤ◌, ◌<ℤ◌, if◌then◌else◌}
 use Rattle.std.proofs.lemmas.Int.{ints}
 use Rattle.std.proofs.lemmas.List.Elements.{All-nil}
@@ -17,14 +17,17 @@ use Rattle.tb_builder.specs.Courses.{IsSound, freezes}
 use Rattle.tb_sheet.specs.Sheet.{PlainSent, shipped, one}
 use Rattle.tb_plain.specs.Firing.{holds_any, makeup_column}
 use Rattle.tb_plain.specs.Run.{MakeupRun, MakeupEnd, MakeupState, try_events, step_tries, step_events, ends, goes_on, done, page_limit, node_limit, shipping_step, firing_step, builder_holds, makeup_ask, makeup_classes, void_boxes, run_after, ejecting_nodes, waiting_after}
-use Rattle.tb_plain.specs.MakeupCalls.{AreMakeupParams, IsPlain, fired_with}
+use Rattle.tb_plain.specs.MakeupCalls.{AreMakeupParams, IsPlain}
 use Rattle.tb_items.specs.declared.happenings.Happening.{Happening}
+use Rattle.tb_items.specs.ItemsLeft.{with_more}
 use Rattle.tb_plain.specs.declared.Plain.{Plain}
 use Rattle.tb_plain.proofs.StepLemmas.{page-less}
 use Rattle.tb_makeup.specs.declared.makeup.Makeup.{Makeup}
 use Rattle.tb_makeup.specs.declared.makeup.MakeupEnding.TheVariants as endings
-use Rattle.tb_makeup.specs.Makeup.{held_in, state_of, over_limit, run_at, node_total, IsBounded, unsaid_nodes, begins, ejects, AreRunParams, AreRunNodes, IsReady, GoesTo, turns_left}
-use Rattle.tb_makeup.specs.MakeupPages.{Takes, IsFiring, IsOver, Ejects}
+use Rattle.tb_makeup.specs.declared.makeup_left.MakeupLeft.{MakeupLeft}
+use Rattle.tb_makeup.specs.MakeupLeft.{nodes_left, AreItemsLeft, IsOpen}
+use Rattle.tb_makeup.specs.Makeup.{built_in, held_in, state_of, over_limit, run_at, node_total, IsBounded, unsaid_nodes, begins, ejects, AreRunParams, AreRunNodes, IsOpenAtStart, IsReady, GoesTo, turns_left}
+use Rattle.tb_makeup.specs.MakeupPages.{fired_whole, Takes, IsFiring, IsOver, Ejects}
 use Rattle.tb_makeup.proofs.Filled.RunLemmas.{run-ends, run-goes, run-append}
 use Rattle.tb_makeup.proofs.Filled.TriedLemmas.{turn_events}
 
@@ -95,7 +98,7 @@ module _ (wanted : Bool) (r d q : Makeup) (page : Page) (before : List Happening
   p = r.plain.params
 
   abbrev f : Fired
-  f = fired_with d.builder d.store page
+  f = fired_whole d page
 
   same-params : d.plain.params ≡ p
   same-params = ap (λ (x : Plain). x.params) h.same.plain
@@ -147,8 +150,13 @@ module _ (wanted : Bool) (r d q : Makeup) (page : Page) (before : List Happening
           let acts = h.after.acts in
           (record { page = All-nil IsSizedOnPage; waiting = h.after.sized; quiet = tt; led = h.after.led; acts = acts; few = omega (arith, few, acts) }, omega (arith, few, acts))
 
-      pub shipped-ready : IsSound q.builder q.store → q.ask ≡ d.ask → q.limit ≡ d.limit → IsBounded 0 (state_of q) q.bound → IsReady q
-      shipped-ready sound ask limit bounded = record {
+      -- what is left changes nothing on the next page
+      open-so : (o : Option MakeupLeft) → (built_in q).page ≡ [] → IsOpen o (built_in q).waiting → IsOpenAtStart o (built_in q)
+      open-so None e k = tt
+      open-so (Some l) e k = (e, k)
+
+      pub shipped-ready : IsSound q.builder q.store → q.ask ≡ d.ask → q.limit ≡ d.limit → q.left ≡ d.left → (front : List PlainNode) → (built_in q).waiting ≡ front ++ (built_in d).waiting → IsBounded 0 (state_of q) q.bound → IsReady q
+      shipped-ready sound ask limit left front waits bounded = record {
         sound = sound;
         plain = record { params = subst AreMakeupParams (sym plain-now) ready.params.makeup; first = (let a = ap (λ (x : Plain). x.page) number in omega (arith, a)) };
         params = subst AreRunParams (sym plain-now) ready.params;
@@ -158,6 +166,8 @@ module _ (wanted : Bool) (r d q : Makeup) (page : Page) (before : List Happening
         nodes = subst AreRunNodes (sym state-now) nodes-now.0;
         phase = begins (ap (λ (x : MakeupState). x.page) state-now) (subst (λ x. node_total x + 10 ≤ 7500000) (sym state-now) nodes-now.1);
         bounded = (let a = bounded.total in record { total = omega (arith, a); acts = bounded.acts; few_nodes = bounded.few_nodes; few_acts = bounded.few_acts });
+        items = subst (λ (x : Params). AreItemsLeft (makeup_classes x) q.left) (sym plain-now) (subst (AreItemsLeft (makeup_classes p)) (sym left) h.items);
+        ends = open-so q.left (ap (λ (x : MakeupState). x.page) state-now) (subst (IsOpen q.left) (sym waits) (subst (λ o. IsOpen o (front ++ (built_in d).waiting)) (sym left) (h.ends front)));
       }
         where
           page-now : (held_in q).page ≡ []
@@ -204,10 +214,16 @@ module _ (wanted : Bool) (r d q : Makeup) (before : List Happening) (ready : IsR
     plain-same : q.plain ≡ r.plain
     plain-same = e.same.plain ∙ h.same.plain
 
+    none-left : q.left ≡ None
+    none-left = e.left ∙ h.left
+
+    contents-so : held_in q ≡ record (held_in d) { waiting = ejecting_nodes }
+    contents-so = λ i. with_more (nodes_left (none-left i)) (e.contents i)
+
     state-is : state_of q ≡ now
     state-is = λ i. record {
-      page = ap (λ (c : Contents). c.page) e.contents i;
-      waiting = ap (λ (c : Contents). c.waiting) e.contents i;
+      page = ap (λ (c : Contents). c.page) contents-so i;
+      waiting = ap (λ (c : Contents). c.waiting) contents-so i;
       number = (ap (λ (x : Plain). x.page) plain-same ∙ sym h.takes.number) i;
     }
 
@@ -244,9 +260,11 @@ module _ (wanted : Bool) (r d q : Makeup) (before : List Happening) (ready : IsR
       ask = e.same.ask ∙ h.same.ask ∙ ready.ask ∙ ap (λ (x : Plain). makeup_ask x.params) (sym plain-same);
       limit = e.same.limit ∙ h.same.limit ∙ ready.limit ∙ ap (λ (x : Plain). x.params.maxnodes) (sym plain-same);
       holds =
-          e.contents ∙ ap (λ (c : Contents). record c { waiting = ejecting_nodes }) h.holds ∙ ap (λ x. builder_holds params x) (sym state-is)
+          contents-so ∙ ap (λ (c : Contents). record c { waiting = ejecting_nodes }) h.holds ∙ ap (λ x. builder_holds params x) (sym state-is)
           ∙ ap (λ (x : Plain). builder_holds x.params (state_of q)) (sym plain-same);
       nodes = subst AreRunNodes (sym state-is) h.nodes;
       phase = ejects (ap (λ (x : MakeupState). x.waiting) state-is);
       bounded = subst (λ s. IsBounded (unsaid_nodes s) s q.bound) (sym state-is) (subst (IsBounded (unsaid_nodes now) now) (sym (e.same.bound ∙ h.same.bound)) bounded-now);
+      items = subst (AreItemsLeft (makeup_classes q.plain.params)) (sym none-left) tt;
+      ends = subst (λ o. IsOpenAtStart o (built_in q)) (sym none-left) tt;
     }

@@ -45,8 +45,8 @@ use Rattle.tb_run.proofs.Turns.WholeLemmas.{built-shown, built-whole}
 use Rattle.tb_items.proofs.HappenedLemmas.{lists-append, events-append, noted-append, noted-warned, try-noted, try-lists}
 use Rattle.tb_run.proofs.Turns.HappenedLemmas.{warned-events, warned-lists}
 use Rattle.tb_run.proofs.Filling.ComingLemmas.{IsComing, start, so_far, coming-start, after, tried-events, coming-tried, acted-sized, acted-events, coming-acted, full-progress, step-full, over-progress, over-fires, step-over}
-use Rattle.tb_run.proofs.Behind.EventLemmas.{open-start}
-use Rattle.tb_run.proofs.Filling.MoreLemmas.{IsOpenFor, fits-front}
+use Rattle.tb_items.proofs.MoreEvents.{fits-front, open-start}
+use Rattle.tb_run.proofs.Filling.MoreLemmas.{IsOpenFor}
 use Rattle.tb_run.proofs.Filling.ComingPages.{coming-fits}
 
 -- ---- events that were taken

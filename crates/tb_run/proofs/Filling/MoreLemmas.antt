@@ -16,7 +16,7 @@ use Rattle.tb_items.specs.declared.items_left.ItemsLeft.{ItemsLeft}
 use Rattle.tb_items.specs.ItemsLeft.{nodes_left, with_more, IsOpen}
 use Rattle.tb_run.specs.declared.routine.Routine.{Routine}
 use Rattle.tb_run.specs.Routine.{built_in, held_in}
-use Rattle.tb_run.proofs.Behind.EventLemmas.{more_laid, laid-with, IsMet, IsOpenPage, next-more, open-after, open-fired}
+use Rattle.tb_items.proofs.MoreEvents.{IsMet, IsOpenPage, next-more, none-behind, open-after, open-fired}
 
 -- if anything is left, it changes nothing on the page of these contents
 abbrev pub IsOpenFor : Option ItemsLeft → Contents → Ask → Type 0
@@ -27,26 +27,6 @@ IsOpenFor (Some l) c ask = IsOpenPage c ask
 abbrev pub IsMetBy : Option ItemsLeft → Event → Type 0
 IsMetBy None e = Unit {0}
 IsMetBy (Some l) e = IsMet e
-
--- all that is added up without the items that are left fits too
-pub fits-front : (c : Contents) (ask : Ask) (more : List PlainNode) → NextFits (with_more more c) ask → NextFits c ask
-fits-front c ask more h = record {
-  asked = h.asked;
-  boxes = h.boxes;
-  laid_fits = record {
-    pages = λ before rest e. h.laid_fits.pages before (rest ++ tail) (longer before rest e);
-    nodes = λ before n rest e. h.laid_fits.nodes before n (rest ++ tail) (longer before (n ∷ rest) e);
-  };
-}
-  where
-    tail : List PlainNode
-    tail = more_laid ask.top_skip (laid c ask) more
-
-    longer : (before rest : List PlainNode) → before ++ rest ≡ laid c ask → before ++ (rest ++ tail) ≡ laid (with_more more c) ask
-    longer before rest e = sym (append_assoc before rest tail) ∙ ap (λ ns. ns ++ tail) e ∙ sym (laid-with c ask more)
-
-none-behind : (c : Contents) → with_more [] c ≡ c
-none-behind c = ap (λ ns. record c { waiting = ns }) (append-nil c.waiting)
 
 module _ (q d : Routine) (ask : Ask) (e : Event) (n : IsNext q.builder q.store ask e d.builder d.store) (left : d.left ≡ q.left) (ends : IsOpenFor q.left (built_in q) ask) where
   -- it is the next event of the page with all that is left

@@ -20,7 +20,7 @@ use Rattle.tb_run.specs.declared.routine.Routine.{Routine}
 use Rattle.tb_run.specs.Routine.{built_in, held_in, state_of, IsReady}
 use Rattle.tb_run.specs.RoutinePages.{HasComeTo, IsSupplied}
 use Rattle.tb_run.proofs.Turns.WholeLemmas.{built-shown}
-use Rattle.tb_run.proofs.Behind.EventLemmas.{IsOpenPage, ahead-supplied, laid-supplied, come-supplied, open-supplied, may-take}
+use Rattle.tb_items.proofs.MoreEvents.{IsOpenPage, ahead-supplied, laid-supplied, come-supplied, open-supplied, may-take}
 use Rattle.tb_run.proofs.Filling.ComingLemmas.{IsComing, start, coming-same}
 use Rattle.tb_run.proofs.Filling.FillingLemmas.{IsUnderway, state_now, left_of_page, turns_left}
 use Rattle.tb_run.proofs.Filling.MoreLemmas.{IsOpenFor}

@@ -1,12 +1,10 @@
 use Rattle.std.proofs.Common.{◌∙◌, ap, FitsSigned, w64, rules}
 use Rattle.std.proofs.lemmas.Int.{to_z-of_z}
-use Rattle.tb_builder.specs.Contents.{node_count, box_count}
-use Rattle.tb_makeup.specs.Makeup.{held_in, over_limit}
-use Rattle.tb_makeup.proofs.Shipping.ShipLemmas.{counted}
+use Rattle.tb_makeup.specs.Makeup.{over_limit}
 use Rattle.tb_makeup.proofs.makeup.Makeup.node_limit.Goals as goal
 
 pub returns : goal.returns
 returns c =
     let limit : FitsSigned w64 c.args.self.now.limit = search rules in
     let over = simp to_z-of_z at c.over_limit.ensures in
-    over ∙ ap (over_limit c.args.self.now.limit) (counted (node_count (held_in c.args.self.now).waiting) (box_count (held_in c.args.self.now).boxes) c.nodes.result c.requires.few c.requires.void c.nodes.ensures)
+    over ∙ ap (over_limit c.args.self.now.limit) c.waiting_nodes.ensures

@@ -1,11 +1,11 @@
 -- An event is the same if more nodes come behind those that wait.
-use Rattle.std.proofs.Common.{◌≡◌, refl, sym, subst, ◌∙◌, ap, ℕ, ℤ, Bool, true, false, List, [], ◌∷◌, ◌++◌, take, drop, append_assoc}
+use Rattle.std.proofs.Common.{◌≡◌, refl, sym, subst, ◌∙◌, ap, ℕ, ℤ, Bool, true, false, List, [], ◌∷◌, ◌++◌, take, drop, append_assoc, append-nil, arith}
 use Rattle.std.specs.Prelude.{if◌then◌else◌, ◌||◌}
 use Rattle.std.proofs.lemmas.Bool.{true≢false}
 use Rattle.tb_pool.specs.Lists.{Lists}
 use Rattle.tb_node.specs.declared.Act.{Act}
 use Rattle.tb_node.specs.declared.Node.{Node}
-use Rattle.tb_node.specs.PlainNodes.{PlainNode}
+use Rattle.tb_node.specs.PlainNodes.{act, PlainNode}
 use Rattle.tb_break.specs.Best.{Breakpoint, is_stop, least_cost}
 use Rattle.tb_break.specs.PageTop.{pruned_nodes}
 use Rattle.tb_insert.specs.Account.{Frozen, Labelled, labelled, terms_after}
@@ -17,15 +17,16 @@ use Rattle.tb_builder.specs.Reach.{Reached, acted, tried, Reach, also_reached, r
 use Rattle.tb_builder.specs.FiredPages.{Boxed, Fired, page_break, from_break, penalty_at, line_at, with_spent_break, fired_by}
 use Rattle.tb_builder.specs.LegalPlaces.{glue_first}
 use Rattle.tb_builder.specs.Contributions.{ends_in_kern}
-use Rattle.std.proofs.lemmas.List.{take-append-drop}
+use Rattle.std.proofs.lemmas.List.{take-append-drop, length-append}
 use Rattle.tb_builder.specs.Contents.{Contents, frozen_of, ahead_of, laid, reach_ahead, reach_whole, places_of}
-use Rattle.tb_builder.specs.PageEvents.{Without, ActedIs, IsTheStop, GoesPast, EmptyIs, FirstIs, KeepsBoxes, PageIs, FiredIs, fired_page, after_fired, NextIs, stopped_with}
+use Rattle.tb_builder.specs.PassedNodes.{ComesPast, EventPast}
+use Rattle.tb_builder.specs.PageEvents.{NextFits, Without, ActedIs, IsTheStop, GoesPast, EmptyIs, FirstIs, KeepsBoxes, PageIs, FiredIs, fired_page, after_fired, NextIs, stopped_with}
 use Rattle.tb_builder.specs.PageProgress.{after_all, HasCome}
 use Rattle.tb_builder.proofs.Handover.WaitLemmas.{places_glue}
 use Rattle.tb_builder.proofs.Turns.PastLemmas.{holds-both, laid-more}
 use Rattle.tb_items.specs.ItemsLeft.{kern_last, with_more}
 use Rattle.tb_items.proofs.OpenLemmas.{kern-both, open-back, open-front, StartsPlain, some-plain, plain-front, plain-pruned, plain-spent, page-ends, glue-more, open-without, open-spent, open-pruned}
-use Rattle.tb_run.proofs.Behind.ReachLemmas.{with_beyond, going_on, going-also, going-stops, reach-more, reach-left, reach-none, reach-box}
+use Rattle.tb_items.proofs.MoreReached.{with_beyond, going_on, going-also, going-stops, reach-more, reach-left, reach-none, reach-box}
 
 -- more nodes, as they are laid out behind others
 abbrev pub more_laid : ℤ → List PlainNode → List PlainNode → List PlainNode
@@ -277,7 +278,52 @@ next-more c d ask more e s ends stop met n = by_stopped c.stopped refl n
     by_stopped true is f = by_fired e (stop is) f
     by_stopped false is f = (first-event c d ask more ends f.1 e met f.0, keeps-more c d ask more ends f.1)
 
+-- the page goes past the same nodes
+past-more-of : (c d : Contents) (ask : Ask) (more after : List PlainNode) → ComesPast after c d ask → ComesPast (after ++ more) (with_more more c) (with_more more d) ask
+past-more-of c d ask more after h = record {
+  before = h.before;
+  is = record { waiting = ap (λ ns. ns ++ more) h.is.waiting ∙ append_assoc h.before after more; page = h.is.page; no_acts = h.is.no_acts };
+}
+
+pub event-past-more : (c d : Contents) (ask : Ask) (more : List PlainNode) (e : Event) → EventPast e c d ask → EventPast e (with_more more c) (with_more more d) ask
+event-past-more c d ask more (events.Try t) h = λ go. record {
+  comes = past-more-of c d ask more d.waiting (h go).comes;
+  shorter = (let a = length-append c.waiting more in let b = length-append d.waiting more in let l = (h go).shorter in omega (arith, a, b, l));
+}
+event-past-more c d ask more (events.Act a) h = record { line = h.line; comes = past-more-of c d ask more (record { line = h.line; kind = act a } ∷ d.waiting) h.comes }
+event-past-more c d ask more (events.Fired p) h = tt
+event-past-more c d ask more events.Empty h = past-more-of c d ask more d.waiting h
+
+-- nothing more
+pub none-behind : (c : Contents) → with_more [] c ≡ c
+none-behind c = ap (λ ns. record c { waiting = ns }) (append-nil c.waiting)
+
+-- all that is added up without the nodes behind fits too
+pub fits-front : (c : Contents) (ask : Ask) (more : List PlainNode) → NextFits (with_more more c) ask → NextFits c ask
+fits-front c ask more h = record {
+  asked = h.asked;
+  boxes = h.boxes;
+  laid_fits = record {
+    pages = λ before rest e. h.laid_fits.pages before (rest ++ tail) (longer before rest e);
+    nodes = λ before n rest e. h.laid_fits.nodes before n (rest ++ tail) (longer before (n ∷ rest) e);
+  };
+}
+  where
+    tail : List PlainNode
+    tail = more_laid ask.top_skip (laid c ask) more
+
+    longer : (before rest : List PlainNode) → before ++ rest ≡ laid c ask → before ++ (rest ++ tail) ≡ laid (with_more more c) ask
+    longer before rest e = sym (append_assoc before rest tail) ∙ ap (λ ns. ns ++ tail) e ∙ sym (laid-with c ask more)
+
 -- ---- what stays
+
+-- nodes that end with no kern, laid out on a page that ends with none
+pub open-laid : (c : Contents) (ask : Ask) → kern_last false c.page ≡ false → kern_last false c.waiting ≡ false → kern_last false (laid c ask) ≡ false
+open-laid c ask page h = kern-both false c.page (ahead_of c ask) ∙ ap (λ b. kern_last b (ahead_of c ask)) page ∙ by_box (holds_box c.page)
+  where
+    by_box : (b : Bool) → kern_last false (if b then c.waiting else pruned_nodes ask.top_skip c.waiting) ≡ false
+    by_box true = h
+    by_box false = open-pruned ask.top_skip false c.waiting h
 
 -- more nodes behind these contents change nothing before them, and a stop that was tried is that of the page
 pub record IsOpenPage (c : Contents) (ask : Ask) : Type 0 where
@@ -357,11 +403,7 @@ module _ (c d : Contents) (ask : Ask) (more : List PlainNode) (ends : kern_last 
 
   -- if only some of them were handed over, and they end with no kern
   pub open-supplied : (ns : List PlainNode) → kern_last false ns ≡ false → IsOpenPage (record d { waiting = ns }) ask
-  open-supplied ns h = record { ends = kern-both false d.page (ahead_of (record d { waiting = ns }) ask) ∙ ap (λ b. kern_last b (ahead_of (record d { waiting = ns }) ask)) page-ends-so ∙ by_box (holds_box d.page); stop = λ off. absurd (true≢false (sym off ∙ f.stopped)) }
-    where
-      by_box : (b : Bool) → kern_last false (if b then ns else pruned_nodes ask.top_skip ns) ≡ false
-      by_box true = h
-      by_box false = open-pruned ask.top_skip false ns h
+  open-supplied ns h = record { ends = open-laid (record d { waiting = ns }) ask page-ends-so h; stop = λ off. absurd (true≢false (sym off ∙ f.stopped)) }
 
   pub may-take : ends_in_kern d.page ≡ false
   may-take = by_test (ends_in_kern d.page) refl

@@ -1,3 +1,0 @@
--- More nodes come behind those that wait, in reading order.
-pub mod ReachLemmas
-pub mod EventLemmas
