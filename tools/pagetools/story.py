@@ -46,6 +46,7 @@ class Story:
         self.run = run
         self.settings = settings
         self.two = run.in_two_columns()
+        self.texts = {}         # what a reason of the summary is in words
 
     # ---- words for places
 
@@ -202,6 +203,12 @@ class Story:
     def reason_text(self, reason):
         if (reason.area, reason.word) in CARRIED:
             return CARRIED[reason.area, reason.word]
+        key = (reason.area, reason.word, reason.root, reason.by)
+        if key not in self.texts:
+            self.texts[key] = self.text_of(reason)
+        return self.texts[key]
+
+    def text_of(self, reason):
         for it in self.run.named(reason.root):
             for decision in it.decisions:
                 test = decision.reason()

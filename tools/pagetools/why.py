@@ -26,7 +26,7 @@ class Spot:
     column: int
 
 
-@dataclass
+@dataclass(eq=False)
 class Test:
     """What an area asked of a float."""
     area: str            # one of AREAS
@@ -55,7 +55,7 @@ class Test:
         return sizes.get(self.failed, 0)
 
 
-@dataclass
+@dataclass(eq=False)
 class Decision:
     """What was asked of a float at one place, and where it went."""
     kind: str            # call, start or clear
@@ -98,7 +98,7 @@ class Reason:
     times: int
 
 
-@dataclass
+@dataclass(eq=False)
 class Float:
     name: str
     line: int            # of the galley
@@ -144,6 +144,7 @@ class Note:
 class Run:
     """All that is told of a run."""
     floats: list = field(default_factory=list)      # in the order of their calls
+    names: dict = field(default_factory=dict)       # the same by their names
     notes: list = field(default_factory=list)
     heights: dict = field(default_factory=dict)     # of columns, by spot
     companies: list = field(default_factory=list)   # (spot, the floats of the company that was made)
@@ -159,7 +160,7 @@ class Run:
 
     def named(self, name, line=None):
         """The floats of this name, or the one that is called on this line."""
-        return [it for it in self.floats if it.name == name and line in (None, it.line)]
+        return [it for it in self.names.get(name, ()) if line in (None, it.line)]
 
 
 def is_told(line):
@@ -188,26 +189,37 @@ def values(words):
 class _Reader:
     def __init__(self):
         self.run = Run()
-        self.waiting = []           # the floats that wait, in order
+        self.waiting = {}           # the floats that wait, by name, those of one name in order
         self.taken_back = []        # by the clear that comes next, in order
         self.kind, self.spot, self.height = 'call', Spot(1, 1), 0
         self.open = {}              # (id of a float) -> its decision in this pass
         self.asked = set()          # (area, id of a float) in this pass
         self.head, self.company = None, []
         self.current = None         # the float that is being decided on
+        self.in_column = {}         # the floats that were placed in the text or at the bottom, by spot
         self.page, self.column, self.is_wide = 0, 0, False
         self.shipped = {}           # (name, page, where) -> the columns in which such floats were shipped
 
     # ---- which float a line names
 
     def waiting_one(self, name, test):
-        """The first waiting float of this name, width and height that was not asked by this area in this pass."""
+        """The first waiting float of this name, width and height that was not asked by this area in this pass. Those up to
+        the head of a company were asked whether they may be alone, those behind it whether they join."""
         width = 'single' if self.spot.column else 'double'
-        for it in self.waiting[self.waiting.index(self.head) + 1 if test.area == 'joins' else 0:]:
-            if (it.name, it.width, it.high) == (name, width, test.high) and (test.area, id(it)) not in self.asked:
+        asked = {'joins': ('joins', 'alone')}.get(test.area, (test.area,))
+        for it in self.waiting.get(name, ()):
+            if (it.width, it.high) == (width, test.high) and not any((area, id(it)) in self.asked for area in asked):
                 self.asked.add((test.area, id(it)))
                 return it
         raise ValueError(name)
+
+    def waits(self, it, does=True):
+        """The float waits from now on, behind all others of its name, or no longer."""
+        those = self.waiting.setdefault(it.name, [])
+        if does and it not in those:
+            those.append(it)
+        elif not does and it in those:
+            those.remove(it)
 
     def decision_of(self, it):
         """The float's decision in this pass, a new one if nothing was asked of it yet."""
@@ -226,7 +238,8 @@ class _Reader:
 
     def give_back(self):
         """What a clear took back waits before all others."""
-        self.waiting[:0] = self.taken_back
+        for it in reversed(self.taken_back):
+            self.waiting.setdefault(it.name, []).insert(0, it)
         self.taken_back = []
 
     # ---- the lines
@@ -254,8 +267,9 @@ class _Reader:
         it = Float(words[0], int(words[1]), Spot(known['page'], known['column']), int(known['class']),
                    known['places'], known['width'], known['high'], word == 'wait')
         self.run.floats.append(it)
+        self.run.names.setdefault(it.name, []).append(it)
         if word == 'wait':
-            self.waiting.append(it)
+            self.waits(it)
             return
         self.current = it
         self.kind, self.spot, self.height, self.open = 'call', it.spot, 0, {}
@@ -274,10 +288,9 @@ class _Reader:
     def in_the_way(self, it, area, name):
         """The float of this name that keeps a float of its class back: it waits, or it was placed in this column."""
         if area in ('here', 'top'):
-            found = [that for that in self.run.floats if that.decisions and that.decisions[-1].spot == self.spot
-                     and that.decisions[-1].goes in ('here', 'bottom')]
+            found = self.in_column.get(self.spot, ())
         else:
-            found = [that for that in self.waiting if area != 'joins' or that not in self.company]
+            found = [that for that in self.waiting.get(name, ()) if area != 'joins' or that not in self.company]
         return next((that for that in found if (that.name, that.number) == (name, it.number) and that is not it), None)
 
     def asked_one(self, name, area, test):
@@ -305,14 +318,13 @@ class _Reader:
         else:
             it = self.current
         self.decision_of(it).goes = where
-        if where == 'deferred' and it not in self.waiting:
-            self.waiting.append(it)
-        elif where != 'deferred' and it in self.waiting:
-            self.waiting.remove(it)
+        self.waits(it, where == 'deferred')
+        if where in ('here', 'bottom'):
+            self.in_column.setdefault(self.spot, []).append(it)
 
     def back(self, name, where):
         """Of the floats of this name that stand there, the first on the latest page goes back."""
-        found = [it for it in self.run.floats if it.name == name and it.decisions and it.decisions[-1].goes == where
+        found = [it for it in self.run.named(name) if it.decisions and it.decisions[-1].goes == where
                  and it not in self.taken_back]
         it = min(found, key=lambda one: (-one.decisions[-1].spot.page, -one.decisions[-1].spot.column))
         it.decisions[-1].back = where
@@ -324,7 +336,7 @@ class _Reader:
                                    known['reach'], known['high'], known['shift'], known[''][0]))
 
     def summary(self, words):
-        it = next(it for it in self.run.floats if (it.name, it.line) == (words[0], int(words[1])) and not it.called)
+        it, = self.run.named(words[0], int(words[1]))
         it.called = int(words[3])
         if words[4] == 'landed':
             it.landed, it.where, rest = int(words[5]), words[6], words[7:]
