@@ -39,6 +39,16 @@ def telling(decision):
     return [it for it in others if it.area != 'here' or decision.asks_here] or others or failed
 
 
+def is_behind(decision):
+    """Whether a float of its class kept it."""
+    reason = decision.reason()
+    return reason is not None and reason.failed == 'class'
+
+
+def capital(text):
+    return text[:1].upper() + text[1:]
+
+
 class Story:
     """What can be said of the floats and notes of a run."""
 
@@ -99,6 +109,8 @@ class Story:
         out, before = [], ('', '')
         for kind, decisions, text, root in groups:
             same = (text, root) == before
+            if kind == 'taken' and len({one.reason().blocker for one in decisions}) > 1:
+                text = 'floats of its class wait before it, the first of them %s' % decisions[0].reason().blocker
             out.append('%s %s.' % (self.when(kind, decisions), 'the same' if same else text))
             out += [root] if root and root != before[1] else []
             before = (text, root)
@@ -113,21 +125,23 @@ class Story:
     @staticmethod
     def add(groups, decision, text, root):
         kind = decision.kind if decision.goes else 'taken'
-        if groups and kind == 'start' and (groups[-1][0], groups[-1][2:]) == (kind, (text, root)):
+        same = groups and groups[-1][0] == kind
+        if same and kind == 'start' and groups[-1][2:] == (text, root) or same and kind == 'taken' and is_behind(
+                decision) and is_behind(groups[-1][1][0]):
             groups[-1][1].append(decision)
         else:
             groups.append((kind, [decision], text, root))
 
     def when(self, kind, decisions):
         first = decisions[0]
-        if len(decisions) > 1 and not self.two:
-            return 'At the start of pages %s:' % numbers(one.spot.page for one in decisions)
         if len(decisions) > 1:
-            return 'At the start of %s:' % listed(self.spot(one.spot) for one in decisions)
+            where = listed(self.spot(one.spot) for one in decisions) if self.two else 'pages %s' % numbers(
+                one.spot.page for one in decisions)
+            return '%s take other floats:' % capital(where) if kind == 'taken' else 'At the start of %s:' % where
         if kind == 'call':
             return 'On %s, where it is called:' % self.spot(first.spot)
         if kind == 'taken':
-            return '%s takes other floats:' % self.spot(first.spot).capitalize()
+            return '%s takes other floats:' % capital(self.spot(first.spot))
         return 'At %s %s:' % ('a clear on' if first.kind == 'clear' else 'the start of', self.spot(first.spot))
 
     def why_not(self, decision):
@@ -139,7 +153,7 @@ class Story:
         """Why the float that is in the way waits itself, '' if none is."""
         test = decision.reason()
         reason = why_words.root_of(test) if test and test.failed == 'class' else None
-        return '%s waits: %s.' % (test.blocking.name, in_words(*reason, self.settings)) if reason else ''
+        return '%s waits: %s.' % (reason[0].name, in_words(*reason[1:], self.settings)) if reason else ''
 
     def arrival(self, it):
         last = it.decisions[-1]
@@ -152,7 +166,7 @@ class Story:
                 what = 'goes into a column of floats'
             others = next((those for spot, those in self.run.companies if spot == last.spot and it in those), [])
             names = [one.name for one in others if one is not it]
-            what += ' with ' + listed(names) if names else ''
+            what += ' with ' + (listed(names) if len(names) <= 6 else counted(len(names), 'other')) if names else ''
         return ['%s it %s.' % (self.when(last.kind, [last]), what)]
 
     # ---- what would have let it in

@@ -114,6 +114,7 @@ class Float:
     where: str = ''      # here, top, bottom, wide or page; of one that was not shipped also deferred
     column: int = 0      # in which it landed; 0 over both columns, and for one that was not shipped
     reasons: list = field(default_factory=list)
+    is_alone_with_its_name: bool = True
 
     def late(self):
         """How many columns and wide pages were put out while it waited."""
@@ -267,7 +268,10 @@ class _Reader:
         it = Float(words[0], int(words[1]), Spot(known['page'], known['column']), int(known['class']),
                    known['places'], known['width'], known['high'], word == 'wait')
         self.run.floats.append(it)
-        self.run.names.setdefault(it.name, []).append(it)
+        those = self.run.names.setdefault(it.name, [])
+        those.append(it)
+        for that in those[-2:] if len(those) > 1 else []:
+            that.is_alone_with_its_name = False
         if word == 'wait':
             self.waits(it)
             return
@@ -365,6 +369,49 @@ class _Reader:
             for decision in it.decisions:
                 decision.height = decision.height or self.run.heights.get(decision.spot, 0)
         return self.run
+
+
+@dataclass(frozen=True)
+class Landing:
+    """Where one float landed, for comparing runs."""
+    landed: int          # the page, 0 if it was not shipped
+    where: str
+    column: int
+    times: int           # how many columns and wide pages were put out while it waited
+
+    def late(self):
+        return self.times
+
+
+def landing_of(text, name, line):
+    """Where a float landed whose name no other has, found without reading all; None if it was not called."""
+    at = text.rfind('\nwhy %s %d called ' % (name, line))
+    if at < 0:
+        return None
+    words = text[at + 1:].split('\n', 1)[0].split()
+    if words[5] != 'landed':
+        return Landing(0, words[6], 0, 0)
+    page, where = int(words[6]), words[7]
+    return Landing(page, where, _column_of(text, name, page, where), sum(int(it) for it in words[13::5]))
+
+
+def _column_of(text, name, page, where):
+    """The column of a float on a page, 0 over both columns."""
+    start = text.find('\npage %d ' % page) + 1
+    end = text.find('\npage ', start)
+    lines, column = text[start:None if end < 0 else end].split('\n'), 0
+    for words in map(str.split, lines):
+        if words[:1] == ['column'] and lines[0].split()[2] != 'wide':
+            column = int(words[1])
+        elif words[:2] == ['float', name] and words[3] == where:
+            return column
+    return 0
+
+
+def pages_of(text):
+    """How many pages were shipped."""
+    at = text.rfind('\npage ')
+    return int(text[at:].split(None, 2)[1]) if at >= 0 else 0
 
 
 def read(text):

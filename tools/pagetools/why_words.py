@@ -136,15 +136,14 @@ def _sum(test, decision, settings):
 
 
 def root_of(test):
-    """The test and the decision by which the float that is in the way waits itself; None if it was placed."""
-    if not test.blocking:
-        return None
-    before = [one for one in test.blocking.decisions if one.tests and one.tests[0].number < test.number]
-    last = before[-1] if before else None
-    reason = last.reason() if last else None
-    if reason and reason.failed == 'class' and reason.blocking not in (None, test.blocking):
-        return root_of(reason) or (reason, last)
-    return (reason, last) if reason else None
+    """The float at whose end a chain of floats waits that stand in each other's way, with the test that keeps it and its
+    decision; None if nothing does."""
+    that = test.blocking
+    before = [one for one in that.decisions if one.tests and one.tests[0].number < test.number] if that else []
+    reason = before[-1].reason() if before else None
+    if reason and reason.failed == 'class' and reason.blocking not in (None, that):
+        return root_of(reason) or (that, reason, before[-1])
+    return (that, reason, before[-1]) if reason else None
 
 
 TELLERS = {'places': _places, 'wide': _wide, 'class': _class, 'count': _count, 'room': _room, 'share': _share,
