@@ -152,7 +152,7 @@ class Story:
     def root(self, decision):
         """Why the float that is in the way waits itself, '' if none is."""
         test = decision.reason()
-        reason = why_words.root_of(test) if test and test.failed == 'class' else None
+        reason = why_words.end_of_chain(test) if test and test.failed == 'class' else None
         return '%s waits: %s.' % (reason[0].name, in_words(*reason[1:], self.settings)) if reason else ''
 
     def arrival(self, it):

@@ -136,13 +136,18 @@ def _sum(test, decision, settings):
 
 
 def root_of(test):
-    """The float at whose end a chain of floats waits that stand in each other's way, with the test that keeps it and its
-    decision; None if nothing does."""
+    """The test and the decision by which the float that is in the way waits itself; None if it was placed."""
+    found = end_of_chain(test)
+    return found[1:] if found else None
+
+
+def end_of_chain(test):
+    """The float that is in the way, or the one in its way, and so on, with the test that keeps it and its decision."""
     that = test.blocking
     before = [one for one in that.decisions if one.tests and one.tests[0].number < test.number] if that else []
     reason = before[-1].reason() if before else None
     if reason and reason.failed == 'class' and reason.blocking not in (None, that):
-        return root_of(reason) or (that, reason, before[-1])
+        return end_of_chain(reason) or (that, reason, before[-1])
     return (that, reason, before[-1]) if reason else None
 
 

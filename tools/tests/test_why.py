@@ -66,7 +66,8 @@ class Reading(unittest.TestCase):
         run, _ = row('double-float-keeps-class-order')
         _, _, enter = first_test(run, 'S', 'enter')
         self.assertEqual(enter.blocking, run.named('W')[0])
-        that, reason, decision = why_words.root_of(enter)
+        that, reason, decision = why_words.end_of_chain(enter)
+        self.assertEqual(why_words.root_of(enter), (reason, decision))
         self.assertEqual((that.name, reason.area, reason.failed, decision.spot), ('W', 'enter', 'wide', Spot(1, 1)))
 
     def test_who_shares_a_page_of_floats(self):
