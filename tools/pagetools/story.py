@@ -103,7 +103,7 @@ class Story:
         groups = []
         for at, decision in enumerate(it.decisions):
             if decision.back:
-                groups.append(('', [decision], 'it %s, but a clear takes it back' % GOES[decision.goes], ''))
+                groups.append(('back', [decision], 'it %s, but a clear takes it back' % GOES[decision.goes], ''))
             elif not decision.placed() and not self.is_made_good(it, at):
                 self.add(groups, decision, self.why_not(decision), self.root(decision))
         out, before = [], ('', '')
@@ -124,25 +124,26 @@ class Story:
 
     @staticmethod
     def add(groups, decision, text, root):
-        kind = decision.kind if decision.goes else 'taken'
+        kind = 'call' if decision.kind == 'call' else 'taken' if decision.taken else 'kept'
         same = groups and groups[-1][0] == kind
-        if same and kind == 'start' and groups[-1][2:] == (text, root) or same and kind == 'taken' and is_behind(
+        if same and kind == 'kept' and groups[-1][2:] == (text, root) or same and kind == 'taken' and is_behind(
                 decision) and is_behind(groups[-1][1][0]):
             groups[-1][1].append(decision)
         else:
             groups.append((kind, [decision], text, root))
 
     def when(self, kind, decisions):
-        first = decisions[0]
-        if len(decisions) > 1:
-            where = listed(self.spot(one.spot) for one in decisions) if self.two else 'pages %s' % numbers(
-                one.spot.page for one in decisions)
-            return '%s take other floats:' % capital(where) if kind == 'taken' else 'At the start of %s:' % where
+        spots, kinds = list(dict.fromkeys(one.spot for one in decisions)), {one.kind for one in decisions}
+        pages = {spot.page for spot in spots}
+        if len(spots) == 1 or self.two and len(spots) <= 4:
+            where = listed(map(self.spot, spots))
+        else:
+            where = 'page%s %s' % ('s' * (len(pages) > 1), numbers(pages))
         if kind == 'call':
-            return 'On %s, where it is called:' % self.spot(first.spot)
+            return 'On %s, where it is called:' % where
         if kind == 'taken':
-            return '%s takes other floats:' % capital(self.spot(first.spot))
-        return 'At %s %s:' % ('a clear on' if first.kind == 'clear' else 'the start of', self.spot(first.spot))
+            return '%s take%s other floats:' % (capital(where), 's' * (len(spots) == 1))
+        return '%s %s:' % ('On' if len(kinds) > 1 else 'At a clear on' if kinds == {'clear'} else 'At the start of', where)
 
     def why_not(self, decision):
         """Each test that kept it, in words."""
@@ -153,7 +154,7 @@ class Story:
         """Why the float that is in the way waits itself, '' if none is."""
         test = decision.reason()
         reason = why_words.end_of_chain(test) if test and test.failed == 'class' else None
-        return '%s waits: %s.' % (reason[0].name, in_words(*reason[1:], self.settings)) if reason else ''
+        return '%s waits: %s.' % (reason[0].name, self.why_not(reason[2])) if reason else ''
 
     def arrival(self, it):
         last = it.decisions[-1]
@@ -223,12 +224,14 @@ class Story:
         return self.texts[key]
 
     def text_of(self, reason):
-        for it in self.run.named(reason.root):
-            for decision in it.decisions:
-                test = decision.reason()
-                if test and (test.area, test.failed, test.lacks()) == (reason.area, reason.word, reason.by):
-                    return in_words(telling(decision)[0], decision, self.settings)
-        return '%s %s' % (reason.area, reason.word)
+        those = [one for it in self.run.named(reason.root) for one in it.decisions]
+        is_it = lambda test: test and (test.area, test.failed, test.lacks()) == (reason.area, reason.word, reason.by)
+        for decision in those:
+            if is_it(decision.reason()):
+                return in_words(telling(decision)[0], decision, self.settings)
+        found = ((test, decision) for decision in those for test in decision.failed() if is_it(test))
+        test, decision = next(found, (None, None))
+        return in_words(test, decision, self.settings) if test else '%s %s' % (reason.area, reason.word)
 
     def table(self):
         """A line for each float, and one for each note that moved."""

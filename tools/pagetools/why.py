@@ -64,7 +64,9 @@ class Decision:
     asks_here: bool = False     # at a call: whether the float has the place h
     height: int = 0      # of the column, or of the page where the spot is a whole one; 0 if the lines do not tell
     tests: list = field(default_factory=list)
-    goes: str = ''       # here, top, bottom, wide, page or deferred; '' if other floats took the column
+    goes: str = ''       # here, top, bottom, wide, page or deferred; '' if other floats took the column, and in a clear that
+                         # found no floats for it
+    taken: bool = False  # whether other floats took the column
     back: str = ''       # at a clear: from where it took the float back
 
     def test(self, area):
@@ -194,6 +196,7 @@ class _Reader:
         self.taken_back = []        # by the clear that comes next, in order
         self.kind, self.spot, self.height = 'call', Spot(1, 1), 0
         self.open = {}              # (id of a float) -> its decision in this pass
+        self.is_made = False        # whether a column of floats was made in this pass
         self.asked = set()          # (area, id of a float) in this pass
         self.head, self.company = None, []
         self.current = None         # the float that is being decided on
@@ -231,11 +234,18 @@ class _Reader:
 
     def begin(self, kind, words):
         """A pass over the floats that wait begins: a column starts, or a clear looks for floats."""
+        self.end_pass()
         known = values([it for it in words if it != 'wide'])
         self.kind, self.spot, self.height = kind, Spot(known['page'], known.get('column', 0)), known['height']
         self.open, self.asked, self.head, self.company = {}, set(), None, []
         if kind == 'clear' and self.taken_back:
             self.give_back()
+
+    def end_pass(self):
+        """Where floats took the column, the others were kept by that."""
+        for decision in self.open.values():
+            decision.taken = self.is_made and not decision.goes
+        self.is_made = False
 
     def give_back(self):
         """What a clear took back waits before all others."""
@@ -276,6 +286,7 @@ class _Reader:
             self.waits(it)
             return
         self.current = it
+        self.end_pass()
         self.kind, self.spot, self.height, self.open = 'call', it.spot, 0, {}
         decision = self.decision_of(it)
         decision.text, decision.asks_here = known['text'], 'h' in it.places
@@ -316,6 +327,7 @@ class _Reader:
         if where == 'page':
             it = next(it for it in self.company if it.name == name)
             self.company.remove(it)
+            self.is_made = True
             if it is self.head or not self.run.companies or self.run.companies[-1][0] != self.spot:
                 self.run.companies.append((self.spot, []))
             self.run.companies[-1][1].append(it)
@@ -363,6 +375,7 @@ class _Reader:
             self.run.done = True
 
     def finish(self):
+        self.end_pass()
         for it in self.run.floats:
             columns = self.shipped.get((it.name, it.landed, it.where))
             it.column = columns.pop(0) if columns else 0

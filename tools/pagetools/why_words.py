@@ -110,11 +110,10 @@ def _room(test, decision, settings):
     rest = {'here': 'with intextsep round it, ', 'top': 'with the space below it, ', 'bottom': 'with the space above it, '}
     enter = decision.test('enter')
     least = enter.least if enter else 0
+    beside = ' beside the text so far' if decision.text else ''
     if least > decision.text:
-        text = 'the text that must be there (%s)' % is_now('textfraction', settings)
-    else:
-        text = 'the text so far'
-    return '%s%s too high for this column beside %s' % (rest.get(test.area, ''), over, text)
+        beside = ' beside the text that must be there (%s)' % is_now('textfraction', settings)
+    return '%s%s too high for this column%s' % (rest.get(test.area, ''), over, beside)
 
 
 def _share(test, decision, settings):

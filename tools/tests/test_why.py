@@ -274,6 +274,11 @@ class Stories(unittest.TestCase):
             'Page 4 takes other floats: the floats before it leave 80sp too little of the page of floats.',
             'At the start of page 5: it goes on a page of floats.'])
 
+    def test_a_clear_that_finds_no_floats_for_a_column(self):
+        self.assertEqual(self.told('clear-in-two-columns', 'S')[1:3], [
+            'On page 2, column 2, where it is called: it may only go on a page of floats.',
+            'At a clear on page 2, column 2: 10sp higher than the column.'])
+
     def test_carried(self):
         self.assertEqual(self.told('in-text-float-carried-past-a-later-one', 'F')[1:], [
             'On page 1 it goes into the text, but the page breaks before it, so it lands on page 2.'])
