@@ -36,7 +36,7 @@ def telling(decision):
     nothing is told."""
     failed = decision.failed()
     others = [it for it in failed if it.failed != 'places']
-    return [it for it in others if it.area != 'here' or decision.asks_here] or others or failed
+    return [it for it in others if it.area != 'here' or 'h' in decision.places] or others or failed
 
 
 def is_behind(decision):

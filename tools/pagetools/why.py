@@ -61,7 +61,7 @@ class Decision:
     kind: str            # call, start or clear
     spot: Spot
     text: int = 0        # at a call: the height of the text so far
-    asks_here: bool = False     # at a call: whether the float has the place h
+    places: str = ''     # of the float
     height: int = 0      # of the column, or of the page where the spot is a whole one; 0 if the lines do not tell
     tests: list = field(default_factory=list)
     goes: str = ''       # here, top, bottom, wide, page or deferred; '' if other floats took the column, and in a clear that
@@ -228,7 +228,7 @@ class _Reader:
     def decision_of(self, it):
         """The float's decision in this pass, a new one if nothing was asked of it yet."""
         if id(it) not in self.open:
-            self.open[id(it)] = Decision(self.kind, self.spot, height=self.height)
+            self.open[id(it)] = Decision(self.kind, self.spot, height=self.height, places=it.places)
             it.decisions.append(self.open[id(it)])
         return self.open[id(it)]
 
@@ -288,8 +288,7 @@ class _Reader:
         self.current = it
         self.end_pass()
         self.kind, self.spot, self.height, self.open = 'call', it.spot, 0, {}
-        decision = self.decision_of(it)
-        decision.text, decision.asks_here = known['text'], 'h' in it.places
+        self.decision_of(it).text = known['text']
 
     def tested(self, area, words, number):
         known = values(words[1:])

@@ -110,10 +110,18 @@ def _room(test, decision, settings):
     rest = {'here': 'with intextsep round it, ', 'top': 'with the space below it, ', 'bottom': 'with the space above it, '}
     enter = decision.test('enter')
     least = enter.least if enter else 0
-    beside = ' beside the text so far' if decision.text else ''
-    if least > decision.text:
-        beside = ' beside the text that must be there (%s)' % is_now('textfraction', settings)
-    return '%s%s too high for this column%s' % (rest.get(test.area, ''), over, beside)
+    return '%s%s too high for this column%s' % (rest.get(test.area, ''), over, _beside(least, decision, settings))
+
+
+def _beside(least, decision, settings):
+    """What the float is too high beside: the text so far, or the least that there must be."""
+    if least <= decision.text:
+        return ' beside the text so far' if decision.text else ''
+    if '!' in decision.places:
+        return ' beside the floats in its text'
+    part = known.share(settings['textfraction'], decision.height) if settings else least
+    others = ' and the floats in it' if part < least else ''
+    return ' beside the text that must be there (%s)%s' % (is_now('textfraction', settings), others)
 
 
 def _share(test, decision, settings):

@@ -143,6 +143,21 @@ class Words(unittest.TestCase):
         found = why_words.changes(test, it, decision, known)
         self.assertEqual([(one.what, one.value) for one in found], [('textfraction', '0.15'), ('places', '!t'), ('high', '80')])
 
+    def test_room_beside_what_else_is_there(self):
+        # of the least text of 39sp, 19sp are the share of textfraction and the rest is a float in the text
+        for places, text, least, words in (('t', 10, 39, 'the text that must be there (textfraction is 0.2) and the floats in it'),
+                                           ('!t', 10, 20, 'the floats in its text'), ('!t', 20, 20, 'the text so far')):
+            told = ('report 1\ncall F 2 page 1 column 1 class 1 places %s width single high 85 text %d\n'
+                    'enter F class - count 3 1 2 least %d high 85 room 100 need %d no room\ngoes F deferred\n'
+                    'page 1 one\ncolumn 1 text height 100 natural 1 set none\n' % (places, text, least, 85 + max(text, least)))
+            it = why.read(told).floats[0]
+            found = why_words.in_words(it.decisions[0].tests[0], it.decisions[0], settings.read(''))
+            self.assertEqual(found, '%dsp too high for this column beside %s' % (max(text, least) - 14, words))
+        told = ('report 1\ncall F 2 page 1 column 1 class 1 places !t width single high 100 text 0\n'
+                'enter F class - count 3 0 3 least 0 high 100 room 100 need 100 no room\ngoes F deferred\n')
+        it = why.read(told).floats[0]
+        self.assertEqual(why_words.in_words(it.decisions[0].tests[0], it.decisions[0]), '1sp too high for this column')
+
     def test_count(self):
         self.assert_words('bang-does-not-help-the-next-float', 'G', 'bottom',
                           'the bottom has 1 float already (bottomnumber is 0)', [('bottomnumber', '2'), ('places', '!b')])
