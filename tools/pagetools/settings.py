@@ -38,7 +38,7 @@ def share(part, height):
 
 def decimal(part, digits=5):
     """A fraction as a decimal, in as few digits as tell it from others."""
-    return next(it for it in ('%.*f' % (n, part / 65536) for n in range(1, 6)) if fraction(it) == part)
+    return next(it for it in ('%.*f' % (n, part / 65536) for n in range(digits + 1)) if fraction(it) == part)
 
 
 def at_least(part):

@@ -36,7 +36,17 @@ def telling(decision):
     nothing is told."""
     failed = decision.failed()
     others = [it for it in failed if it.failed != 'places']
-    return [it for it in others if it.area != 'here' or decision.asks_here] or others or failed
+    return [it for it in others if it.area != 'here' or 'h' in decision.places] or others or failed
+
+
+def is_behind(decision):
+    """Whether a float of its class kept it."""
+    reason = decision.reason()
+    return reason is not None and reason.failed == 'class'
+
+
+def capital(text):
+    return text[:1].upper() + text[1:]
 
 
 class Story:
@@ -46,6 +56,7 @@ class Story:
         self.run = run
         self.settings = settings
         self.two = run.in_two_columns()
+        self.texts = {}         # what a reason of the summary is in words
 
     # ---- words for places
 
@@ -92,12 +103,14 @@ class Story:
         groups = []
         for at, decision in enumerate(it.decisions):
             if decision.back:
-                groups.append(('', [decision], 'it %s, but a clear takes it back' % GOES[decision.goes], ''))
+                groups.append(('back', [decision], 'it %s, but a clear takes it back' % GOES[decision.goes], ''))
             elif not decision.placed() and not self.is_made_good(it, at):
                 self.add(groups, decision, self.why_not(decision), self.root(decision))
         out, before = [], ('', '')
         for kind, decisions, text, root in groups:
             same = (text, root) == before
+            if kind == 'taken' and len({one.reason().blocker for one in decisions}) > 1:
+                text = 'floats of its class wait before it, the first of them %s' % decisions[0].reason().blocker
             out.append('%s %s.' % (self.when(kind, decisions), 'the same' if same else text))
             out += [root] if root and root != before[1] else []
             before = (text, root)
@@ -111,23 +124,26 @@ class Story:
 
     @staticmethod
     def add(groups, decision, text, root):
-        kind = decision.kind if decision.goes else 'taken'
-        if groups and kind == 'start' and (groups[-1][0], groups[-1][2:]) == (kind, (text, root)):
+        kind = 'call' if decision.kind == 'call' else 'taken' if decision.taken else 'kept'
+        same = groups and groups[-1][0] == kind
+        if same and kind == 'kept' and groups[-1][2:] == (text, root) or same and kind == 'taken' and is_behind(
+                decision) and is_behind(groups[-1][1][0]):
             groups[-1][1].append(decision)
         else:
             groups.append((kind, [decision], text, root))
 
     def when(self, kind, decisions):
-        first = decisions[0]
-        if len(decisions) > 1 and not self.two:
-            return 'At the start of pages %s:' % numbers(one.spot.page for one in decisions)
-        if len(decisions) > 1:
-            return 'At the start of %s:' % listed(self.spot(one.spot) for one in decisions)
+        spots, kinds = list(dict.fromkeys(one.spot for one in decisions)), {one.kind for one in decisions}
+        pages = {spot.page for spot in spots}
+        if len(spots) == 1 or self.two and len(spots) <= 4:
+            where = listed(map(self.spot, spots))
+        else:
+            where = 'page%s %s' % ('s' * (len(pages) > 1), numbers(pages))
         if kind == 'call':
-            return 'On %s, where it is called:' % self.spot(first.spot)
+            return 'On %s, where it is called:' % where
         if kind == 'taken':
-            return '%s takes other floats:' % self.spot(first.spot).capitalize()
-        return 'At %s %s:' % ('a clear on' if first.kind == 'clear' else 'the start of', self.spot(first.spot))
+            return '%s take%s other floats:' % (capital(where), 's' * (len(spots) == 1))
+        return '%s %s:' % ('On' if len(kinds) > 1 else 'At a clear on' if kinds == {'clear'} else 'At the start of', where)
 
     def why_not(self, decision):
         """Each test that kept it, in words."""
@@ -137,8 +153,8 @@ class Story:
     def root(self, decision):
         """Why the float that is in the way waits itself, '' if none is."""
         test = decision.reason()
-        reason = why_words.root_of(test) if test and test.failed == 'class' else None
-        return '%s waits: %s.' % (test.blocking.name, in_words(*reason, self.settings)) if reason else ''
+        reason = why_words.end_of_chain(test) if test and test.failed == 'class' else None
+        return '%s waits: %s.' % (reason[0].name, self.why_not(reason[2])) if reason else ''
 
     def arrival(self, it):
         last = it.decisions[-1]
@@ -151,7 +167,7 @@ class Story:
                 what = 'goes into a column of floats'
             others = next((those for spot, those in self.run.companies if spot == last.spot and it in those), [])
             names = [one.name for one in others if one is not it]
-            what += ' with ' + listed(names) if names else ''
+            what += ' with ' + (listed(names) if len(names) <= 6 else counted(len(names), 'other')) if names else ''
         return ['%s it %s.' % (self.when(last.kind, [last]), what)]
 
     # ---- what would have let it in
@@ -202,12 +218,20 @@ class Story:
     def reason_text(self, reason):
         if (reason.area, reason.word) in CARRIED:
             return CARRIED[reason.area, reason.word]
-        for it in self.run.named(reason.root):
-            for decision in it.decisions:
-                test = decision.reason()
-                if test and (test.area, test.failed, test.lacks()) == (reason.area, reason.word, reason.by):
-                    return in_words(telling(decision)[0], decision, self.settings)
-        return '%s %s' % (reason.area, reason.word)
+        key = (reason.area, reason.word, reason.root, reason.by)
+        if key not in self.texts:
+            self.texts[key] = self.text_of(reason)
+        return self.texts[key]
+
+    def text_of(self, reason):
+        those = [one for it in self.run.named(reason.root) for one in it.decisions]
+        is_it = lambda test: test and (test.area, test.failed, test.lacks()) == (reason.area, reason.word, reason.by)
+        for decision in those:
+            if is_it(decision.reason()):
+                return in_words(telling(decision)[0], decision, self.settings)
+        found = ((test, decision) for decision in those for test in decision.failed() if is_it(test))
+        test, decision = next(found, (None, None))
+        return in_words(test, decision, self.settings) if test else '%s %s' % (reason.area, reason.word)
 
     def table(self):
         """A line for each float, and one for each note that moved."""

@@ -26,7 +26,7 @@ class Spot:
     column: int
 
 
-@dataclass
+@dataclass(eq=False)
 class Test:
     """What an area asked of a float."""
     area: str            # one of AREAS
@@ -55,16 +55,18 @@ class Test:
         return sizes.get(self.failed, 0)
 
 
-@dataclass
+@dataclass(eq=False)
 class Decision:
     """What was asked of a float at one place, and where it went."""
     kind: str            # call, start or clear
     spot: Spot
     text: int = 0        # at a call: the height of the text so far
-    asks_here: bool = False     # at a call: whether the float has the place h
+    places: str = ''     # of the float
     height: int = 0      # of the column, or of the page where the spot is a whole one; 0 if the lines do not tell
     tests: list = field(default_factory=list)
-    goes: str = ''       # here, top, bottom, wide, page or deferred; '' if other floats took the column
+    goes: str = ''       # here, top, bottom, wide, page or deferred; '' if other floats took the column, and in a clear that
+                         # found no floats for it
+    taken: bool = False  # whether other floats took the column
     back: str = ''       # at a clear: from where it took the float back
 
     def test(self, area):
@@ -98,7 +100,7 @@ class Reason:
     times: int
 
 
-@dataclass
+@dataclass(eq=False)
 class Float:
     name: str
     line: int            # of the galley
@@ -114,6 +116,7 @@ class Float:
     where: str = ''      # here, top, bottom, wide or page; of one that was not shipped also deferred
     column: int = 0      # in which it landed; 0 over both columns, and for one that was not shipped
     reasons: list = field(default_factory=list)
+    is_alone_with_its_name: bool = True
 
     def late(self):
         """How many columns and wide pages were put out while it waited."""
@@ -144,6 +147,7 @@ class Note:
 class Run:
     """All that is told of a run."""
     floats: list = field(default_factory=list)      # in the order of their calls
+    names: dict = field(default_factory=dict)       # the same by their names
     notes: list = field(default_factory=list)
     heights: dict = field(default_factory=dict)     # of columns, by spot
     companies: list = field(default_factory=list)   # (spot, the floats of the company that was made)
@@ -159,7 +163,7 @@ class Run:
 
     def named(self, name, line=None):
         """The floats of this name, or the one that is called on this line."""
-        return [it for it in self.floats if it.name == name and line in (None, it.line)]
+        return [it for it in self.names.get(name, ()) if line in (None, it.line)]
 
 
 def is_told(line):
@@ -188,45 +192,65 @@ def values(words):
 class _Reader:
     def __init__(self):
         self.run = Run()
-        self.waiting = []           # the floats that wait, in order
+        self.waiting = {}           # the floats that wait, by name, those of one name in order
         self.taken_back = []        # by the clear that comes next, in order
         self.kind, self.spot, self.height = 'call', Spot(1, 1), 0
         self.open = {}              # (id of a float) -> its decision in this pass
+        self.is_made = False        # whether a column of floats was made in this pass
         self.asked = set()          # (area, id of a float) in this pass
         self.head, self.company = None, []
         self.current = None         # the float that is being decided on
+        self.in_column = {}         # the floats that were placed in the text or at the bottom, by spot
         self.page, self.column, self.is_wide = 0, 0, False
         self.shipped = {}           # (name, page, where) -> the columns in which such floats were shipped
 
     # ---- which float a line names
 
     def waiting_one(self, name, test):
-        """The first waiting float of this name, width and height that was not asked by this area in this pass."""
+        """The first waiting float of this name, width and height that was not asked by this area in this pass. Those up to
+        the head of a company were asked whether they may be alone, those behind it whether they join."""
         width = 'single' if self.spot.column else 'double'
-        for it in self.waiting[self.waiting.index(self.head) + 1 if test.area == 'joins' else 0:]:
-            if (it.name, it.width, it.high) == (name, width, test.high) and (test.area, id(it)) not in self.asked:
+        asked = {'joins': ('joins', 'alone')}.get(test.area, (test.area,))
+        for it in self.waiting.get(name, ()):
+            if (it.width, it.high) == (width, test.high) and not any((area, id(it)) in self.asked for area in asked):
                 self.asked.add((test.area, id(it)))
                 return it
         raise ValueError(name)
 
+    def waits(self, it, does=True):
+        """The float waits from now on, behind all others of its name, or no longer."""
+        those = self.waiting.setdefault(it.name, [])
+        if does and it not in those:
+            those.append(it)
+        elif not does and it in those:
+            those.remove(it)
+
     def decision_of(self, it):
         """The float's decision in this pass, a new one if nothing was asked of it yet."""
         if id(it) not in self.open:
-            self.open[id(it)] = Decision(self.kind, self.spot, height=self.height)
+            self.open[id(it)] = Decision(self.kind, self.spot, height=self.height, places=it.places)
             it.decisions.append(self.open[id(it)])
         return self.open[id(it)]
 
     def begin(self, kind, words):
         """A pass over the floats that wait begins: a column starts, or a clear looks for floats."""
+        self.end_pass()
         known = values([it for it in words if it != 'wide'])
         self.kind, self.spot, self.height = kind, Spot(known['page'], known.get('column', 0)), known['height']
         self.open, self.asked, self.head, self.company = {}, set(), None, []
         if kind == 'clear' and self.taken_back:
             self.give_back()
 
+    def end_pass(self):
+        """Where floats took the column, the others were kept by that."""
+        for decision in self.open.values():
+            decision.taken = self.is_made and not decision.goes
+        self.is_made = False
+
     def give_back(self):
         """What a clear took back waits before all others."""
-        self.waiting[:0] = self.taken_back
+        for it in reversed(self.taken_back):
+            self.waiting.setdefault(it.name, []).insert(0, it)
         self.taken_back = []
 
     # ---- the lines
@@ -254,13 +278,17 @@ class _Reader:
         it = Float(words[0], int(words[1]), Spot(known['page'], known['column']), int(known['class']),
                    known['places'], known['width'], known['high'], word == 'wait')
         self.run.floats.append(it)
+        those = self.run.names.setdefault(it.name, [])
+        those.append(it)
+        for that in those[-2:] if len(those) > 1 else []:
+            that.is_alone_with_its_name = False
         if word == 'wait':
-            self.waiting.append(it)
+            self.waits(it)
             return
         self.current = it
+        self.end_pass()
         self.kind, self.spot, self.height, self.open = 'call', it.spot, 0, {}
-        decision = self.decision_of(it)
-        decision.text, decision.asks_here = known['text'], 'h' in it.places
+        self.decision_of(it).text = known['text']
 
     def tested(self, area, words, number):
         known = values(words[1:])
@@ -274,10 +302,9 @@ class _Reader:
     def in_the_way(self, it, area, name):
         """The float of this name that keeps a float of its class back: it waits, or it was placed in this column."""
         if area in ('here', 'top'):
-            found = [that for that in self.run.floats if that.decisions and that.decisions[-1].spot == self.spot
-                     and that.decisions[-1].goes in ('here', 'bottom')]
+            found = self.in_column.get(self.spot, ())
         else:
-            found = [that for that in self.waiting if area != 'joins' or that not in self.company]
+            found = [that for that in self.waiting.get(name, ()) if area != 'joins' or that not in self.company]
         return next((that for that in found if (that.name, that.number) == (name, it.number) and that is not it), None)
 
     def asked_one(self, name, area, test):
@@ -299,20 +326,20 @@ class _Reader:
         if where == 'page':
             it = next(it for it in self.company if it.name == name)
             self.company.remove(it)
+            self.is_made = True
             if it is self.head or not self.run.companies or self.run.companies[-1][0] != self.spot:
                 self.run.companies.append((self.spot, []))
             self.run.companies[-1][1].append(it)
         else:
             it = self.current
         self.decision_of(it).goes = where
-        if where == 'deferred' and it not in self.waiting:
-            self.waiting.append(it)
-        elif where != 'deferred' and it in self.waiting:
-            self.waiting.remove(it)
+        self.waits(it, where == 'deferred')
+        if where in ('here', 'bottom'):
+            self.in_column.setdefault(self.spot, []).append(it)
 
     def back(self, name, where):
         """Of the floats of this name that stand there, the first on the latest page goes back."""
-        found = [it for it in self.run.floats if it.name == name and it.decisions and it.decisions[-1].goes == where
+        found = [it for it in self.run.named(name) if it.decisions and it.decisions[-1].goes == where
                  and it not in self.taken_back]
         it = min(found, key=lambda one: (-one.decisions[-1].spot.page, -one.decisions[-1].spot.column))
         it.decisions[-1].back = where
@@ -324,7 +351,7 @@ class _Reader:
                                    known['reach'], known['high'], known['shift'], known[''][0]))
 
     def summary(self, words):
-        it = next(it for it in self.run.floats if (it.name, it.line) == (words[0], int(words[1])) and not it.called)
+        it, = self.run.named(words[0], int(words[1]))
         it.called = int(words[3])
         if words[4] == 'landed':
             it.landed, it.where, rest = int(words[5]), words[6], words[7:]
@@ -347,12 +374,56 @@ class _Reader:
             self.run.done = True
 
     def finish(self):
+        self.end_pass()
         for it in self.run.floats:
             columns = self.shipped.get((it.name, it.landed, it.where))
             it.column = columns.pop(0) if columns else 0
             for decision in it.decisions:
                 decision.height = decision.height or self.run.heights.get(decision.spot, 0)
         return self.run
+
+
+@dataclass(frozen=True)
+class Landing:
+    """Where one float landed, for comparing runs."""
+    landed: int          # the page, 0 if it was not shipped
+    where: str
+    column: int
+    times: int           # how many columns and wide pages were put out while it waited
+
+    def late(self):
+        return self.times
+
+
+def landing_of(text, name, line):
+    """Where a float landed whose name no other has, found without reading all; None if it was not called."""
+    at = text.rfind('\nwhy %s %d called ' % (name, line))
+    if at < 0:
+        return None
+    words = text[at + 1:].split('\n', 1)[0].split()
+    if words[5] != 'landed':
+        return Landing(0, words[6], 0, 0)
+    page, where = int(words[6]), words[7]
+    return Landing(page, where, _column_of(text, name, page, where), sum(int(it) for it in words[13::5]))
+
+
+def _column_of(text, name, page, where):
+    """The column of a float on a page, 0 over both columns."""
+    start = text.find('\npage %d ' % page) + 1
+    end = text.find('\npage ', start)
+    lines, column = text[start:None if end < 0 else end].split('\n'), 0
+    for words in map(str.split, lines):
+        if words[:1] == ['column'] and lines[0].split()[2] != 'wide':
+            column = int(words[1])
+        elif words[:2] == ['float', name] and words[3] == where:
+            return column
+    return 0
+
+
+def pages_of(text):
+    """How many pages were shipped."""
+    at = text.rfind('\npage ')
+    return int(text[at:].split(None, 2)[1]) if at >= 0 else 0
 
 
 def read(text):

@@ -50,7 +50,8 @@ def _reason(story, it):
 def _decision(story, it):
     return {
         'kind': it.kind, 'at': _spot(it.spot), 'text': it.text, 'height': it.height,
-        'tests': [_test(story, it, test) for test in it.tests], 'goes': it.goes or None, 'back': bool(it.back),
+        'tests': [_test(story, it, test) for test in it.tests], 'goes': it.goes or None, 'taken': it.taken,
+        'back': bool(it.back),
     }
 
 

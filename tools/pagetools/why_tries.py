@@ -8,7 +8,7 @@ from . import settings as known
 from . import why, why_words
 from .why_words import Change
 
-MOST = 60                       # changes that are tried for one float
+VALUES = {'places': 9}          # how many values of one parameter are tried for one float, where not three
 ROUNDS = 3                      # values of one parameter that are tried, each by the test that failed after the one before
 CLEAR = Change('clear', '')     # a clear behind the float
 
@@ -18,7 +18,7 @@ class Outcome:
     """Where a float lands after a change of it, or of another float that was in its way."""
     change: Change
     target: why.Float    # the float that is changed; of a parameter the one whose test asks for it
-    found: why.Float     # the float in the run with the change
+    found: why.Landing   # of the float in the run with the change
     pages: int           # of that run
 
 
@@ -51,11 +51,15 @@ def head_end(lines):
     return end
 
 
-def run_of(program, text):
+def told_of(program, text):
     """What the mode why tells of a galley."""
     ran = subprocess.run([program, '--mode', 'why'], input=text.encode('latin-1'), stdout=subprocess.PIPE,
                          stderr=subprocess.DEVNULL, check=False)
-    return why.read(ran.stdout.decode('latin-1'))
+    return ran.stdout.decode('latin-1')
+
+
+def run_of(program, text):
+    return why.read(told_of(program, text))
 
 
 def outcome(program, text, it, target, change, settings):
@@ -63,27 +67,37 @@ def outcome(program, text, it, target, change, settings):
     fails by the same parameter, the value that passes that one is tried. None if the run with it is refused before."""
     for _ in range(ROUNDS):
         new, first, moved = changed(text, target, change)
-        run = run_of(program, new)
-        found = same_float(run, it, first, moved)
+        told = told_of(program, new)
+        found = landing_in(told, it, first, moved)
         if found and found.landed and is_earlier(found, it):
             break
-        more = further(same_float(run, target, first, moved), target, change, settings)
+        more = further(told, target, first, moved, change, settings) if change.bound else None
         if not more:
             break
         change = more
-    return Outcome(change, target, found, run.pages()) if found and found.landed else None
+    return Outcome(change, target, found, why.pages_of(told)) if found and found.landed else None
 
 
-def same_float(run, it, first, moved):
-    """The float in the run of the changed galley, None if the run did not come so far."""
-    found = run.named(it.name, it.line + (moved if it.line >= first else 0))
-    return found[0] if found else None
+def line_in(it, first, moved):
+    """The float's line in a galley whose lines from one on have moved."""
+    return it.line + (moved if it.line >= first else 0)
 
 
-def further(found, target, change, settings):
+def landing_in(told, it, first, moved):
+    """Where the float lands in the run of a changed galley, None if the run did not come so far."""
+    line = line_in(it, first, moved)
+    if it.is_alone_with_its_name:
+        return why.landing_of(told, it.name, line)
+    found = why.read(told).named(it.name, line)
+    return why.Landing(found[0].landed, found[0].where, found[0].column, found[0].late()) if found else None
+
+
+def further(told, target, first, moved, change, settings):
     """The next value of what was changed, by the first decision that keeps the float still; None if it has none."""
-    if not found or not change.bound or len(found.decisions) > len(target.decisions):
+    those = why.read(told).named(target.name, line_in(target, first, moved))
+    if not those or len(those[0].decisions) > len(target.decisions):
         return None
+    found = those[0]
     settings = {**settings, change.what: known.value(change.what, change.value)} if change.what in settings else settings
     for decision in found.missed():
         for test in decision.failed():
@@ -95,11 +109,14 @@ def further(found, target, change, settings):
 
 def candidates(it, settings):
     """The changes that pass a test by which the float was kept, or the float that was in its way, each once."""
-    seen = {}
+    seen, counts = {}, {}
     for decision in it.missed():
         for target, change in of_decision(it, decision, settings, ()):
-            seen.setdefault((id(target), change), (target, change))
-    return list(seen.values())[:MOST] + [(it, CLEAR)]
+            key = id(target), change.what
+            if (id(target), change) not in seen and counts.get(key, 0) < VALUES.get(change.what, 3):
+                counts[key] = counts.get(key, 0) + 1
+                seen[id(target), change] = target, change
+    return list(seen.values()) + [(it, CLEAR)]
 
 
 def of_decision(it, decision, settings, behind):

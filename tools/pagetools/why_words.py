@@ -110,11 +110,18 @@ def _room(test, decision, settings):
     rest = {'here': 'with intextsep round it, ', 'top': 'with the space below it, ', 'bottom': 'with the space above it, '}
     enter = decision.test('enter')
     least = enter.least if enter else 0
-    if least > decision.text:
-        text = 'the text that must be there (%s)' % is_now('textfraction', settings)
-    else:
-        text = 'the text so far'
-    return '%s%s too high for this column beside %s' % (rest.get(test.area, ''), over, text)
+    return '%s%s too high for this column%s' % (rest.get(test.area, ''), over, _beside(least, decision, settings))
+
+
+def _beside(least, decision, settings):
+    """What the float is too high beside: the text so far, or the least that there must be."""
+    if least <= decision.text:
+        return ' beside the text so far' if decision.text else ''
+    if '!' in decision.places:
+        return ' beside the floats in its text'
+    part = known.share(settings['textfraction'], decision.height) if settings else least
+    others = ' and the floats in it' if part < least else ''
+    return ' beside the text that must be there (%s)%s' % (is_now('textfraction', settings), others)
 
 
 def _share(test, decision, settings):
@@ -137,14 +144,18 @@ def _sum(test, decision, settings):
 
 def root_of(test):
     """The test and the decision by which the float that is in the way waits itself; None if it was placed."""
-    if not test.blocking:
-        return None
-    before = [one for one in test.blocking.decisions if one.tests and one.tests[0].number < test.number]
-    last = before[-1] if before else None
-    reason = last.reason() if last else None
-    if reason and reason.failed == 'class' and reason.blocking not in (None, test.blocking):
-        return root_of(reason) or (reason, last)
-    return (reason, last) if reason else None
+    found = end_of_chain(test)
+    return found[1:] if found else None
+
+
+def end_of_chain(test):
+    """The float that is in the way, or the one in its way, and so on, with the test that keeps it and its decision."""
+    that = test.blocking
+    before = [one for one in that.decisions if one.tests and one.tests[0].number < test.number] if that else []
+    reason = before[-1].reason() if before else None
+    if reason and reason.failed == 'class' and reason.blocking not in (None, that):
+        return end_of_chain(reason) or (that, reason, before[-1])
+    return (that, reason, before[-1]) if reason else None
 
 
 TELLERS = {'places': _places, 'wide': _wide, 'class': _class, 'count': _count, 'room': _room, 'share': _share,

@@ -153,6 +153,10 @@ class Completions(Scratch):
         self.assertEqual(self.complete('--j'), ['--json'])
         self.assertEqual(self.complete('-o', 'pa'), ['paper.galley'])
         self.assertEqual(self.complete('gen', '--count', '1'), [])
+        self.put('why.galley', 'box b 1 1\nfloat fig.1 1 single t 5 par\nmargin m.1 1 1 1 1 par\nfloat tab.1 2 single t 5 par\n')
+        self.assertEqual(self.complete('why', 'why.galley', ''), ['fig.1', 'm.1', 'tab.1'])
+        self.assertEqual(self.complete('why', 'why.galley', 'f'), ['fig.1'])
+        self.assertEqual(self.complete('why', 'why'), ['why.galley'])
 
     @unittest.skipUnless(shutil.which('zsh'), 'no zsh')
     def test_zsh(self):

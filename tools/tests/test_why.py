@@ -66,8 +66,9 @@ class Reading(unittest.TestCase):
         run, _ = row('double-float-keeps-class-order')
         _, _, enter = first_test(run, 'S', 'enter')
         self.assertEqual(enter.blocking, run.named('W')[0])
-        reason, decision = why_words.root_of(enter)
-        self.assertEqual((reason.area, reason.failed, decision.spot), ('enter', 'wide', Spot(1, 1)))
+        that, reason, decision = why_words.end_of_chain(enter)
+        self.assertEqual(why_words.root_of(enter), (reason, decision))
+        self.assertEqual((that.name, reason.area, reason.failed, decision.spot), ('W', 'enter', 'wide', Spot(1, 1)))
 
     def test_who_shares_a_page_of_floats(self):
         run, _ = row('company-of-two-heads')
@@ -141,6 +142,21 @@ class Words(unittest.TestCase):
         # the text may be 14sp: 0.15 is 9830 of 65536, of 100sp that is 14.99 and so 14sp, while 0.151 gives 15sp
         found = why_words.changes(test, it, decision, known)
         self.assertEqual([(one.what, one.value) for one in found], [('textfraction', '0.15'), ('places', '!t'), ('high', '80')])
+
+    def test_room_beside_what_else_is_there(self):
+        # of the least text of 39sp, 19sp are the share of textfraction and the rest is a float in the text
+        for places, text, least, words in (('t', 10, 39, 'the text that must be there (textfraction is 0.2) and the floats in it'),
+                                           ('!t', 10, 20, 'the floats in its text'), ('!t', 20, 20, 'the text so far')):
+            told = ('report 1\ncall F 2 page 1 column 1 class 1 places %s width single high 85 text %d\n'
+                    'enter F class - count 3 1 2 least %d high 85 room 100 need %d no room\ngoes F deferred\n'
+                    'page 1 one\ncolumn 1 text height 100 natural 1 set none\n' % (places, text, least, 85 + max(text, least)))
+            it = why.read(told).floats[0]
+            found = why_words.in_words(it.decisions[0].tests[0], it.decisions[0], settings.read(''))
+            self.assertEqual(found, '%dsp too high for this column beside %s' % (max(text, least) - 14, words))
+        told = ('report 1\ncall F 2 page 1 column 1 class 1 places !t width single high 100 text 0\n'
+                'enter F class - count 3 0 3 least 0 high 100 room 100 need 100 no room\ngoes F deferred\n')
+        it = why.read(told).floats[0]
+        self.assertEqual(why_words.in_words(it.decisions[0].tests[0], it.decisions[0]), '1sp too high for this column')
 
     def test_count(self):
         self.assert_words('bang-does-not-help-the-next-float', 'G', 'bottom',
@@ -248,6 +264,35 @@ class Stories(unittest.TestCase):
     def test_other_floats_take_the_page(self):
         self.assertIn('Page 2 takes other floats: the floats before it leave 1sp too little of the page of floats.',
                       self.told('company-of-two-heads', 'K'))
+
+    def test_many_floats_take_their_pages_before_it(self):
+        # each page of floats takes one of A to C, and D waits for the first that is left
+        names = 'ABCD'
+        told = ['report 1'] + [line for at, name in enumerate(names) for line in (
+            'call %s %d page 1 column 1 class 1 places p width single high 90 text 0' % (name, at + 2),
+            'enter %s class %s count 3 0 3 least 19 high 90 room 100 need 109 no places' % (name, 'A' if at else '-'),
+            'goes %s deferred' % name)] + ['page 1 one', 'column 1 text height 100 natural 0 set none']
+        for page, name in enumerate(names, 2):
+            told += ['start page %d column 1 height 100' % page, 'alone %s class - high 90 most 100 yes' % name]
+            rest = names[page - 1:]
+            for later in rest:
+                told.append('joins %s class %s high 90 sum 180 most 100 no %s' % (
+                    later, '-' if later == rest[0] else rest[0], 'sum' if later == rest[0] else 'class'))
+            told += ['company %s floats 1 sum 90 least 50 yes' % name, 'goes %s page' % name, 'page %d one' % page,
+                     'column 1 floats height 100 natural 90 set none', 'float %s 1 page 0 90' % name]
+        told.append('why D 5 called 1 landed 5 page because enter places A 0 1 joins sum B 80 1 joins sum C 80 1 joins sum D 80 1')
+        run = why.read('\n'.join(told) + '\n')
+        self.assertEqual(story.Story(run, settings.read('')).of(run.named('D')[0])[1:], [
+            'On page 1, where it is called: it may only go on a page of floats.',
+            'Pages 2 and 3 take other floats: floats of its class wait before it, the first of them B.',
+            'B waits: the floats before it leave 80sp too little of the page of floats.',
+            'Page 4 takes other floats: the floats before it leave 80sp too little of the page of floats.',
+            'At the start of page 5: it goes on a page of floats.'])
+
+    def test_a_clear_that_finds_no_floats_for_a_column(self):
+        self.assertEqual(self.told('clear-in-two-columns', 'S')[1:3], [
+            'On page 2, column 2, where it is called: it may only go on a page of floats.',
+            'At a clear on page 2, column 2: 10sp higher than the column.'])
 
     def test_carried(self):
         self.assertEqual(self.told('in-text-float-carried-past-a-later-one', 'F')[1:], [
