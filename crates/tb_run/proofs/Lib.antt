@@ -1,3 +1,4 @@
+pub mod CopyLemmas
 pub mod Behind
 pub mod Filling
 pub mod ServedAgain

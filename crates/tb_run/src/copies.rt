@@ -1,6 +1,7 @@
 //! A copy of a routine.
 
 ghost use Rattle.std.specs.Prelude.{◌≡◌, IfOk};
+ghost use Rattle.tb_run.specs.Routine.{state_of, IsReady};
 
 use crate::Routine;
 use std::alloc::{AllocError, Global};
@@ -9,7 +10,11 @@ impl<'a> Routine<'a> {
     /// A copy, over a store of its own in which all lists have the same ids: each goes on as if there were no other. It fails
     /// only if memory runs out.
     pub fn copy(&self, alloc: Global) -> Result<Routine<'a>, AllocError>
-        ensures { IfOk result (λ copy. copy ≡ self.now) }
+        requires { IsReady self.now }
+        ensures ready { IfOk result IsReady }
+        ensures state { IfOk result (λ copy. state_of copy ≡ state_of self.now) }
+        ensures machine { IfOk result (λ copy. copy.machine ≡ self.now.machine) }
+        ensures left { IfOk result (λ copy. copy.left ≡ self.now.left) }
     {
         let store = self.store.copy()?;
         let builder = self.builder.copy(alloc)?;
