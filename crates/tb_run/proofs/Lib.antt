@@ -1,4 +1,3 @@
-pub mod CopyLemmas
 pub mod Behind
 pub mod Filling
 pub mod ServedAgain

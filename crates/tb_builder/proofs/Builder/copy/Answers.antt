@@ -2,7 +2,7 @@ use Rattle.std.proofs.Common.{◌≡◌, refl, ap, ◌∙◌, List}
 use Rattle.tb_builder.specs.declared.ClassList.{ClassList}
 use Rattle.tb_builder.specs.declared.Builder.{Builder}
 use Rattle.tb_builder.specs.Ownership.{ids_of}
-use Rattle.tb_builder.proofs.CopyLemmas.{contents-copied, sound-copied}
+use Rattle.tb_builder.proofs.Handover.CopyLemmas.{contents-copied, sound-copied}
 use Rattle.tb_builder.proofs.Builder.copy.Goals as goal
 
 pub returns : goal.returns
