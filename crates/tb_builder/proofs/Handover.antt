@@ -5,3 +5,4 @@ pub mod FrontLemmas
 pub mod FirstLemmas
 pub mod BoxLemmas
 pub mod CallLemmas
+pub mod CopyLemmas

@@ -1,6 +1,6 @@
 //! The events that were sent and not taken yet, the oldest first, with room for more.
 
-ghost use Rattle.std.specs.Prelude.{◌≡◌, ◌+◌, ◌<◌, ◌≤◌, [], ◌∷◌, ◌++◌, OnOk, OnErr, IfSome, IfNone, option_to_list};
+ghost use Rattle.std.specs.Prelude.{◌≡◌, ◌+◌, ◌<◌, ◌≤◌, [], ◌∷◌, ◌++◌, IfOk, OnOk, OnErr, IfSome, IfNone, option_to_list};
 ghost use Rattle.tb_output.specs.ActCalls.{warnings_sent};
 
 use std::alloc::{AllocError, Global};
@@ -55,6 +55,18 @@ impl Events {
             queue: VecDeque::new(alloc),
             room: 0,
         }
+    }
+
+    /// A copy, with room for as many more. It fails only if memory runs out.
+    pub fn copy(&self) -> Result<Events, AllocError>
+        ensures { IfOk result (λ copy. copy ≡ self.now) }
+    {
+        let mut queue = self.queue.clone()?;
+        queue.reserve(self.room)?;
+        Ok(Events {
+            queue,
+            room: self.room,
+        })
     }
 
     /// Keeps room for `count` more events. If there is no memory, all is as before.

@@ -3,6 +3,7 @@
 #![tactic(auto)]
 
 mod classes;
+mod copies;
 mod routine;
 
 pub use routine::{Ending, Filled, Routine};
