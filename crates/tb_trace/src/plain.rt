@@ -175,6 +175,7 @@ fn write_sums(sums: &PlainSums, text: &mut [u8], end: usize) -> usize
 }
 
 // Writes the stretch of each order so that it ends at `end`, and returns where it starts.
+#[inline(always)]
 fn write_stretch(stretch: &Stretch, text: &mut [u8], end: usize) -> usize
     requires room { 86 ≤ end }
     requires inside { end ≤ length text.old }
@@ -189,6 +190,7 @@ fn write_stretch(stretch: &Stretch, text: &mut [u8], end: usize) -> usize
 }
 
 // The same for the infinite orders alone, of which most places have no stretch.
+#[inline(always)]
 fn write_infinite(stretch: &Stretch, text: &mut [u8], end: usize) -> usize
     requires room { 63 ≤ end }
     requires inside { end ≤ length text.old }
