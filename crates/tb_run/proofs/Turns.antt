@@ -7,3 +7,4 @@ pub mod DoneLemmas
 pub mod BeginLemmas
 pub mod TurnLemmas
 pub mod CopyLemmas
+pub mod PartLemmas

@@ -28,6 +28,7 @@ ghost use Rattle.tb_items.specs.Happenings.{happened_lists, ArePages};
 ghost use Rattle.tb_run.specs.Routine.{built_in, state_of, IsConsistent, IsBounded, IsReady, AreHappened, IsTurned, IsEnded, over_limit, with_events};
 ghost use Rattle.tb_run.specs.FilledPages.{sent_happenings, fired_whole, IsBoundedPage, CanServe, Fills, HasServed};
 ghost use Rattle.tb_run.specs.RoutinePages.{HasComeTo, IsSupplied, Serves, HasActed, HasNotActed};
+ghost use Rattle.tb_run.specs.TurnParts.{CanGoOn, HasPage, HasGoneOn};
 
 use crate::classes::classes_of;
 use std::alloc::{AllocError, Global};
@@ -85,6 +86,17 @@ pub enum Filled {
     Fires(Page),
     /// The run ends before a page fires.
     Ends(Ending),
+}
+
+// What a call does of a turn.
+#[derive(Clone, Copy)]
+enum Part {
+    // The next page is filled and served.
+    Whole,
+    // The next page is filled.
+    Filling,
+    // This page, which was filled, is served.
+    Serving(Page),
 }
 
 // The line of the item that an act takes into the pool of floats.
@@ -153,6 +165,7 @@ impl<'a> Routine<'a> {
     /// held page and those of insertions, in their boxes too.
     ///
     /// They are counted only if the bound on them is more than `maxnodes`; the bound is then their number.
+    #[inline(always)]
     pub fn node_limit(&mut self) -> Option<Ending>
         requires whole { IsConsistent self.old }
         requires bounded { IsBounded 8388608 self.old }
@@ -196,11 +209,8 @@ impl<'a> Routine<'a> {
         ensures lists { IfOk result (λ o. IfNone o (AreHappened self.new happened.new.items)) }
     {
         happened.clear();
-        let page = match self.fill(wanted, happened)? {
-            Filled::Fires(page) => page,
-            Filled::Ends(ending) => return Ok(Some(ending)),
-        };
-        self.serve_page(page, happened)
+        let mut part = Part::Whole;
+        self.go_on(&mut part, wanted, happened)
     }
 
     /// Fills the next page of what waits, up to its firing or the end of the run; the acts that are reached are done. The
@@ -210,6 +220,117 @@ impl<'a> Routine<'a> {
     /// `wanted` is set, the places that were tried, in their order; it is empty before. If memory runs out, the run cannot
     /// go on.
     pub fn fill(
+        &mut self,
+        wanted: bool,
+        happened: &mut Vec<Happening>,
+    ) -> Result<Filled, AllocError>
+        requires ready { IsReady self.old }
+        requires empty { happened.old.items ≡ [] }
+        ensures { IfOk result (λ o. Fills wanted self.old o self.new happened.new.items) }
+    {
+        let mut part = Part::Filling;
+        if let Some(ending) = self.go_on(&mut part, wanted, happened)? {
+            return Ok(Filled::Ends(ending));
+        }
+        match part {
+            Part::Serving(page) => Ok(Filled::Fires(page)),
+            Part::Whole | Part::Filling => unreachable!(),
+        }
+    }
+
+    /// Serves the page that [`Self::fill`] returned: it is shipped, or its penalty asks for something else
+    /// (ltoutput.dtx, \output). What the firing sent is appended to `happened`, which has no pages before. Returns how the
+    /// run ends with it, if it does. If memory runs out, the run cannot go on.
+    pub fn serve_page(
+        &mut self,
+        page: Page,
+        happened: &mut Vec<Happening>,
+    ) -> Result<Option<Ending>, AllocError>
+        requires page { CanServe page self.old }
+        requires quiet { happened_lists happened.old.items ≡ [] }
+
+        ensures served { IfOk result (λ o. HasServed page self.old o self.new happened.old.items happened.new.items) }
+        ensures ready { IfOk result (λ o. IfNone o (IsReady self.new)) }
+        ensures params { OnOk result (self.new.machine.params ≡ self.old.machine.params) }
+        ensures ended { OnOk result (IsEnded self.new) }
+        ensures pages { OnOk result (ArePages self.new.store happened.new.items) }
+        ensures lists { IfOk result (λ o. IfNone o (AreHappened self.new happened.new.items)) }
+    {
+        let mut part = Part::Serving(page);
+        self.go_on(&mut part, false, happened)
+    }
+
+    /// Closes the lists of `written`, which the last turn sent and which was written, if fewer than 600 places are spare. Else
+    /// nothing changes, which saves time: they would leave the store node by node.
+    pub fn make_room(&mut self, written: &[Happening])
+        requires ready { IsReady self.old }
+        requires lists { AreHappened self.old written.now }
+
+        ensures ready { IsReady self.new }
+        ensures state { state_of self.new ≡ state_of self.old }
+        ensures machine { self.new.machine ≡ self.old.machine }
+        ensures closed { self.old.store.spare < 600 → AllByRecursion (λ l. get self.new.store.lists l ≡ None) (happened_lists written.now) }
+        ensures kept { 600 ≤ self.old.store.spare → self.new ≡ self.old }
+    {
+        if self.store.spare() < FEW_PLACES {
+            self.done_with(written);
+        }
+    }
+
+    /// Closes the lists of what a turn sent, once it was written: their places in the store are free then.
+    pub fn done_with(&mut self, happened: &[Happening])
+        requires ready { IsReady self.old }
+        requires lists { AreHappened self.old happened.now }
+
+        ensures ready { IsReady self.new }
+        ensures state { state_of self.new ≡ state_of self.old }
+        ensures machine { self.new.machine ≡ self.old.machine }
+        ensures closed { AllByRecursion (λ l. get self.new.store.lists l ≡ None) (happened_lists happened.now) }
+    {
+        close_happened(&mut self.store, happened);
+    }
+
+    // Does a part of a turn. If that is the filling of a page that fires, what is left to do is its serving.
+    //
+    // A turn and both of its halves come by here, so that the code below has one caller, and is inlined.
+    fn go_on(
+        &mut self,
+        part: &mut Part,
+        wanted: bool,
+        happened: &mut Vec<Happening>,
+    ) -> Result<Option<Ending>, AllocError>
+        requires { CanGoOn part.old self.old happened.old.items }
+        ensures { IfOk result (λ o. HasGoneOn wanted part.old self.old happened.old.items o part.new self.new happened.new.items) }
+    {
+        let page = match self.page_of(part, wanted, happened)? {
+            Filled::Fires(page) => page,
+            Filled::Ends(ending) => return Ok(Some(ending)),
+        };
+        if let Part::Filling = part {
+            *part = Part::Serving(page);
+            return Ok(None);
+        }
+        self.serve_next(page, happened)
+    }
+
+    // The page that a part of a turn is about: the one that is to be served, or the next one, which is filled.
+    fn page_of(
+        &mut self,
+        part: &Part,
+        wanted: bool,
+        happened: &mut Vec<Happening>,
+    ) -> Result<Filled, AllocError>
+        requires { CanGoOn part.now self.old happened.old.items }
+        ensures { IfOk result (λ o. HasPage wanted part.now self.old happened.old.items o self.new happened.new.items) }
+    {
+        if let Part::Serving(page) = part {
+            return Ok(Filled::Fires(*page));
+        }
+        self.fill_next(wanted, happened)
+    }
+
+    // Fills the next page.
+    fn fill_next(
         &mut self,
         wanted: bool,
         happened: &mut Vec<Happening>,
@@ -242,10 +363,8 @@ impl<'a> Routine<'a> {
         }
     }
 
-    /// Serves the page that [`Self::fill`] returned: it is shipped, or its penalty asks for something else
-    /// (ltoutput.dtx, \output). What the firing sent is appended to `happened`, which has no pages before. Returns how the
-    /// run ends with it, if it does. If memory runs out, the run cannot go on.
-    pub fn serve_page(
+    // Serves a page.
+    fn serve_next(
         &mut self,
         page: Page,
         happened: &mut Vec<Happening>,
@@ -263,36 +382,6 @@ impl<'a> Routine<'a> {
         let ending = self.serve(page)?;
         self.hand_over(happened)?;
         Ok(ending)
-    }
-
-    /// Closes the lists of `written`, which the last turn sent and which was written, if fewer than 600 places are spare. Else
-    /// nothing changes, which saves time: they would leave the store node by node.
-    pub fn make_room(&mut self, written: &[Happening])
-        requires ready { IsReady self.old }
-        requires lists { AreHappened self.old written.now }
-
-        ensures ready { IsReady self.new }
-        ensures state { state_of self.new ≡ state_of self.old }
-        ensures machine { self.new.machine ≡ self.old.machine }
-        ensures closed { self.old.store.spare < 600 → AllByRecursion (λ l. get self.new.store.lists l ≡ None) (happened_lists written.now) }
-        ensures kept { 600 ≤ self.old.store.spare → self.new ≡ self.old }
-    {
-        if self.store.spare() < FEW_PLACES {
-            self.done_with(written);
-        }
-    }
-
-    /// Closes the lists of what a turn sent, once it was written: their places in the store are free then.
-    pub fn done_with(&mut self, happened: &[Happening])
-        requires ready { IsReady self.old }
-        requires lists { AreHappened self.old happened.now }
-
-        ensures ready { IsReady self.new }
-        ensures state { state_of self.new ≡ state_of self.old }
-        ensures machine { self.new.machine ≡ self.old.machine }
-        ensures closed { AllByRecursion (λ l. get self.new.store.lists l ≡ None) (happened_lists happened.now) }
-    {
-        close_happened(&mut self.store, happened);
     }
 
     // Hands over more of the items that are left.

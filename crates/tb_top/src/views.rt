@@ -40,6 +40,7 @@ pub(crate) fn show<K: Sink>(view: View, bytes: &[u8], out: &mut K) -> Result<(),
 pub(crate) const PIECE: usize = 32768;
 
 // Counts what was sent, and keeps the lines of what happened; what is kept is written once it is long.
+#[inline(always)]
 pub(crate) fn send<K: Sink>(
     store: &Lists<Node>,
     happened: &[Happening],
@@ -64,6 +65,7 @@ pub(crate) fn send<K: Sink>(
 }
 
 // Counts the pages and warnings that were sent.
+#[inline(always)]
 pub(crate) fn count_happened(store: &Lists<Node>, happened: &[Happening], totals: &mut Totals)
     requires pages { ArePages store.now happened.now }
     requires room { AreCounts (with_events (events_of store.now happened.now) totals.old) }
@@ -74,6 +76,7 @@ pub(crate) fn count_happened(store: &Lists<Node>, happened: &[Happening], totals
     }
 }
 
+#[inline(always)]
 fn count_happening(store: &Lists<Node>, happening: &Happening, totals: &mut Totals)
     requires page { IsPage store.now happening.now }
     requires room { AreCounts (with_events (event_of store.now happening.now ∷ []) totals.old) }
@@ -86,6 +89,7 @@ fn count_happening(store: &Lists<Node>, happening: &Happening, totals: &mut Tota
 }
 
 // Appends the lines of what happened to a text, unless the view shows nothing.
+#[inline(always)]
 fn put_happened(
     text: &mut Vec<u8>,
     store: &Lists<Node>,
@@ -101,6 +105,7 @@ fn put_happened(
     }
 }
 
+#[inline(always)]
 fn put_lines(
     text: &mut Vec<u8>,
     store: &Lists<Node>,
@@ -115,6 +120,7 @@ fn put_lines(
     Ok(())
 }
 
+#[inline(always)]
 fn put_happening(
     text: &mut Vec<u8>,
     store: &Lists<Node>,

@@ -1,11 +1,16 @@
-//! Parts of a line whose numbers are not below 0, as those of most places are: each part is written at once.
-ghost use Rattle.std.specs.Prelude.{◌≡◌, ◌≤◌, ◌+◌, ◌++◌, drop, length, codes, IfSome};
+//! A line whose numbers are not below 0 and no star, as those of most places are: it is written backward, and appended at once.
+ghost use Rattle.std.specs.Prelude.{◌≡◌, ◌≤◌, ◌+◌, ◌++◌, ◌&&◌, pos, int_le, int_lt, drop, length, codes, IfSome};
+ghost use Rattle.tb_scaled.specs.Scaled.{awful_bad};
 ghost use Rattle.tb_text.specs.Fields.{and_count};
 ghost use Rattle.tb_trace.specs.Lines.{and_numbers};
-ghost use Rattle.tb_trace.specs.Plain.{stretch_text};
+ghost use Rattle.tb_trace.specs.Parts.{sums_of, costs_of, end_text};
+ghost use Rattle.tb_trace.specs.Plain.{stretch_text, sums_text, costs_text};
 ghost use Rattle.tb_text.specs.Fronts.{PutsAfter};
 
 use std::alloc::AllocError;
+use tb_builder::Try;
+use tb_node::Sums;
+use tb_scaled::AWFUL_BAD;
 use tb_text::{put, write_field, write_text};
 
 /// The stretch of each order.
@@ -33,31 +38,144 @@ pub(crate) fn plain_stretch(stretch: &[i64; 4]) -> Option<Stretch>
     })
 }
 
-/// The line of the place in the galley, and the total, the stretch and the shrink of the page before it.
-pub(crate) fn put_plain_sums(
-    out: &mut Vec<u8>,
+/// The line of a place in the galley, and the sums of the page before it.
+#[derive(Clone, Copy)]
+pub(crate) struct PlainSums {
     line: u64,
     total: u64,
     stretch: Stretch,
     shrink: u64,
-) -> Result<(), AllocError>
-    ensures { PutsAfter result out.old.items (codes "try" ++ and_count line
-        ++ (codes " t" ++ and_count total)
-        ++ (codes " s" ++ stretch_text stretch)
-        ++ (codes " z" ++ and_count shrink)) out.new.items }
+}
+
+/// The line of a place and these sums, if none is below 0.
+pub(crate) fn plain_sums(line: u32, sums: &Sums) -> Option<PlainSums>
+    ensures { IfSome result (λ s. sums_text s ≡ sums_of line sums.now) }
 {
-    let mut text = [0; 160];
-    let at = write_field(shrink, &mut text, 160);
-    let at = write_text(b" z", &mut text, at);
-    let at = write_stretch(&stretch, &mut text, at);
-    let at = write_field(total, &mut text, at);
-    let at = write_text(b" t", &mut text, at);
-    let at = write_field(line, &mut text, at);
-    let start = write_text(b"try", &mut text, at);
+    let Some(stretch) = plain_stretch(&sums.stretch) else {
+        return None;
+    };
+    if sums.total < 0 || sums.shrink < 0 {
+        return None;
+    }
+    Some(PlainSums {
+        line: u64::from(line),
+        total: sums.total as u64,
+        stretch,
+        shrink: sums.shrink as u64,
+    })
+}
+
+/// The goal at a place, its badness, its penalty and its cost.
+#[derive(Clone, Copy)]
+pub(crate) struct PlainCosts {
+    goal: u64,
+    badness: u64,
+    penalty: u64,
+    cost: u64,
+}
+
+/// These of a place, if none is below 0 or a star.
+pub(crate) fn plain_costs(t: &Try) -> Option<PlainCosts>
+    ensures { IfSome result (λ s. costs_text s ≡ costs_of t.now) }
+{
+    if t.goal < 0 || !is_plain_cost(t.badness) || t.penalty < 0 || !is_plain_cost(t.cost) {
+        return None;
+    }
+    Some(PlainCosts {
+        goal: t.goal as u64,
+        badness: t.badness as u64,
+        penalty: t.penalty as u64,
+        cost: t.cost as u64,
+    })
+}
+
+// Whether a badness or cost is a number that is not below 0.
+fn is_plain_cost(cost: i64) -> bool
+    ensures { result ≡ (int_le (pos 0) cost && int_lt cost awful_bad) }
+{
+    0 <= cost && cost < AWFUL_BAD
+}
+
+/// Appends the front of a line up to the sums. If memory runs out, what stood in `out` is still there, and a front of this may
+/// follow.
+pub(crate) fn put_plain_sums(out: &mut Vec<u8>, sums: &PlainSums) -> Result<(), AllocError>
+    ensures { PutsAfter result out.old.items (sums_text sums.now) out.new.items }
+{
+    let mut text = [0; 156];
+    let start = write_sums(sums, &mut text, 156);
     put(out, &text[start..])
 }
 
+/// Appends the whole line. If memory runs out, what stood in `out` is still there, and a front of the line may follow.
+pub(crate) fn put_plain_try(
+    out: &mut Vec<u8>,
+    sums: &PlainSums,
+    costs: &PlainCosts,
+    champion: bool,
+) -> Result<(), AllocError>
+    ensures { PutsAfter result out.old.items (sums_text sums.now ++ costs_text costs.now ++ end_text champion) out.new.items }
+{
+    let mut text = [0; 256];
+    let at = write_end(champion, &mut text, 256);
+    let at = write_costs(costs, &mut text, at);
+    let start = write_sums(sums, &mut text, at);
+    put(out, &text[start..])
+}
+
+// Writes the mark of the best place so far and the end of the line so that they end at `end`, and returns where they start.
+fn write_end(champion: bool, text: &mut [u8], end: usize) -> usize
+    requires room { 3 ≤ end }
+    requires inside { end ≤ length text.old }
+    ensures start { end ≤ result + 3 }
+    ensures before { result ≤ end }
+    ensures same { length text.new ≡ length text.old }
+    ensures written { drop result text.new ≡ end_text champion ++ drop end text.old }
+{
+    if champion {
+        return write_text(b" #\n", text, end);
+    }
+    write_text(b"\n", text, end)
+}
+
+// The same for the costs.
+fn write_costs(costs: &PlainCosts, text: &mut [u8], end: usize) -> usize
+    requires room { 92 ≤ end }
+    requires inside { end ≤ length text.old }
+    ensures start { end ≤ result + 92 }
+    ensures before { result ≤ end }
+    ensures same { length text.new ≡ length text.old }
+    ensures written { drop result text.new ≡ costs_text costs.now ++ drop end text.old }
+{
+    let at = write_field(costs.cost, text, end);
+    let at = write_text(b" c", text, at);
+    let at = write_field(costs.penalty, text, at);
+    let at = write_text(b" p", text, at);
+    let at = write_field(costs.badness, text, at);
+    let at = write_text(b" b", text, at);
+    let at = write_field(costs.goal, text, at);
+    write_text(b" g", text, at)
+}
+
+// The same for the line of the place and the sums.
+#[inline(always)]
+fn write_sums(sums: &PlainSums, text: &mut [u8], end: usize) -> usize
+    requires room { 156 ≤ end }
+    requires inside { end ≤ length text.old }
+    ensures before { result ≤ end }
+    ensures same { length text.new ≡ length text.old }
+    ensures written { drop result text.new ≡ sums_text sums.now ++ drop end text.old }
+{
+    let at = write_field(sums.shrink, text, end);
+    let at = write_text(b" z", text, at);
+    let at = write_stretch(&sums.stretch, text, at);
+    let at = write_field(sums.total, text, at);
+    let at = write_text(b" t", text, at);
+    let at = write_field(sums.line, text, at);
+    write_text(b"try", text, at)
+}
+
 // Writes the stretch of each order so that it ends at `end`, and returns where it starts.
+#[inline(always)]
 fn write_stretch(stretch: &Stretch, text: &mut [u8], end: usize) -> usize
     requires room { 86 ≤ end }
     requires inside { end ≤ length text.old }
@@ -72,6 +190,7 @@ fn write_stretch(stretch: &Stretch, text: &mut [u8], end: usize) -> usize
 }
 
 // The same for the infinite orders alone, of which most places have no stretch.
+#[inline(always)]
 fn write_infinite(stretch: &Stretch, text: &mut [u8], end: usize) -> usize
     requires room { 63 ≤ end }
     requires inside { end ≤ length text.old }
@@ -86,29 +205,4 @@ fn write_infinite(stretch: &Stretch, text: &mut [u8], end: usize) -> usize
     let at = write_field(stretch.filll, text, end);
     let at = write_field(stretch.fill, text, at);
     write_field(stretch.fil, text, at)
-}
-
-/// The goal at the place, its badness, its penalty and its cost.
-pub(crate) fn put_plain_costs(
-    out: &mut Vec<u8>,
-    goal: u64,
-    badness: u64,
-    penalty: u64,
-    cost: u64,
-) -> Result<(), AllocError>
-    ensures { PutsAfter result out.old.items (codes " g" ++ and_count goal
-        ++ (codes " b" ++ and_count badness)
-        ++ (codes " p" ++ and_count penalty)
-        ++ (codes " c" ++ and_count cost)) out.new.items }
-{
-    let mut text = [0; 92];
-    let at = write_field(cost, &mut text, 92);
-    let at = write_text(b" c", &mut text, at);
-    let at = write_field(penalty, &mut text, at);
-    let at = write_text(b" p", &mut text, at);
-    let at = write_field(badness, &mut text, at);
-    let at = write_text(b" b", &mut text, at);
-    let at = write_field(goal, &mut text, at);
-    let start = write_text(b" g", &mut text, at);
-    put(out, &text[start..])
 }

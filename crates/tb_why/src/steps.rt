@@ -1,5 +1,5 @@
 //! Single steps of a firing, as they are seen: each changes one thing, or tells of one.
-ghost use Rattle.std.specs.Prelude.{◌≡◌, ◌≤◌, ◌+◌, true, false, ◌||◌, [], ◌∷◌, ◌++◌, map, slice_get, OnOk, IfSome, MatchBool};
+ghost use Rattle.std.specs.Prelude.{◌≡◌, ◌≤◌, ◌+◌, true, false, ◌||◌, [], ◌∷◌, ◌++◌, map, take, slice_get, OnOk, IfSome, MatchBool, if◌then◌else◌};
 ghost use Rattle.tb_scaled.specs.Amount.{IsAmount};
 ghost use Rattle.tb_float.specs.Lists.{IsWaiting, floats_of, entry_count};
 ghost use Rattle.tb_float.specs.Ranges.{AreFloatParams, IsSizedEntry, IsSizedMargin};
@@ -18,7 +18,6 @@ use crate::lists::{
     defer_areas, defer_double, empty, empty_column, single_wanted, tell_back, wide_part,
 };
 use std::alloc::AllocError;
-use tb_area::{fill_column, fill_double};
 use tb_float::{Entry, Part, Suppress};
 use tb_fpage::Wanted;
 use tb_margin::place_note;
@@ -127,11 +126,10 @@ impl Seen {
         ensures told { OnOk result (pieces.new.items ≡ pieces.old.items ++ fill_told p.now self.old) }
         ensures seen { OnOk result (self.new ≡ fill_seen p.now self.old) }
     {
-        if self.over {
-            fill_column(&mut self.pool, p, &self.suppress);
-            return Ok(());
-        }
-        tell_filled(pieces, &mut self.pool, p, &self.suppress)
+        let told = pieces.len();
+        tell_filled(pieces, &mut self.pool, p, &self.suppress)?;
+        self.drop_if_over(pieces, told);
+        Ok(())
     }
 
     /// The wide floats that wait are tried for the space above both columns, and told of. Fails only if memory runs out.
@@ -144,11 +142,19 @@ impl Seen {
         ensures told { OnOk result (pieces.new.items ≡ pieces.old.items ++ fill_double_told p.now self.old) }
         ensures seen { OnOk result (self.new ≡ fill_double_seen p.now self.old) }
     {
+        let told = pieces.len();
+        tell_doubled(pieces, &mut self.pool, p, wide_part(p))?;
+        self.drop_if_over(pieces, told);
+        Ok(())
+    }
+
+    // Nothing is told once the page limit was met: the pieces behind the first `told` are dropped then.
+    fn drop_if_over(&self, pieces: &mut Vec<Piece>, told: usize)
+        ensures { pieces.new.items ≡ (if self.now.over then take told pieces.old.items else pieces.old.items) }
+    {
         if self.over {
-            fill_double(&mut self.pool, p, wide_part(p));
-            return Ok(());
+            pieces.truncate(told);
         }
-        tell_doubled(pieces, &mut self.pool, p, wide_part(p))
     }
 
     /// A page is shipped, unless the page limit is met. Fails only if memory runs out.

@@ -1,6 +1,5 @@
-use Rattle.std.proofs.Common.{subst, get_or, pos, ◌++◌, FitsSigned, w64, rules}
+use Rattle.std.proofs.Common.{subst, get_or, pos, FitsSigned, w64, rules}
 use Rattle.std.proofs.lemmas.Int.{to_z-of_z}
-use Rattle.tb_text.specs.Fields.{and_number}
 use Rattle.tb_text.proofs.FrontLemmas.{PutSoFar, put-begins, put-more, put-stops, put-ends, fails}
 use Rattle.tb_trace.specs.Lines.{and_numbers}
 use Rattle.tb_trace.proofs.NumberLemmas.{numbers-from, numbers-past}

@@ -4,7 +4,7 @@ use Rattle.tb_text.specs.Fields.{and_number}
 use Rattle.tb_text.specs.Fronts.{PutsFront}
 use Rattle.tb_text.proofs.FrontLemmas.{cut, fails, on_joined}
 use Rattle.tb_trace.specs.Lines.{and_cost}
-use Rattle.tb_trace.proofs.put_any_costs.Goals as goal
+use Rattle.tb_trace.proofs.put_costs.Goals as goal
 
 -- two texts of four parts
 fours-joined : (a b c d e f g h : List ℕ) → (a ++ b ++ c ++ d) ++ (e ++ f ++ g ++ h) ≡ a ++ b ++ c ++ d ++ e ++ f ++ g ++ h

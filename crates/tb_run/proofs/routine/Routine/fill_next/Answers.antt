@@ -8,7 +8,7 @@ use Rattle.tb_run.proofs.Filling.FillingLemmas.{IsUnderway, turns_left, underway
 use Rattle.tb_run.proofs.Filling.MoreLemmas.{none-left}
 use Rattle.tb_run.proofs.Filling.PassingLemmas.{come-whole, come-tried, come-fewer, come-sized, come-acted, come-fewer-acted, come-full, come-over, come-fires}
 use Rattle.tb_run.proofs.Filling.SupplyingLemmas.{come-takes, come-supplied-so, come-fewer-left}
-use Rattle.tb_run.proofs.routine.Routine.fill.Goals as goal
+use Rattle.tb_run.proofs.routine.Routine.fill_next.Goals as goal
 
 pub next-init : goal.next-init
 next-init c =

@@ -4,7 +4,7 @@ use Rattle.tb_text.specs.Fields.{and_number, and_count}
 use Rattle.tb_text.specs.Fronts.{PutsFront, PutsAfter}
 use Rattle.tb_text.proofs.FrontLemmas.{cut, fails, on_joined, past}
 use Rattle.tb_trace.specs.Lines.{and_numbers}
-use Rattle.tb_trace.proofs.put_any_sums.Goals as goal
+use Rattle.tb_trace.proofs.put_sums.Goals as goal
 
 -- the parts, one after another
 joined : (a b d e f g h i : List ℕ) → a ++ b ++ (d ++ e ++ (f ++ g ++ h ++ i)) ≡ a ++ b ++ d ++ e ++ f ++ g ++ h ++ i

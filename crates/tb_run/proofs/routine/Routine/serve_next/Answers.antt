@@ -5,7 +5,7 @@ use Rattle.tb_run.specs.declared.routine.Routine.{Routine}
 use Rattle.tb_run.specs.Routine.{IsReady, IsEnded, AreHappened}
 use Rattle.tb_run.specs.FilledPages.{HasServed}
 use Rattle.tb_run.proofs.Turns.TurnLemmas.{has-served, served-ready, served-ended, served-pages, served-lists}
-use Rattle.tb_run.proofs.routine.Routine.serve_page.Goals as goal
+use Rattle.tb_run.proofs.routine.Routine.serve_next.Goals as goal
 
 pub serve-requires-clause-whole : goal.serve-requires-clause-whole
 serve-requires-clause-whole c = c.requires.page.whole
