@@ -1,8 +1,10 @@
 -- Worked rows of the definitions: words, texts and traces.
 use Rattle.std.proofs.Common.{◌≡◌, refl, ℕ, List, [], ◌∷◌}
 use Rattle.std.specs.Prelude.{Bool, true, false, codes, Result, Err}
+use Rattle.std.specs.List.{fold}
 use Rattle.std.specs.Fmt.{digits}
 use Rattle.tb_scaled.specs.Scaled.{badness_of}
+use Rattle.tb_text.specs.Lines.{lines_of}
 use Rattle.tb_param.specs.Defaults.{default_params}
 use Rattle.tb_param.specs.Table.{row_of}
 use Rattle.tb_galley.specs.declared.Cause.TheVariants as causes
@@ -10,7 +12,7 @@ use Rattle.tb_galley.specs.declared.Fault.{Fault}
 use Rattle.tb_galley.specs.declared.Galley.{Galley}
 use Rattle.tb_galley.specs.Words.{word_of}
 use Rattle.tb_galley.specs.Faults.{fault}
-use Rattle.tb_galley.specs.Grammar.{grammar}
+use Rattle.tb_galley.specs.Grammar.{grammar, with_line, empty_draft, content_from, galley_of}
 use Rattle.tb_galley.specs.GalleyNodes.{expanded}
 use Rattle.tb_galley.specs.CanonicalText.{printed}
 use Rattle.tb_break.specs.Cost.{page_badness, cost_of_badness}
@@ -18,7 +20,11 @@ use Rattle.tb_output.specs.Output.{out}
 use Rattle.tb_steps.specs.Run.{End, pool_full, dead_cycles, run_of, run_from, step}
 use Rattle.tb_top.specs.Report.{report, trace}
 use Rattle.tb_laws.specs.Laws.{is_carried, shipped_boxes}
-use Rattle.tb_why.proofs.AllWords.{galley_read}
+
+-- the galley of an input without faults
+abbrev galley_read : List ℕ → Galley
+unfolding word_of row_of default_params
+galley_read input = galley_of (fold with_line empty_draft (content_from 1 (lines_of input)))
 
 -- what is written for an input without faults
 abbrev reported : List ℕ → List ℕ
