@@ -18,3 +18,4 @@ pub mod MovingLemmas
 pub mod LandingLemmas
 pub mod TimeLemmas
 pub mod FaultLemmas
+pub mod SheetLemmas
