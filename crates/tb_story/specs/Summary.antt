@@ -1,5 +1,5 @@
 -- The summary: one story of each float that was called or waits, as the tales and the shipped pages tell it.
-use Rattle.std.specs.Prelude.{ℕ, ℤ, pos, negsuc, ◌+◌, ◌-ℤ◌, ◌+ℤ◌, Bool, false, not, ◌&&◌, ◌==◌, List, [], ◌∷◌, ◌++◌, map, Option, Some, None, int_lt, if◌then◌else◌}
+use Rattle.std.specs.Prelude.{ℕ, ℤ, pos, ◌+◌, ◌-ℤ◌, ◌+ℤ◌, Bool, false, not, ◌&&◌, ◌==◌, List, [], ◌∷◌, ◌++◌, map, Option, Some, None, if◌then◌else◌}
 use Rattle.tb_node.specs.declared.Float.{Float}
 use Rattle.tb_node.specs.declared.What.{What}
 use Rattle.tb_node.specs.declared.What.TheVariants as what
@@ -81,12 +81,6 @@ gain t room share = pos 0
 -- one more than what is lacked
 abbrev pub lack : ℤ → ℤ → ℤ
 lack need has = need -ℤ has +ℤ pos 1
-
--- a sum of heights as it is told here: at most 2 ^ 126 either way, which no sum of heights comes near
-abbrev pub capped : ℤ → ℤ
-capped x =
-    if int_lt (pos 85070591730234615865843651857942052864) x then pos 85070591730234615865843651857942052864
-    else (if int_lt x (negsuc 85070591730234615865843651857942052863) then negsuc 85070591730234615865843651857942052863 else x)
 
 -- ---- stories
 
@@ -188,7 +182,7 @@ after_heads f t (Some w) m = not_alone f (no_head_by f t w m) m
 
 -- why a float stays behind the company of a head
 abbrev pub behind_by : Float → Joining → Test → SummaryView → Kept
-behind_by f t w m = kept_by areas.Joins w f (gain w (t.high -ℤ t.most) (capped t.sum -ℤ t.most)) (way_of_joining t.blocker m)
+behind_by f t w m = kept_by areas.Joins w f (gain w (t.high -ℤ t.most) (t.sum -ℤ t.most)) (way_of_joining t.blocker m)
 
 abbrev pub after_joining : Float → Joining → Option Test → SummaryView → SummaryView
 after_joining f t None m = m
@@ -196,7 +190,7 @@ after_joining f t (Some w) m = stays_behind f (behind_by f t w m) m
 
 abbrev pub after_company : Float → Made → Option Test → SummaryView → SummaryView
 after_company f t None m = keep_all m
-after_company f t (Some w) m = not_alone f (record { area = areas.Company; cause = causes.Failed tests.Sum; root = f; by = lack t.least (capped t.sum) }) m
+after_company f t (Some w) m = not_alone f (record { area = areas.Company; cause = causes.Failed tests.Sum; root = f; by = lack t.least t.sum }) m
 
 abbrev pub after_column : ToldColumn → SummaryView → SummaryView
 after_column (Heads f t) m = after_heads f t t.failed m

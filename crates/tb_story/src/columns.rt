@@ -1,6 +1,6 @@
 //! What columns of floats change in the summary.
-ghost use Rattle.std.specs.Prelude.{◌≡◌, ◌-ℤ◌, ◌+ℤ◌, ◌≤ℤ◌, pos, negsuc, OnOk};
-ghost use Rattle.tb_story.specs.Summary.{capped, way_of_head, way_of_joining, heads_none, not_alone, stays_behind, kept_all, keep_noted, keep_all, none_behind, no_head_by, behind_by, after_heads, after_joining, after_company, after_column, after_start};
+ghost use Rattle.std.specs.Prelude.{◌≡◌, ◌-ℤ◌, OnOk};
+ghost use Rattle.tb_story.specs.Summary.{lack, way_of_head, way_of_joining, heads_none, not_alone, stays_behind, kept_all, keep_noted, keep_all, none_behind, no_head_by, behind_by, after_heads, after_joining, after_company, after_column, after_start};
 ghost use Rattle.tb_story.specs.Counts.{AreOver, StaysSound};
 
 use crate::deciding::gain;
@@ -10,25 +10,7 @@ use crate::stories::keep_story;
 use crate::{Area, Cause, Kept, Noted, Story, Summary};
 use std::alloc::AllocError;
 use tb_node::{Float, Where};
-use tb_told::{Alone, Joining, Made, Test, ToldColumn};
-
-// No sum of heights comes near this.
-const MOST: i128 = 85070591730234615865843651857942052864;
-
-// A sum of heights as it is told here: at most `MOST` either way.
-fn capped(sum: i128) -> i128
-    ensures value { result ≡ capped sum }
-    ensures low { negsuc 85070591730234615865843651857942052863 ≤ℤ result }
-    ensures high { result ≤ℤ pos 85070591730234615865843651857942052864 }
-{
-    if sum > MOST {
-        MOST
-    } else if sum < -MOST {
-        -MOST
-    } else {
-        sum
-    }
-}
+use tb_told::{Alone, HeightSum, Joining, Made, Test, ToldColumn};
 
 // What a float is higher than the column.
 fn over_height(high: i64, most: i64) -> i128
@@ -38,26 +20,17 @@ fn over_height(high: i64, most: i64) -> i128
 }
 
 // What a company with a float is higher than the column.
-fn over_sum(sum: i128, most: i64) -> i128
-    ensures { result ≡ capped sum -ℤ most }
+fn over_sum(sum: &HeightSum, most: i64) -> i128
+    ensures { result ≡ sum.now -ℤ most }
 {
-    capped(sum) - i128::from(most)
-}
-
-// One more than what is lacked, of a sum that is no more than `MOST` either way.
-fn lack_of(least: i64, has: i128) -> i128
-    requires low { negsuc 85070591730234615865843651857942052863 ≤ℤ has }
-    requires high { has ≤ℤ pos 85070591730234615865843651857942052864 }
-    ensures { result ≡ least -ℤ has +ℤ pos 1 }
-{
-    i128::from(least) - has + 1
+    sum.amount() - i128::from(most)
 }
 
 // One more than what a company lacks.
-fn lack_of_sum(least: i64, sum: i128) -> i128
-    ensures { result ≡ least -ℤ capped sum +ℤ pos 1 }
+fn lack_of_sum(least: i64, sum: &HeightSum) -> i128
+    ensures { result ≡ lack least sum.now }
 {
-    lack_of(least, capped(sum))
+    i128::from(least) - sum.amount() + 1
 }
 
 /// Each of these floats is kept back for the reason that is noted.
@@ -185,7 +158,7 @@ impl Summary {
     fn behind_by(&self, f: &Float, t: &Joining, test: Test) -> Kept
         ensures { result ≡ behind_by f.now t.now test self.now }
     {
-        let by = gain(test, over_height(t.high, t.most), over_sum(t.sum, t.most));
+        let by = gain(test, over_height(t.high, t.most), over_sum(&t.sum, t.most));
         kept_by(Area::Joins, test, f, by, self.way_of_joining(&t.blocker))
     }
 
@@ -210,7 +183,7 @@ impl Summary {
             area: Area::Company,
             cause: Cause::Failed(Test::Sum),
             root: *f,
-            by: lack_of_sum(t.least, t.sum),
+            by: lack_of_sum(t.least, &t.sum),
         };
         self.not_alone(f, &k)
     }

@@ -47,13 +47,6 @@ impl Summary {
         }
     }
 
-    /// How many sheets were put out.
-    pub fn sheets(&self) -> u64
-        ensures { result ≡ self.now.sheets }
-    {
-        self.sheets
-    }
-
     /// The last reason of the float of a line, if it was not shipped.
     pub(crate) fn last_of(&self, line: u32) -> Option<Kept>
         ensures { result ≡ last_of line self.now.stories }

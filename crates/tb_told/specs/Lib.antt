@@ -6,3 +6,4 @@ pub mod ColumnPieces
 pub mod Lines
 pub mod Filled
 pub mod Standing
+pub mod Sums

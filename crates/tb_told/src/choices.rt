@@ -6,10 +6,11 @@ ghost use Rattle.tb_float.specs.Ranges.{IsWithin};
 ghost use Rattle.tb_fpage.specs.Company.{company_height, separated, joins, choices_from, company_of_head, passed_over, chosen_floats, left_floats};
 ghost use Rattle.tb_told.specs.Tested.{first_of_class};
 ghost use Rattle.tb_told.specs.ColumnTold.{joins_told, made_told};
+ghost use Rattle.tb_told.specs.Sums.{IsHeightSum};
 
 use crate::heads::{is_no_higher, may_be_alone};
 use crate::tested::failing;
-use crate::{Joining, Made, Test};
+use crate::{HeightSum, Joining, Made, Test};
 use std::alloc::{AllocError, Global};
 use std::marker::Model;
 use tb_float::{Part, Pool};
@@ -158,7 +159,7 @@ pub(crate) fn joining(wanted: &Wanted, before: &[Choice], f: &Float) -> Joining
             failing(
                 blocker.is_none(),
                 Test::Class,
-                failing(fits(sum, wanted.height), Test::Sum, None),
+                failing(fits(sum.amount(), wanted.height), Test::Sum, None),
             ),
         ),
     );
@@ -182,7 +183,7 @@ pub(crate) fn made_of(wanted: &Wanted, company: &[Choice]) -> Made
         floats,
         sum,
         least: wanted.minimum,
-        failed: failing(is_made(wanted, sum), Test::Sum, None),
+        failed: failing(is_made(wanted, sum.amount()), Test::Sum, None),
     }
 }
 
@@ -239,23 +240,23 @@ fn one_if(chosen: bool) -> usize
 // ---- heights
 
 // The height of the company with one more float of this height.
-fn height_with(before: &[Choice], sep: i64, height: i64) -> i128
+fn height_with(before: &[Choice], sep: i64, height: i64) -> HeightSum
     requires { length before.now ≤ 4096 }
     ensures { result ≡ separated sep before.now +ℤ height }
 {
-    plus(separated(before, sep), height)
+    HeightSum::new(plus(separated(before, sep), height))
 }
 
 // The height of a company of so many floats.
-fn company_height(company: &[Choice], floats: usize, sep: i64) -> i128
+fn company_height(company: &[Choice], floats: usize, sep: i64) -> HeightSum
     requires few { length company.now ≤ 4096 }
     requires floats { floats ≡ length (chosen_floats company.now) }
     ensures { result ≡ company_height sep company.now }
 {
     if floats == 0 {
-        return 0;
+        return HeightSum::new(0);
     }
-    less(separated(company, sep), sep)
+    HeightSum::new(less(separated(company, sep), sep))
 }
 
 // The heights of the company, each with a separator.
@@ -293,14 +294,16 @@ fn sum_of(sum: i128, more: i128) -> i128
 
 fn plus(sum: i128, height: i64) -> i128
     requires { IsWithin 151115727451828646838272 sum }
-    ensures { result ≡ sum +ℤ height }
+    ensures value { result ≡ sum +ℤ height }
+    ensures within { IsHeightSum result }
 {
     sum + i128::from(height)
 }
 
 fn less(sum: i128, sep: i64) -> i128
     requires { IsWithin 151115727451828646838272 sum }
-    ensures { result ≡ sum -ℤ sep }
+    ensures value { result ≡ sum -ℤ sep }
+    ensures within { IsHeightSum result }
 {
     sum - i128::from(sep)
 }

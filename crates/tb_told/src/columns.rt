@@ -5,7 +5,7 @@ ghost use Rattle.tb_text.specs.Fronts.{PutsAfter};
 ghost use Rattle.tb_told.specs.Lines.{alone_line, joins_line, company_line};
 
 use crate::fields::{put_blocked, put_end, put_head};
-use crate::{Alone, Joining, Made};
+use crate::{Alone, HeightSum, Joining, Made};
 use std::alloc::AllocError;
 use tb_node::Name;
 use tb_report::{put_measure, put_total};
@@ -29,21 +29,21 @@ pub fn put_joining(out: &mut Vec<u8>, name: &Name, t: &Joining) -> Result<(), Al
 {
     put_blocked(out, b"joins", name, &t.blocker)?;
     put_measure(out, b" high", t.high)?;
-    put_most(out, t.sum, t.most)?;
+    put_most(out, &t.sum, t.most)?;
     put_end(out, t.failed)
 }
 
 // The height of floats together.
-fn put_sum(out: &mut Vec<u8>, sum: i128) -> Result<(), AllocError>
-    ensures { PutsAfter result out.old.items (codes " sum" ++ and_number sum) out.new.items }
+fn put_sum(out: &mut Vec<u8>, sum: &HeightSum) -> Result<(), AllocError>
+    ensures { PutsAfter result out.old.items (codes " sum" ++ and_number sum.now) out.new.items }
 {
     put(out, b" sum")?;
-    put_field(out, sum)
+    put_field(out, sum.amount())
 }
 
 // The height of floats together, and the height of the column.
-fn put_most(out: &mut Vec<u8>, sum: i128, most: i64) -> Result<(), AllocError>
-    ensures { PutsAfter result out.old.items (codes " sum" ++ and_number sum ++ codes " most" ++ and_number most) out.new.items }
+fn put_most(out: &mut Vec<u8>, sum: &HeightSum, most: i64) -> Result<(), AllocError>
+    ensures { PutsAfter result out.old.items (codes " sum" ++ and_number sum.now ++ codes " most" ++ and_number most) out.new.items }
 {
     put_sum(out, sum)?;
     put_measure(out, b" most", most)
@@ -56,7 +56,7 @@ pub fn put_company(out: &mut Vec<u8>, name: &Name, t: &Made) -> Result<(), Alloc
 {
     put_head(out, b"company", name)?;
     put_total(out, b" floats", t.floats as u64)?;
-    put_sum(out, t.sum)?;
+    put_sum(out, &t.sum)?;
     put_measure(out, b" least", t.least)?;
     put_end(out, t.failed)
 }

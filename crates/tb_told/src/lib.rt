@@ -15,6 +15,7 @@ mod heads;
 mod laws;
 mod places;
 mod standing;
+mod sums;
 mod taken;
 mod tale_lines;
 mod telling;
@@ -26,6 +27,7 @@ pub use crate::filling::{tell_doubled, tell_filled};
 pub use crate::heads::alone_at;
 pub use crate::laws::{the_company_is_told, what_is_told_is_the_decision, yes_says_that_all_hold};
 pub use crate::standing::here_lines;
+pub use crate::sums::HeightSum;
 pub use crate::taken::take_company;
 pub use crate::tale_lines::put_tale;
 pub use crate::telling::{tell_called, tell_double, tell_next};
@@ -169,7 +171,7 @@ pub struct Joining {
     /// The float's height.
     pub high: i64,
     /// The height of the company with it.
-    pub sum: i128,
+    pub sum: HeightSum,
     /// The height of the column.
     pub most: i64,
     /// The first test that fails, if one does.
@@ -182,7 +184,7 @@ pub struct Made {
     /// How many floats are in it.
     pub floats: usize,
     /// Its height.
-    pub sum: i128,
+    pub sum: HeightSum,
     /// It must be higher than this, unless floats are cleared.
     pub least: i64,
     /// The test fails, if it is not made.

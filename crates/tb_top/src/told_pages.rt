@@ -1,6 +1,6 @@
 //! From a galley to the report of its run with what is told of it.
 
-ghost use Rattle.std.specs.Prelude.{◌≡◌, ◌≤◌, ◌++◌, Err, IsTrue, OnOk, IfOk, IfErr};
+ghost use Rattle.std.specs.Prelude.{◌≡◌, ◌<◌, ◌≤◌, ◌^◌, ◌++◌, Err, IsTrue, OnOk, IfOk, IfErr};
 ghost use Rattle.tb_io.specs.Faults.{Rose};
 ghost use Rattle.tb_galley.specs.Valid.{IsValid};
 ghost use Rattle.tb_pool.specs.Lists.{IsLive};
@@ -15,6 +15,7 @@ ghost use Rattle.tb_story.specs.StoryLines.{story_lines};
 ghost use Rattle.tb_why.specs.ShownLines.{all_shown_lines};
 ghost use Rattle.tb_why.specs.ShownOf.{all_shown_of, AreShownPages};
 ghost use Rattle.tb_why.specs.Summary.{summed};
+ghost use Rattle.tb_why.specs.SummaryLaws.{sheets_of};
 ghost use Rattle.tb_top.specs.Pages.{IsNoCycleFault, RefusesText};
 ghost use Rattle.tb_top.specs.PagesWritten.{run_on, EndsWell, StopsWith};
 ghost use Rattle.tb_top.specs.Views.{Sends, with_events};
@@ -106,6 +107,7 @@ fn send<K: Sink>(
     out: &mut K,
 ) -> Result<(), SinkFault>
     requires pages { AreShownPages store.now shown.now }
+    requires few { sheets_of summary.old.sheets (all_shown_of store.now shown.now) < 2 ^ 63 }
     ensures shown { Sends View.Trace (K.held out.old) (K.held out.new) (K.faults out.old) (K.faults out.new) kept.old.items kept.new.items (all_shown_lines (all_shown_of store.now shown.now)) result }
     ensures summed { OnOk result (summary.new ≡ summed (all_shown_of store.now shown.now) summary.old) }
 {

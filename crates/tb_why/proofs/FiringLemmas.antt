@@ -1,5 +1,5 @@
 -- What is told of a firing by what is read of its page, of the machine before it.
-use Rattle.std.proofs.Common.{◌≡◌, refl, sym, ◌∙◌, ap, ℕ, ℤ, ◌+ℤ◌, ◌-ℤ◌, pos, Bool, true, false, List, [], ◌∷◌, ◌++◌, map, arith}
+use Rattle.std.proofs.Common.{◌≡◌, refl, sym, ◌∙◌, ℕ, ℤ, ◌+ℤ◌, ◌-ℤ◌, pos, Bool, true, false, List, [], ◌++◌, map, arith}
 use Rattle.std.specs.Prelude.{int_lt, if◌then◌else◌}
 use Rattle.std.proofs.lemmas.Int.{ints}
 use Rattle.std.proofs.lemmas.Bool.{true≢false}
@@ -10,27 +10,20 @@ use Rattle.tb_param.specs.declared.Params.{Params}
 use Rattle.tb_builder.specs.declared.Page.{Page}
 use Rattle.tb_builder.specs.FiredPages.{Fired}
 use Rattle.tb_column.specs.Column.{Notes}
-use Rattle.tb_output.specs.declared.reading.Reading.{Reading as PageReading}
+use Rattle.tb_output.specs.declared.reading.Reading.{Reading}
 use Rattle.tb_output.specs.State.{State, begun, footnotes}
-use Rattle.tb_output.specs.Text.{without_firing_box, notes_height}
+use Rattle.tb_output.specs.Text.{notes_height}
 use Rattle.tb_output.specs.Output.{after_page}
 use Rattle.tb_output.specs.Firing.{IsReach}
-use Rattle.tb_output.specs.Reading.{any_notes, IsPageReading}
+use Rattle.tb_output.specs.Reading.{text_read, IsPageReading}
 use Rattle.tb_run.specs.declared.routine.Routine.{Routine}
 use Rattle.tb_run.specs.Routine.{state_of}
 use Rattle.tb_run.specs.FilledPages.{fired_whole}
 use Rattle.tb_told.specs.declared.Piece.{Piece}
 use Rattle.tb_told.specs.Tales.{here_lines}
-use Rattle.tb_why.specs.declared.Reading.{Reading}
-use Rattle.tb_why.specs.Seen.{Seen, are_notes, reading_of, seen_of, seen_pieces}
-use Rattle.tb_why.specs.SeenSteps.{reading_with}
-use Rattle.tb_why.specs.ShownTurns.{seen_in, read_at, pieces_in}
+use Rattle.tb_why.specs.Seen.{Seen, reading_of, seen_pieces}
+use Rattle.tb_why.specs.ShownTurns.{seen_in, pieces_in}
 use Rattle.tb_why.proofs.SeenLemmas.{seen-firing}
-
--- there are insertions or not
-notes-are : (ns : List Notes) → any_notes ns ≡ are_notes ns
-notes-are [] = refl
-notes-are (n ∷ ns) = refl
 
 -- the height of the page is that of the text without its depth, its depth, and what its insertions take
 height-is : (size depth notes : ℤ) → size +ℤ notes ≡ (size -ℤ depth) +ℤ depth +ℤ notes
@@ -44,7 +37,7 @@ told-then : (t : Bool) (ps : List Piece) → t ≡ true → ps ≡ (if t then ps
 told-then true ps is = refl
 told-then false ps is = absurd (true≢false (sym is))
 
-module _ (r : Routine) (page : Page) (own : PageReading) (read : IsPageReading own r.machine r.builder r.store page) where
+module _ (r : Routine) (page : Page) (z : Reading) (read : IsPageReading z r.machine r.builder r.store page) where
   abbrev s : State
   s = state_of r
 
@@ -52,33 +45,26 @@ module _ (r : Routine) (page : Page) (own : PageReading) (read : IsPageReading o
   f = fired_whole r page
 
   abbrev ns : List PlainNode
-  ns = s.held_page ++ without_firing_box f.body
+  ns = text_read (begun (after_page s f)) f.body
 
   abbrev notes : List Notes
   notes = footnotes (after_page s f)
 
-  page-height : own.page_height ≡ (size_of (map node_shape ns) -ℤ last_depth (map node_shape ns)) +ℤ last_depth (map node_shape ns) +ℤ notes_height notes
+  page-height : z.page_height ≡ (size_of (map node_shape ns) -ℤ last_depth (map node_shape ns)) +ℤ last_depth (map node_shape ns) +ℤ notes_height notes
   page-height = read.page_height ∙ height-is (size_of (map node_shape ns)) (last_depth (map node_shape ns)) (notes_height notes)
 
   -- what is read is what the definition reads
-  reading-is : (here : List ℕ) → here ≡ here_lines (plain_list r.store page.body) → reading_with (read_at page.penalty own) here ≡ reading_of s f
-  reading-is here is = λ i. record {
-    penalty = page.penalty;
-    height = read.height i;
-    page_height = page-height i;
-    has_notes = (read.has_notes ∙ notes-are notes) i;
-    here = is i;
-  }
+  reading-is : z ≡ reading_of s f
+  reading-is = λ i. record { height = read.height i; page_height = page-height i; has_notes = read.has_notes i }
 
-pub pieces-told : (r : Routine) (page : Page) (p : Params) (z : Reading) (own : PageReading) (here : List ℕ) (v : Seen) (old new : List Piece) {may : Bool} →
+pub pieces-told : (r : Routine) (page : Page) (p : Params) (z : Reading) (here : List ℕ) (v : Seen) (old new : List Piece) {may : Bool} →
     int_lt (pos r.machine.dead_cycles) r.machine.params.maxdeadcycles ≡ may → may ≡ true →
-    p ≡ r.machine.params → z ≡ read_at page.penalty own → IsPageReading own r.machine r.builder r.store page → here ≡ here_lines (plain_list r.store page.body) → v ≡ seen_in r.machine →
-    old ≡ [] → new ≡ old ++ seen_pieces p (reading_with z here) v → new ≡ pieces_in r page
-pieces-told r page p z own here v old new {may} test allowed p-is z-is read here-is v-is empty told =
+    p ≡ r.machine.params → IsPageReading z r.machine r.builder r.store page → here ≡ here_lines (plain_list r.store page.body) → v ≡ seen_in r.machine →
+    old ≡ [] → new ≡ old ++ seen_pieces p page.penalty here z v → new ≡ pieces_in r page
+pieces-told r page p z here v old new {may} test allowed p-is read here-is v-is empty told =
     let s = state_of r in
     let f = fired_whole r page in
     told
-    ∙ (λ i. empty i ++ seen_pieces (p-is i) (reading_with (z-is i) here) (v-is i))
-    ∙ ap (λ x. seen_pieces r.machine.params x (seen_in r.machine)) (reading-is r page own read here here-is)
+    ∙ (λ i. empty i ++ seen_pieces (p-is i) page.penalty (here-is i) (reading-is r page z read i) (v-is i))
     ∙ sym (seen-firing r.machine.params s f)
     ∙ told-then (int_lt (pos r.machine.dead_cycles) r.machine.params.maxdeadcycles) _ (test ∙ allowed)

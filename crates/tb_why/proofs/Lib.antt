@@ -5,7 +5,6 @@ pub mod WovenLemmas
 pub mod TurnLemmas
 pub mod FiringLemmas
 pub mod PrintablePages
-pub mod AllWords
 pub mod TextLines
 pub mod EventLines
 pub mod TaleLines
@@ -13,10 +12,10 @@ pub mod StoryTexts
 pub mod ShownTexts
 pub mod PlainRuns
 pub mod TraceLeft
-pub mod Rows
 pub mod LeavingLemmas
 pub mod TellingLemmas
 pub mod MovingLemmas
 pub mod LandingLemmas
 pub mod TimeLemmas
 pub mod FaultLemmas
+pub mod SheetLemmas

@@ -22,6 +22,7 @@ use Rattle.tb_fpage.specs.Company.{Choice, company, chosen_floats, left_floats}
 use Rattle.tb_column.specs.Column.{PlainColumn, Notes, text_column, single_floats_column, wide_floats_column}
 use Rattle.tb_sheet.specs.Sheet.{PlainSheet, PlainSent, shipped, one, wide, pair_sheet}
 use Rattle.tb_sheet.specs.Asked.{clear_penalty, par_penalty, vert_penalty}
+use Rattle.tb_output.specs.declared.reading.Reading.{Reading}
 use Rattle.tb_output.specs.State.{State, Work, Recorded, placed, output, begun, footnotes, puts, sends, records_also, with_floats}
 use Rattle.tb_output.specs.FloatMoves
 use Rattle.tb_output.specs.Pages
@@ -29,13 +30,14 @@ use Rattle.tb_output.specs.Columns
 use Rattle.tb_output.specs.Clear
 use Rattle.tb_output.specs.Text.{without_firing_box, list_back}
 use Rattle.tb_output.specs.Output.{is_int, after_page}
+use Rattle.tb_output.specs.Reading.{any_notes}
 use Rattle.tb_output.proofs.ColumnPages.FillLemmas.{HasLists, fill_double-lists}
 use Rattle.tb_told.specs.declared.Piece.{Piece}
 use Rattle.tb_told.specs.AreaTold.{told_next, told_wide}
 use Rattle.tb_told.specs.Filled.{filled_pieces, none_suppressed, doubled_pieces}
 use Rattle.tb_told.specs.Tales.{tales, decisions, back_tales, and_here, here_lines}
 use Rattle.tb_why.specs.Firing
-use Rattle.tb_why.specs.Firing.{spot_of, unless_over}
+use Rattle.tb_why.specs.Firing.{unless_over}
 use Rattle.tb_why.specs.Seen
 
 -- ---- pieces
@@ -352,10 +354,10 @@ filled-here [] = refl
 filled-here (n ∷ ns) = ap (λ later. and_here n.kind later) (filled-here ns)
 
 clear-told : (p : Params) (body : List PlainNode) (w : Work) →
-    Firing.clear_pieces p body w ≡ (if Seen.are_notes (footnotes w.state) then Seen.text_told p (here_lines body) (Seen.seen_of w) else Seen.clear_floats_told p (Seen.seen_of w))
+    Firing.clear_pieces p body w ≡ (if any_notes (footnotes w.state) then Seen.text_told p (here_lines body) (Seen.seen_of w) else Seen.clear_floats_told p (Seen.seen_of w))
 clear-told p body w = by_notes (footnotes w.state)
   where
-    by_notes : (ns : List Notes) → Firing.clear_pieces_by p body w ns ≡ (if Seen.are_notes ns then Seen.text_told p (here_lines body) (Seen.seen_of w) else Seen.clear_floats_told p (Seen.seen_of w))
+    by_notes : (ns : List Notes) → Firing.clear_pieces_by p body w ns ≡ (if any_notes ns then Seen.text_told p (here_lines body) (Seen.seen_of w) else Seen.clear_floats_told p (Seen.seen_of w))
     by_notes [] = clear_floats-told p body w
     by_notes (n ∷ ns) = text-told p (body ++ made (skip filling_glue) ∷ []) w ∙ ap (λ here. Seen.text_told p here (Seen.seen_of w)) (filled-here body)
 
@@ -370,7 +372,7 @@ first-told p height page_height [] s over = refl
 -- ---- the firing
 
 -- what is told of a firing depends on what is read from its page and on what is seen alone
-pub seen-firing : (p : Params) (s : State) (f : Fired) → Firing.firing_pieces p s f ≡ Seen.seen_pieces p (Seen.reading_of s f) (Seen.seen_of (begun (after_page s f)))
+pub seen-firing : (p : Params) (s : State) (f : Fired) → Firing.firing_pieces p s f ≡ Seen.seen_pieces p f.penalty (here_lines f.body) (Seen.reading_of s f) (Seen.seen_of (begun (after_page s f)))
 unfolding Firing.firing_pieces Seen.seen_pieces
 seen-firing p s f = by_penalty (int_le eject_penalty f.penalty) (is_int f.penalty clear_penalty) (is_int f.penalty par_penalty) (is_int f.penalty vert_penalty)
   where
@@ -380,7 +382,7 @@ seen-firing p s f = by_penalty (int_le eject_penalty f.penalty) (is_int f.penalt
     v : Seen.Seen
     v = Seen.seen_of w
 
-    r : Seen.Reading
+    r : Reading
     r = Seen.reading_of s f
 
     at_text : Firing.text_float_pieces p f.body w ≡ Seen.text_float_told p r v
@@ -388,7 +390,7 @@ seen-firing p s f = by_penalty (int_le eject_penalty f.penalty) (is_int f.penalt
 
     by_penalty : (a b c d : Bool) →
         (if a then Firing.ordinary_pieces p f.body w else (if b then Firing.clear_pieces p f.body w else (if c then Firing.text_float_pieces p f.body w else (if d then Firing.text_float_pieces p f.body w else []))))
-        ≡ (if a then Seen.ordinary_told p r.here v else (if b then Seen.clear_told p r v else (if c then Seen.text_float_told p r v else (if d then Seen.text_float_told p r v else []))))
+        ≡ (if a then Seen.ordinary_told p (here_lines f.body) v else (if b then Seen.clear_told p (here_lines f.body) r v else (if c then Seen.text_float_told p r v else (if d then Seen.text_float_told p r v else []))))
     by_penalty true b c d = ordinary-told p f.body w
     by_penalty false true c d = clear-told p f.body w
     by_penalty false false true d = at_text

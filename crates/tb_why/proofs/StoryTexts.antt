@@ -32,7 +32,7 @@ use Rattle.tb_story.specs.declared.Group.{Group}
 use Rattle.tb_story.specs.declared.Kept.{Kept}
 use Rattle.tb_story.specs.declared.Noted.{Noted}
 use Rattle.tb_story.specs.Story.{StoryView, area_text, cause_text, is_alike, is_by_places, is_deferred, or_else, is_story_of, waits, begun, kept_back, placed_at, landed_at, closed, missed, missed_by, missed_sheet, by_break, carried, last_at_end, at_end, with_story, last_of}
-use Rattle.tb_story.specs.Summary.{SummaryView, no_stories, noted_of, way_of, way_in, way_of_head, way_of_joining, kept_by, gain, lack, capped, keep, keep_if, put_at, own_reason, found_with, reason_of, decided, tested_in, after_told, heads_none, not_alone, kept_all, after_heads, after_joining, after_company, after_column, by_width, by_clear, after_tale, after_box, after_node, after_nodes, after_sheet}
+use Rattle.tb_story.specs.Summary.{SummaryView, no_stories, noted_of, way_of, way_in, way_of_head, way_of_joining, kept_by, gain, lack, keep, keep_if, put_at, own_reason, found_with, reason_of, decided, tested_in, after_told, heads_none, not_alone, kept_all, after_heads, after_joining, after_company, after_column, by_width, by_clear, after_tale, after_box, after_node, after_nodes, after_sheet}
 use Rattle.tb_story.specs.StoryLines.{kept_words, group_text, all_groups, because_text, reasons_text, landed_words, landed_text, head_text, fate_text, story_text, story_line, story_lines}
 use Rattle.tb_why.specs.WhyRun.{Shown, happens, tells}
 use Rattle.tb_why.specs.Summary.{after_event, summed, summary_lines}
@@ -234,13 +234,13 @@ heads-more f t (Some w) m h k g =
 joins-more : (f : Float) (t : Joining) (o : Option Test) (m : SummaryView) → IsPlainFloat f → IsPlainBlocker t.blocker → IsPlainSummary m → IsPlainSummary (after_joining f t o m)
 joins-more f t None m h k g = g
 joins-more f t (Some w) m h k g =
-    let by = gain w (t.high -ℤ t.most) (capped t.sum -ℤ t.most) in
+    let by = gain w (t.high -ℤ t.most) (t.sum -ℤ t.most) in
     let kept = kept_by areas.Joins w f by (way_of_joining t.blocker m) in
     (g.0, g.1, g.2, all-join (λ n. IsPlainKept n.kept) m.passed (record { float = f; kept = kept } ∷ []) g.3 (kept-plain areas.Joins w f by (way_of_joining t.blocker m) h (joining-plain t.blocker m k g), tt))
 
 made-more : (f : Float) (t : Made) (o : Option Test) (m : SummaryView) → IsPlainFloat f → IsPlainSummary m → IsPlainSummary (after_company f t o m)
 made-more f t None m h g = (all-kept m.passed (kept_all m.alone m.stories) g.3 (all-kept m.alone m.stories g.2 g.0), g.1, g.2, g.3)
-made-more f t (Some w) m h g = alone-not f (record { area = areas.Company; cause = causes.Failed tests.Sum; root = f; by = lack t.least (capped t.sum) }) m h g
+made-more f t (Some w) m h g = alone-not f (record { area = areas.Company; cause = causes.Failed tests.Sum; root = f; by = lack t.least t.sum }) m h g
 
 column-more : (t : ToldColumn) (m : SummaryView) → IsPlainColumn t → IsPlainSummary m → IsPlainSummary (after_column t m)
 column-more (Heads f t) m h g = heads-more f t t.failed m h.0 h.1 g

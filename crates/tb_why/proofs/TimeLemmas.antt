@@ -52,7 +52,7 @@ shown_sheets (tells t) m = tale_sheets t m
 shown_sheets (happens (offered t)) m = refl
 shown_sheets (happens (sent e)) m = sent_sheets e m
 
-sheets_from : (xs : List Shown) (m : SummaryView) → (summed xs m).sheets ≡ sheets_of m.sheets xs
+pub sheets_from : (xs : List Shown) (m : SummaryView) → (summed xs m).sheets ≡ sheets_of m.sheets xs
 sheets_from [] m = refl
 sheets_from (x ∷ xs) m = sheets_from xs (after_shown x m) ∙ ap (λ n. sheets_of n xs) (shown_sheets x m)
 

@@ -1,5 +1,5 @@
 -- What is shown of a turn is what the definition shows of a step.
-use Rattle.std.proofs.Common.{◌≡◌, refl, sym, subst, ◌∙◌, ap, ℕ, pos, Bool, true, false, List, [], ◌∷◌, ◌++◌, length, drop, map, Option, Some, None, append_assoc, append-nil}
+use Rattle.std.proofs.Common.{◌≡◌, refl, sym, subst, ◌∙◌, ap, ℕ, pos, Bool, true, false, List, [], ◌++◌, length, drop, map, Option, Some, None, append_assoc, append-nil}
 use Rattle.std.specs.Prelude.{int_lt, Result, Ok, Err, IfOk, OnOk, if◌then◌else◌}
 use Rattle.std.proofs.lemmas.List.{drop_at}
 use Rattle.std.proofs.lemmas.Bool.{true≢false}

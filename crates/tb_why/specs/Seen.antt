@@ -15,14 +15,15 @@ use Rattle.tb_float.specs.Lists.{FloatLists, wide_part, wide_waiting, with_wide_
 use Rattle.tb_area.specs.Deferred.{filled, doubled}
 use Rattle.tb_fpage.specs.Company.{Choice, company, left_floats}
 use Rattle.tb_margin.specs.Margin.{placed_note}
-use Rattle.tb_column.specs.Column.{Notes}
 use Rattle.tb_sheet.specs.Asked.{clear_penalty, par_penalty, vert_penalty}
-use Rattle.tb_output.specs.State.{State, Work, footnotes, no_suppress}
+use Rattle.tb_output.specs.declared.reading.Reading.{Reading}
+use Rattle.tb_output.specs.State.{State, Work, begun, footnotes, no_suppress}
 use Rattle.tb_output.specs.Pages.{wide_wanted}
 use Rattle.tb_output.specs.Columns.{single_wanted}
 use Rattle.tb_output.specs.Clear.{deferred_again, double_again}
-use Rattle.tb_output.specs.Text.{without_firing_box, notes_height}
+use Rattle.tb_output.specs.Text.{notes_height}
 use Rattle.tb_output.specs.Output.{is_int, after_page}
+use Rattle.tb_output.specs.Reading.{any_notes, text_read}
 use Rattle.tb_told.specs.declared.Spot.{Spot}
 use Rattle.tb_told.specs.declared.Tale.{Tale}
 use Rattle.tb_told.specs.declared.Tale.TheVariants.{Calls, Beside, PutOut, Stands}
@@ -30,7 +31,7 @@ use Rattle.tb_told.specs.declared.Piece.{Piece}
 use Rattle.tb_told.specs.declared.Piece.TheVariants.{Says, NextSent}
 use Rattle.tb_told.specs.AreaTold.{told_call}
 use Rattle.tb_told.specs.Filled.{filled_pieces, none_suppressed, doubled_pieces}
-use Rattle.tb_told.specs.Tales.{tales, decisions, column_tales, back_tales, here_lines}
+use Rattle.tb_told.specs.Tales.{tales, decisions, column_tales, back_tales}
 
 -- what the tales of a firing depend on: the floats, the page and the column that are being made, the suppress flags, how far
 -- down marginal notes reach, and whether the page limit was met
@@ -55,34 +56,14 @@ seen_of w = record {
   over = w.refused;
 }
 
--- what is read from a page before its firing: the penalty of its break, the height of the text without its depth and with
--- depth and insertions, whether insertions are on it, and the lines of the floats in its text
-pub record Reading : Type 0 where
-  pub penalty : ℤ
-  pub height : ℤ
-  pub page_height : ℤ
-  pub has_notes : Bool
-  pub here : List ℕ
-
--- insertions are on the page
-abbrev pub are_notes : List Notes → Bool
-are_notes [] = false
-are_notes (n ∷ ns) = true
-
--- what is read from a page; its text is the held page and its own list without the firing box
+-- what is read from a page that fires
 abbrev pub reading_of : State → Fired → Reading
 reading_of s f =
-    let shapes = map node_shape (s.held_page ++ without_firing_box f.body) in
+    let shapes = map node_shape (text_read (begun (after_page s f)) f.body) in
     let depth = last_depth shapes in
     let height = size_of shapes -ℤ depth in
     let notes = footnotes (after_page s f) in
-    record {
-      penalty = f.penalty;
-      height = height;
-      page_height = height +ℤ depth +ℤ notes_height notes;
-      has_notes = are_notes notes;
-      here = here_lines f.body;
-    }
+    record { height = height; page_height = height +ℤ depth +ℤ notes_height notes; has_notes = any_notes notes }
 
 -- where it stands
 abbrev pub spot_seen : Seen → Spot
@@ -303,8 +284,8 @@ abbrev pub clear_floats_told : Params → Seen → List Piece
 clear_floats_told p v = areas_back_told v ++ clear_columns_told p (with_lists (deferred_again v.floats) v)
 
 -- a page with insertions is put out first
-abbrev pub clear_told : Params → Reading → Seen → List Piece
-clear_told p r v = if r.has_notes then text_told p r.here v else clear_floats_told p v
+abbrev pub clear_told : Params → List ℕ → Reading → Seen → List Piece
+clear_told p here r v = if r.has_notes then text_told p here v else clear_floats_told p v
 
 -- ---- floats and notes in the text
 
@@ -327,11 +308,11 @@ text_float_told p r v = told_unless v.over (tales (first_seen p r.height r.page_
 
 -- ---- the firing
 
--- by the penalty of the break; nothing is told of a page that is held
-unfoldable pub seen_pieces : Params → Reading → Seen → List Piece
-seen_pieces p r v =
-    if int_le eject_penalty r.penalty then ordinary_told p r.here v
-    else (if is_int r.penalty clear_penalty then clear_told p r v
-    else (if is_int r.penalty par_penalty then text_float_told p r v
-    else (if is_int r.penalty vert_penalty then text_float_told p r v
+-- by the penalty of the break, with the lines of the floats in the page's text; nothing is told of a page that is held
+unfoldable pub seen_pieces : Params → ℤ → List ℕ → Reading → Seen → List Piece
+seen_pieces p penalty here r v =
+    if int_le eject_penalty penalty then ordinary_told p here v
+    else (if is_int penalty clear_penalty then clear_told p here r v
+    else (if is_int penalty par_penalty then text_float_told p r v
+    else (if is_int penalty vert_penalty then text_float_told p r v
     else [])))

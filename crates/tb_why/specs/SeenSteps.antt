@@ -7,12 +7,7 @@ use Rattle.tb_float.specs.Lists.{floats_of, with_floats_of}
 use Rattle.tb_fpage.specs.declared.Wanted.{Wanted}
 use Rattle.tb_fpage.specs.Company.{Choice, company, left_floats}
 use Rattle.tb_told.specs.declared.Piece.{Piece}
-use Rattle.tb_why.specs.declared.Reading.{Reading as ReadValues}
-use Rattle.tb_why.specs.Seen.{Seen, Reading, with_lists, wide_told, wide_seen, float_told, float_seen}
-
--- what is read from a page, with the lines of the floats in its text
-abbrev pub reading_with : ReadValues → List ℕ → Reading
-reading_with r here = record { penalty = r.penalty; height = r.height; page_height = r.page_height; has_notes = r.has_notes; here = here }
+use Rattle.tb_why.specs.Seen.{Seen, with_lists, wide_told, wide_seen, float_told, float_seen}
 
 -- the floats of the list are on a page, and can leave it all at once
 abbrev pub IsLeavable : Part → Type 0

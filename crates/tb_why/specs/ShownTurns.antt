@@ -1,10 +1,7 @@
 -- What is shown of a turn, put together: what happened while the page was filled, the floats that wait from now on, and the firing.
-use Rattle.std.specs.Prelude.{◌≡◌, ℕ, ℤ, ◌≤◌, pos, not, false, ◌&&◌, List, [], ◌∷◌, ◌++◌, length, drop, map, int_lt, if◌then◌else◌}
-use Rattle.tb_pool.specs.Lists.{Lists}
-use Rattle.tb_node.specs.declared.Node.{Node}
+use Rattle.std.specs.Prelude.{◌≡◌, ℕ, ◌≤◌, pos, not, false, ◌&&◌, List, [], ◌∷◌, ◌++◌, length, drop, map, int_lt, if◌then◌else◌}
 use Rattle.tb_node.specs.declared.Float.{Float}
 use Rattle.tb_builder.specs.declared.Page.{Page}
-use Rattle.tb_output.specs.declared.reading.Reading.{Reading as PageReading}
 use Rattle.tb_output.specs.Machine.{MachineView}
 use Rattle.tb_items.specs.declared.happenings.Happening.{Happening}
 use Rattle.tb_run.specs.declared.routine.Routine.{Routine}
@@ -14,7 +11,6 @@ use Rattle.tb_told.specs.declared.Spot.{Spot}
 use Rattle.tb_told.specs.declared.Tale.TheVariants.{Waits}
 use Rattle.tb_told.specs.declared.Piece.{Piece}
 use Rattle.tb_told.specs.declared.Piece.TheVariants.{Says, NextSent}
-use Rattle.tb_why.specs.declared.Reading.{Reading}
 use Rattle.tb_why.specs.declared.shown.Showing.{Showing}
 use Rattle.tb_why.specs.declared.shown.Showing.TheVariants as showings
 use Rattle.tb_why.specs.Firing.{firing_pieces}
@@ -55,10 +51,6 @@ seen_in m = record {
   note_bottom = m.note_bottom;
   over = false;
 }
-
--- what is read from a page that fires at this penalty
-abbrev pub read_at : ℤ → PageReading → Reading
-read_at penalty z = record { penalty = penalty; height = z.height; page_height = z.page_height; has_notes = z.has_notes }
 
 -- what is told of the firing of a page, if it is allowed
 abbrev pub pieces_in : Routine → Page → List Piece

@@ -2,12 +2,12 @@
 
 ghost use Rattle.std.specs.Prelude.{◌≡◌, IfOk};
 ghost use Rattle.tb_run.specs.FilledPages.{CanServe};
-ghost use Rattle.tb_why.specs.ShownTurns.{pieces_in, read_at, seen_in};
+ghost use Rattle.tb_why.specs.ShownTurns.{pieces_in, seen_in};
 
-use crate::{Reading, Seen, tell_firing};
+use crate::{Seen, tell_firing};
 use std::alloc::{AllocError, Global};
 use tb_builder::Page;
-use tb_output::{Machine, Reading as PageReading};
+use tb_output::Machine;
 use tb_run::Routine;
 use tb_told::{Piece, copied, here_lines};
 
@@ -26,13 +26,13 @@ pub(crate) fn told_pieces(
     if !machine.may_fire() {
         return Ok(pieces);
     }
-    let read = machine.reading(&routine.store, &routine.builder, page);
-    let reading = with_penalty(page.penalty, &read);
+    let reading = machine.reading(&routine.store, &routine.builder, page);
     let here = here_lines(alloc, &routine.store, page.body)?;
     let seen = seen_before(alloc, machine)?;
     tell_firing(
         &mut pieces,
         machine.params(),
+        page.penalty,
         &reading,
         here.as_slice(),
         seen,
@@ -54,16 +54,4 @@ fn seen_before(alloc: Global, machine: &Machine) -> Result<Seen, AllocError>
         over: false,
         pool: copied(alloc, machine.pool())?,
     })
-}
-
-// What is read from a page that fires at this penalty.
-fn with_penalty(penalty: i64, read: &PageReading) -> Reading
-    ensures { result ≡ read_at penalty read.now }
-{
-    Reading {
-        penalty,
-        height: read.height,
-        page_height: read.page_height,
-        has_notes: read.has_notes,
-    }
 }

@@ -64,16 +64,3 @@ impl Model for Seen {
 
     ghost invariant = { λ v. HasNoMarks v.pool };
 }
-
-/// What is read from a page before its firing, but for the lines of the floats in its text. Amounts are in sp.
-#[derive(Clone, Copy)]
-pub struct Reading {
-    /// The penalty of its break.
-    pub penalty: i64,
-    /// The height of the text so far without its depth: that of the held page and of this one.
-    pub height: i64,
-    /// The same with its depth, and with the insertions that are on the page.
-    pub page_height: i64,
-    /// Whether insertions are on the page.
-    pub has_notes: bool,
-}

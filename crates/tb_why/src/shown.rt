@@ -1,11 +1,11 @@
 //! What is shown of a run: its lines, and what they add to the summary.
 
-ghost use Rattle.std.specs.Prelude.{◌≡◌, [], ◌∷◌, ◌++◌, OnOk};
+ghost use Rattle.std.specs.Prelude.{◌≡◌, ◌<◌, ◌^◌, [], ◌∷◌, ◌++◌, OnOk};
 ghost use Rattle.tb_items.specs.Happenings.{event_of, IsPage};
 ghost use Rattle.tb_why.specs.ShownLines.{all_shown_lines, event_lines, shown_lines};
 ghost use Rattle.tb_why.specs.ShownOf.{all_shown_of, shown_part, AreShownPages, IsShownPage};
 ghost use Rattle.tb_why.specs.Summary.{after_event, after_shown, summed};
-ghost use Rattle.tb_story.specs.Summary.{after_tale};
+ghost use Rattle.tb_why.specs.SummaryLaws.{sheets_of};
 
 use std::alloc::AllocError;
 use std::marker::Model;
@@ -121,14 +121,15 @@ fn put_happening(
     }
 }
 
-/// Takes what is shown into the summary, one after another. It fails only if memory runs out, or if more
-/// sheets were put out than the summary counts; nothing is promised of the summary then.
+/// Takes what is shown into the summary, one after another. It fails only if memory runs out; nothing is promised of the
+/// summary then.
 pub fn note_shown(
     summary: &mut Summary,
     store: &Lists<Node>,
     shown: &[Showing],
 ) -> Result<(), AllocError>
     requires pages { AreShownPages store.now shown.now }
+    requires few { sheets_of summary.old.sheets (all_shown_of store.now shown.now) < 2 ^ 63 }
     ensures { OnOk result (summary.new ≡ summed (all_shown_of store.now shown.now) summary.old) }
 {
     for showing in shown {
@@ -142,7 +143,8 @@ fn note_showing(
     store: &Lists<Node>,
     showing: &Showing,
 ) -> Result<(), AllocError>
-    requires { IsShownPage store.now showing.now }
+    requires page { IsShownPage store.now showing.now }
+    requires few { summary.old.sheets < 2 ^ 63 }
     ensures { OnOk result (summary.new ≡ after_shown (shown_part store.now showing.now) summary.old) }
 {
     match showing {
@@ -150,21 +152,8 @@ fn note_showing(
             note_happening(summary, store, &happened.happening);
             Ok(())
         }
-        Showing::Tells(telling) => note_tale(summary, &telling.tale),
+        Showing::Tells(telling) => summary.note(&telling.tale),
     }
-}
-
-// No run comes near so many sheets: it ships at most 1000000 pages.
-const MOST_SHEETS: u64 = 1 << 62;
-
-// Takes a tale into the summary, whose count of sheets has room for one more.
-fn note_tale(summary: &mut Summary, tale: &Tale) -> Result<(), AllocError>
-    ensures { OnOk result (summary.new ≡ after_tale tale.now summary.old) }
-{
-    if summary.sheets() >= MOST_SHEETS {
-        return Err(AllocError);
-    }
-    summary.note(tale)
 }
 
 // A page that was shipped lands floats; a place that was tried changes nothing.

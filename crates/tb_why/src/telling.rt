@@ -1,26 +1,28 @@
 //! What is told at the firing of a page, along its steps.
-ghost use Rattle.std.specs.Prelude.{◌≡◌, ℕ, List, ◌++◌, OnOk, IfOk};
+ghost use Rattle.std.specs.Prelude.{◌≡◌, ◌++◌, OnOk, IfOk};
 ghost use Rattle.tb_scaled.specs.Amount.{IsAmount};
 ghost use Rattle.tb_output.specs.Machine.{AreOutputParams};
 ghost use Rattle.tb_output.specs.Output.{is_int};
 ghost use Rattle.tb_why.specs.Seen.{seen_pieces, ordinary_told, clear_told, clear_floats_told, clear_wide_told, text_float_told, text_told, text_seen, put_out_told, put_out_seen, put_out_told_by, put_out_seen_by, pair_told, pair_seen, all_wide_told, all_wide_seen, all_float_told, all_float_seen};
-ghost use Rattle.tb_why.specs.SeenSteps.{reading_with, IsWideTurn, IsFloatTurn};
+ghost use Rattle.tb_why.specs.SeenSteps.{IsWideTurn, IsFloatTurn};
 
+use crate::Seen;
 use crate::lists::{wide_part, wide_wanted};
-use crate::{Reading, Seen};
 use std::alloc::AllocError;
 use tb_float::{Entry, Part};
 use tb_node::{CLEAR_PENALTY, PAR_PENALTY, VERT_PENALTY, Where};
+use tb_output::Reading;
 use tb_param::Params;
 use tb_scaled::EJECT_PENALTY;
 use tb_told::{Piece, Tale};
 
-/// Appends what is told at the firing of a page, and the places of what the firing sends, in their order. `reading` is read
-/// from the page before it fires, `here` has the lines of the floats in its text, and `seen` is the state before. Amounts
-/// are in scaled points. Fails only if memory runs out; then only a part of this may be told.
+/// Appends what is told at the firing of a page, and the places of what the firing sends, in their order. `penalty` is that
+/// of its break, `reading` is read from the page before it fires, `here` has the lines of the floats in its text, and `seen`
+/// is the state before. Amounts are in scaled points. Fails only if memory runs out; then only a part of this may be told.
 pub fn tell_firing(
     pieces: &mut Vec<Piece>,
     p: &Params,
+    penalty: i64,
     reading: &Reading,
     here: &[u32],
     seen: Seen,
@@ -29,10 +31,10 @@ pub fn tell_firing(
     requires height { IsAmount reading.now.height }
     requires page_height { IsAmount reading.now.page_height }
     requires note_bottom { IsAmount seen.note_bottom }
-    ensures { OnOk result (pieces.new.items ≡ pieces.old.items ++ seen_pieces p.now (reading_with reading.now here.now) seen) }
+    ensures { OnOk result (pieces.new.items ≡ pieces.old.items ++ seen_pieces p.now penalty here.now reading.now seen) }
 {
     let mut seen = seen;
-    seen.fire(pieces, p, reading, here)
+    seen.fire(pieces, p, penalty, reading, here)
 }
 
 impl Seen {
@@ -41,6 +43,7 @@ impl Seen {
         &mut self,
         pieces: &mut Vec<Piece>,
         p: &Params,
+        penalty: i64,
         reading: &Reading,
         here: &[u32],
     ) -> Result<(), AllocError>
@@ -48,15 +51,15 @@ impl Seen {
         requires height { IsAmount reading.now.height }
         requires page_height { IsAmount reading.now.page_height }
         requires note_bottom { IsAmount self.old.note_bottom }
-        ensures { OnOk result (pieces.new.items ≡ pieces.old.items ++ seen_pieces p.now (reading_with reading.now here.now) self.old) }
+        ensures { OnOk result (pieces.new.items ≡ pieces.old.items ++ seen_pieces p.now penalty here.now reading.now self.old) }
     {
-        if reading.penalty >= EJECT_PENALTY {
+        if penalty >= EJECT_PENALTY {
             return self.ordinary(pieces, p, here);
         }
-        if is_signal(reading.penalty, CLEAR_PENALTY) {
+        if is_signal(penalty, CLEAR_PENALTY) {
             return self.clear(pieces, p, reading, here);
         }
-        if is_signal(reading.penalty, PAR_PENALTY) || is_signal(reading.penalty, VERT_PENALTY) {
+        if is_signal(penalty, PAR_PENALTY) || is_signal(penalty, VERT_PENALTY) {
             return self.text_float(pieces, p, reading);
         }
         Ok(())
@@ -215,7 +218,7 @@ impl Seen {
         here: &[u32],
     ) -> Result<(), AllocError>
         requires { AreOutputParams p.now }
-        ensures { OnOk result (pieces.new.items ≡ pieces.old.items ++ clear_told p.now (reading_with reading.now here.now) self.old) }
+        ensures { OnOk result (pieces.new.items ≡ pieces.old.items ++ clear_told p.now here.now reading.now self.old) }
     {
         if reading.has_notes {
             return self.text(pieces, p, here);
@@ -259,7 +262,7 @@ impl Seen {
         requires height { IsAmount reading.now.height }
         requires page_height { IsAmount reading.now.page_height }
         requires note_bottom { IsAmount self.now.note_bottom }
-        ensures { (here : List ℕ) → OnOk result (pieces.new.items ≡ pieces.old.items ++ text_float_told p.now (reading_with reading.now here) self.now) }
+        ensures { OnOk result (pieces.new.items ≡ pieces.old.items ++ text_float_told p.now reading.now self.now) }
     {
         if self.over {
             return Ok(());

@@ -1,6 +1,7 @@
 -- A turn of a run with what is told of it, and its end.
-use Rattle.std.proofs.Common.{◌≡◌, refl, sym, subst, ◌∙◌, ap, ℕ, ◌<◌, ◌≤◌, inl, inr, pos, true, List, [], ◌++◌, Option, None, Some, append_assoc, append-nil}
-use Rattle.std.specs.Prelude.{int_lt}
+use Rattle.std.proofs.Common.{◌≡◌, refl, sym, subst, ◌∙◌, ap, ℕ, ◌+◌, ◌-◌, ◌*◌, ◌^◌, ◌<◌, ◌≤◌, arith, inl, inr, pos, true, List, [], ◌++◌, Option, None, Some, append_assoc, append-nil}
+use Rattle.std.specs.Prelude.{int_lt, nat_abs, pred}
+use Rattle.std.proofs.lemmas.Nat.{mul-le}
 use Rattle.std.specs.Io.KnownBytes.{Appends, append_known}
 use Rattle.std.proofs.KnownBytes.{Appends-trans}
 use Rattle.tb_io.specs.Sink.{AppendsPrefix}
@@ -16,13 +17,17 @@ use Rattle.tb_items.specs.RunEvents.{RunEvent}
 use Rattle.tb_run.specs.declared.routine.Routine.{Routine}
 use Rattle.tb_run.specs.declared.routine.Ending.{Ending}
 use Rattle.tb_run.specs.declared.routine.Ending.TheVariants as endings
-use Rattle.tb_steps.specs.Run.{Run, End, done, pool_full, dead_cycles, page_limit, node_limit, Step, ends, goes_on, step, held_count, run_of_state}
+use Rattle.tb_steps.specs.Run.{Run, End, done, pool_full, dead_cycles, page_limit, node_limit, Step, ends, goes_on, step, firings_left, held_count, run_of_state}
 use Rattle.tb_run.specs.Routine.{held_in, state_of, IsFaultEnd, IsEnd, EndsAs, over_limit}
+use Rattle.tb_laws.proofs.Defined.RunParams.{AreFewFirings}
 use Rattle.tb_story.specs.Summary.{SummaryView, no_stories}
 use Rattle.tb_story.specs.StoryLines.{story_lines}
 use Rattle.tb_why.specs.WhyRun.{Shown, step_shown}
 use Rattle.tb_why.specs.ShownLines.{all_shown_lines}
 use Rattle.tb_why.specs.Summary.{summed}
+use Rattle.tb_why.specs.SummaryLaws.{sheets_of}
+use Rattle.tb_why.proofs.TimeLemmas.{sheets_from}
+use Rattle.tb_why.proofs.SheetLemmas.{step-few}
 use Rattle.tb_top.specs.declared.View.TheVariants as views
 use Rattle.tb_top.specs.declared.PageFault.{PageFault}
 use Rattle.tb_top.specs.declared.PageFault.TheVariants as faults
@@ -71,6 +76,39 @@ module _ (p : Params) (s : State) (old now mid : Option (List ℕ)) (m : Summary
   turn-closes n ending sum some b =
       subst (λ k. WhyClosesAt p q ending old mid k all whole) (sym (sum ∙ ap (λ ys. summed ys m) shown))
       (closes-by-step ending (step p s) refl (subst (λ x. EndsAs q x (step p s)) some shows.ended) (subst (λ ys. Appends now mid (all_shown_lines ys)) shown b))
+
+-- ---- the sheets
+
+-- a firing puts out at most 2000004 sheets, and so many are counted in this state
+pub record AreFewSheets (p : Params) (m : SummaryView) (s : State) : Type 0 where
+  pub few : m.sheets + 2000004 * firings_left p s ≤ 2000008000008000000
+
+pub sheets-first : (p : Params) (first s : State) (m : SummaryView) → AreFewFirings p → first.page ≡ 1 → first.dead_cycles ≡ 0 → s ≡ first → m ≡ no_stories → AreFewSheets p m s
+sheets-first p first s m few one none is nothing =
+    let n = nat_abs p.maxpages in
+    let d = nat_abs p.maxdeadcycles in
+    let a : n ≤ 1000000 = few.pages in
+    let b : d ≤ 1000000 = few.cycles in
+    let less : (n - pred first.page) * (d + 1) ≤ 1000000 * 1000001 = mul-le (n - pred first.page) (d + 1) 1000000 1000001 (omega (arith, a)) (omega (arith, b)) in
+    let no_sheets : m.sheets ≡ 0 = ap (λ (k : SummaryView). k.sheets) nothing in
+    subst (AreFewSheets p m) (sym is) (record { few = omega (arith, less, b, no_sheets) })
+
+sheets-of : (left later u v : ℕ) → u + 2000004 * left ≤ 2000008000008000000 → v ≤ u + 2000004 → later < left → v + 2000004 * later ≤ 2000008000008000000
+sheets-of left later u v h k l = omega (arith, h, k, l)
+
+module _ (p : Params) (s : State) (m : SummaryView) (few : AreFewFirings p) (sheets : AreFewSheets p m s) (xs : List Shown) (shown : xs ≡ step_shown p s) where
+  more : sheets_of m.sheets xs ≤ m.sheets + 2000004
+  more = let a = step-few p s m.sheets in let b = few.pages in let e = ap (λ ys. sheets_of m.sheets ys) shown in omega (arith, a, b, e)
+
+  -- they can be counted
+  pub turn-sheets : sheets_of m.sheets xs < 2 ^ 63
+  turn-sheets = let a = more in let b = sheets.few in omega (arith, a, b)
+
+  pub sheets-next : (n : SummaryView) (after : State) → n ≡ summed xs m → firings_left p after < firings_left p s → AreFewSheets p n after
+  sheets-next n after sum fewer =
+      let e : n.sheets ≡ sheets_of m.sheets xs = ap (λ (k : SummaryView). k.sheets) sum ∙ sheets_from xs m in
+      let a = more in
+      record { few = sheets-of (firings_left p s) (firings_left p after) m.sheets n.sheets sheets.few (omega (arith, a, e)) fewer }
 
 -- ---- the beginning
 

@@ -1,8 +1,10 @@
 -- Worked rows of the definitions: words, texts and traces.
 use Rattle.std.proofs.Common.{◌≡◌, refl, ℕ, List, [], ◌∷◌}
 use Rattle.std.specs.Prelude.{Bool, true, false, codes, Result, Err}
+use Rattle.std.specs.List.{fold}
 use Rattle.std.specs.Fmt.{digits}
 use Rattle.tb_scaled.specs.Scaled.{badness_of}
+use Rattle.tb_text.specs.Lines.{lines_of}
 use Rattle.tb_param.specs.Defaults.{default_params}
 use Rattle.tb_param.specs.Table.{row_of}
 use Rattle.tb_galley.specs.declared.Cause.TheVariants as causes
@@ -10,7 +12,7 @@ use Rattle.tb_galley.specs.declared.Fault.{Fault}
 use Rattle.tb_galley.specs.declared.Galley.{Galley}
 use Rattle.tb_galley.specs.Words.{word_of}
 use Rattle.tb_galley.specs.Faults.{fault}
-use Rattle.tb_galley.specs.Grammar.{grammar}
+use Rattle.tb_galley.specs.Grammar.{grammar, with_line, empty_draft, content_from, galley_of}
 use Rattle.tb_galley.specs.GalleyNodes.{expanded}
 use Rattle.tb_galley.specs.CanonicalText.{printed}
 use Rattle.tb_break.specs.Cost.{page_badness, cost_of_badness}
@@ -18,29 +20,32 @@ use Rattle.tb_output.specs.Output.{out}
 use Rattle.tb_steps.specs.Run.{End, pool_full, dead_cycles, run_of, run_from, step}
 use Rattle.tb_top.specs.Report.{report, trace}
 use Rattle.tb_laws.specs.Laws.{is_carried, shipped_boxes}
-use Rattle.tb_why.proofs.AllWords.{galley_read}
+
+-- the galley of an input without faults
+abbrev galley_read : List ℕ → Galley
+galley_read input = galley_of (fold with_line empty_draft (content_from 1 (lines_of input)))
 
 -- what is written for an input without faults
 abbrev reported : List ℕ → List ℕ
-unfolding report digits row_of run_of run_from step expanded default_params out page_badness cost_of_badness badness_of
+unfolding report digits row_of run_of run_from step expanded default_params out page_badness cost_of_badness badness_of word_of
 reported input = report (run_of (galley_read input))
 
 abbrev traced : List ℕ → List ℕ
-unfolding trace digits row_of run_of run_from step expanded default_params out page_badness cost_of_badness badness_of
+unfolding trace digits row_of run_of run_from step expanded default_params out page_badness cost_of_badness badness_of word_of
 traced input = trace (run_of (galley_read input))
 
 abbrev ending : List ℕ → End
-unfolding row_of run_of run_from step expanded default_params out page_badness cost_of_badness badness_of
+unfolding row_of run_of run_from step expanded default_params out page_badness cost_of_badness badness_of word_of
 ending input = (run_of (galley_read input)).end
 
 -- the boxes of an input in the order in which they ship
 abbrev boxes_shipped : List ℕ → List ℕ
-unfolding row_of run_of run_from step expanded default_params out page_badness cost_of_badness badness_of
+unfolding row_of run_of run_from step expanded default_params out page_badness cost_of_badness badness_of word_of
 boxes_shipped input = shipped_boxes (run_of (galley_read input))
 
 -- whether the float of a line was carried past the column in which it was placed
 abbrev carried : ℕ → List ℕ → Bool
-unfolding row_of run_of run_from step expanded default_params out page_badness cost_of_badness badness_of
+unfolding row_of run_of run_from step expanded default_params out page_badness cost_of_badness badness_of word_of
 carried line input = is_carried (run_of (galley_read input)) line
 
 three_boxes_traced : traced (codes "galley 1\nset textheight 30\nset topskip 10\nset maxdepth 0\nbox a 10 0\nglue 0 plus 5\nbox b 10 0\nglue 0 plus 5\nbox c 10 0\nend\n") ≡ codes "report 1\ntry 6 t 10 s 0 0 0 0 z 0 g 30 b 10000 p 0 c 100000 #\ntry 8 t 20 s 5 0 0 0 z 0 g 30 b 800 p 0 c 800 #\ntry 10 t 30 s 10 0 0 0 z 0 g 30 b 0 p 0 c 0 #\ntry 10 t 30 s 10 65536 0 0 z 0 g 30 b 0 p -10000 c -10000 #\npage 1 one\ncolumn 1 text height 30 natural 30 set none\nbox a 0 10 0\nbox b 10 10 0\nbox c 20 10 0\ntry 10 t 0 s 0 0 0 0 z 0 g 30 b 10000 p 0 c 100000 #\ntry 10 t 10 s 0 0 0 0 z 0 g 30 b 10000 p -10001 c -10001 #\nend pages 1 boxes 3 floats 0 warnings 0\n"
@@ -145,7 +150,7 @@ second_float_was_not = refl
 
 -- the canonical text
 abbrev printed_text : List ℕ → List ℕ
-unfolding printed digits default_params row_of
+unfolding printed digits default_params row_of word_of
 printed_text input = printed (galley_read input)
 
 canonical_text : printed_text (codes "galley 1\nset textheight 100\nset topskip 10\nset maxdepth 0\nset baselineskip 0\nset bottom flush\nset skipfootins 0\nset footsplittop 10\nset intextsep 0\nset textfloatsep 0\nset floatsep 0\nset fptop 0\nset fpsep 0\nset fpbot 0\nset dbltextfloatsep 0\nbox a 40 0\nglue 0 plus 60\npenalty -9999\nbox b 10 0\nfloat F 1 single h 20 par\nbox c 10 0\nfloat G 1 single b 10 par\nbox d 20 0\nend\n") ≡ codes "galley 1\nset textheight 100\nset topskip 10\nset maxdepth 0\nset baselineskip 0\nset bottom flush\nset topnumber 2\nset bottomnumber 1\nset totalnumber 3\nset dbltopnumber 2\nset topfraction 45875/65536\nset bottomfraction 19661/65536\nset textfraction 13107/65536\nset floatpagefraction 32768/65536\nset dbltopfraction 45875/65536\nset dblfloatpagefraction 32768/65536\nset floatsep 0 plus 0 minus 0\nset textfloatsep 0 plus 0 minus 0\nset intextsep 0 plus 0 minus 0\nset dblfloatsep 786432 plus 131072 minus 131072\nset dbltextfloatsep 0 plus 0 minus 0\nset fptop 0 plus 0 minus 0\nset fpsep 0 plus 0 minus 0\nset fpbot 0 plus 0 minus 0\nset dblfptop 0 plus 65536sfil minus 0\nset dblfpsep 524288 plus 131072sfil minus 0\nset dblfpbot 0 plus 65536sfil minus 0\nset skipfootins 0 plus 0 minus 0\nset footlimit 37890293\nset footsplittop 10\nset footsplitdepth 186778\nset footfloating 20000\nset splittopskip 655360\nset splitmaxdepth 1073741823\nset floatingpenalty 0\nset interlinepenalty 0\nset parskip 0 plus 65536 minus 0\nset marginparpush 327680\nset mparswitch off\nset reversemargin off\nset pool 18\nset maxdeadcycles 100\nset maxpages 1000000\nset maxnodes 4194304\nbox a 40 0\nglue 0 plus 60 minus 0\npenalty -9999\nbox b 10 0\nfloat F 1 single h 20 par\nbox c 10 0\nfloat G 1 single b 10 par\nbox d 20 0\nend\n"

@@ -8,7 +8,7 @@ use Rattle.tb_told.proofs.ChoiceLemmas.{height-is, height-none}
 use Rattle.tb_told.proofs.choices.company_height.Goals as goal
 
 pub returns-then-floats-eq0 : goal.returns-then-floats-eq0
-returns-then-floats-eq0 c = sym (height-none _ c.args.company.now (sym c.requires.floats ∙ c.if-floats-eq0.true))
+returns-then-floats-eq0 c = c.new.ensures ∙ sym (height-none _ c.args.company.now (sym c.requires.floats ∙ c.if-floats-eq0.true))
 
 pub returns : goal.returns
 returns c =
@@ -21,6 +21,6 @@ returns c =
     let e_sep : to_z w64 (of_z w64 c.args.sep) ≡ c.args.sep = to_z-of_z _ _ fits_sep in
     let e_all : to_z w128 (of_z w128 c.separated.result) ≡ c.separated.result = to_z-of_z _ _ fits_all in
     let e_less : to_z w128 (of_z w128 c.less.result) ≡ c.less.result = to_z-of_z _ _ fits_less in
-    e_less ∙ c.less.ensures ∙ (λ i. e_all i -ℤ e_sep i)
+    c.new-2.ensures ∙ e_less ∙ c.less.ensures.value ∙ (λ i. e_all i -ℤ e_sep i)
     ∙ ap (λ y. y -ℤ c.args.sep) (c.separated.ensures.value ∙ ap (λ y. separated y cs) e_sep)
     ∙ sym (height-is c.args.sep cs n some)

@@ -14,9 +14,9 @@ returns c =
     let cs = c.args.company.now in
     let least : FitsSigned w64 z.minimum = search rules in
     let sep : FitsSigned w64 z.sep = search rules in
-    let height : FitsSigned w128 c.company_height-sum.result = search rules in
+    let height : FitsSigned w128 c.amount.result = search rules in
     let sum : c.company_height-sum.result ≡ company_height z.sep cs = simp to_z-of_z at c.company_height-sum.ensures in
     let made_is = simp to_z-of_z at c.is_made.ensures in
-    let made : c.is_made.result ≡ is_made z cs = made_is ∙ ap (λ y. z.clearing || int_lt z.minimum y) sum in
+    let made : c.is_made.result ≡ is_made z cs = made_is ∙ ap (λ y. z.clearing || int_lt z.minimum y) (c.amount.ensures.value ∙ sum) in
     let failed : c.failing.result ≡ first_failed (made_tests z cs) = c.failing.ensures ∙ ap (λ b. if b then None else Some tests.Sum) made in
     simp to_z-of_z (cc (c.chosen_count-floats.ensures, sum, failed))

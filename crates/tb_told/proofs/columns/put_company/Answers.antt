@@ -1,5 +1,4 @@
 use Rattle.std.proofs.Common.{FitsSigned, List, [], append_assoc, codes, refl, rules, w64, ℕ, ◌++◌, ◌∷◌, ◌≡◌}
-use Rattle.std.specs.Int.{w128}
 use Rattle.std.proofs.lemmas.Int.{to_z-of_z}
 use Rattle.tb_text.specs.Fields.{and_number, and_count, and_text}
 use Rattle.tb_text.proofs.FrontLemmas.{cut, cut-in, cut-after, past, fails, on_joined}
@@ -26,20 +25,17 @@ returns-in_err-put_total c =
 
 pub returns-in_err-put_sum : goal.returns-in_err-put_sum
 returns-in_err-put_sum c =
-    let a : FitsSigned w128 c.args.t.now.sum = search rules in
-    fails _ _ _ _ c.from_residual-in_err-put_sum.ensures.0 (cut-after _ _ (parts c.args.name.now c.args.t.now) c.in_ok-put_head.ensures (past _ c.in_ok-put_total.ensures (cut _ (simp to_z-of_z at c.in_err-put_sum.ensures))))
+    fails _ _ _ _ c.from_residual-in_err-put_sum.ensures.0 (cut-after _ _ (parts c.args.name.now c.args.t.now) c.in_ok-put_head.ensures (past _ c.in_ok-put_total.ensures (cut _ c.in_err-put_sum.ensures)))
 
 pub returns-in_err-put_measure : goal.returns-in_err-put_measure
 returns-in_err-put_measure c =
-    let a : FitsSigned w128 c.args.t.now.sum = search rules in
     let b : FitsSigned w64 c.args.t.now.least = search rules in
-    fails _ _ _ _ c.from_residual-in_err-put_measure.ensures.0 (cut-after _ _ (parts c.args.name.now c.args.t.now) c.in_ok-put_head.ensures (past _ c.in_ok-put_total.ensures (past _ (simp to_z-of_z at c.in_ok-put_sum.ensures) (cut _ (simp to_z-of_z at c.in_err-put_measure.ensures)))))
+    fails _ _ _ _ c.from_residual-in_err-put_measure.ensures.0 (cut-after _ _ (parts c.args.name.now c.args.t.now) c.in_ok-put_head.ensures (past _ c.in_ok-put_total.ensures (past _ c.in_ok-put_sum.ensures (cut _ (simp to_z-of_z at c.in_err-put_measure.ensures)))))
 
 pub returns : goal.returns
 returns c =
-    let a : FitsSigned w128 c.args.t.now.sum = search rules in
     let b : FitsSigned w64 c.args.t.now.least = search rules in
     on_joined c.put_end.result c.args.out.now.items c.put_head.new.out.items c.put_end.new.out.items _ _ _ (parts c.args.name.now c.args.t.now) c.in_ok-put_head.ensures
     (on_joined c.put_end.result c.put_head.new.out.items c.put_total.new.out.items c.put_end.new.out.items _ _ _ refl c.in_ok-put_total.ensures
-    (on_joined c.put_end.result c.put_total.new.out.items c.put_sum.new.out.items c.put_end.new.out.items _ _ _ refl (simp to_z-of_z at c.in_ok-put_sum.ensures)
+    (on_joined c.put_end.result c.put_total.new.out.items c.put_sum.new.out.items c.put_end.new.out.items _ _ _ refl c.in_ok-put_sum.ensures
     (on_joined c.put_end.result c.put_sum.new.out.items c.put_measure.new.out.items c.put_end.new.out.items _ _ _ refl (simp to_z-of_z at c.in_ok-put_measure.ensures) c.put_end.ensures)))

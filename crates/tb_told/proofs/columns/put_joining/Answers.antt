@@ -1,5 +1,4 @@
 use Rattle.std.proofs.Common.{FitsSigned, List, [], append_assoc, codes, refl, rules, w64, ℕ, ◌++◌, ◌∷◌, ◌≡◌}
-use Rattle.std.specs.Int.{w128}
 use Rattle.std.proofs.lemmas.Int.{to_z-of_z}
 use Rattle.tb_text.specs.Fields.{and_number, and_text}
 use Rattle.tb_text.proofs.FrontLemmas.{cut, cut-in, cut-after, past, fails, on_joined}
@@ -28,14 +27,12 @@ returns-in_err-put_measure c =
 pub returns-in_err-put_most : goal.returns-in_err-put_most
 returns-in_err-put_most c =
     let a : FitsSigned w64 c.args.t.now.high = search rules in
-    let b : FitsSigned w128 c.args.t.now.sum = search rules in
     let d : FitsSigned w64 c.args.t.now.most = search rules in
     fails _ _ _ _ c.from_residual-in_err-put_most.ensures.0 (cut-after _ _ (parts c.args.name.now c.args.t.now) c.in_ok-put_blocked.ensures (past _ (simp to_z-of_z at c.in_ok-put_measure.ensures) (cut _ (simp to_z-of_z at c.in_err-put_most.ensures))))
 
 pub returns : goal.returns
 returns c =
     let a : FitsSigned w64 c.args.t.now.high = search rules in
-    let b : FitsSigned w128 c.args.t.now.sum = search rules in
     let d : FitsSigned w64 c.args.t.now.most = search rules in
     on_joined c.put_end.result c.args.out.now.items c.put_blocked.new.out.items c.put_end.new.out.items _ _ _ (parts c.args.name.now c.args.t.now) c.in_ok-put_blocked.ensures
     (on_joined c.put_end.result c.put_blocked.new.out.items c.put_measure.new.out.items c.put_end.new.out.items _ _ _ refl (simp to_z-of_z at c.in_ok-put_measure.ensures)

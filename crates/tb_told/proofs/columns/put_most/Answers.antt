@@ -1,5 +1,4 @@
 use Rattle.std.proofs.Common.{FitsSigned, List, append_assoc, codes, w64, ℕ, ℤ, ◌++◌, ◌≡◌}
-use Rattle.std.specs.Int.{w128}
 use Rattle.std.proofs.lemmas.Int.{to_z-of_z}
 use Rattle.tb_text.specs.Fields.{and_number}
 use Rattle.tb_text.proofs.FrontLemmas.{cut-in, fails, on_joined}
@@ -15,11 +14,9 @@ parts sum most = joined (codes " sum") (and_number sum) (codes " most") (and_num
 
 pub returns-in_err-put_sum : goal.returns-in_err-put_sum
 returns-in_err-put_sum c =
-    let a : FitsSigned w128 c.args.sum = c.ranges.sum in
-    fails _ _ _ _ c.from_residual.ensures.0 (cut-in _ _ (parts c.args.sum c.args.most) (simp to_z-of_z at c.in_err-put_sum.ensures))
+    fails _ _ _ _ c.from_residual.ensures.0 (cut-in _ _ (parts c.args.sum.now c.args.most) c.in_err-put_sum.ensures)
 
 pub returns : goal.returns
 returns c =
-    let a : FitsSigned w128 c.args.sum = c.ranges.sum in
     let b : FitsSigned w64 c.args.most = c.ranges.most in
-    on_joined c.put_measure.result c.args.out.now.items c.put_sum.new.out.items c.put_measure.new.out.items _ _ _ (parts c.args.sum c.args.most) (simp to_z-of_z at c.in_ok-put_sum.ensures) (simp to_z-of_z at c.put_measure.ensures)
+    on_joined c.put_measure.result c.args.out.now.items c.put_sum.new.out.items c.put_measure.new.out.items _ _ _ (parts c.args.sum.now c.args.most) c.in_ok-put_sum.ensures (simp to_z-of_z at c.put_measure.ensures)

@@ -1,4 +1,4 @@
-use Rattle.std.proofs.Common.{◌∙◌, ap, sym, subst, ◌≡◌, ◌<◌, ◌++◌, true, refl, List, Option, None, Some, arith}
+use Rattle.std.proofs.Common.{◌∙◌, ap, sym, subst, ◌≡◌, ◌<◌, ◌^◌, ◌++◌, true, refl, Option, None, Some, arith}
 use Rattle.std.proofs.lemmas.Result.{err_from_is_err_and, IfErr-weaker, IfOk-weaker, IfErr-at_err}
 use Rattle.std.proofs.lemmas.Option.{MatchOption-at_none}
 use Rattle.std.specs.Io.KnownBytes.{Appends, append_known}
@@ -11,10 +11,11 @@ use Rattle.tb_run.specs.declared.routine.Ending.{Ending}
 use Rattle.tb_run.specs.Routine.{state_of, over_limit, AreHappened}
 use Rattle.tb_steps.specs.Run.{held_count, firings_left}
 use Rattle.tb_laws.proofs.Defined.RunParams.{few-firings}
-use Rattle.tb_why.specs.WhyRun.{Shown, step_shown}
+use Rattle.tb_why.specs.WhyRun.{step_shown}
 use Rattle.tb_why.specs.ShownLines.{all_shown_lines}
-use Rattle.tb_why.specs.ShownOf.{all_shown_of, AreShownPages}
+use Rattle.tb_why.specs.ShownOf.{all_shown_of}
 use Rattle.tb_why.specs.Summary.{summed}
+use Rattle.tb_why.specs.SummaryLaws.{sheets_of}
 use Rattle.tb_top.specs.declared.View.TheVariants as views
 use Rattle.tb_top.specs.Kept.{Grows, Keeps}
 use Rattle.tb_top.specs.PagesWritten.{run_on}
@@ -26,7 +27,7 @@ use Rattle.tb_top.proofs.Written.FinishLemmas.{ClosesAt, start-closing, start-go
 use Rattle.tb_top.proofs.Written.FirstRuns.{none-yet}
 use Rattle.tb_top.proofs.Written.TurnLemmas.{ShowsStep, shows-step, turn-fewer}
 use Rattle.tb_top.proofs.Why.WhyGoing.{why-now}
-use Rattle.tb_top.proofs.Why.WhyTurns.{WhyClosesAt, start-goes, start-closes, turn-cut, turn-goes, turn-closes, ends-why, stops-why}
+use Rattle.tb_top.proofs.Why.WhyTurns.{WhyClosesAt, start-goes, start-closes, turn-cut, turn-goes, turn-closes, ends-why, stops-why, sheets-first, turn-sheets, sheets-next}
 use Rattle.tb_top.proofs.told_pages.run_on.Given.{Over}
 use Rattle.tb_top.proofs.told_pages.run_on.Goals.{In_ok-put, In-Some, In_ok-ending, In_ok-send}
 use Rattle.tb_top.proofs.told_pages.run_on.Goals as goal
@@ -88,6 +89,7 @@ firing-init g c =
       told = start-goes p s c.node_limit.new.self _ _ c.new-summary.result c.node_limit.result is first c.new-summary.ensures more c.in_default.is;
       grown = grows-nothing (g.K.Sink.held c.args.out.now);
       tally = start-tally p views.Trace s c.node_limit.new.self None None c.new-totals.result c.node_limit.result is c.requires.page tt c.new-totals.ensures more c.requires.cycles (few-firings p c.requires.params);
+      sheets = sheets-first p s (state_of c.node_limit.new.self) c.new-summary.result (few-firings p c.requires.params) c.requires.page c.requires.cycles is c.new-summary.ensures;
       later = omega arith;
     }
 
@@ -116,6 +118,13 @@ count_happened-requires-clause-room g c =
     let shows = turn g (goal.at.count_happened-requires-clause-room g c).In_ok-ending in
     subst (λ hs. AreCounts (with_events (events_of c.told_turn.new.routine.store hs) c.firing.totals)) (sym c.deref.ensures.value)
     (turn-counts p views.Trace (state_of c.firing.routine) None None c.firing.totals (run_on c.args.routine.now) c.firing.invariant.going c.told_turn.new.routine c.told_turn.new.happened.items c.in_ok-ending.ending shows (few-firings p c.requires.params) c.firing.invariant.tally (few-wait c.firing.routine c.firing.invariant.ready) c.in_ok-ending.ensures.pages)
+
+pub send-requires-clause-few : goal.send-requires-clause-few
+send-requires-clause-few g c =
+    let w = (goal.at.send-requires-clause-few g c).In_ok-ending in
+    let p = c.args.routine.now.machine.params in
+    let few = turn-sheets p (state_of c.firing.routine) c.firing.summary (few-firings p c.requires.params) c.firing.invariant.sheets _ (told g w) in
+    subst (λ ys. sheets_of c.firing.summary.sheets (all_shown_of c.told_turn.new.routine.store ys) < 2 ^ 63) (sym c.deref-in-firing.ensures.value) few
 
 pub returns-in_err-send-clause-refused : goal.returns-in_err-send-clause-refused
 returns-in_err-send-clause-refused g c =
@@ -215,6 +224,7 @@ firing-preserved g c =
     let o = c.in_ok-ending.ending in
     let after = state_of c.make_room.new.self in
     let shows = turn g w.In_ok-ending in
+    let fewer = subst (λ u. firings_left p u < firings_left p s) (sym c.make_room.ensures.state) (turn-fewer p s q c.firing.invariant.going.page true hs o shows c.in_default-ending.is) in
     let start = c.firing.invariant.later in
     let later = c.in_ok-send.ensures.shown.later in
     record {
@@ -224,5 +234,6 @@ firing-preserved g c =
       told = turn-goes p s _ _ _ _ _ _ c.firing.invariant.told c.firing.invariant.going.page q hs o shows _ (told g w.In_ok-ending) c.send.new.summary after c.make_room.ensures.state (sum g w.In_ok-send) c.in_default-ending.is (written g w.In_ok-send);
       grown = grown g w.In_ok-send;
       tally = turn-tally p views.Trace s None None c.firing.totals (run_on c.args.routine.now) c.firing.invariant.going q hs o shows (few-firings p c.requires.params) c.firing.invariant.tally (few-wait c.firing.routine c.firing.invariant.ready) c.in_ok-ending.ensures.pages c.count_happened.new.totals after c.make_room.ensures.state c.in_default-ending.is (counted g w.In_ok-send);
+      sheets = sheets-next p s c.firing.summary (few-firings p c.requires.params) c.firing.invariant.sheets _ (told g w.In_ok-ending) c.send.new.summary after (sum g w.In_ok-send) fewer;
       later = omega (arith, start, later);
     }

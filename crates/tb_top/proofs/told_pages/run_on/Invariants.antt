@@ -9,6 +9,7 @@ use Rattle.tb_top.specs.WhyReport.{why_text}
 use Rattle.tb_top.proofs.Written.GoingLemmas.{Going}
 use Rattle.tb_top.proofs.Written.TallyLemmas.{IsTally}
 use Rattle.tb_top.proofs.Why.WhyGoing.{WhyGoing}
+use Rattle.tb_top.proofs.Why.WhyTurns.{AreFewSheets}
 use Rattle.tb_top.proofs.told_pages.run_on.Given as goal
 
 abbrev pub invariant-firing : goal.invariant-firing
@@ -19,6 +20,7 @@ invariant-firing g l = record {
   told : WhyGoing l.fn.routine.machine.params (state_of l.routine) (g.K.Sink.held l.fn.out) (append_known (g.K.Sink.held l.out) l.kept.items) l.summary (run_on l.fn.routine).events (why_text l.fn.routine.machine.params (state_of l.fn.routine));
   grown : Grows (g.K.Sink.held l.fn.out) (g.K.Sink.held l.out);
   tally : IsTally l.fn.routine.machine.params l.totals (state_of l.routine);
+  sheets : AreFewSheets l.fn.routine.machine.params l.summary (state_of l.routine);
   later : g.K.Sink.faults l.fn.out ≤ g.K.Sink.faults l.out;
 }
 

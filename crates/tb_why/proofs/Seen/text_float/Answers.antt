@@ -4,14 +4,14 @@ use Rattle.std.proofs.lemmas.Int.{to_z-of_z}
 use Rattle.tb_param.specs.declared.Params.{Params}
 use Rattle.tb_float.specs.declared.Entry.{Entry}
 use Rattle.tb_float.specs.declared.Entry.TheVariants as entries
+use Rattle.tb_output.specs.declared.reading.Reading.{Reading}
 use Rattle.tb_told.specs.AreaTold.{told_call}
 use Rattle.tb_told.specs.declared.Tale.{Tale}
 use Rattle.tb_told.specs.declared.Tale.TheVariants.{Calls}
 use Rattle.tb_told.specs.declared.Piece.{Piece}
 use Rattle.tb_told.specs.declared.Piece.TheVariants.{Says}
 use Rattle.tb_told.specs.Tales.{tales, decisions}
-use Rattle.tb_why.specs.Seen.{Seen, Reading, spot_seen, note_seen, told_unless, first_seen, text_float_told}
-use Rattle.tb_why.specs.SeenSteps.{reading_with}
+use Rattle.tb_why.specs.Seen.{Seen, spot_seen, note_seen, told_unless, first_seen, text_float_told}
 use Rattle.tb_why.proofs.Seen.text_float.Goals as goal
 
 -- what is told of the first entry, if there is one
@@ -41,7 +41,7 @@ told-none : (old told : List Piece) → told ≡ [] → old ≡ old ++ told
 told-none old told none = sym (append-nil old) ∙ ap (λ ps. old ++ ps) (sym none)
 
 pub returns-in-Some-Float : goal.returns-in-Some-Float
-returns-in-Some-Float c = λ here.
+returns-in-Some-Float c =
     let p = c.args.p.now in
     let r = c.args.reading.now in
     let v = c.args.self.now in
@@ -51,10 +51,10 @@ returns-in-Some-Float c = λ here.
     let fits : FitsSigned w64 r.page_height = search rules in
     let told : OnOk c.call.result (c.call.new.pieces.items ≡ c.args.pieces.now.items ++ tales (first-by p r.height r.page_height v (Some (entries.Float f)))) = simp to_z-of_z at c.call.ensures in
     subst (λ (ps : List Piece). OnOk c.call.result (c.call.new.pieces.items ≡ c.args.pieces.now.items ++ ps))
-    (sym (told-by p (reading_with r here) v (Some (entries.Float f)) below first)) told
+    (sym (told-by p r v (Some (entries.Float f)) below first)) told
 
 pub returns-in-Some-Left : goal.returns-in-Some-Left
-returns-in-Some-Left c = λ here.
+returns-in-Some-Left c =
     let p = c.args.p.now in
     let r = c.args.reading.now in
     let v = c.args.self.now in
@@ -66,22 +66,22 @@ returns-in-Some-Left c = λ here.
     let said : told_unless v.over (Says c.beside.result ∷ []) ≡ tales (note_seen p r.height m v ∷ [])
     = ap (λ (b : Bool). told_unless b (Says c.beside.result ∷ [])) below ∙ ap (λ (t : Tale). tales (t ∷ [])) note in
     subst (λ (ps : List Piece). OnOk c.say.result (c.say.new.pieces.items ≡ c.args.pieces.now.items ++ ps))
-    (said ∙ sym (told-by p (reading_with r here) v (Some (entries.Left m)) below first)) c.say.ensures
+    (said ∙ sym (told-by p r v (Some (entries.Left m)) below first)) c.say.ensures
 
 pub returns-in-Some-Right : goal.returns-in-Some-Right
-returns-in-Some-Right c = λ here.
+returns-in-Some-Right c =
     let p = c.args.p.now in
     let r = c.args.reading.now in
     let v = c.args.self.now in
     let below : v.over ≡ false = ap (λ (v : Seen). v.over) (sym c.self.view_is) ∙ c.if-self.false in
     let first : slice_get v.floats.current 0 ≡ Some (entries.Right c.in-Some-Right.field-0-0) = search rules in
-    told-none c.args.pieces.now.items _ (told-by p (reading_with r here) v _ below first)
+    told-none c.args.pieces.now.items _ (told-by p r v _ below first)
 
 pub returns-in-None : goal.returns-in-None
-returns-in-None c = λ here.
+returns-in-None c =
     let p = c.args.p.now in
     let r = c.args.reading.now in
     let v = c.args.self.now in
     let below : v.over ≡ false = ap (λ (v : Seen). v.over) (sym c.self.view_is) ∙ c.if-self.false in
     let first : slice_get v.floats.current 0 ≡ None = search rules in
-    told-none c.args.pieces.now.items _ (told-by p (reading_with r here) v _ below first)
+    told-none c.args.pieces.now.items _ (told-by p r v _ below first)
