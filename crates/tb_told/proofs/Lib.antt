@@ -4,7 +4,7 @@ pub mod ColumnLemmas
 pub mod ValueLemmas
 pub mod ChoiceLemmas
 pub mod CompanyLemmas
-pub mod CopyLemmas
+pub mod LeavingLemmas
 pub mod TellingLemmas
 pub mod FillingLemmas
 pub mod DoublingLemmas

@@ -1,10 +1,7 @@
 -- What is told of a column of floats, in pieces, and how a company is told once its choices are known.
-use Rattle.std.specs.Prelude.{◌≡◌, Bool, List, [], ◌∷◌, ◌++◌, map, Option, Some, None, if◌then◌else◌}
+use Rattle.std.specs.Prelude.{◌≡◌, Bool, List, [], ◌∷◌, ◌++◌, map, Some, if◌then◌else◌}
 use Rattle.std.specs.Bool.{beq}
 use Rattle.tb_node.specs.declared.Float.{Float}
-use Rattle.tb_node.specs.declared.Margin.{Margin}
-use Rattle.tb_float.specs.declared.Entry.{Entry}
-use Rattle.tb_float.specs.declared.Entry.TheVariants as entries
 use Rattle.tb_float.specs.declared.Part.{Part}
 use Rattle.tb_float.specs.Lists.{floats_of, with_floats_of}
 use Rattle.tb_float.specs.Pool.{FloatPool}
@@ -45,10 +42,3 @@ pub record IsTaken (z : Wanted) (from : Part) (v w : FloatPool) : Type 0 where
   pub choices : List Choice
   pub found : company z (floats_of from v.lists) ≡ Some choices
   pub lists : w.lists ≡ with_floats_of from (left_floats choices) v.lists
-
--- ---- a copy of the current list
-
--- the left box of a note whose right box is still to come
-abbrev pub open_box : Option Margin → List Entry
-open_box None = []
-open_box (Some m) = entries.Left m ∷ []

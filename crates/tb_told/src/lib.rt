@@ -7,7 +7,6 @@ mod areas;
 mod choices;
 mod columns;
 mod company;
-mod copies;
 mod decisions;
 mod fields;
 mod filling;
@@ -22,7 +21,6 @@ mod telling;
 mod tested;
 
 pub use crate::company::tell_column;
-pub use crate::copies::copied;
 pub use crate::filling::{tell_doubled, tell_filled};
 pub use crate::heads::alone_at;
 pub use crate::laws::{the_company_is_told, what_is_told_is_the_decision, yes_says_that_all_hold};

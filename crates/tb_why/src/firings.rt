@@ -1,6 +1,7 @@
 //! What is told of the firing of a page that the routine has filled.
 
 ghost use Rattle.std.specs.Prelude.{◌≡◌, IfOk};
+ghost use Rattle.tb_float.specs.Pool.{HasNoMarks};
 ghost use Rattle.tb_run.specs.FilledPages.{CanServe};
 ghost use Rattle.tb_why.specs.ShownTurns.{pieces_in, seen_in};
 
@@ -9,7 +10,7 @@ use std::alloc::{AllocError, Global};
 use tb_builder::Page;
 use tb_output::Machine;
 use tb_run::Routine;
-use tb_told::{Piece, copied, here_lines};
+use tb_told::{Piece, here_lines};
 
 /// What is told of the firing of a page that was filled, before it is served; nothing, if the firing is not allowed. It fails
 /// only if memory runs out.
@@ -42,6 +43,7 @@ pub(crate) fn told_pieces(
 
 // What is seen of the machine before it fires, with a copy of its floats. Fails only if memory runs out.
 fn seen_before(alloc: Global, machine: &Machine) -> Result<Seen, AllocError>
+    requires { HasNoMarks machine.now.pool }
     ensures { IfOk result (λ v. v ≡ seen_in machine.now) }
 {
     let standing = machine.standing();
@@ -52,6 +54,6 @@ fn seen_before(alloc: Global, machine: &Machine) -> Result<Seen, AllocError>
         suppress: standing.suppress,
         note_bottom: standing.note_bottom,
         over: false,
-        pool: copied(alloc, machine.pool())?,
+        pool: machine.pool().copy(alloc)?,
     })
 }

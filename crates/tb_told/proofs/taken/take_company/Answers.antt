@@ -9,7 +9,7 @@ use Rattle.tb_fpage.specs.declared.Wanted.{Wanted}
 use Rattle.tb_fpage.specs.Company.{wanted_of, company}
 use Rattle.tb_fpage.specs.Choice.{IsChosen}
 use Rattle.tb_fpage.proofs.CompanyLemmas.{wanted-is}
-use Rattle.tb_told.proofs.CopyLemmas.{left-lists, left-unmarked}
+use Rattle.tb_told.proofs.LeavingLemmas.{left-lists, left-unmarked}
 use Rattle.tb_told.proofs.taken.take_company.Goals as goal
 
 pub choose-requires-clause-unmarked : goal.choose-requires-clause-unmarked
