@@ -1,0 +1,9 @@
+pub mod ReachMore
+pub mod FiredMore
+pub mod StepMore
+pub mod Paths
+pub mod PlanMarks
+pub mod PlanRuns
+pub mod ClosedLemmas
+pub mod BestLemmas
+pub mod RatedPlans

@@ -1,0 +1,4 @@
+pub mod PlanDemerits
+pub mod BestPlan
+pub mod ItemsAhead
+pub mod ClosedTables

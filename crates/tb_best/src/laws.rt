@@ -1,0 +1,26 @@
+//! Laws of the best plan: each function is a theorem, stated by its contract, and does nothing.
+
+ghost use Rattle.std.specs.Prelude.{◌≡◌, ℕ, ℤ, ◌≤ℤ◌, List, reverse, Option, Some, None};
+ghost use Rattle.tb_galley.specs.declared.Galley.{Galley};
+ghost use Rattle.tb_steps.specs.Run.{run_of, node_limit};
+ghost use Rattle.tb_plans.specs.Plans.{IsPlan, with_breaks};
+ghost use Rattle.tb_rate.specs.RatedRun.{demerits, more_demerits};
+ghost use Rattle.tb_best.specs.PlanDemerits.{breaks_cost, plan_demerits};
+ghost use Rattle.tb_best.specs.BestPlan.{IsBest};
+ghost use Rattle.tb_best.specs.ClosedTables.{Row, rows_know, IsClosed};
+
+/// If a plan has these demerits, and a table of states that is closed under the moves has no better end, then no plan of the
+/// galley has fewer demerits, and of those with as many it is the one with the last breaks furthest down.
+pub fn closed_tables_have_the_best()
+    ensures { (g : Galley) (plan : List ℕ) (total : ℤ) (rows : List Row) → IsPlan g plan → plan_demerits g plan ≡ Some total → IsClosed g total (reverse plan) (rows_know rows) → IsBest g plan total }
+{}
+
+/// If the run with the breaks does not end at the limit on nodes, a plan has 1000 demerits for each break more than that run.
+pub fn plans_are_rated()
+    ensures { (g : Galley) (plan : List ℕ) (d : ℤ) → demerits (with_breaks g plan) ≡ Some d → plan_demerits g plan ≡ more_demerits (breaks_cost plan) (Some d) }
+{}
+
+/// The best plan has no more demerits than the galley without breaks put in.
+pub fn best_is_never_worse()
+    ensures { (g : Galley) (plan : List ℕ) (total d : ℤ) → IsBest g plan total → demerits g ≡ Some d → total ≤ℤ d }
+{}

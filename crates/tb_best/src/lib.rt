@@ -1,0 +1,8 @@
+//! The best pages of a document: page breaks put into a galley so that all its pages together have the least demerits. The
+//! definition of the best plan, and its mathematics: a table of states that is closed under the moves of a search has the least
+//! demerits of all plans.
+#![tactic(auto)]
+
+mod laws;
+
+pub use crate::laws::{best_is_never_worse, closed_tables_have_the_best, plans_are_rated};
