@@ -7,3 +7,4 @@ pub mod PlanRuns
 pub mod ClosedLemmas
 pub mod BestLemmas
 pub mod RatedPlans
+pub mod RowLemmas

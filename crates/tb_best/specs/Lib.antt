@@ -2,3 +2,4 @@ pub mod PlanDemerits
 pub mod BestPlan
 pub mod ItemsAhead
 pub mod ClosedTables
+pub mod Rows

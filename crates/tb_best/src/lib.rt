@@ -4,5 +4,7 @@
 #![tactic(auto)]
 
 mod laws;
+mod rows;
 
 pub use crate::laws::{best_is_never_worse, closed_tables_have_the_best, plans_are_rated};
+pub use crate::rows::check_plans;
