@@ -16,8 +16,8 @@ use Rattle.tb_rate.specs.RatedRun.{floats_waiting, insertions_first, demerits_if
 use Rattle.tb_best.specs.PlanDemerits.{step_demerits}
 use Rattle.tb_best.specs.ItemsAhead.{Ahead, forced, state_with}
 use Rattle.tb_best.specs.ClosedTables.{Table, IsNoBetter, IsClosed}
-use Rattle.tb_best.proofs.Paths.{Path, finished, taken, cut, filled}
-use Rattle.tb_best.proofs.PlanMarks.{marked, breaks_after}
+use Rattle.tb_best.proofs.Paths.{marked, Path, finished, taken, cut, filled}
+use Rattle.tb_best.proofs.PlanMarks.{breaks_after}
 
 -- ---- demerits are never below 0
 
@@ -82,7 +82,7 @@ module _ (p : Params) (places : List PlacePenalty) where
   way-low : (k : ℕ) (s : State) (cs : List Ahead) (ms : List Bool) (d : ℤ) → Path p places k s cs ms d → pos 0 ≤ℤ (d +ℤ pos (1000 * marked ms))
   way-low _ _ _ _ _ (finished k s es rs left quiet e) = omega (arith, ints)
   way-low _ _ _ _ _ (taken k s c cs ms d quiet h) = way-low k (state_with c.nodes s) cs ms d h
-  way-low _ _ _ _ _ (cut k s c cs ms d quiet place h) = one-more d (marked ms) (way-low k (state_with (forced c ∷ c.nodes) s) cs ms d h)
+  way-low _ _ _ _ _ (cut k s c cs ms d quiet place box h) = one-more d (marked ms) (way-low k (state_with (forced c ∷ c.nodes) s) cs ms d h)
   way-low _ _ _ _ _ (filled k s cs ms d es rs t fires e h) =
       let i = way-low k t cs ms d h in
       let j = step-low p places s (goes_on es rs t) in
@@ -103,8 +103,8 @@ module _ (g : Galley) (total : ℤ) (best : List ℕ) (Known : Table) (closed : 
       nothing-more : (a : ℤ) → a ≡ (a +ℤ (pos 0 +ℤ pos (1000 * 0)))
       nothing-more a = grind (arith, ints)
   closed-ways _ _ _ _ _ a breaks (taken k s c cs ms d quiet h) known = closed-ways k (state_with c.nodes s) cs ms d a breaks h (closed.takes s c cs a breaks known quiet)
-  closed-ways _ _ _ _ _ a breaks (cut k s c cs ms d quiet place h) known =
-      by (closed.cuts s c cs a breaks known quiet place) (λ x. closed-ways k (state_with (forced c ∷ c.nodes) s) cs ms d (a +ℤ pos 1000) (c.number ∷ breaks) h x)
+  closed-ways _ _ _ _ _ a breaks (cut k s c cs ms d quiet place box h) known =
+      by (closed.cuts s c cs a breaks known quiet place box) (λ x. closed-ways k (state_with (forced c ∷ c.nodes) s) cs ms d (a +ℤ pos 1000) (c.number ∷ breaks) h x)
       (way-low g.params (place_penalties g.items) k (state_with (forced c ∷ c.nodes) s) cs ms d h)
     where
       by : {X : Type 0} → X ⊎ (total <ℤ (a +ℤ pos 1000)) → (X → IsNoBetter total best ((a +ℤ pos 1000) +ℤ (d +ℤ pos (1000 * marked ms))) (breaks_after (c.number ∷ breaks) cs ms)) → pos 0 ≤ℤ (d +ℤ pos (1000 * marked ms))

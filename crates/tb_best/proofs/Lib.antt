@@ -1,6 +1,7 @@
 pub mod ReachMore
 pub mod FiredMore
 pub mod StepMore
+pub mod TopBreaks
 pub mod Paths
 pub mod PlanMarks
 pub mod PlanRuns

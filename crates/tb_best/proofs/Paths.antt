@@ -1,10 +1,10 @@
 -- A run with breaks put in is a path of moves: items and breaks are taken one by one until a page fires; then it is filled.
-use Rattle.std.proofs.Common.{◌≡◌, refl, sym, ◌∙◌, ap, subst, ℕ, zero, suc, ℤ, Bool, true, false, List, [], ◌∷◌, ◌++◌, map, Option, Some, None, append_assoc, append-nil}
-use Rattle.std.specs.Prelude.{pos, pred, int_lt, ◌+ℤ◌, if◌then◌else◌}
+use Rattle.std.proofs.Common.{◌≡◌, refl, sym, ◌∙◌, ap, subst, ◌⊎◌, inl, inr, ℕ, zero, suc, ◌<◌, ℤ, Bool, true, false, List, [], ◌∷◌, ◌++◌, map, Option, Some, None, append_assoc, append-nil, arith}
+use Rattle.std.specs.Prelude.{pos, neg_ℤ, pred, int_lt, ◌+ℤ◌, if◌then◌else◌}
 use Rattle.tb_scaled.specs.Scaled.{awful_bad}
 use Rattle.tb_node.specs.PlainNodes.{PlainNode}
 use Rattle.tb_param.specs.declared.Params.{Params}
-use Rattle.tb_builder.specs.Reach.{Reach}
+use Rattle.tb_builder.specs.Reach.{Reach, holds_box}
 use Rattle.tb_builder.specs.FiredPages.{fired_of}
 use Rattle.tb_output.specs.State.{State, Recorded, ask_of, emptied}
 use Rattle.tb_output.specs.Output.{out}
@@ -15,6 +15,7 @@ use Rattle.tb_rate.specs.RatedRun.{demerits_after, more_demerits}
 use Rattle.tb_best.specs.PlanDemerits.{reach_in, unlimited_firing, unlimited_fire, unlimited_progress, unlimited_step, step_demerits, unlimited_demerits_from}
 use Rattle.tb_best.specs.ItemsAhead.{Ahead, forced, state_with}
 use Rattle.tb_best.proofs.StepMore.{step_with, step-more, demerits-more}
+use Rattle.tb_best.proofs.TopBreaks.{break-vanishes}
 
 -- the nodes of the items ahead, with a break before those that are marked
 abbrev pub planned : List Bool → List Ahead → List PlainNode
@@ -30,6 +31,12 @@ AreMarks [] (m ∷ ms) = ⊥
 AreMarks (c ∷ cs) [] = ⊥
 AreMarks (c ∷ cs) (true ∷ ms) = (c.is_place ≡ true) × AreMarks cs ms
 AreMarks (c ∷ cs) (false ∷ ms) = AreMarks cs ms
+
+-- how many are marked
+abbrev pub marked : List Bool → ℕ
+marked [] = 0
+marked (true ∷ ms) = suc (marked ms)
+marked (false ∷ ms) = marked ms
 
 -- ---- amounts
 
@@ -59,7 +66,7 @@ module _ (p : Params) (places : List PlacePenalty) where
     taken : (k : ℕ) (s : State) (c : Ahead) (cs : List Ahead) (ms : List Bool) (d : ℤ)
         → (reach_in p s).fires ≡ false → Path k (state_with c.nodes s) cs ms d → Path k s (c ∷ cs) (false ∷ ms) d
     cut : (k : ℕ) (s : State) (c : Ahead) (cs : List Ahead) (ms : List Bool) (d : ℤ)
-        → (reach_in p s).fires ≡ false → c.is_place ≡ true → Path k (state_with (forced c ∷ c.nodes) s) cs ms d → Path k s (c ∷ cs) (true ∷ ms) d
+        → (reach_in p s).fires ≡ false → c.is_place ≡ true → holds_box s.waiting ≡ true → Path k (state_with (forced c ∷ c.nodes) s) cs ms d → Path k s (c ∷ cs) (true ∷ ms) d
     filled : (k : ℕ) (s : State) (cs : List Ahead) (ms : List Bool) (d : ℤ) (es : List RunEvent) (rs : List Recorded) (t : State)
         → (reach_in p s).fires ≡ true → unlimited_step p s ≡ goes_on es rs t → Path k t cs ms d → Path (suc k) s cs ms (step_demerits p places s (goes_on es rs t) +ℤ d)
 
@@ -141,10 +148,14 @@ module _ (p : Params) (places : List PlacePenalty) where
       ∙ ap (by_step k (state_with more s)) (step-more p s more fires)
       ∙ ap (λ d. demerits_after (λ t. from k t) d (step_with more (unlimited_step p s))) (demerits-more p places s more fires)
 
+  -- a path with this sum, with these marks or with fewer: a break before the first box of a page is left out
+  abbrev HasPath : ℕ → State → List Ahead → List Bool → ℤ → Type 0
+  HasPath k s cs ms d = (less : List Bool) × Path p places k s cs less d × ((less ≡ ms) ⊎ (marked less < marked ms))
+
   by-fill : (k : ℕ) (s : State) (cs : List Ahead) (ms : List Bool) (d : ℤ) (x : Step)
-      → ((t : State) (e : ℤ) → from k (state_with (planned ms cs) t) ≡ Some e → Path p places k t cs ms e)
+      → ((t : State) (e : ℤ) → from k (state_with (planned ms cs) t) ≡ Some e → HasPath k t cs ms e)
       → (reach_in p s).fires ≡ true → unlimited_step p s ≡ x
-      → demerits_after (λ t. from k t) (step_demerits p places s x) (step_with (planned ms cs) x) ≡ Some d → Path p places (suc k) s cs ms d
+      → demerits_after (λ t. from k t) (step_demerits p places s x) (step_with (planned ms cs) x) ≡ Some d → HasPath (suc k) s cs ms d
   by-fill k s cs ms d (ends es rs (done left)) later fires e h = absurd (step-undone p s fires (subst IsDone (sym e) tt))
   by-fill k s cs ms d (ends es rs (pool_full line live)) later fires e h = absurd (no-amount h)
   by-fill k s cs ms d (ends es rs (dead_cycles n)) later fires e h = absurd (no-amount h)
@@ -152,7 +163,8 @@ module _ (p : Params) (places : List PlacePenalty) where
   by-fill k s cs ms d (ends es rs (node_limit n)) later fires e h = absurd (no-amount h)
   by-fill k s cs ms d (goes_on es rs t) later fires e h =
       let parts = more-some (step_demerits p places s (goes_on es rs t)) (from k (state_with (planned ms cs) t)) d h in
-      subst (λ x. Path p places (suc k) s cs ms x) parts.2 (filled k s cs ms parts.0 es rs t fires e (later t parts.0 parts.1))
+      let rest = later t parts.0 parts.1 in
+      (rest.0, subst (λ x. Path p places (suc k) s cs rest.0 x) parts.2 (filled k s cs rest.0 parts.0 es rs t fires e rest.1), rest.2)
 
   -- without one and without items ahead, the run is over
   by-end : (k : ℕ) (s : State) (d : ℤ) (x : Step) → (reach_in p s).fires ≡ false → unlimited_step p s ≡ x → IsOver x → by_step k s x ≡ Some d → Path p places (suc k) s [] [] d
@@ -163,31 +175,55 @@ module _ (p : Params) (places : List PlacePenalty) where
   by-end k s d (ends es rs (node_limit n)) quiet e o h = absurd (no-amount h)
   by-end k s d (goes_on es rs t) quiet e o h = absurd o
 
+  -- an item is taken without a break
+  by-taken : (k : ℕ) (s : State) (c : Ahead) (cs : List Ahead) (ms : List Bool) (d : ℤ) → (reach_in p s).fires ≡ false → HasPath k (state_with c.nodes s) cs ms d → HasPath k s (c ∷ cs) (false ∷ ms) d
+  by-taken k s c cs ms d quiet (less, way, inl h) = (false ∷ less, taken k s c cs less d quiet way, inl (ap (λ l. false ∷ l) h))
+  by-taken k s c cs ms d quiet (less, way, inr h) = (false ∷ less, taken k s c cs less d quiet way, inr h)
+
+  -- a break is put in
+  by-cut : (k : ℕ) (s : State) (c : Ahead) (cs : List Ahead) (ms : List Bool) (d : ℤ) → (reach_in p s).fires ≡ false → c.is_place ≡ true → holds_box s.waiting ≡ true
+      → HasPath k (state_with (forced c ∷ c.nodes) s) cs ms d → HasPath k s (c ∷ cs) (true ∷ ms) d
+  by-cut k s c cs ms d quiet place box (less, way, inl h) = (true ∷ less, cut k s c cs less d quiet place box way, inl (ap (λ l. true ∷ l) h))
+  by-cut k s c cs ms d quiet place box (less, way, inr h) = (true ∷ less, cut k s c cs less d quiet place box way, inr (omega (arith, h)))
+
+  -- a break is left out
+  by-none : (k : ℕ) (s : State) (c : Ahead) (cs : List Ahead) (ms : List Bool) (d : ℤ) → (reach_in p s).fires ≡ false → HasPath k (state_with c.nodes s) cs ms d → HasPath k s (c ∷ cs) (true ∷ ms) d
+  by-none k s c cs ms d quiet (less, way, inl h) = (false ∷ less, taken k s c cs less d quiet way, inr (let e = ap marked h in omega (arith, e)))
+  by-none k s c cs ms d quiet (less, way, inr h) = (false ∷ less, taken k s c cs less d quiet way, inr (omega (arith, h)))
+
   -- all runs with this fuel are paths
   abbrev Below : ℕ → Type 0
-  Below k = (s : State) (cs : List Ahead) (ms : List Bool) (d : ℤ) → AreMarks cs ms → from k (state_with (planned ms cs) s) ≡ Some d → Path p places k s cs ms d
+  Below k = (s : State) (cs : List Ahead) (ms : List Bool) (d : ℤ) → AreMarks cs ms → from k (state_with (planned ms cs) s) ≡ Some d → HasPath k s cs ms d
 
   -- a page is filled as soon as it fires with what was taken
   choose : (k : ℕ) (cs : List Ahead) (ms : List Bool) → Below k → (s : State) (d : ℤ) → AreMarks cs ms → from (suc k) (state_with (planned ms cs) s) ≡ Some d
-      → ((reach_in p s).fires ≡ false → Path p places (suc k) s cs ms d) → Path p places (suc k) s cs ms d
+      → ((reach_in p s).fires ≡ false → HasPath (suc k) s cs ms d) → HasPath (suc k) s cs ms d
   choose k cs ms later s d marks h otherwise = by (reach_in p s).fires refl
     where
-      by : (t : Bool) → (reach_in p s).fires ≡ t → Path p places (suc k) s cs ms d
+      by : (t : Bool) → (reach_in p s).fires ≡ t → HasPath (suc k) s cs ms d
       by true e = by-fill k s cs ms d (unlimited_step p s) (λ t x y. later t cs ms x marks y) e refl (sym (fill-step k s (planned ms cs) e) ∙ h)
       by false e = otherwise e
 
-  items-left : (k : ℕ) (cs : List Ahead) (ms : List Bool) → Below k → (s : State) (d : ℤ) → AreMarks cs ms → from (suc k) (state_with (planned ms cs) s) ≡ Some d → Path p places (suc k) s cs ms d
+  -- with a break ahead of the next item: it is left out if the page has no box yet
+  cut-or-none : (k : ℕ) (s : State) (c : Ahead) (cs : List Ahead) (ms : List Bool) (d : ℤ) (t : Bool) → (reach_in p s).fires ≡ false → c.is_place ≡ true → holds_box s.waiting ≡ t
+      → ((u : State) → from k (state_with (planned ms cs) u) ≡ Some d → HasPath k u cs ms d) → from k (state_with (planned (true ∷ ms) (c ∷ cs)) s) ≡ Some d → HasPath k s (c ∷ cs) (true ∷ ms) d
+  cut-or-none k s c cs ms d true quiet place box later h =
+      by-cut k s c cs ms d quiet place box (later (state_with (forced c ∷ c.nodes) s) (sym (ap (from k) (taken-first (forced c ∷ c.nodes) (planned ms cs) s)) ∙ h))
+  cut-or-none k s c cs ms d false quiet place box later h =
+      by-none k s c cs ms d quiet
+      (later (state_with c.nodes s) (sym (ap (from k) (taken-first c.nodes (planned ms cs) s)) ∙ sym (break-vanishes p places k s c.line (neg_ℤ (pos 10000)) s.waiting (c.nodes ++ planned ms cs) box) ∙ h))
+
+  items-left : (k : ℕ) (cs : List Ahead) (ms : List Bool) → Below k → (s : State) (d : ℤ) → AreMarks cs ms → from (suc k) (state_with (planned ms cs) s) ≡ Some d → HasPath (suc k) s cs ms d
   items-left k [] [] later s d marks h = choose k [] [] later s d marks h (λ quiet.
-      by-end k s d (unlimited_step p s) quiet refl (step-over p s quiet) (sym (one-step k s) ∙ sym (ap (from (suc k)) (nothing-behind s)) ∙ h))
+      ([], by-end k s d (unlimited_step p s) quiet refl (step-over p s quiet) (sym (one-step k s) ∙ sym (ap (from (suc k)) (nothing-behind s)) ∙ h), inl refl))
   items-left k [] (m ∷ ms) later s d marks h = absurd marks
   items-left k (c ∷ cs) [] later s d marks h = absurd marks
   items-left k (c ∷ cs) (false ∷ ms) later s d marks h = choose k (c ∷ cs) (false ∷ ms) later s d marks h (λ quiet.
-      taken (suc k) s c cs ms d quiet (items-left k cs ms later (state_with c.nodes s) d marks (sym (ap (from (suc k)) (taken-first c.nodes (planned ms cs) s)) ∙ h)))
+      by-taken (suc k) s c cs ms d quiet (items-left k cs ms later (state_with c.nodes s) d marks (sym (ap (from (suc k)) (taken-first c.nodes (planned ms cs) s)) ∙ h)))
   items-left k (c ∷ cs) (true ∷ ms) later s d marks h = choose k (c ∷ cs) (true ∷ ms) later s d marks h (λ quiet.
-      cut (suc k) s c cs ms d quiet marks.0 (items-left k cs ms later (state_with (forced c ∷ c.nodes) s) d marks.1
-      (sym (ap (from (suc k)) (taken-first (forced c ∷ c.nodes) (planned ms cs) s)) ∙ h)))
+      cut-or-none (suc k) s c cs ms d (holds_box s.waiting) quiet marks.0 refl (λ u e. items-left k cs ms later u d marks.1 e) h)
 
   -- each run that ends well, with breaks at places, is a path
-  pub run-paths : (k : ℕ) (s : State) (cs : List Ahead) (ms : List Bool) (d : ℤ) → AreMarks cs ms → from k (state_with (planned ms cs) s) ≡ Some d → Path p places k s cs ms d
+  pub run-paths : (k : ℕ) (s : State) (cs : List Ahead) (ms : List Bool) (d : ℤ) → AreMarks cs ms → from k (state_with (planned ms cs) s) ≡ Some d → HasPath k s cs ms d
   run-paths zero s cs ms d marks h = absurd (no-amount (sym (no-fuel (state_with (planned ms cs) s)) ∙ h))
   run-paths (suc k) s cs ms d marks h = items-left k cs ms (λ t xs ys e m g. run-paths k t xs ys e m g) s d marks h

@@ -10,19 +10,13 @@ use Rattle.tb_plans.specs.declared.walk.Before.{Before}
 use Rattle.tb_plans.specs.Places.{is_glue_next, is_place, before_after, if_place, places_from}
 use Rattle.tb_plans.specs.Plans.{is_part, break_before, broken}
 use Rattle.tb_best.specs.ItemsAhead.{forced, Ahead, item_ahead, ahead_from}
-use Rattle.tb_best.proofs.Paths.{planned, AreMarks}
+use Rattle.tb_best.proofs.Paths.{planned, AreMarks, marked}
 
 -- the marks of a plan among items, the first of which has the number k, and one more for what comes at the end
 abbrev pub marks_of : ℕ → List Item → List ℕ → List Bool
 marks_of k [] bs = false ∷ []
 marks_of k (n ∷ ns) [] = false ∷ marks_of (suc k) ns []
 marks_of k (n ∷ ns) (b ∷ bs) = if b == k then true ∷ marks_of (suc k) ns bs else false ∷ marks_of (suc k) ns (b ∷ bs)
-
--- how many are marked
-abbrev pub marked : List Bool → ℕ
-marked [] = 0
-marked (true ∷ ms) = suc (marked ms)
-marked (false ∷ ms) = marked ms
 
 -- these breaks, the last one first, and after them those before the items that are marked
 abbrev pub breaks_after : List ℕ → List Ahead → List Bool → List ℕ

@@ -3,6 +3,7 @@
 use Rattle.std.specs.Prelude.{◌≡◌, ◌⊎◌, ℕ, ℤ, pos, ◌+ℤ◌, ◌<ℤ◌, true, false, List, [], ◌∷◌}
 use Rattle.tb_node.specs.PlainNodes.{PlainNode}
 use Rattle.tb_galley.specs.declared.Galley.{Galley}
+use Rattle.tb_builder.specs.Reach.{holds_box}
 use Rattle.tb_lines.specs.LeastSolution.{is_greater}
 use Rattle.tb_output.specs.State.{State, Recorded}
 use Rattle.tb_items.specs.RunEvents.{RunEvent}
@@ -41,8 +42,8 @@ pub record IsClosed (g : Galley) (total : ℤ) (best : List ℕ) (Known : Table)
   pub begins : Known (empty_start g) (all_ahead g) (pos 0) []
   -- an item is taken
   pub takes : (s : State) (c : Ahead) (cs : List Ahead) (d : ℤ) (breaks : List ℕ) → Known s (c ∷ cs) d breaks → (reach_in g.params s).fires ≡ false → Known (state_with c.nodes s) cs d breaks
-  -- a break is put in, and the item is taken
-  pub cuts : (s : State) (c : Ahead) (cs : List Ahead) (d : ℤ) (breaks : List ℕ) → Known s (c ∷ cs) d breaks → (reach_in g.params s).fires ≡ false → c.is_place ≡ true
+  -- a break is put in after the first box of a page, and the item is taken
+  pub cuts : (s : State) (c : Ahead) (cs : List Ahead) (d : ℤ) (breaks : List ℕ) → Known s (c ∷ cs) d breaks → (reach_in g.params s).fires ≡ false → c.is_place ≡ true → holds_box s.waiting ≡ true
       → Known (state_with (forced c ∷ c.nodes) s) cs (d +ℤ pos 1000) (c.number ∷ breaks) ⊎ (total <ℤ (d +ℤ pos 1000))
   -- a page is filled
   pub fills : (s t : State) (cs : List Ahead) (d : ℤ) (breaks : List ℕ) (es : List RunEvent) (rs : List Recorded) → Known s cs d breaks → (reach_in g.params s).fires ≡ true → unlimited_step g.params s ≡ goes_on es rs t
