@@ -22,11 +22,11 @@ marks-at-places : (g : Galley) (plan : List ℕ) → IsPlan g plan → AreMarks 
 unfolding places_of all_ahead
 marks-at-places g plan h = plan-marks g.params (last_ahead g) false befores.Nothing 0 g.items plan h
 
-marks-are-breaks : (g : Galley) (plan : List ℕ) → IsPlan g plan → breaks_after [] (all_ahead g) (plan_marks g plan) ≡ reverse plan
+pub marks-are-breaks : (g : Galley) (plan : List ℕ) → IsPlan g plan → breaks_after [] (all_ahead g) (plan_marks g plan) ≡ reverse plan
 unfolding places_of all_ahead
 marks-are-breaks g plan h = plan-breaks g.params (last_ahead g) false befores.Nothing 0 g.items plan [] h
 
-marks-are-counted : (g : Galley) (plan : List ℕ) → IsPlan g plan → marked (plan_marks g plan) ≡ length plan
+pub marks-are-counted : (g : Galley) (plan : List ℕ) → IsPlan g plan → marked (plan_marks g plan) ≡ length plan
 unfolding places_of
 marks-are-counted g plan h = plan-count g.params (last_ahead g) false befores.Nothing 0 g.items plan h
 

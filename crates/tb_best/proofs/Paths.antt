@@ -116,7 +116,7 @@ step-over p s quiet = let q = progress p (reach_in p s).reached awful_bad s in p
 
 -- ---- each run is a path
 
-nothing-behind : (s : State) → state_with [] s ≡ s
+pub nothing-behind : (s : State) → state_with [] s ≡ s
 nothing-behind s = ap (λ ns. record s { waiting = ns }) (append-nil s.waiting)
 
 -- the first of the nodes ahead are taken
@@ -132,7 +132,7 @@ module _ (p : Params) (places : List PlacePenalty) where
   abbrev by_step : ℕ → State → Step → Option ℤ
   by_step k s x = demerits_after (λ t. from k t) (step_demerits p places s x) x
 
-  one-step : (k : ℕ) (s : State) → from (suc k) s ≡ by_step k s (unlimited_step p s)
+  pub one-step : (k : ℕ) (s : State) → from (suc k) s ≡ by_step k s (unlimited_step p s)
   unfolding unlimited_demerits_from
   one-step k s = refl
 
@@ -141,7 +141,7 @@ module _ (p : Params) (places : List PlacePenalty) where
   no-fuel s = refl
 
   -- a page that fires is filled, whatever is behind
-  fill-step : (k : ℕ) (s : State) (more : List PlainNode) → (reach_in p s).fires ≡ true
+  pub fill-step : (k : ℕ) (s : State) (more : List PlainNode) → (reach_in p s).fires ≡ true
       → from (suc k) (state_with more s) ≡ demerits_after (λ t. from k t) (step_demerits p places s (unlimited_step p s)) (step_with more (unlimited_step p s))
   fill-step k s more fires =
       one-step k (state_with more s)

@@ -51,3 +51,21 @@ pub record IsClosed (g : Galley) (total : ℤ) (best : List ℕ) (Known : Table)
   -- the run ends well
   pub finishes : (s : State) (d : ℤ) (breaks : List ℕ) (es : List RunEvent) (rs : List Recorded) (left : List PlainNode) → Known s [] d breaks → (reach_in g.params s).fires ≡ false → unlimited_step g.params s ≡ ends es rs (done left)
       → IsNoBetter total best d breaks
+
+-- a state with these items ahead is reached by moves from the beginning, at these demerits and with these breaks, the last one first
+module _ (g : Galley) where
+  pub data Reaches : State → List Ahead → ℤ → List ℕ → Type 0 where
+    begun : Reaches (empty_start g) (all_ahead g) (pos 0) []
+    takes : (s : State) (c : Ahead) (cs : List Ahead) (d : ℤ) (breaks : List ℕ) → Reaches s (c ∷ cs) d breaks → Reaches (state_with c.nodes s) cs d breaks
+    cuts : (s : State) (c : Ahead) (cs : List Ahead) (d : ℤ) (breaks : List ℕ) → Reaches s (c ∷ cs) d breaks → c.is_place ≡ true → Reaches (state_with (forced c ∷ c.nodes) s) cs (d +ℤ pos 1000) (c.number ∷ breaks)
+    fills : (s t : State) (cs : List Ahead) (d : ℤ) (breaks : List ℕ) (es : List RunEvent) (rs : List Recorded) → Reaches s cs d breaks → (reach_in g.params s).fires ≡ true → unlimited_step g.params s ≡ goes_on es rs t
+        → Reaches t cs (d +ℤ step_demerits g.params (place_penalties g.items) s (goes_on es rs t)) breaks
+
+-- the run ends well at these demerits and with these breaks, the last one first
+pub record IsEnd (g : Galley) (d : ℤ) (breaks : List ℕ) : Type 0 where
+  pub state : State
+  pub events : List RunEvent
+  pub records : List Recorded
+  pub left : List PlainNode
+  pub reached : Reaches g state [] d breaks
+  pub ends_well : unlimited_step g.params state ≡ ends events records (done left)

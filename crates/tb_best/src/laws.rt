@@ -7,12 +7,17 @@ ghost use Rattle.tb_plans.specs.Plans.{IsPlan, with_breaks};
 ghost use Rattle.tb_rate.specs.RatedRun.{demerits, more_demerits};
 ghost use Rattle.tb_best.specs.PlanDemerits.{breaks_cost, plan_demerits};
 ghost use Rattle.tb_best.specs.BestPlan.{IsBest};
-ghost use Rattle.tb_best.specs.ClosedTables.{Row, rows_know, IsClosed};
+ghost use Rattle.tb_best.specs.ClosedTables.{Row, rows_know, IsClosed, IsEnd};
 
 /// If a plan has these demerits, and a table of states that is closed under the moves has no better end, then no plan of the
 /// galley has fewer demerits, and of those with as many it is the one with the last breaks furthest down.
 pub fn closed_tables_have_the_best()
     ensures { (g : Galley) (plan : List ℕ) (total : ℤ) (rows : List Row) → IsPlan g plan → plan_demerits g plan ≡ Some total → IsClosed g total (reverse plan) (rows_know rows) → IsBest g plan total }
+{}
+
+/// An end that is reached by moves from the beginning is a plan, with the demerits at which it was reached.
+pub fn ends_are_plans()
+    ensures { (g : Galley) (d : ℤ) (breaks : List ℕ) → IsEnd g d breaks → IsPlan g (reverse breaks) × (plan_demerits g (reverse breaks) ≡ Some d) }
 {}
 
 /// If the run with the breaks does not end at the limit on nodes, a plan has 1000 demerits for each break more than that run.

@@ -6,5 +6,7 @@
 mod laws;
 mod rows;
 
-pub use crate::laws::{best_is_never_worse, closed_tables_have_the_best, plans_are_rated};
+pub use crate::laws::{
+    best_is_never_worse, closed_tables_have_the_best, ends_are_plans, plans_are_rated,
+};
 pub use crate::rows::check_plans;
