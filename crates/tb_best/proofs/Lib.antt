@@ -12,3 +12,4 @@ pub mod BestLemmas
 pub mod RatedPlans
 pub mod RowLemmas
 pub mod WayLemmas
+pub mod BestOfLemmas

@@ -11,10 +11,11 @@ use Rattle.tb_break.specs.Cost.{page_badness, cost_of_badness}
 use Rattle.tb_output.specs.Output.{out}
 use Rattle.tb_plans.specs.Places.{places_of}
 use Rattle.tb_best.specs.PlanDemerits.{unlimited_step, unlimited_demerits_from, unlimited_demerits, plan_demerits}
+use Rattle.tb_best.specs.BestOf.{best_of}
 use Rattle.tb_best.specs.Rows.{PlanRows}
 
 pub plan_rows : PlanRows
-unfolding grammar row_of word_of plan_demerits unlimited_demerits unlimited_demerits_from unlimited_step expanded places_of default_params out digits page_badness cost_of_badness badness_of
+unfolding grammar row_of word_of best_of plan_demerits unlimited_demerits unlimited_demerits_from unlimited_step expanded places_of default_params out digits page_badness cost_of_badness badness_of
 plan_rows = record {
   later_break = refl;
   no_pages = refl;

@@ -11,3 +11,7 @@ pub record IsBest (g : Galley) (plan : List ℕ) (total : ℤ) : Type 0 where
   pub sum : plan_demerits g plan ≡ Some total
   pub least : (others : List ℕ) (d : ℤ) → IsPlan g others → plan_demerits g others ≡ Some d → total ≤ℤ d
   pub greatest : (others : List ℕ) → IsPlan g others → plan_demerits g others ≡ Some total → is_greater (reverse others) (reverse plan) ≡ false
+
+-- no plan of a galley has demerits: the run of none ends well
+abbrev pub HasNoPlan : Galley → Type 0
+HasNoPlan g = (plan : List ℕ) (d : ℤ) → IsPlan g plan → plan_demerits g plan ≡ Some d → ⊥

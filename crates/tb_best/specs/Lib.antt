@@ -2,4 +2,5 @@ pub mod PlanDemerits
 pub mod BestPlan
 pub mod ItemsAhead
 pub mod ClosedTables
+pub mod BestOf
 pub mod Rows

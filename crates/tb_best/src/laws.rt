@@ -1,12 +1,13 @@
 //! Laws of the best plan: each function is a theorem, stated by its contract, and does nothing.
 
-ghost use Rattle.std.specs.Prelude.{◌≡◌, ℕ, ℤ, ◌≤ℤ◌, List, reverse, Option, Some, None};
+ghost use Rattle.std.specs.Prelude.{◌≡◌, ℕ, ℤ, ◌≤ℤ◌, List, reverse, Option, Some, None, MatchOption};
 ghost use Rattle.tb_galley.specs.declared.Galley.{Galley};
 ghost use Rattle.tb_steps.specs.Run.{run_of, node_limit};
 ghost use Rattle.tb_plans.specs.Plans.{IsPlan, with_breaks};
 ghost use Rattle.tb_rate.specs.RatedRun.{demerits, more_demerits};
 ghost use Rattle.tb_best.specs.PlanDemerits.{breaks_cost, plan_demerits};
-ghost use Rattle.tb_best.specs.BestPlan.{IsBest};
+ghost use Rattle.tb_best.specs.BestPlan.{IsBest, HasNoPlan};
+ghost use Rattle.tb_best.specs.BestOf.{best_of};
 ghost use Rattle.tb_best.specs.ClosedTables.{Row, rows_know, IsClosed, IsEnd};
 
 /// If a plan has these demerits, and a table of states that is closed under the moves has no better end, then no plan of the
@@ -23,6 +24,16 @@ pub fn ends_are_plans()
 /// If the run with the breaks does not end at the limit on nodes, a plan has 1000 demerits for each break more than that run.
 pub fn plans_are_rated()
     ensures { (g : Galley) (plan : List ℕ) (d : ℤ) → demerits (with_breaks g plan) ≡ Some d → plan_demerits g plan ≡ more_demerits (breaks_cost plan) (Some d) }
+{}
+
+/// The best of all plans, each of which is run, is the best plan; without one, the run of no plan ends well.
+pub fn best_of_all_is_best()
+    ensures { (g : Galley) → MatchOption (best_of g) (HasNoPlan g) (λ w. IsBest g w.plan w.total) }
+{}
+
+/// A galley has one best plan.
+pub fn best_plan_is_one()
+    ensures { (g : Galley) (plan other : List ℕ) (a b : ℤ) → IsBest g plan a → IsBest g other b → (plan ≡ other) × (a ≡ b) }
 {}
 
 /// The best plan has no more demerits than the galley without breaks put in.

@@ -7,6 +7,7 @@ mod laws;
 mod rows;
 
 pub use crate::laws::{
-    best_is_never_worse, closed_tables_have_the_best, ends_are_plans, plans_are_rated,
+    best_is_never_worse, best_of_all_is_best, best_plan_is_one, closed_tables_have_the_best,
+    ends_are_plans, plans_are_rated,
 };
 pub use crate::rows::check_plans;

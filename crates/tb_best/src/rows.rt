@@ -1,7 +1,7 @@
 //! Worked rows of the definitions.
 ghost use Rattle.tb_best.specs.Rows.{PlanRows};
 
-/// The definition of a plan's demerits gives the worked rows, from the bytes of each galley and its best plan.
+/// The definitions give the best plan of each worked row, from the bytes of its galley: all its plans are run.
 pub fn check_plans()
     ensures { PlanRows }
 {}
