@@ -10,4 +10,4 @@ pub use crate::laws::{
     best_is_never_worse, best_of_all_is_best, best_plan_is_one, closed_tables_have_the_best,
     ends_are_plans, plans_are_rated,
 };
-pub use crate::rows::check_plans;
+pub use crate::rows::{check_lines, check_plans};
