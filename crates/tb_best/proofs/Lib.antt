@@ -13,3 +13,4 @@ pub mod RatedPlans
 pub mod RowLemmas
 pub mod WayLemmas
 pub mod BestOfLemmas
+pub mod TurnLemmas

@@ -73,7 +73,7 @@ module _ (p : Params) (places : List PlacePenalty) where
 -- ---- a step with a page that fires, and one without
 
 -- the run is over after a step
-abbrev IsOver : Step → Type 0
+abbrev pub IsOver : Step → Type 0
 IsOver (ends es rs e) = Unit {0}
 IsOver (goes_on es rs t) = ⊥
 
@@ -110,7 +110,7 @@ progress-over : (p : Params) (w : Reach) (q : Progress) (o : Option (ℕ × ℕ)
 progress-over p w q (Some f) quiet = tt
 progress-over p w q None quiet = subst (λ t. IsOver (if t then unlimited_fire p w q else ends q.events (q.records ++ emptied q.state.floats ∷ []) (done w.passed))) (sym quiet) tt
 
-step-over : (p : Params) (s : State) → (reach_in p s).fires ≡ false → IsOver (unlimited_step p s)
+pub step-over : (p : Params) (s : State) → (reach_in p s).fires ≡ false → IsOver (unlimited_step p s)
 unfolding unlimited_step
 step-over p s quiet = let q = progress p (reach_in p s).reached awful_bad s in progress-over p (reach_in p s) q q.fault quiet
 

@@ -60,6 +60,14 @@ step-same : (p : Params) (s : State) → IsSame (step p s) (unlimited_step p s)
 unfolding step unlimited_step
 step-same p s = let q = progress p (reach_in p s).reached awful_bad s in progress-same p (reach_in p s) q q.fault
 
+-- a step that goes on is the same without the limit
+same-goes-on : (x y : Step) (es : List RunEvent) (rs : List Recorded) (t : State) → x ≡ goes_on es rs t → IsSame x y → y ≡ goes_on es rs t
+same-goes-on x y es rs t e (inl h) = absurd (subst IsLimited e h)
+same-goes-on x y es rs t e (inr h) = sym h ∙ e
+
+pub goes-on : (p : Params) (s t : State) (es : List RunEvent) (rs : List Recorded) → step p s ≡ goes_on es rs t → unlimited_step p s ≡ goes_on es rs t
+goes-on p s t es rs h = same-goes-on (step p s) (unlimited_step p s) es rs t h (step-same p s)
+
 -- ---- the run
 
 limited-none : (later : State → Option ℤ) (r : ℤ) (x : Step) → IsLimited x → demerits_after later r x ≡ None

@@ -1,13 +1,19 @@
 //! Laws of the best plan: each function is a theorem, stated by its contract, and does nothing.
 
-ghost use Rattle.std.specs.Prelude.{◌≡◌, ℕ, ℤ, ◌≤ℤ◌, List, reverse, Option, Some, None, MatchOption};
+ghost use Rattle.std.specs.Prelude.{◌≡◌, ℕ, ℤ, ◌≤ℤ◌, true, List, reverse, Option, Some, None, MatchOption};
 ghost use Rattle.tb_galley.specs.declared.Galley.{Galley};
-ghost use Rattle.tb_steps.specs.Run.{run_of, node_limit};
+ghost use Rattle.tb_node.specs.PlainNodes.{PlainNode};
+ghost use Rattle.tb_param.specs.declared.Params.{Params};
+ghost use Rattle.tb_output.specs.State.{State, Recorded};
+ghost use Rattle.tb_items.specs.RunEvents.{RunEvent};
+ghost use Rattle.tb_steps.specs.Run.{goes_on, step};
+ghost use Rattle.tb_rate.specs.declared.PlacePenalty.{PlacePenalty};
 ghost use Rattle.tb_plans.specs.Plans.{IsPlan, with_breaks};
 ghost use Rattle.tb_rate.specs.RatedRun.{demerits, more_demerits};
-ghost use Rattle.tb_best.specs.PlanDemerits.{breaks_cost, plan_demerits};
+ghost use Rattle.tb_best.specs.PlanDemerits.{reach_in, unlimited_step, step_demerits, breaks_cost, plan_demerits};
 ghost use Rattle.tb_best.specs.BestPlan.{IsBest, HasNoPlan};
 ghost use Rattle.tb_best.specs.BestOf.{best_of};
+ghost use Rattle.tb_best.specs.ItemsAhead.{state_with};
 ghost use Rattle.tb_best.specs.ClosedTables.{Row, rows_know, IsClosed, IsEnd};
 
 /// If a plan has these demerits, and a table of states that is closed under the moves has no better end, then no plan of the
@@ -19,6 +25,14 @@ pub fn closed_tables_have_the_best()
 /// An end that is reached by moves from the beginning is a plan, with the demerits at which it was reached.
 pub fn ends_are_plans()
     ensures { (g : Galley) (d : ℤ) (breaks : List ℕ) → IsEnd g d breaks → IsPlan g (reverse breaks) × (plan_demerits g (reverse breaks) ≡ Some d) }
+{}
+
+/// A step of a run looks no further than the place at which its page fires: with more nodes behind the page fires too, the run
+/// goes on in the same state with these nodes behind, and the step has the same demerits.
+pub fn steps_look_no_further()
+    ensures fires { (p : Params) (s t : State) (es : List RunEvent) (rs : List Recorded) (more : List PlainNode) → step p s ≡ goes_on es rs t → (reach_in p (state_with more s)).fires ≡ true }
+    ensures run { (p : Params) (s t : State) (es : List RunEvent) (rs : List Recorded) (more : List PlainNode) → step p s ≡ goes_on es rs t → unlimited_step p (state_with more s) ≡ goes_on es rs (state_with more t) }
+    ensures demerits { (p : Params) (places : List PlacePenalty) (s t : State) (es : List RunEvent) (rs : List Recorded) (more : List PlainNode) → step p s ≡ goes_on es rs t → step_demerits p places (state_with more s) (goes_on es rs (state_with more t)) ≡ step_demerits p places s (goes_on es rs t) }
 {}
 
 /// If the run with the breaks does not end at the limit on nodes, a plan has 1000 demerits for each break more than that run.
