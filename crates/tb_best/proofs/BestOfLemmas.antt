@@ -8,12 +8,16 @@ use Rattle.tb_galley.specs.declared.Galley.{Galley}
 use Rattle.tb_lines.specs.LeastSolution.{is_greater}
 use Rattle.tb_lines.proofs.BestWays.{greater_fails}
 use Rattle.tb_lines.proofs.LeastOf.{greater_one}
+use Rattle.tb_node.specs.PlainNodes.{PlainNode}
+use Rattle.tb_steps.specs.Run.{done, run_of}
 use Rattle.tb_plans.specs.Places.{places_of}
 use Rattle.tb_plans.specs.Plans.{is_part}
 use Rattle.tb_best.specs.PlanDemerits.{plan_demerits}
 use Rattle.tb_best.specs.BestPlan.{IsBest, HasNoPlan}
 use Rattle.tb_best.specs.BestOf.{RatedPlan, parts, is_better, better_if, best_among, best_of}
 use Rattle.tb_best.proofs.Paths.{no-amount}
+use Rattle.tb_best.proofs.PlanBreaks.{same-number}
+use Rattle.tb_best.proofs.RatedPlans.{none-is-plan}
 
 -- ---- the parts of a list
 
@@ -69,9 +73,6 @@ part-less b bs (k ∷ ks) h = by (b == k) h (part-less b bs ks) (part-by k bs ks
 
 part-more : (k : ℕ) (bs ks : List ℕ) → IsTrue (is_part bs ks) → IsTrue (is_part bs (k ∷ ks))
 part-more k bs ks h = part-by k bs ks (λ b cs i. part-less b cs ks i) h
-
-same-number : (k : ℕ) → (k == k) ≡ true
-same-number k = grind arith
 
 part-with : (k : ℕ) (bs ks : List ℕ) → IsTrue (is_part bs ks) → IsTrue (is_part (k ∷ bs) (k ∷ ks))
 part-with k bs ks h = ap (λ t. if t then is_part bs ks else is_part (k ∷ bs) ks) (same-number k) ∙ h
@@ -236,6 +237,14 @@ module _ (g : Galley) where
   pub best-of-is : MatchOption (best_of g) (HasNoPlan g) (λ w. IsBest g w.plan w.total)
   unfolding best_of
   best-of-is = of-all (best_among g (parts (places_of g))) (among-is (parts (places_of g)))
+
+  by-some : (o : Option RatedPlan) → MatchOption o (HasNoPlan g) (λ w. IsBest g w.plan w.total) → (HasNoPlan g → ⊥) → (w : RatedPlan) × (o ≡ Some w)
+  by-some None h some = absurd (some h)
+  by-some (Some w) h some = (w, refl)
+
+  -- if the run of the galley ends well, there is a best plan
+  pub best-there : (left : List PlainNode) → (run_of g).end ≡ done left → (w : RatedPlan) × (best_of g ≡ Some w)
+  best-there left h = by-some (best_of g) best-of-is (none-is-plan g left h)
 
 -- there is one best plan
 pub best-one : (g : Galley) (plan other : List ℕ) (a b : ℤ) → IsBest g plan a → IsBest g other b → (plan ≡ other) × (a ≡ b)

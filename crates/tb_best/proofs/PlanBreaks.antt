@@ -18,7 +18,7 @@ numbers_of (c ∷ cs) [] = []
 numbers_of (c ∷ cs) (true ∷ ms) = c.number ∷ numbers_of cs ms
 numbers_of (c ∷ cs) (false ∷ ms) = numbers_of cs ms
 
-same-number : (k : ℕ) → (k == k) ≡ true
+pub same-number : (k : ℕ) → (k == k) ≡ true
 same-number k = grind arith
 
 later-number : (k n : ℕ) → suc k ≤ n → (n == k) ≡ false

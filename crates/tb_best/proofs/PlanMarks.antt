@@ -25,7 +25,8 @@ breaks_after breaks (c ∷ cs) [] = breaks
 breaks_after breaks (c ∷ cs) (true ∷ ms) = breaks_after (c.number ∷ breaks) cs ms
 breaks_after breaks (c ∷ cs) (false ∷ ms) = breaks_after breaks cs ms
 
-broken-none : (k : ℕ) (ns : List Item) → broken k ns [] ≡ ns
+-- without breaks the items are themselves
+pub broken-none : (k : ℕ) (ns : List Item) → broken k ns [] ≡ ns
 broken-none k [] = refl
 broken-none k (n ∷ ns) = refl
 

@@ -3,21 +3,22 @@ use Rattle.std.proofs.Common.{◌≡◌, refl, sym, ◌∙◌, ap, subst, ◌⊎
 use Rattle.std.specs.Prelude.{pos, pred, int_lt, ◌+ℤ◌, ◌≤ℤ◌, if◌then◌else◌}
 use Rattle.std.proofs.lemmas.Int.{ints}
 use Rattle.tb_scaled.specs.Scaled.{awful_bad}
+use Rattle.tb_node.specs.PlainNodes.{PlainNode}
 use Rattle.tb_param.specs.declared.Params.{Params}
-use Rattle.tb_galley.specs.declared.Item.{Item}
 use Rattle.tb_galley.specs.declared.Galley.{Galley}
 use Rattle.tb_builder.specs.Reach.{Reach}
 use Rattle.tb_builder.specs.FiredPages.{fired_of}
 use Rattle.tb_output.specs.State.{State, Work, Recorded, ask_of, emptied}
 use Rattle.tb_output.specs.Output.{out}
 use Rattle.tb_items.specs.RunEvents.{RunEvent, sent}
-use Rattle.tb_steps.specs.Run.{done, pool_full, dead_cycles, page_limit, node_limit, Progress, progress, Step, ends, goes_on, held_count, after_firing, fire, after_progress, step, firings_left}
-use Rattle.tb_plans.specs.Plans.{broken, with_breaks}
+use Rattle.tb_steps.specs.Run.{End, Run, run_by, run_from, run_of, done, pool_full, dead_cycles, page_limit, node_limit, Progress, progress, Step, ends, goes_on, held_count, after_firing, fire, after_progress, step, firings_left}
+use Rattle.tb_plans.specs.Plans.{with_breaks}
 use Rattle.tb_rate.specs.declared.PlacePenalty.{PlacePenalty}
 use Rattle.tb_rate.specs.Places.{place_penalties}
-use Rattle.tb_rate.specs.RatedRun.{demerits_after, more_demerits, demerits_from, demerits, start_of}
+use Rattle.tb_rate.specs.RatedRun.{step_rating, demerits_if, demerits_at, demerits_after, more_demerits, demerits_from, demerits, start_of}
 use Rattle.tb_best.specs.PlanDemerits.{reach_in, unlimited_firing, unlimited_fire, unlimited_progress, unlimited_step, step_demerits, unlimited_demerits_from, unlimited_demerits, breaks_cost, plan_demerits}
-use Rattle.tb_best.specs.BestPlan.{IsBest}
+use Rattle.tb_best.specs.BestPlan.{IsBest, HasNoPlan}
+use Rattle.tb_best.proofs.PlanMarks.{broken-none}
 use Rattle.tb_best.proofs.Paths.{no-amount, more-some}
 
 -- ---- a step
@@ -111,15 +112,54 @@ plan-rated g plan d h = ap (more_demerits (breaks_cost plan)) (demerits-same (wi
 
 -- ---- no break at all
 
-broken-none : (ns : List Item) → broken 0 ns [] ≡ ns
-broken-none [] = refl
-broken-none (n ∷ ns) = refl
-
 no-breaks : (g : Galley) → with_breaks g [] ≡ g
-no-breaks g = ap (λ ns. record g { items = ns }) (broken-none g.items)
+no-breaks g = ap (λ ns. record g { items = ns }) (broken-none 0 g.items)
 
 none-added : (d : ℤ) → (pos 0 +ℤ d) ≡ d
 none-added d = omega (arith, ints)
 
 pub never-worse : (g : Galley) (plan : List ℕ) (total d : ℤ) → IsBest g plan total → demerits g ≡ Some d → total ≤ℤ d
 never-worse g plan total d best h = best.least [] d refl (plan-rated g [] d (ap demerits (no-breaks g) ∙ h) ∙ ap Some (none-added d))
+
+-- ---- a run that ends well has demerits
+
+-- there are demerits
+abbrev HasDemerits : Option ℤ → Type 0
+HasDemerits o = (d : ℤ) × (o ≡ Some d)
+
+more-has : (r : ℤ) (o : Option ℤ) → HasDemerits o → HasDemerits (more_demerits r o)
+more-has r o (d, e) = (r +ℤ d, ap (more_demerits r) e)
+
+at-end : (e : End) (left : List PlainNode) → e ≡ done left → HasDemerits (demerits_at e)
+at-end e left h = (pos 0, ap demerits_at h)
+
+step-has : (run : State → Run) (f : State → Option ℤ) (r : ℤ) (left : List PlainNode) → ((t : State) → (run t).end ≡ done left → HasDemerits (f t)) → (x : Step) → (run_by run x).end ≡ done left → HasDemerits (demerits_after f r x)
+step-has run f r left is (ends es rs e) h = at-end e left h
+step-has run f r left is (goes_on es rs t) h = more-has r (f t) (is t h)
+
+not-done : (n : ℕ) (left : List PlainNode) → dead_cycles n ≡ done left → ⊥
+not-done n left h = no-amount (ap demerits_at h)
+
+run-has : (p : Params) (places : List PlacePenalty) (k : ℕ) (s : State) (left : List PlainNode) → (run_from p k s).end ≡ done left → HasDemerits (demerits_from p places k s)
+unfolding run_from demerits_from
+run-has p places zero s left h = absurd (not-done s.dead_cycles left h)
+run-has p places (suc k) s left h =
+    step-has (λ t. run_from p k t) (λ t. demerits_from p places k t) (demerits_if (step_rating p places s)) left (λ t e. run-has p places k t left e) (step p s) h
+
+start-has : (t : Bool) (n : ℕ) (run : Run) (o : Option ℤ) (left : List PlainNode) → (run.end ≡ done left → HasDemerits o) → (if t then record { events = []; records = []; end = node_limit n } else run).end ≡ done left
+    → HasDemerits (if t then None else o)
+start-has true n run o left is h = absurd (no-amount (ap demerits_at h))
+start-has false n run o left is h = is h
+
+done-has : (g : Galley) (left : List PlainNode) → (run_of g).end ≡ done left → HasDemerits (demerits g)
+unfolding run_of demerits
+done-has g left h =
+    let s = start_of g in
+    let k = suc (firings_left g.params s) in
+    start-has (int_lt g.params.maxnodes (pos (held_count s))) (held_count s) (run_from g.params k s) (demerits_from g.params (place_penalties g.items) k s) left (λ e. run-has g.params (place_penalties g.items) k s left e) h
+
+-- if the run of a galley ends well, no break at all is a plan with demerits
+pub none-is-plan : (g : Galley) (left : List PlainNode) → (run_of g).end ≡ done left → HasNoPlan g → ⊥
+none-is-plan g left h none =
+    let d = done-has g left h in
+    none [] (pos 0 +ℤ d.0) refl (plan-rated g [] d.0 (ap demerits (no-breaks g) ∙ d.1))

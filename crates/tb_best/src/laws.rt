@@ -6,13 +6,13 @@ ghost use Rattle.tb_node.specs.PlainNodes.{PlainNode};
 ghost use Rattle.tb_param.specs.declared.Params.{Params};
 ghost use Rattle.tb_output.specs.State.{State, Recorded};
 ghost use Rattle.tb_items.specs.RunEvents.{RunEvent};
-ghost use Rattle.tb_steps.specs.Run.{goes_on, step};
+ghost use Rattle.tb_steps.specs.Run.{done, run_of, goes_on, step};
 ghost use Rattle.tb_rate.specs.declared.PlacePenalty.{PlacePenalty};
 ghost use Rattle.tb_plans.specs.Plans.{IsPlan, with_breaks};
 ghost use Rattle.tb_rate.specs.RatedRun.{demerits, more_demerits};
 ghost use Rattle.tb_best.specs.PlanDemerits.{reach_in, unlimited_step, step_demerits, breaks_cost, plan_demerits};
 ghost use Rattle.tb_best.specs.BestPlan.{IsBest, HasNoPlan};
-ghost use Rattle.tb_best.specs.BestOf.{best_of};
+ghost use Rattle.tb_best.specs.BestOf.{RatedPlan, best_of};
 ghost use Rattle.tb_best.specs.ItemsAhead.{state_with};
 ghost use Rattle.tb_best.specs.ClosedTables.{Row, rows_know, IsClosed, IsEnd};
 
@@ -43,6 +43,11 @@ pub fn plans_are_rated()
 /// The best of all plans, each of which is run, is the best plan; without one, the run of no plan ends well.
 pub fn best_of_all_is_best()
     ensures { (g : Galley) → MatchOption (best_of g) (HasNoPlan g) (λ w. IsBest g w.plan w.total) }
+{}
+
+/// If the run of a galley ends well, it has a best plan.
+pub fn best_plan_is_there()
+    ensures { (g : Galley) (left : List PlainNode) → (run_of g).end ≡ done left → (w : RatedPlan) × (best_of g ≡ Some w) }
 {}
 
 /// A galley has one best plan.
