@@ -14,3 +14,6 @@ pub mod RowLemmas
 pub mod WayLemmas
 pub mod BestOfLemmas
 pub mod TurnLemmas
+pub mod CutPages
+pub mod PageTableLemmas
+pub mod ReachedLemmas

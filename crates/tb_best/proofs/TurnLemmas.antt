@@ -18,7 +18,7 @@ fires-by p s t es rs true e h = refl
 fires-by p s t es rs false e h = absurd (subst IsOver h (step-over p s e))
 
 -- a page that is filled fires
-fires-here : (p : Params) (s t : State) (es : List RunEvent) (rs : List Recorded) → unlimited_step p s ≡ goes_on es rs t → (reach_in p s).fires ≡ true
+pub fires-here : (p : Params) (s t : State) (es : List RunEvent) (rs : List Recorded) → unlimited_step p s ≡ goes_on es rs t → (reach_in p s).fires ≡ true
 fires-here p s t es rs h = fires-by p s t es rs (reach_in p s).fires refl h
 
 module _ (p : Params) (s t : State) (es : List RunEvent) (rs : List Recorded) (more : List PlainNode) (h : step p s ≡ goes_on es rs t) where

@@ -14,12 +14,25 @@ ghost use Rattle.tb_best.specs.PlanDemerits.{reach_in, unlimited_step, step_deme
 ghost use Rattle.tb_best.specs.BestPlan.{IsBest, HasNoPlan};
 ghost use Rattle.tb_best.specs.BestOf.{RatedPlan, best_of};
 ghost use Rattle.tb_best.specs.ItemsAhead.{state_with};
-ghost use Rattle.tb_best.specs.ClosedTables.{Row, rows_know, IsClosed, IsEnd};
+ghost use Rattle.tb_best.specs.ClosedTables.{Row, rows_know, IsClosed, Reaches, IsEnd};
+ghost use Rattle.tb_best.specs.PageTables.{IsClosedByPages};
 
 /// If a plan has these demerits, and a table of states that is closed under the moves has no better end, then no plan of the
 /// galley has fewer demerits, and of those with as many it is the one with the last breaks furthest down.
 pub fn closed_tables_have_the_best()
     ensures { (g : Galley) (plan : List ℕ) (total : ℤ) (rows : List Row) → IsPlan g plan → plan_demerits g plan ≡ Some total → IsClosed g total (reverse plan) (rows_know rows) → IsBest g plan total }
+{}
+
+/// The same of a table of the states between two pages, which knows of each the states after each page that may come next: one
+/// that fires by itself, and one for each place at which a break is put into it.
+pub fn closed_page_tables_have_the_best()
+    ensures { (g : Galley) (plan : List ℕ) (total : ℤ) (rows : List Row) → IsPlan g plan → plan_demerits g plan ≡ Some total → IsClosedByPages g total (reverse plan) (rows_know rows) → IsBest g plan total }
+{}
+
+/// For the best plan all that is reached by moves is a closed table, of both kinds. So each best plan has one.
+pub fn best_plans_have_closed_tables()
+    ensures states { (g : Galley) (plan : List ℕ) (total : ℤ) → IsBest g plan total → IsClosed g total (reverse plan) (Reaches g) }
+    ensures pages { (g : Galley) (plan : List ℕ) (total : ℤ) → IsBest g plan total → IsClosedByPages g total (reverse plan) (Reaches g) }
 {}
 
 /// An end that is reached by moves from the beginning is a plan, with the demerits at which it was reached.
