@@ -1,8 +1,11 @@
 -- A page with a box fires where a break is put in, whatever is behind.
-use Rattle.std.proofs.Common.{◌≡◌, refl, ◌∙◌, ap, ℕ, ℤ, Bool, true, false, List, [], ◌∷◌, ◌++◌, map, Option, Some, None, arith}
-use Rattle.std.specs.Prelude.{pos, neg_ℤ, ◌||◌, int_le, if◌then◌else◌}
-use Rattle.tb_scaled.specs.Scaled.{awful_bad}
-use Rattle.tb_node.specs.PlainNodes.{hbox, rule, skip, kerned, pen, mark, note, whatsit, PlainKind, plain, ins, act, PlainNode, node_shape, without_acts}
+use Rattle.std.proofs.Common.{◌≡◌, refl, sym, ◌∙◌, ap, ℕ, ℤ, Bool, true, false, List, [], ◌∷◌, ◌++◌, map, Option, Some, None, append_assoc, arith}
+use Rattle.std.specs.Prelude.{pos, neg_ℤ, ◌||◌, int_lt, int_le, if◌then◌else◌}
+use Rattle.tb_scaled.specs.Scaled.{awful_bad, inf_penalty, eject_penalty}
+use Rattle.tb_node.specs.PlainNodes.{hbox, rule, skip, kerned, pen, mark, note, whatsit, PlainKind, plain, ins, act, PlainNode, node_shape, without_acts, on_line, blank_box}
+use Rattle.tb_node.specs.Shape.{is_box}
+use Rattle.tb_node.specs.declared.Act.{Act}
+use Rattle.tb_galley.specs.GalleyNodes.{with_firings}
 use Rattle.tb_param.specs.declared.Params.{Params}
 use Rattle.tb_break.specs.Best.{Breakpoint, is_stop}
 use Rattle.tb_break.specs.PageTop.{pruned_nodes}
@@ -15,9 +18,14 @@ use Rattle.tb_output.specs.State.{State, ask_of}
 use Rattle.tb_best.specs.PlanDemerits.{reach_in}
 use Rattle.tb_best.specs.ItemsAhead.{Ahead, forced, state_with}
 
--- a penalty of -10000 on this line
-abbrev forced_on : ℕ → PlainNode
-forced_on line = record { line = line; kind = plain (pen (neg_ℤ (pos 10000))) }
+-- a penalty on this line
+abbrev penalty_on : ℕ → ℤ → PlainNode
+penalty_on line q = record { line = line; kind = plain (pen q) }
+
+-- the penalty is low enough to force a break
+record IsForced (q : ℤ) : Type 0 where
+  legal : int_lt q inf_penalty ≡ true
+  stops : int_le q eject_penalty ≡ true
 
 -- ---- what is reached
 
@@ -39,21 +47,24 @@ module _ (limit : ℤ) (terms : List PlainNode → Terms) where
   stops-by n before rest w b true h = refl
   stops-by n before rest w b false h = let no : ⊥ = grind (arith, h) in absurd no
 
-  either-stop : (t : Bool) → (t || true) ≡ true
-  either-stop true = refl
-  either-stop false = refl
+  either-stop : (t u : Bool) → u ≡ true → (t || u) ≡ true
+  either-stop true u h = refl
+  either-stop false u h = h
 
-  -- a forced break fires
-  forced-fires : (line : ℕ) (before rest : List PlainNode) → (reach_from limit terms before (forced_on line ∷ rest)).fires ≡ true
-  forced-fires line before rest =
-      let b = page_place limit terms before (neg_ℤ (pos 10000)) in
-      stops-by (forced_on line) before rest (reach_from limit terms (before ++ without_acts (forced_on line ∷ [])) rest) b (is_stop b) (either-stop (int_le awful_bad b.cost))
+  module _ (line : ℕ) (q : ℤ) (forces : IsForced q) where
+    -- a forced break fires
+    forced-fires : (before rest : List PlainNode) → (reach_from limit terms before (penalty_on line q ∷ rest)).fires ≡ true
+    forced-fires before rest =
+        let b = page_place limit terms before q in
+        let later = reach_from limit terms (before ++ without_acts (penalty_on line q ∷ [])) rest in
+        ap (λ t. (reach_at limit terms before (penalty_on line q) rest later (if t then Some q else None)).fires) forces.legal
+        ∙ stops-by (penalty_on line q) before rest later b (is_stop b) (either-stop (int_le awful_bad b.cost) (int_le q eject_penalty) forces.stops)
 
-  -- and so does a list that has one
-  list-fires : (line : ℕ) (before xs rest : List PlainNode) → (reach_from limit terms before (xs ++ forced_on line ∷ rest)).fires ≡ true
-  list-fires line before [] rest = forced-fires line before rest
-  list-fires line before (n ∷ xs) rest =
-      node-fires n before (xs ++ forced_on line ∷ rest) (reach_from limit terms (before ++ without_acts (n ∷ [])) (xs ++ forced_on line ∷ rest)) n.kind (list-fires line (before ++ without_acts (n ∷ [])) xs rest)
+    -- and so does a list that has one
+    list-fires : (before xs rest : List PlainNode) → (reach_from limit terms before (xs ++ penalty_on line q ∷ rest)).fires ≡ true
+    list-fires before [] rest = forced-fires before rest
+    list-fires before (n ∷ xs) rest =
+        node-fires n before (xs ++ penalty_on line q ∷ rest) (reach_from limit terms (before ++ without_acts (n ∷ [])) (xs ++ penalty_on line q ∷ rest)) n.kind (list-fires (before ++ without_acts (n ∷ [])) xs rest)
 
 -- ---- what is behind the first box stays
 
@@ -76,10 +87,40 @@ module _ (top : ℤ) where
   box-first [] more h = let no : ⊥ = grind (arith, h) in absurd no
   box-first (n ∷ xs) more h = top-node n.line n.kind xs more (box-first xs more) h
 
--- a page with a box fires where a break is put in
-pub cut-fires : (p : Params) (s : State) (c : Ahead) → holds_box s.waiting ≡ true → (reach_in p (state_with (forced c ∷ c.nodes) s)).fires ≡ true
-cut-fires p s c box =
+-- a page with a box fires at a forced break behind it
+pub behind-box : (p : Params) (s : State) (line : ℕ) (q : ℤ) (rest : List PlainNode) → int_lt q inf_penalty ≡ true → int_le q eject_penalty ≡ true → holds_box s.waiting ≡ true
+    → (reach_in p (state_with (record { line = line; kind = plain (pen q) } ∷ rest) s)).fires ≡ true
+behind-box p s line q rest legal stops box =
     let limit = (ask_of p s).max_depth in
     let terms = terms_after (frozen_for (ask_of p s) s.classes s.boxes) in
-    ap (λ ns. (reach_from limit terms [] ns).fires) (box-first (ask_of p s).top_skip s.waiting (forced c ∷ c.nodes) box)
-    ∙ list-fires limit terms c.line [] (pruned_nodes (ask_of p s).top_skip s.waiting) c.nodes
+    ap (λ ns. (reach_from limit terms [] ns).fires) (box-first (ask_of p s).top_skip s.waiting (penalty_on line q ∷ rest) box)
+    ∙ list-fires limit terms line q (record { legal = legal; stops = stops }) [] (pruned_nodes (ask_of p s).top_skip s.waiting) rest
+
+-- a page with a box fires where a break is put in
+pub cut-fires : (p : Params) (s : State) (c : Ahead) → holds_box s.waiting ≡ true → (reach_in p (state_with (forced c ∷ c.nodes) s)).fires ≡ true
+cut-fires p s c box = behind-box p s c.line (neg_ℤ (pos 10000)) c.nodes refl refl box
+
+-- ---- a float or marginal note
+
+box-by : (t u : Bool) → t ≡ true → (u || t) ≡ true
+box-by t true h = refl
+box-by t false h = h
+
+box-behind : (xs ys : List PlainNode) → holds_box ys ≡ true → holds_box (xs ++ ys) ≡ true
+box-behind [] ys h = h
+box-behind (x ∷ xs) ys h = box-by (holds_box (xs ++ ys)) (is_box (node_shape x)) (box-behind xs ys h)
+
+-- the nodes of a float or note up to its second firing
+abbrev first_nodes : ℕ → Act → List PlainNode
+first_nodes line a = on_line line (act a ∷ plain (pen (neg_ℤ (pos 10004))) ∷ plain blank_box ∷ [])
+
+second-fires : (p : Params) (s : State) (line : ℕ) (a : Act) (vert : Bool)
+    → (reach_in p (state_with (record { line = line; kind = plain (pen (neg_ℤ (pos (if vert then 10003 else 10002)))) } ∷ []) (state_with (first_nodes line a) s))).fires ≡ true
+second-fires p s line a true = behind-box p (state_with (first_nodes line a) s) line (neg_ℤ (pos 10003)) [] refl refl (box-behind s.waiting (first_nodes line a) refl)
+second-fires p s line a false = behind-box p (state_with (first_nodes line a) s) line (neg_ℤ (pos 10002)) [] refl refl (box-behind s.waiting (first_nodes line a) refl)
+
+-- a page fires at an item with firings of its own
+pub item-fires : (p : Params) (s : State) (line : ℕ) (a : Act) (vert : Bool) → (reach_in p (state_with (on_line line (with_firings a vert)) s)).fires ≡ true
+item-fires p s line a vert =
+    ap (λ ns. (reach_in p (record s { waiting = ns })).fires) (sym (append_assoc s.waiting (first_nodes line a) (record { line = line; kind = plain (pen (neg_ℤ (pos (if vert then 10003 else 10002)))) } ∷ [])))
+    ∙ second-fires p s line a vert

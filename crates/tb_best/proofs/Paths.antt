@@ -78,7 +78,7 @@ IsOver (ends es rs e) = Unit {0}
 IsOver (goes_on es rs t) = ⊥
 
 -- the run is over well
-abbrev IsDone : Step → Type 0
+abbrev pub IsDone : Step → Type 0
 IsDone (ends es rs (done left)) = Unit {0}
 IsDone (ends es rs (pool_full line live)) = ⊥
 IsDone (ends es rs (dead_cycles n)) = ⊥
@@ -101,7 +101,7 @@ progress-undone : (p : Params) (w : Reach) (q : Progress) (o : Option (ℕ × �
 progress-undone p w q (Some f) fires h = h
 progress-undone p w q None fires h = fire-undone p w q (subst (λ t. IsDone (if t then unlimited_fire p w q else ends q.events (q.records ++ emptied q.state.floats ∷ []) (done w.passed))) fires h)
 
-step-undone : (p : Params) (s : State) → (reach_in p s).fires ≡ true → IsDone (unlimited_step p s) → ⊥
+pub step-undone : (p : Params) (s : State) → (reach_in p s).fires ≡ true → IsDone (unlimited_step p s) → ⊥
 unfolding unlimited_step
 step-undone p s fires h = let q = progress p (reach_in p s).reached awful_bad s in progress-undone p (reach_in p s) q q.fault fires h
 

@@ -69,6 +69,13 @@ same-goes-on x y es rs t e (inr h) = sym h ∙ e
 pub goes-on : (p : Params) (s t : State) (es : List RunEvent) (rs : List Recorded) → step p s ≡ goes_on es rs t → unlimited_step p s ≡ goes_on es rs t
 goes-on p s t es rs h = same-goes-on (step p s) (unlimited_step p s) es rs t h (step-same p s)
 
+same-ends : (x y : Step) (es : List RunEvent) (rs : List Recorded) (left : List PlainNode) → x ≡ ends es rs (done left) → IsSame x y → y ≡ ends es rs (done left)
+same-ends x y es rs left e (inl h) = absurd (subst IsLimited e h)
+same-ends x y es rs left e (inr h) = sym h ∙ e
+
+pub ends-well : (p : Params) (s : State) (es : List RunEvent) (rs : List Recorded) (left : List PlainNode) → step p s ≡ ends es rs (done left) → unlimited_step p s ≡ ends es rs (done left)
+ends-well p s es rs left h = same-ends (step p s) (unlimited_step p s) es rs left h (step-same p s)
+
 -- ---- the run
 
 limited-none : (later : State → Option ℤ) (r : ℤ) (x : Step) → IsLimited x → demerits_after later r x ≡ None

@@ -1,17 +1,17 @@
 -- A turn that goes on is the step of a run with more nodes behind.
-use Rattle.std.proofs.Common.{◌≡◌, ◌∙◌, ap, subst, Bool, true, false, List, refl}
+use Rattle.std.proofs.Common.{◌≡◌, sym, ◌∙◌, ap, subst, Bool, true, false, List, refl}
 use Rattle.tb_node.specs.PlainNodes.{PlainNode}
 use Rattle.tb_param.specs.declared.Params.{Params}
 use Rattle.tb_output.specs.State.{State, Recorded, ask_of}
 use Rattle.tb_items.specs.RunEvents.{RunEvent}
-use Rattle.tb_steps.specs.Run.{goes_on, step}
+use Rattle.tb_steps.specs.Run.{done, ends, goes_on, step}
 use Rattle.tb_rate.specs.declared.PlacePenalty.{PlacePenalty}
 use Rattle.tb_best.specs.PlanDemerits.{reach_in, unlimited_step, step_demerits}
 use Rattle.tb_best.specs.ItemsAhead.{state_with}
 use Rattle.tb_best.proofs.FiredMore.{begun-more}
 use Rattle.tb_best.proofs.StepMore.{step_with, step-more, demerits-more}
-use Rattle.tb_best.proofs.Paths.{IsOver, step-over}
-use Rattle.tb_best.proofs.RatedPlans.{goes-on}
+use Rattle.tb_best.proofs.Paths.{IsOver, step-over, IsDone, step-undone}
+use Rattle.tb_best.proofs.RatedPlans.{goes-on, ends-well}
 
 fires-by : (p : Params) (s t : State) (es : List RunEvent) (rs : List Recorded) (f : Bool) → (reach_in p s).fires ≡ f → unlimited_step p s ≡ goes_on es rs t → f ≡ true
 fires-by p s t es rs true e h = refl
@@ -39,3 +39,11 @@ module _ (p : Params) (s t : State) (es : List RunEvent) (rs : List Recorded) (m
   -- and the demerits are the same
   pub turn-demerits : (places : List PlacePenalty) → step_demerits p places (state_with more s) (goes_on es rs (state_with more t)) ≡ step_demerits p places s (goes_on es rs t)
   turn-demerits places = subst (λ x. step_demerits p places (state_with more s) (step_with more x) ≡ step_demerits p places s x) alone (demerits-more p places s more fires)
+
+quiet-by : (p : Params) (s : State) (es : List RunEvent) (rs : List Recorded) (left : List PlainNode) (f : Bool) → (reach_in p s).fires ≡ f → unlimited_step p s ≡ ends es rs (done left) → f ≡ false
+quiet-by p s es rs left true e h = absurd (step-undone p s e (subst IsDone (sym h) tt))
+quiet-by p s es rs left false e h = refl
+
+-- where the run ends well no page fires
+pub end-quiet : (p : Params) (s : State) (es : List RunEvent) (rs : List Recorded) (left : List PlainNode) → step p s ≡ ends es rs (done left) → (reach_in p s).fires ≡ false
+end-quiet p s es rs left h = quiet-by p s es rs left (reach_in p s).fires refl (ends-well p s es rs left h)

@@ -1,19 +1,22 @@
 //! Laws of the best plan: each function is a theorem, stated by its contract, and does nothing.
 
-ghost use Rattle.std.specs.Prelude.{◌≡◌, ℕ, ℤ, ◌≤ℤ◌, true, List, reverse, Option, Some, None, MatchOption};
+ghost use Rattle.std.specs.Prelude.{◌≡◌, ℕ, ℤ, ◌≤ℤ◌, Bool, true, false, List, ◌∷◌, reverse, Option, Some, None, MatchOption};
 ghost use Rattle.tb_galley.specs.declared.Galley.{Galley};
-ghost use Rattle.tb_node.specs.PlainNodes.{PlainNode};
+ghost use Rattle.tb_node.specs.PlainNodes.{PlainNode, on_line};
+ghost use Rattle.tb_node.specs.declared.Act.{Act};
+ghost use Rattle.tb_galley.specs.GalleyNodes.{with_firings};
+ghost use Rattle.tb_builder.specs.Reach.{holds_box};
 ghost use Rattle.tb_param.specs.declared.Params.{Params};
 ghost use Rattle.tb_output.specs.State.{State, Recorded};
 ghost use Rattle.tb_items.specs.RunEvents.{RunEvent};
-ghost use Rattle.tb_steps.specs.Run.{done, run_of, goes_on, step};
+ghost use Rattle.tb_steps.specs.Run.{done, run_of, ends, goes_on, step};
 ghost use Rattle.tb_rate.specs.declared.PlacePenalty.{PlacePenalty};
 ghost use Rattle.tb_plans.specs.Plans.{IsPlan, with_breaks};
 ghost use Rattle.tb_rate.specs.RatedRun.{demerits, more_demerits};
 ghost use Rattle.tb_best.specs.PlanDemerits.{reach_in, unlimited_step, step_demerits, breaks_cost, plan_demerits};
 ghost use Rattle.tb_best.specs.BestPlan.{IsBest, HasNoPlan};
 ghost use Rattle.tb_best.specs.BestOf.{RatedPlan, best_of};
-ghost use Rattle.tb_best.specs.ItemsAhead.{state_with};
+ghost use Rattle.tb_best.specs.ItemsAhead.{Ahead, forced, state_with};
 ghost use Rattle.tb_best.specs.ClosedTables.{Row, rows_know, IsClosed, Reaches, IsEnd};
 ghost use Rattle.tb_best.specs.PageTables.{IsClosedByPages};
 
@@ -46,6 +49,18 @@ pub fn steps_look_no_further()
     ensures fires { (p : Params) (s t : State) (es : List RunEvent) (rs : List Recorded) (more : List PlainNode) → step p s ≡ goes_on es rs t → (reach_in p (state_with more s)).fires ≡ true }
     ensures run { (p : Params) (s t : State) (es : List RunEvent) (rs : List Recorded) (more : List PlainNode) → step p s ≡ goes_on es rs t → unlimited_step p (state_with more s) ≡ goes_on es rs (state_with more t) }
     ensures demerits { (p : Params) (places : List PlacePenalty) (s t : State) (es : List RunEvent) (rs : List Recorded) (more : List PlainNode) → step p s ≡ goes_on es rs t → step_demerits p places (state_with more s) (goes_on es rs (state_with more t)) ≡ step_demerits p places s (goes_on es rs t) }
+{}
+
+/// A page with a box fires where a break is put in, and any page fires at a float or marginal note that has firings of its own.
+pub fn breaks_fire()
+    ensures put_in { (p : Params) (s : State) (c : Ahead) → holds_box s.waiting ≡ true → (reach_in p (state_with (forced c ∷ c.nodes) s)).fires ≡ true }
+    ensures called { (p : Params) (s : State) (line : ℕ) (a : Act) (vert : Bool) → (reach_in p (state_with (on_line line (with_firings a vert)) s)).fires ≡ true }
+{}
+
+/// Where a step ends a run well no page fires, and the number of nodes was not met.
+pub fn good_ends_are_quiet()
+    ensures quiet { (p : Params) (s : State) (es : List RunEvent) (rs : List Recorded) (left : List PlainNode) → step p s ≡ ends es rs (done left) → (reach_in p s).fires ≡ false }
+    ensures run { (p : Params) (s : State) (es : List RunEvent) (rs : List Recorded) (left : List PlainNode) → step p s ≡ ends es rs (done left) → unlimited_step p s ≡ ends es rs (done left) }
 {}
 
 /// If the run with the breaks does not end at the limit on nodes, a plan has 1000 demerits for each break more than that run.
