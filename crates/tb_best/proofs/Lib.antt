@@ -2,6 +2,7 @@ pub mod ReachMore
 pub mod FiredMore
 pub mod StepMore
 pub mod TopBreaks
+pub mod TidiedLemmas
 pub mod Paths
 pub mod FuelLemmas
 pub mod PlanMarks

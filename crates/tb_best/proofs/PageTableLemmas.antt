@@ -11,7 +11,7 @@ use Rattle.tb_plans.specs.Plans.{IsPlan}
 use Rattle.tb_best.specs.PlanDemerits.{reach_in, unlimited_step, plan_demerits}
 use Rattle.tb_best.specs.BestPlan.{IsBest}
 use Rattle.tb_best.specs.ItemsAhead.{Ahead, forced, state_with}
-use Rattle.tb_best.specs.ClosedTables.{Table, IsNoBetter, IsClosed}
+use Rattle.tb_best.specs.ClosedTables.{Table, KnowsAsGood, IsNoBetter, IsClosed}
 use Rattle.tb_best.specs.PageTables.{TakesOn, none, more, with_page, IsClosedByPages}
 use Rattle.tb_best.proofs.CutPages.{cut-fires}
 use Rattle.tb_best.proofs.BestLemmas.{closed-best}
@@ -35,12 +35,12 @@ module _ (g : Galley) (total : ℤ) (best : List ℕ) (Starts : Table) (closed :
   way-cuts t c ds d breaks (taken s _ cs _ _ _ known way) quiet place box = cut s t c cs ds d breaks known way quiet place box
   way-cuts _ c _ _ _ (cut s t e cs _ d breaks known way before at box) quiet place again = absurd (no-cut t e box quiet)
 
-  starts-here : (u : State) (ds : List Ahead) (d : ℤ) (breaks : List ℕ) → Starts u ds d breaks ⊎ (total <ℤ d) → OnTheWay u ds d breaks ⊎ (total <ℤ d)
-  starts-here u ds d breaks (inl h) = inl (taken u u ds ds d breaks h none)
+  starts-here : (u : State) (ds : List Ahead) (d : ℤ) (breaks : List ℕ) → KnowsAsGood g Starts u ds d breaks ⊎ (total <ℤ d) → KnowsAsGood g OnTheWay u ds d breaks ⊎ (total <ℤ d)
+  starts-here u ds d breaks (inl (v, good, h)) = inl (v, good, taken v v ds ds d breaks h none)
   starts-here u ds d breaks (inr h) = inr h
 
   way-fills : (s u : State) (cs : List Ahead) (d : ℤ) (breaks : List ℕ) (es : List RunEvent) (rs : List Recorded) → OnTheWay s cs d breaks → (reach_in g.params s).fires ≡ true → unlimited_step g.params s ≡ goes_on es rs u
-      → OnTheWay u cs (with_page g d s es rs u) breaks ⊎ (total <ℤ with_page g d s es rs u)
+      → KnowsAsGood g OnTheWay u cs (with_page g d s es rs u) breaks ⊎ (total <ℤ with_page g d s es rs u)
   way-fills t u ds d breaks es rs (taken s _ cs _ _ _ known way) fires e = starts-here u ds (with_page g d t es rs u) breaks (closed.fills s t u cs ds d breaks es rs known way fires e)
   way-fills _ u ds _ _ es rs (cut s t c cs _ d breaks known way quiet place box) fires e =
       starts-here u ds (with_page g (d +ℤ pos 1000) (state_with (forced c ∷ c.nodes) t) es rs u) (c.number ∷ breaks) (closed.cuts s t u c cs ds d breaks es rs known way quiet place box e)

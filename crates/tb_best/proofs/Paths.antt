@@ -149,7 +149,7 @@ module _ (p : Params) (places : List PlacePenalty) where
       ∙ ap (λ d. demerits_after (λ t. from k t) d (step_with more (unlimited_step p s))) (demerits-more p places s more fires)
 
   -- a path with this sum, with these marks or with fewer: a break before the first box of a page is left out
-  abbrev HasPath : ℕ → State → List Ahead → List Bool → ℤ → Type 0
+  abbrev pub HasPath : ℕ → State → List Ahead → List Bool → ℤ → Type 0
   HasPath k s cs ms d = (less : List Bool) × Path p places k s cs less d × ((less ≡ ms) ⊎ (marked less < marked ms))
 
   by-fill : (k : ℕ) (s : State) (cs : List Ahead) (ms : List Bool) (d : ℤ) (x : Step)
@@ -227,3 +227,21 @@ module _ (p : Params) (places : List PlacePenalty) where
   pub run-paths : (k : ℕ) (s : State) (cs : List Ahead) (ms : List Bool) (d : ℤ) → AreMarks cs ms → from k (state_with (planned ms cs) s) ≡ Some d → HasPath k s cs ms d
   run-paths zero s cs ms d marks h = absurd (no-amount (sym (no-fuel (state_with (planned ms cs) s)) ∙ h))
   run-paths (suc k) s cs ms d marks h = items-left k cs ms (λ t xs ys e m g. run-paths k t xs ys e m g) s d marks h
+
+  -- each path is the run of the nodes with its breaks
+  pub path-runs : (k : ℕ) (s : State) (cs : List Ahead) (ms : List Bool) (d : ℤ) → Path p places k s cs ms d → from k (state_with (planned ms cs) s) ≡ Some d
+  path-runs _ _ _ _ _ (finished k s es rs left quiet e) = ap (from (suc k)) (nothing-behind s) ∙ one-step k s ∙ ap (by_step k s) e
+  path-runs _ _ _ _ _ (taken k s c cs ms d quiet h) = ap (from k) (taken-first c.nodes (planned ms cs) s) ∙ path-runs k (state_with c.nodes s) cs ms d h
+  path-runs _ _ _ _ _ (cut k s c cs ms d quiet place box h) =
+      ap (from k) (taken-first (forced c ∷ c.nodes) (planned ms cs) s) ∙ path-runs k (state_with (forced c ∷ c.nodes) s) cs ms d h
+  path-runs _ _ _ _ _ (filled k s cs ms d es rs t fires e h) =
+      fill-step k s (planned ms cs) fires
+      ∙ ap (λ x. demerits_after (λ u. from k u) (step_demerits p places s x) (step_with (planned ms cs) x)) e
+      ∙ ap (more_demerits (step_demerits p places s (goes_on es rs t))) (path-runs k t cs ms d h)
+
+  -- its breaks are at places
+  pub path-marks : (k : ℕ) (s : State) (cs : List Ahead) (ms : List Bool) (d : ℤ) → Path p places k s cs ms d → AreMarks cs ms
+  path-marks _ _ _ _ _ (finished k s es rs left quiet e) = tt
+  path-marks _ _ _ _ _ (taken k s c cs ms d quiet h) = path-marks k (state_with c.nodes s) cs ms d h
+  path-marks _ _ _ _ _ (cut k s c cs ms d quiet place box h) = (place, path-marks k (state_with (forced c ∷ c.nodes) s) cs ms d h)
+  path-marks _ _ _ _ _ (filled k s cs ms d es rs t fires e h) = path-marks k t cs ms d h

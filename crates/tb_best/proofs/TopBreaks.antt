@@ -109,7 +109,8 @@ same-demerits : (p : Params) (places : List PlacePenalty) (s : State) (ws : List
 same-demerits p places s ws (ends es rs e) = refl
 same-demerits p places s ws (goes_on es rs t) = refl
 
-run-in : (p : Params) (places : List PlacePenalty) (k : ℕ) (s : State) (ws : List PlainNode) → reach_in p (waits ws s) ≡ reach_in p s
+-- so do the demerits of a run
+pub run-in : (p : Params) (places : List PlacePenalty) (k : ℕ) (s : State) (ws : List PlainNode) → reach_in p (waits ws s) ≡ reach_in p s
     → unlimited_demerits_from p places k (waits ws s) ≡ unlimited_demerits_from p places k s
 unfolding unlimited_demerits_from
 run-in p places zero s ws h = refl

@@ -14,7 +14,7 @@ use Rattle.tb_rate.specs.Places.{place_penalties}
 use Rattle.tb_rate.specs.RatedRun.{demerits_after, more_demerits}
 use Rattle.tb_best.specs.PlanDemerits.{reach_in, unlimited_step, step_demerits, unlimited_demerits_from, breaks_cost, plan_demerits}
 use Rattle.tb_best.specs.ItemsAhead.{Ahead, last_ahead, all_ahead, empty_start, forced, state_with}
-use Rattle.tb_best.specs.ClosedTables.{Reaches, begun, takes, cuts, fills, IsEnd}
+use Rattle.tb_best.specs.ClosedTables.{AreAlike, Reaches, begun, takes, cuts, fills, merges, IsEnd}
 use Rattle.tb_best.proofs.StepMore.{step_with}
 use Rattle.tb_best.proofs.Paths.{planned, AreMarks, marked, nothing-behind, taken-first, one-step, fill-step}
 use Rattle.tb_best.proofs.FuelLemmas.{enough-fuel}
@@ -126,11 +126,23 @@ module _ (g : Galley) where
     sum = also-paid d w.paid (page_demerits s t es rs) (marked w.marks) w.sum;
   }
 
+  way-merged : (s t : State) (cs : List Ahead) (d : ℤ) (breaks : List ℕ) → AreAlike g s t → Way s cs d breaks → Way t cs d breaks
+  way-merged s t cs d breaks alike w = record {
+    marks = w.marks;
+    filled = w.filled;
+    paid = w.paid;
+    leads = λ ms k e h. w.leads ms k e (alike k (planned ms cs) ∙ h);
+    at_places = w.at_places;
+    are_breaks = w.are_breaks;
+    sum = w.sum;
+  }
+
   way-here : (s : State) (cs : List Ahead) (d : ℤ) (breaks : List ℕ) → Reaches g s cs d breaks → Way s cs d breaks
   way-here _ _ _ _ begun = way-begun
   way-here _ _ _ _ (takes s c cs d breaks h) = way-taken s c cs d breaks (way-here s (c ∷ cs) d breaks h)
   way-here _ _ _ _ (cuts s c cs d breaks h place) = way-cut s c cs d breaks place (way-here s (c ∷ cs) d breaks h)
   way-here _ _ _ _ (fills s t cs d breaks es rs h fires e) = way-filled s t cs d breaks es rs fires e (way-here s cs d breaks h)
+  way-here _ _ _ _ (merges s t cs d breaks h alike) = way-merged s t cs d breaks alike (way-here s cs d breaks h)
 
   -- ---- the end
 

@@ -17,7 +17,8 @@ ghost use Rattle.tb_best.specs.PlanDemerits.{reach_in, unlimited_step, step_deme
 ghost use Rattle.tb_best.specs.BestPlan.{IsBest, HasNoPlan};
 ghost use Rattle.tb_best.specs.BestOf.{RatedPlan, best_of};
 ghost use Rattle.tb_best.specs.ItemsAhead.{Ahead, forced, state_with};
-ghost use Rattle.tb_best.specs.ClosedTables.{Row, rows_know, IsClosed, Reaches, IsEnd};
+ghost use Rattle.tb_best.specs.ClosedTables.{Row, rows_know, AreAlike, IsClosed, Reaches, IsEnd};
+ghost use Rattle.tb_best.specs.Tidied.{tidied};
 ghost use Rattle.tb_best.specs.PageTables.{IsClosedByPages};
 
 /// If a plan has these demerits, and a table of states that is closed under the moves has no better end, then no plan of the
@@ -49,6 +50,11 @@ pub fn steps_look_no_further()
     ensures fires { (p : Params) (s t : State) (es : List RunEvent) (rs : List Recorded) (more : List PlainNode) → step p s ≡ goes_on es rs t → (reach_in p (state_with more s)).fires ≡ true }
     ensures run { (p : Params) (s t : State) (es : List RunEvent) (rs : List Recorded) (more : List PlainNode) → step p s ≡ goes_on es rs t → unlimited_step p (state_with more s) ≡ goes_on es rs (state_with more t) }
     ensures demerits { (p : Params) (places : List PlacePenalty) (s t : State) (es : List RunEvent) (rs : List Recorded) (more : List PlainNode) → step p s ≡ goes_on es rs t → step_demerits p places (state_with more s) (goes_on es rs (state_with more t)) ≡ step_demerits p places s (goes_on es rs t) }
+{}
+
+/// A state may stand for another: without the glue, kerns and penalties before the first box that waits, it has the same runs.
+pub fn tidied_states_are_alike()
+    ensures { (g : Galley) (s : State) → AreAlike g s (tidied s) }
 {}
 
 /// A page with a box fires where a break is put in, and any page fires at a float or marginal note that has firings of its own.
