@@ -18,3 +18,5 @@ pub mod TurnLemmas
 pub mod CutPages
 pub mod PageTableLemmas
 pub mod ReachedLemmas
+pub mod LimitLemmas
+pub mod LimitRuns

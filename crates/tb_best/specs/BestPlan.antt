@@ -15,3 +15,7 @@ pub record IsBest (g : Galley) (plan : List ℕ) (total : ℤ) : Type 0 where
 -- no plan of a galley has demerits: the run of none ends well
 abbrev pub HasNoPlan : Galley → Type 0
 HasNoPlan g = (plan : List ℕ) (d : ℤ) → IsPlan g plan → plan_demerits g plan ≡ Some d → ⊥
+
+-- the galley with this limit on nodes
+abbrev pub with_limit : ℤ → Galley → Galley
+with_limit m g = record g { params = record g.params { maxnodes = m } }

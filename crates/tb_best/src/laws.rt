@@ -14,7 +14,7 @@ ghost use Rattle.tb_rate.specs.declared.PlacePenalty.{PlacePenalty};
 ghost use Rattle.tb_plans.specs.Plans.{IsPlan, with_breaks};
 ghost use Rattle.tb_rate.specs.RatedRun.{demerits, more_demerits};
 ghost use Rattle.tb_best.specs.PlanDemerits.{reach_in, unlimited_step, step_demerits, breaks_cost, plan_demerits};
-ghost use Rattle.tb_best.specs.BestPlan.{IsBest, HasNoPlan};
+ghost use Rattle.tb_best.specs.BestPlan.{IsBest, HasNoPlan, with_limit};
 ghost use Rattle.tb_best.specs.BestOf.{RatedPlan, best_of};
 ghost use Rattle.tb_best.specs.ItemsAhead.{Ahead, forced, state_with};
 ghost use Rattle.tb_best.specs.ClosedTables.{Row, rows_know, AreAlike, IsClosed, Reaches, IsEnd};
@@ -69,9 +69,16 @@ pub fn good_ends_are_quiet()
     ensures run { (p : Params) (s : State) (es : List RunEvent) (rs : List Recorded) (left : List PlainNode) → step p s ≡ ends es rs (done left) → unlimited_step p s ≡ ends es rs (done left) }
 {}
 
-/// If the run with the breaks does not end at the limit on nodes, a plan has 1000 demerits for each break more than that run.
+/// If the run with the breaks ends well, the demerits of the plan are those of that run, and 1000 for each break.
 pub fn plans_are_rated()
     ensures { (g : Galley) (plan : List ℕ) (d : ℤ) → demerits (with_breaks g plan) ≡ Some d → plan_demerits g plan ≡ more_demerits (breaks_cost plan) (Some d) }
+{}
+
+/// The limit on nodes is of no matter: with another one each plan has the same demerits, and the best plan is the same. So a
+/// search may run with the greatest limit there is.
+pub fn limits_change_no_plan()
+    ensures demerits { (g : Galley) (m : ℤ) (plan : List ℕ) → plan_demerits (with_limit m g) plan ≡ plan_demerits g plan }
+    ensures best { (g : Galley) (m : ℤ) (plan : List ℕ) (total : ℤ) → IsBest (with_limit m g) plan total → IsBest g plan total }
 {}
 
 /// The best of all plans, each of which is run, is the best plan; without one, the run of no plan ends well.
