@@ -7,6 +7,7 @@ ghost use Rattle.tb_node.specs.declared.Act.{Act};
 ghost use Rattle.tb_galley.specs.GalleyNodes.{with_firings};
 ghost use Rattle.tb_builder.specs.Reach.{holds_box};
 ghost use Rattle.tb_param.specs.declared.Params.{Params};
+ghost use Rattle.tb_column.specs.Column.{PlainColumn};
 ghost use Rattle.tb_output.specs.State.{State, Recorded};
 ghost use Rattle.tb_items.specs.RunEvents.{RunEvent};
 ghost use Rattle.tb_steps.specs.Run.{done, run_of, ends, goes_on, step};
@@ -55,6 +56,11 @@ pub fn steps_look_no_further()
 /// A state may stand for another: without the glue, kerns and penalties before the first box that waits, it has the same runs.
 pub fn tidied_states_are_alike()
     ensures { (g : Galley) (s : State) → AreAlike g s (tidied s) }
+{}
+
+/// A state may stand for one that differs only in the left column that is kept: both have the same runs, but for what is shipped.
+pub fn left_columns_are_alike()
+    ensures { (g : Galley) (s : State) (c : Option PlainColumn) → AreAlike g s (record s { left_column = c }) }
 {}
 
 /// A page with a box fires where a break is put in, and any page fires at a float or marginal note that has firings of its own.
