@@ -153,11 +153,7 @@ module _ (p : Params) (m : ℤ) where
 
   goes-lim : (vert : Bool) (f : Float) (l : FloatLists) (w : Work) (place : Where) → float_goes lim vert f l w place ≡ float_goes p vert f l w place
   goes-lim vert f l w places.Here = refl
-  goes-lim vert f l w places.Top = refl
-  goes-lim vert f l w places.Bottom = refl
-  goes-lim vert f l w places.Page = refl
-  goes-lim vert f l w places.Double = refl
-  goes-lim vert f l w places.Deferred = refl
+  goes-lim vert f l w place = refl
 
   first-lim : (vert : Bool) (height depth high : ℤ) (es : List Entry) (w : Work) → first_goes lim vert height depth high es w ≡ first_goes p vert height depth high es w
   first-lim vert height depth high [] w = refl

@@ -37,9 +37,7 @@ module _ (p : Params) (m : ℤ) where
 
   act-lim : (s : State) (a : Act) → act_on (lim p m) s a ≡ act_on p s a
   act-lim s (acts.Take f) = refl
-  act-lim s (acts.TakeMargin n) = refl
-  act-lim s (acts.Suppress area) = refl
-  act-lim s (acts.Columns two) = refl
+  act-lim s a = refl
 
   progress-lim : (rs : List Reached) (least : ℤ) (s : State) → progress (lim p m) rs least s ≡ progress p rs least s
   progress-lim [] least s = refl
