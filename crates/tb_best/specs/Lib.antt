@@ -1,0 +1,9 @@
+pub mod PlanDemerits
+pub mod BestPlan
+pub mod ItemsAhead
+pub mod ClosedTables
+pub mod Tidied
+pub mod PageTables
+pub mod BestOf
+pub mod BestLines
+pub mod Rows
