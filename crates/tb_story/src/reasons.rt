@@ -153,8 +153,14 @@ pub(crate) fn own_reason(line: u32, found: Option<Kept>) -> Option<Kept>
     ensures { result ≡ own_reason line found }
 {
     match found {
-        Some(k) if is_by_places(k.cause) && k.root.line == line => None,
-        _ => found,
+        Some(k) => {
+            if is_by_places(k.cause) && k.root.line == line {
+                None
+            } else {
+                Some(k)
+            }
+        }
+        None => None,
     }
 }
 
