@@ -106,10 +106,10 @@ begun_story f page last m = with_stories (m.stories ++ begun f page last m.sheet
 
 -- ---- decisions
 
--- the reason, unless it is by places
-abbrev pub own_reason : Option Kept → Option Kept
-own_reason None = None
-own_reason (Some k) = if is_by_places k.cause then None else Some k
+-- the reason, unless the float of this line is kept by its own places
+abbrev pub own_reason : ℕ → Option Kept → Option Kept
+own_reason line None = None
+own_reason line (Some k) = if is_by_places k.cause && (k.root.line == line) then None else Some k
 
 -- what failed first by another test than that of places, or else what failed first
 abbrev pub found_with : Kept → Option Kept → Option Kept
@@ -118,7 +118,7 @@ found_with k (Some first) = if is_by_places first.cause && not (is_by_places k.c
 
 -- why a decision keeps the float: what failed in an area, or else why it heads no column, or else its places
 abbrev pub reason_of : ℕ → SummaryView → Option Kept
-reason_of line m = or_else (own_reason m.found) (or_else (noted_of line m.alone) m.found)
+reason_of line m = or_else (own_reason line m.found) (or_else (noted_of line m.alone) m.found)
 
 -- the next decision finds anew what fails
 abbrev pub nothing_found : SummaryView → SummaryView

@@ -96,7 +96,7 @@ impl Summary {
         ensures { result ≡ reason_of line self.now }
     {
         let at_start = noted_of(line, &self.alone);
-        or_else(own_reason(self.found), or_else(at_start, self.found))
+        or_else(own_reason(line, self.found), or_else(at_start, self.found))
     }
 
     // A float goes to this place, or is kept.

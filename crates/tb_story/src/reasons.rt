@@ -148,12 +148,18 @@ pub(crate) fn kept_by(area: Area, test: Test, f: &Float, by: i128, way: Option<K
     }
 }
 
-/// The reason, unless it is by places.
-pub(crate) fn own_reason(found: Option<Kept>) -> Option<Kept>
-    ensures { result ≡ own_reason found }
+/// The reason, unless the float of this line is kept by its own places.
+pub(crate) fn own_reason(line: u32, found: Option<Kept>) -> Option<Kept>
+    ensures { result ≡ own_reason line found }
 {
     match found {
-        Some(k) => { if is_by_places(k.cause) { None } else { Some(k) } }
+        Some(k) => {
+            if is_by_places(k.cause) && k.root.line == line {
+                None
+            } else {
+                Some(k)
+            }
+        }
         None => None,
     }
 }

@@ -81,9 +81,9 @@ module _ (P : Kept → Type 0) where
   noted_kept line [] a = tt
   noted_kept line (n ∷ ns) a = if_kept (n.float.line == line) (Some n.kept) (noted_of line ns) a.0 (noted_kept line ns a.1)
 
-  own_kept : (o : Option Kept) → IfKept P o → IfKept P (own_reason o)
-  own_kept None p = tt
-  own_kept (Some k) p = if_kept (is_by_places k.cause) None (Some k) tt p
+  own_kept : (line : ℕ) (o : Option Kept) → IfKept P o → IfKept P (own_reason line o)
+  own_kept line None p = tt
+  own_kept line (Some k) p = if_kept (is_by_places k.cause && (k.root.line == line)) None (Some k) tt p
 
   found_kept : (k : Kept) (o : Option Kept) → P k → IfKept P o → IfKept P (found_with k o)
   found_kept k None p q = p
@@ -91,7 +91,7 @@ module _ (P : Kept → Type 0) where
 
   reason_kept : (line : ℕ) (m : SummaryView) → OfReasons P m → IfKept P (reason_of line m)
   reason_kept line m a =
-      else_kept (own_reason m.found) (or_else (noted_of line m.alone) m.found) (own_kept m.found a.found)
+      else_kept (own_reason line m.found) (or_else (noted_of line m.alone) m.found) (own_kept line m.found a.found)
       (else_kept (noted_of line m.alone) m.found (noted_kept line m.alone a.alone) a.found)
 
   head_kept : (b : Float) (m : SummaryView) → OfReasons P m → IfKept P (reason_of_head m b)

@@ -183,9 +183,9 @@ keeps-if f (Some k) m h g = keeps f k m h g
 puts : (f : Float) (place : Where) (m : SummaryView) → IsPlainSummary m → IsPlainSummary (put_at f place m)
 puts f place m g = (changed f.line (placed_at place m.sheets) m.stories (λ s p. p) g.0, g.1, g.2, g.3)
 
-own-plain : (o : Option Kept) → IsPlainReason o → IsPlainReason (own_reason o)
-own-plain None h = tt
-own-plain (Some k) h = reason-if (is_by_places k.cause) None (Some k) tt h
+own-plain : (line : ℕ) (o : Option Kept) → IsPlainReason o → IsPlainReason (own_reason line o)
+own-plain line None h = tt
+own-plain line (Some k) h = reason-if (is_by_places k.cause && (k.root.line == line)) None (Some k) tt h
 
 found-plain : (k : Kept) (o : Option Kept) → IsPlainKept k → IsPlainReason o → IsPlainReason (found_with k o)
 found-plain k None h g = h
@@ -193,7 +193,7 @@ found-plain k (Some first) h g = reason-if (is_by_places first.cause && not (is_
 
 decides : (f : Float) (place : Where) (m : SummaryView) → IsPlainSummary m → IsPlainSummary (decided f place m)
 decides f place m g =
-    let reason = else-plain (own_reason m.found) (or_else (noted_of f.line m.alone) m.found) (own-plain m.found g.1) (else-plain (noted_of f.line m.alone) m.found (noted-plain f.line m.alone g.2) g.1) in
+    let reason = else-plain (own_reason f.line m.found) (or_else (noted_of f.line m.alone) m.found) (own-plain f.line m.found g.1) (else-plain (noted_of f.line m.alone) m.found (noted-plain f.line m.alone g.2) g.1) in
     let s = summary-if (is_deferred place) (keep_if f (reason_of f.line m) m) (put_at f place m) (keeps-if f (reason_of f.line m) m reason g) (puts f place m g) in
     (s.0, tt, s.2, s.3)
 

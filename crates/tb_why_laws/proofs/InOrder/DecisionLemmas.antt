@@ -163,7 +163,7 @@ else_some (Some k) b e = refl
 
 -- then the decision has a reason
 reason-found : (line : ℕ) (m : SummaryView) → is_some m.found ≡ true → is_some (reason_of line m) ≡ true
-reason-found line m e = else_some (own_reason m.found) (or_else (noted_of line m.alone) m.found) (else_some (noted_of line m.alone) m.found e)
+reason-found line m e = else_some (own_reason line m.found) (or_else (noted_of line m.alone) m.found) (else_some (noted_of line m.alone) m.found e)
 
 -- what holds of the stories and the sheets after a decision, by what holds before it of the floats of its line; a float that
 -- stays keeps its reason, unless it needs one
