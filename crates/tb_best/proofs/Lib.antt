@@ -1,0 +1,16 @@
+pub mod ReachMore
+pub mod FiredMore
+pub mod StepMore
+pub mod TopBreaks
+pub mod Paths
+pub mod FuelLemmas
+pub mod PlanMarks
+pub mod PlanBreaks
+pub mod PlanRuns
+pub mod ClosedLemmas
+pub mod BestLemmas
+pub mod RatedPlans
+pub mod RowLemmas
+pub mod WayLemmas
+pub mod BestOfLemmas
+pub mod TurnLemmas

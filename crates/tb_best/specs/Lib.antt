@@ -1,0 +1,7 @@
+pub mod PlanDemerits
+pub mod BestPlan
+pub mod ItemsAhead
+pub mod ClosedTables
+pub mod BestOf
+pub mod BestLines
+pub mod Rows

@@ -1,0 +1,69 @@
+-- The demerits of a plan: 1000 for each of its breaks, and those of the run of the galley with its breaks. Here the number of
+-- nodes that a run holds is not tested, since it counts what is still far behind.
+use Rattle.std.specs.Prelude.{ℕ, zero, suc, pred, ◌*◌, ℤ, pos, ◌++◌, List, [], ◌∷◌, map, length, Option, Some, None, int_lt, if◌then◌else◌}
+use Rattle.tb_scaled.specs.Scaled.{awful_bad}
+use Rattle.tb_param.specs.declared.Params.{Params}
+use Rattle.tb_galley.specs.declared.Galley.{Galley}
+use Rattle.tb_builder.specs.Reach.{Reach}
+use Rattle.tb_builder.specs.FiredPages.{reach_of, fired_of}
+use Rattle.tb_output.specs.State.{State, Recorded, Work, ask_of, emptied}
+use Rattle.tb_output.specs.Output.{out}
+use Rattle.tb_items.specs.RunEvents.{RunEvent, sent}
+use Rattle.tb_steps.specs.Run.{done, pool_full, dead_cycles, page_limit, Progress, progress, Step, ends, goes_on, firings_left}
+use Rattle.tb_plans.specs.Plans.{with_breaks}
+use Rattle.tb_rate.specs.declared.PlacePenalty.{PlacePenalty}
+use Rattle.tb_rate.specs.Places.{place_penalties}
+use Rattle.tb_rate.specs.RatedRun.{rating_by, demerits_if, demerits_after, more_demerits, start_of}
+
+-- what a state reaches with the nodes that wait
+abbrev pub reach_in : Params → State → Reach
+reach_in p s = reach_of (ask_of p s) s.classes s.boxes [] s.waiting
+
+-- ---- a step in which the number of nodes is not tested
+
+-- a firing by its work: the run ends at the page limit, or goes on
+abbrev pub unlimited_firing : List RunEvent → List Recorded → Work → Step
+unlimited_firing es rs w = if w.refused then ends (es ++ map sent w.sent) (rs ++ w.records) (page_limit (pred w.state.page)) else goes_on (es ++ map sent w.sent) (rs ++ w.records) w.state
+
+-- the firing of the page that is reached, if it is allowed
+abbrev pub unlimited_fire : Params → Reach → Progress → Step
+unlimited_fire p w q =
+    let fired = unlimited_firing q.events q.records (out p q.state (fired_of (ask_of p q.state) q.state.classes q.state.boxes w)) in
+    if int_lt (pos q.state.dead_cycles) p.maxdeadcycles then fired else ends q.events q.records (dead_cycles q.state.dead_cycles)
+
+-- the step by the progress of its page
+abbrev pub unlimited_progress : Params → Reach → Progress → Option (ℕ × ℕ) → Step
+unlimited_progress p w q None = let fired = unlimited_fire p w q in if w.fires then fired else ends q.events (q.records ++ emptied q.state.floats ∷ []) (done w.passed)
+unlimited_progress p w q (Some f) = ends q.events q.records (pool_full f.0 f.1)
+
+-- the step by what is reached
+abbrev pub unlimited_step_of : Params → State → Reach → Step
+unlimited_step_of p s w = let q = progress p w.reached awful_bad s in unlimited_progress p w q q.fault
+
+-- one step of a run: a page and its firing
+unfoldable pub unlimited_step : Params → State → Step
+unlimited_step p s = unlimited_step_of p s (reach_in p s)
+
+-- ---- the demerits
+
+-- the demerits of a step from a state
+abbrev pub step_demerits : Params → List PlacePenalty → State → Step → ℤ
+step_demerits p places s x = demerits_if (rating_by p places s x)
+
+-- the demerits of the columns of a run from a state, with as much fuel as the run; none if the run does not end well
+unfoldable pub unlimited_demerits_from : Params → List PlacePenalty → ℕ → State → Option ℤ
+unlimited_demerits_from p places zero s = None
+unlimited_demerits_from p places (suc fuel) s =
+    demerits_after (λ t. unlimited_demerits_from p places fuel t) (step_demerits p places s (unlimited_step p s)) (unlimited_step p s)
+
+-- the demerits of the pages of a galley; none if its run does not end well
+unfoldable pub unlimited_demerits : Galley → Option ℤ
+unlimited_demerits g = unlimited_demerits_from g.params (place_penalties g.items) (suc (firings_left g.params (start_of g))) (start_of g)
+
+-- what the breaks of a plan cost
+abbrev pub breaks_cost : List ℕ → ℤ
+breaks_cost plan = pos (1000 * length plan)
+
+-- the demerits of a plan of a galley; none if the run with its breaks does not end well
+unfoldable pub plan_demerits : Galley → List ℕ → Option ℤ
+plan_demerits g plan = more_demerits (breaks_cost plan) (unlimited_demerits (with_breaks g plan))
