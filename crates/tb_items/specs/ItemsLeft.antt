@@ -1,5 +1,5 @@
 -- The items of a galley whose nodes do not wait yet, and what comes behind the nodes that do.
-use Rattle.std.specs.Prelude.{◌≡◌, ℕ, ◌+◌, ◌<◌, Bool, true, false, List, [], ◌++◌, map, length, Option, Some, None}
+use Rattle.std.specs.Prelude.{◌≡◌, ℕ, ◌+◌, ◌<◌, Bool, true, false, List, [], ◌∷◌, ◌++◌, map, length, Option, Some, None}
 use Rattle.tb_pool.specs.Lists.{Lists}
 use Rattle.tb_node.specs.declared.Node.{Node}
 use Rattle.tb_node.specs.PlainNodes.{PlainNode, node_shape, without_acts, on_line, clearpage_kinds}
@@ -8,7 +8,8 @@ use Rattle.tb_insert.specs.declared.Class.{Class}
 use Rattle.tb_galley.specs.declared.Item.{Item}
 use Rattle.tb_galley.specs.declared.ItemKind.{ItemKind}
 use Rattle.tb_galley.specs.declared.ItemKind.TheVariants as items
-use Rattle.tb_galley.specs.GalleyNodes.{item_nodes}
+use Rattle.tb_galley.specs.declared.Galley.{Galley}
+use Rattle.tb_galley.specs.GalleyNodes.{item_kinds, item_nodes, two_after}
 use Rattle.tb_builder.specs.declared.Builder.{Builder}
 use Rattle.tb_builder.specs.Contents.{Contents}
 use Rattle.tb_builder.specs.Contributions.{is_kern}
@@ -85,3 +86,32 @@ pub record IsHandedOver (l : ItemsLeft) (rest : Option ItemsLeft) (b : Builder) 
   pub ends : IsOpen rest nodes
   pub items : (cs : List Class) → AreItems cs l.items.now → AreItemsLeft cs rest
   pub fewer : pieces_left rest < pieces_left (Some l)
+
+-- ---- the next one is handed over
+
+-- the nodes of the first of these items; those of the clear if there is none
+abbrev pub first_nodes : Galley → Bool → List Item → List PlainNode
+first_nodes g two [] = on_line g.end_line clearpage_kinds
+first_nodes g two (n ∷ ns) = on_line n.line (item_kinds g.params two n.kind)
+
+-- the nodes of the next item; those of the clear if no item is left
+abbrev pub next_nodes : ItemsLeft → List PlainNode
+next_nodes l = first_nodes l.galley.now l.two l.items.now
+
+-- the items of these after this one are left
+pub record IsPastItem (l r : ItemsLeft) (n : Item) : Type 0 where
+  pub galley : r.galley ≡ l.galley
+  pub items : l.items.now ≡ n ∷ r.items.now
+  pub two : r.two ≡ two_after l.two n.kind
+
+-- what is left after the next item; nothing after the clear
+abbrev pub IsPastNext : ItemsLeft → Option ItemsLeft → Type 0
+IsPastNext l None = l.items.now ≡ []
+IsPastNext l (Some r) = (n : Item) × IsPastItem l r n
+
+-- the nodes of the next item wait behind those that waited; what is left then is the rest
+pub record IsHandedNext (l : ItemsLeft) (rest : Option ItemsLeft) (b : Builder) (s : Lists Node) (d : Builder) (t : Lists Node) : Type 0 where
+  pub waits : Waits (next_nodes l) b s d t
+  pub past : IsPastNext l rest
+  pub all : next_nodes l ++ nodes_left rest ≡ nodes_of l
+  pub items : (cs : List Class) → AreItems cs l.items.now → AreItemsLeft cs rest

@@ -5,9 +5,9 @@ ghost use Rattle.tb_node.specs.PlainNodes.{on_line};
 ghost use Rattle.tb_builder.specs.Contents.{contents_of, node_count};
 ghost use Rattle.tb_galley.specs.GalleyNodes.{item_kinds, expanded};
 ghost use Rattle.tb_items.specs.WaitingNodes.{CanTake, AreItems};
-ghost use Rattle.tb_items.specs.ItemsLeft.{nodes_of, are_ended, ends_batch, IsHandedOver};
+ghost use Rattle.tb_items.specs.ItemsLeft.{nodes_of, next_nodes, are_ended, ends_batch, IsHandedOver, IsHandedNext};
 
-use crate::galley_nodes::{put_clear, put_items, two_after};
+use crate::galley_nodes::{put_clear, put_item, put_items, two_after};
 use std::alloc::AllocError;
 use tb_builder::Builder;
 use tb_galley::{Galley, Item, ItemKind};
@@ -116,6 +116,44 @@ impl<'a> ItemsLeft<'a> {
             items: &self.items[count..],
             two,
         }))
+    }
+
+    /// Hands over the nodes of the next item alone, and returns what is left then. If no item is left, the nodes of the clear
+    /// at the end wait, and nothing is left.
+    ///
+    /// The page so far must be empty or end with no kern: then any nodes may come behind.
+    pub fn hand_next(
+        &self,
+        store: &mut Lists<Node>,
+        builder: &mut Builder,
+    ) -> Result<Option<ItemsLeft<'a>>, AllocError>
+        requires can { CanTake builder.old store.old }
+        requires items { AreItems (contents_of builder.old store.old).classes self.now.items.now }
+        ensures { IfOk result (λ rest. IsHandedNext self.now rest builder.old store.old builder.new store.new) }
+    {
+        if self.items.is_empty() {
+            put_clear(store, builder, self.galley.end_line)?;
+            return Ok(None);
+        }
+        let item = &self.items[0];
+        let p = &self.galley.params;
+        put_item(store, builder, p, self.two, item.line, &item.kind)?;
+        Ok(Some(ItemsLeft {
+            galley: self.galley,
+            items: &self.items[1..],
+            two: two_after(self.two, &item.kind),
+        }))
+    }
+
+    /// How many nodes the next item has, with those of its footnote; the nodes of the clear if no item is left.
+    pub fn next_count(&self) -> u64
+        requires { node_count (next_nodes self.now) ≤ 8388608 }
+        ensures { result ≡ node_count (next_nodes self.now) }
+    {
+        if self.items.is_empty() {
+            return 5;
+        }
+        item_count(&self.galley.params, self.two, &self.items[0])
     }
 
     /// How many nodes they have, those of footnotes and of the clear too.
