@@ -6,3 +6,4 @@ pub mod ServingLemmas
 pub mod DoneLemmas
 pub mod BeginLemmas
 pub mod TurnLemmas
+pub mod UnlimitedLemmas

@@ -2,3 +2,4 @@ pub mod ServedStates
 pub mod Routine
 pub mod FilledPages
 pub mod RoutinePages
+pub mod UnlimitedPages
