@@ -57,7 +57,7 @@ void-count : (cs : List Class) → box_count (void_boxes cs) ≡ 0
 void-count [] = refl
 void-count (c ∷ cs) = let e = void-count cs in omega (arith, e)
 
-first-served : (p : Params) (cs : List Class) (ns : List PlainNode) → AreGalleyNodes cs ns → IsServed ns (first_state p cs ns)
+pub first-served : (p : Params) (cs : List Class) (ns : List PlainNode) → AreGalleyNodes cs ns → IsServed ns (first_state p cs ns)
 first-served p cs ns h = record {
   nodes = h.nodes;
   held = tt;
