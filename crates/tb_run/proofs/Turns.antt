@@ -8,3 +8,4 @@ pub mod BeginLemmas
 pub mod TurnLemmas
 pub mod CopyLemmas
 pub mod PartLemmas
+pub mod UnlimitedLemmas

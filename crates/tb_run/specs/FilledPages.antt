@@ -32,7 +32,7 @@ use Rattle.tb_run.specs.declared.routine.Filled.{Filled}
 use Rattle.tb_run.specs.declared.routine.Filled.TheVariants as filled
 use Rattle.tb_steps.specs.Run.{Progress, progress, step, firing_step}
 use Rattle.tb_steps.specs.Runnable.{AreRunnable, AreRunClasses}
-use Rattle.tb_run.specs.ServedStates.{IsServedPage}
+use Rattle.tb_run.specs.ServedStates.{notes_left, IsServedPage}
 use Rattle.tb_run.specs.Routine.{built_in, held_in, state_of, IsConsistent, EndsAs}
 
 -- what was sent, as happenings
@@ -63,12 +63,13 @@ sent_by p s f = if int_lt (pos s.dead_cycles) p.maxdeadcycles then (out p s f).s
 abbrev pub with_page : State → Routine → State
 with_page s q = state_shown q.store s.boxes s.waiting q.machine
 
--- the routine shows the state after the acts of the page, and what happened is what is noted of their events, with no lists
+-- the routine shows the state after the acts of the page, and what happened is what is noted of their events, with no lists; nothing is left if nothing was
 pub record IsFilled (wanted : Bool) (r q : Routine) (hs : List Happening) : Type 0 where
   pub state : with_page (state_of r) q ≡ (progress_in r.machine.params (state_of r)).state
   pub events : (store : Lists Node) → events_of store hs ≡ noted wanted (progress_in r.machine.params (state_of r)).events
   pub lists : happened_lists hs ≡ []
   pub params : q.machine.params ≡ r.machine.params
+  pub left : r.left ≡ None → q.left ≡ None
 
 -- the page that the builder fired, with all that waits after it
 abbrev pub fired_whole : Routine → Page → Fired
@@ -101,11 +102,13 @@ pub record CanServe (page : Page) (q : Routine) : Type 0 where
   pub bounded : IsBoundedPage page q
   pub ends : (before : List PlainNode) → IsOpen q.left (before ++ (built_in q).waiting)
 
--- the page fires in the state after its acts, and can be served
+-- the page fires in the state after its acts, and can be served; no more marginal notes have no place then, and those that were placed reach no further
 pub record IsFiring (wanted : Bool) (r : Routine) (page : Page) (q : Routine) (hs : List Happening) : Type 0 where
   pub filled : IsFilled wanted r q hs
   pub fires : IsPageOf page r q
   pub can : CanServe page q
+  pub notes : notes_left ((fired_whole q page).held ++ (fired_whole q page).rest) (state_of q) ≤ notes_left (state_of r).waiting (state_of r)
+  pub bottom : (state_of q).note_bottom ≡ (state_of r).note_bottom
 
 -- the run ends before a page fires
 pub record IsFilledLast (wanted : Bool) (r : Routine) (e : Ending) (q : Routine) (hs : List Happening) : Type 0 where

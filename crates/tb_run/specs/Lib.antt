@@ -3,3 +3,4 @@ pub mod Routine
 pub mod FilledPages
 pub mod RoutinePages
 pub mod TurnParts
+pub mod UnlimitedPages

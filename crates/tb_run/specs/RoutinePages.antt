@@ -144,3 +144,18 @@ pub record Serves (page : Page) (r : Routine) (o : Option Ending) (q : Routine) 
   pub ended : IsEnded q
   pub params : q.machine.params ≡ r.machine.params
   pub classes : q.machine.classes ≡ r.machine.classes
+
+-- after a page was served the run goes on, however many nodes are held, or ends so
+abbrev pub ServesAllTo : Page → Routine → Option Ending → Routine → Type 0
+ServesAllTo page r None q = IsServedOn page r q × (q.left ≡ r.left)
+ServesAllTo page r (Some endings.Done) q = ⊥
+ServesAllTo page r (Some (endings.PoolFull line live)) q = ⊥
+ServesAllTo page r (Some (endings.Fault f)) q = IsFaultOf f page r q
+ServesAllTo page r (Some (endings.NodeLimit n)) q = ⊥
+
+-- the page was served so, and machine and builder are sound
+pub record ServesAll (page : Page) (r : Routine) (o : Option Ending) (q : Routine) : Type 0 where
+  pub served : ServesAllTo page r o q
+  pub ended : IsEnded q
+  pub params : q.machine.params ≡ r.machine.params
+  pub classes : q.machine.classes ≡ r.machine.classes

@@ -5,5 +5,6 @@
 mod classes;
 mod copies;
 mod routine;
+mod unlimited;
 
 pub use routine::{Ending, Filled, Routine};

@@ -21,7 +21,7 @@ ghost use Rattle.tb_items.specs.GalleyNodes.{AreGalleyNodes};
 ghost use Rattle.tb_steps.specs.Runnable.{AreRunnable, AreRunClasses};
 ghost use Rattle.tb_run.specs.ServedStates.{IsServedPage};
 ghost use Rattle.tb_items.specs.WaitingNodes.{AreItems};
-ghost use Rattle.tb_items.specs.ItemsLeft.{nodes_left, IsOpen};
+ghost use Rattle.tb_items.specs.ItemsLeft.{nodes_left, AreItemsLeft, IsOpen};
 ghost use Rattle.tb_items.specs.Classes.{classes_of};
 ghost use Rattle.tb_steps.specs.Run.{held_count};
 ghost use Rattle.tb_items.specs.Happenings.{happened_lists, ArePages};
@@ -61,7 +61,7 @@ const MOST_NODES: u64 = 600_005;
 
 // A firing adds no more nodes to those that are held: an insertion of each class, the glue above the first box, and the
 // nodes of floats, notes, blank columns and clears.
-const ADDED_NODES: u64 = 300;
+pub(crate) const ADDED_NODES: u64 = 300;
 
 // With fewer spare places the lists of a page that was written are closed: the next firing may need them.
 const FEW_PLACES: usize = 600;
@@ -111,15 +111,22 @@ fn line_of(act: &Act) -> u32
     }
 }
 
-// The routine of a galley that has these classes. The machine is made last, so that no failure lets go of it.
-fn begun<'a>(alloc: Global, galley: &'a Galley, served: &[Class]) -> Result<Routine<'a>, AllocError>
+// The routine of a galley that has these classes, with these of its items left. The machine is made last, so that no failure
+// lets go of it.
+fn begun<'a>(
+    alloc: Global,
+    galley: &'a Galley,
+    served: &[Class],
+    left: Option<ItemsLeft<'a>>,
+) -> Result<Routine<'a>, AllocError>
     requires params { AreRunnable galley.now.params }
     requires classes { AreRunClasses served.now }
-    requires items { AreItems served.now galley.now.items }
-    requires nodes { AreGalleyNodes served.now (expanded galley.now) }
+    requires items { AreItemsLeft served.now left }
+    requires nodes { AreGalleyNodes served.now (nodes_left left) }
 
-    ensures state { IfOk result (λ r. state_of r ≡ first_state galley.now.params served.now (expanded galley.now)) }
+    ensures state { IfOk result (λ r. state_of r ≡ first_state galley.now.params served.now (nodes_left left.entry)) }
     ensures params { IfOk result (λ r. r.machine.params ≡ galley.now.params) }
+    ensures left { IfOk result (λ r. r.left ≡ left.entry) }
     ensures ready { IfOk result IsReady }
 {
     let mut store = Lists::new(alloc);
@@ -130,7 +137,7 @@ fn begun<'a>(alloc: Global, galley: &'a Galley, served: &[Class]) -> Result<Rout
         builder,
         machine,
         most: MOST_NODES,
-        left: Some(all_items(galley)),
+        left,
     })
 }
 
@@ -158,7 +165,22 @@ impl<'a> Routine<'a> {
         ensures ready { IfOk result IsReady }
     {
         let classes = classes_of(alloc, galley)?;
-        begun(alloc, galley, classes.as_slice())
+        begun(alloc, galley, classes.as_slice(), Some(all_items(galley)))
+    }
+
+    /// No item of a galley is left for its first page, and nothing waits: the caller hands over what is to wait. It fails only
+    /// if memory runs out.
+    pub fn empty(alloc: Global, galley: &'a Galley) -> Result<Self, AllocError>
+        requires params { AreRunnable galley.now.params }
+        requires classes { AreRunClasses (classes_of galley.now) }
+
+        ensures state { IfOk result (λ r. state_of r ≡ first_state galley.now.params (classes_of galley.now) []) }
+        ensures params { IfOk result (λ r. r.machine.params ≡ galley.now.params) }
+        ensures left { IfOk result (λ r. r.left ≡ None) }
+        ensures ready { IfOk result IsReady }
+    {
+        let classes = classes_of(alloc, galley)?;
+        begun(alloc, galley, classes.as_slice(), None)
     }
 
     /// The ending if more nodes are held than `maxnodes`: those that wait, those of the items that are left, those of the
@@ -451,7 +473,7 @@ impl<'a> Routine<'a> {
     }
 
     // Puts the nodes of a list back before what waits, and closes the list.
-    fn put_back(&mut self, list: ListId)
+    pub(crate) fn put_back(&mut self, list: ListId)
         requires whole { IsConsistent self.old }
         requires list { CanGoBack list self.old.machine self.old.builder self.old.store }
         ensures whole { IsConsistent self.new }
@@ -470,7 +492,7 @@ impl<'a> Routine<'a> {
     }
 
     // Appends what the machine sent and was not taken yet.
-    fn hand_over(&mut self, happened: &mut Vec<Happening>) -> Result<(), AllocError>
+    pub(crate) fn hand_over(&mut self, happened: &mut Vec<Happening>) -> Result<(), AllocError>
         ensures events { OnOk result (happened.new.items ≡ happened.old.items ++ sent_happenings self.old.machine.events) }
         ensures machine { OnOk result (self.new ≡ with_events [] self.old) }
     {

@@ -145,12 +145,19 @@ act-sized a ns ms s w h = (without-act s.classes a ns ms w (recursion_from_All (
 pub act-keeps : (p : Params) (a : Act) (ns ms : List PlainNode) (s t : State) (ws : List Warn) (rs : List Recorded) → AreRunnable p → Without a ns ms → IsServed ns s → act_on p s a ≡ went t ws rs → ActKeeps p s t
 act-keeps p a ns ms s t ws rs runs w h e = (acted-goes p s runs h.entries a t ws rs (act-sized a ns ms s w h) e).keeps
 
+-- as many marginal notes have no place yet
+pub act-notes : (p : Params) (a : Act) (ns ms : List PlainNode) (s t : State) (ws : List Warn) (rs : List Recorded) → AreRunnable p → Without a ns ms → IsServed ns s → act_on p s a ≡ went t ws rs → notes_left ms t ≡ notes_left ns s
+act-notes p a ns ms s t ws rs runs w h e =
+    let x = without-notes a ns ms w in
+    let y = (acted-goes p s runs h.entries a t ws rs (act-sized a ns ms s w h) e).notes in
+    omega (arith, x, y)
+
 -- the state after the act
 pub act-served : (p : Params) (a : Act) (ns ms : List PlainNode) (s t : State) (ws : List Warn) (rs : List Recorded) → AreRunnable p → Without a ns ms → IsServed ns s → act_on p s a ≡ went t ws rs → IsServed ms t
 act-served p a ns ms s t ws rs runs w h e =
     let both = without-act s.classes a ns ms w (recursion_from_All (IsGalleyNode s.classes) ns h.nodes) in
     let g = acted-goes p s runs h.entries a t ws rs both.0 e in
-    let same : notes_left ms t ≡ notes_left ns s = (let x = without-notes a ns ms w in let y = g.notes in omega (arith, x, y)) in
+    let same = act-notes p a ns ms s t ws rs runs w h e in
     record {
       nodes = subst (λ cs. All (IsGalleyNode cs) ms) (sym g.keeps.classes) (All-from_recursion (IsGalleyNode s.classes) ms both.1);
       held = subst (AllByRecursion (λ (n : PlainNode). IsTextKind n.kind)) (sym g.keeps.held) h.held;

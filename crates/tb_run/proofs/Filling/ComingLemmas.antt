@@ -28,7 +28,7 @@ use Rattle.tb_run.specs.ServedStates.{notes_waiting, notes_left, IsServed}
 use Rattle.tb_run.specs.Routine.{between_pages}
 use Rattle.tb_run.specs.FilledPages.{reach_in, progress_in, page_in}
 use Rattle.tb_run.proofs.ServedAgain.FiredNodes.{served-pruned, nodes-both, nodes-sized, nodes-served, notes-pruned}
-use Rattle.tb_run.proofs.Filling.ActedStates.{ActKeeps, keeps-same, keeps-then, act-sized, act-keeps, act-served, without-count}
+use Rattle.tb_run.proofs.Filling.ActedStates.{ActKeeps, keeps-same, keeps-then, act-sized, act-keeps, act-served, act-notes, without-count}
 use Rattle.tb_run.proofs.Filling.ProgressLemmas.{progress-tried, progress-acted, progress-stuck}
 use Rattle.tb_float.specs.Ranges.{IsWithin}
 use Rattle.tb_run.proofs.ServedAgain.ServedFirings.{reach_where}
@@ -65,6 +65,7 @@ module _ (p : Params) (s : State) where
     pub state : (so_far rs).state ≡ t
     pub served : IsServed (laid c ask) t
     pub few : node_count (laid c ask) ≤ node_count s.waiting + 1
+    pub notes : notes_left (laid c ask) t ≤ notes_left s.waiting s
     pub keeps : ActKeeps p s t
 
   -- ---- nothing was reached yet
@@ -79,6 +80,7 @@ module _ (p : Params) (s : State) where
         (nodes-both s.classes (pruned_nodes p.topskip s.waiting) (pruned_sized p.topskip s.waiting runs.topskip (nodes-sized s.classes s.waiting h.nodes)) (served-pruned s.classes p.topskip s.waiting (nodes-served s.classes s.waiting h.nodes)))
         (notes-pruned p.topskip s.waiting) h;
     few = pruned_nodes_longer p.topskip s.waiting;
+    notes = let a = notes-pruned p.topskip s.waiting in omega (arith, a);
     keeps = keeps-same p s;
   }
 
@@ -91,6 +93,7 @@ module _ (p : Params) (s : State) where
       state = h.state;
       served = subst (λ ns. IsServed ns t) (sym whole) h.served;
       few = let f = h.few in let e = ap node_count whole in omega (arith, f, e);
+      notes = let f = h.notes in let e = ap notes_waiting whole in omega (arith, f, e);
       keeps = h.keeps;
     }
 
@@ -113,6 +116,7 @@ module _ (p : Params) (s : State) where
         state = ap (λ (q : Progress). q.state) is ∙ h.state;
         served = subst (λ ns. IsServed ns t) (sym n.whole) h.served;
         few = let f = h.few in let e = ap node_count n.whole in omega (arith, f, e);
+        notes = let f = h.notes in let e = ap notes_waiting n.whole in omega (arith, f, e);
         keeps = h.keeps;
       }
 
@@ -141,6 +145,7 @@ module _ (p : Params) (s : State) where
           state = ap (λ (q : Progress). q.state) done-is;
           served = act-served p a (laid c ask) (laid d ask) t u ws qs runs n.whole h.served e;
           few = let f = h.few in let l = without-count a (laid c ask) (laid d ask) n.whole in omega (arith, f, l);
+          notes = let f = h.notes in let l = act-notes p a (laid c ask) (laid d ask) t u ws qs runs n.whole h.served e in omega (arith, f, l);
           keeps = keeps-then p s t u h.keeps (act-keeps p a (laid c ask) (laid d ask) t u ws qs runs n.whole h.served e);
         }
 

@@ -158,6 +158,10 @@ module _ (p : Params) (s : State) (runs : AreRunnable p) (classes : AreRunClasse
           let m = ap notes_waiting nodes-are in
           omega (arith, a, b, d, e, g, i, j, l, m)
 
+      -- no more marginal notes have no place yet
+      pub fired-notes : notes_left (f.held ++ f.rest) t ≤ notes_left s.waiting s
+      fired-notes = let a = left-fewer in let b = h.notes in omega (arith, a, b)
+
       pub fired-served : IsServedPage t f
       fired-served =
           let e = sym same-classes in

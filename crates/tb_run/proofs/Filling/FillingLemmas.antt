@@ -75,6 +75,7 @@ pub record IsUnderway (wanted : Bool) (r q : Routine) (hs : List Happening) : Ty
   pub taken : q.machine.events ≡ []
   pub params : q.machine.params ≡ r.machine.params
   pub most : q.most ≡ r.most
+  pub left : r.left ≡ None → q.left ≡ None
   pub ends : IsOpenFor q.left (built_in q) (ask_of r.machine.params (state_of r))
 
 -- calls of the builder that are left, at most
@@ -94,6 +95,7 @@ underway-start wanted r hs h e = record {
   taken = h.events;
   params = refl;
   most = refl;
+  left = λ none. none;
   ends = start-open r.left h.settled.ends;
 }
   where
@@ -175,6 +177,7 @@ module _ (wanted : Bool) (r q d : Routine) (hs : List Happening) (ready : IsRead
         taken = next-taken;
         params = next-params;
         most = most ∙ h.most;
+        left = λ none. left ∙ h.left none;
         ends = subst (IsOpenFor d.left (built_in d)) asked ends;
       }
 
@@ -212,6 +215,7 @@ module _ (wanted : Bool) (r q d : Routine) (hs : List Happening) (ready : IsRead
               taken = refl;
               params = acted_so.params ∙ next-params;
               most = acted_so.most ∙ most ∙ h.most;
+              left = λ none. acted_so.left ∙ left ∙ h.left none;
               ends = subst (λ o. IsOpenFor o (built_in now) (ask_of p s)) (sym acted_so.left) (subst (λ c. IsOpenFor d.left c (ask_of p s)) (sym acted_so.built) (subst (IsOpenFor d.left (built_in d)) asked ends));
             }
 
@@ -234,6 +238,7 @@ module _ (wanted : Bool) (r q d : Routine) (hs : List Happening) (ready : IsRead
               events = λ store. h.quiet.events store ∙ ap (λ (x : Progress). noted wanted x.events) (sym all);
               lists = h.quiet.lists;
               params = ap (λ (x : Routine). x.machine.params) k.same ∙ next-params;
+              left = λ none. ap (λ (x : Routine). x.left) k.same ∙ left ∙ h.left none;
             };
             none = λ none. let no : Some (line_of a, live) ≡ None = sym (ap (λ (x : Progress). x.fault) all) ∙ none in cc;
             ended = subst (EndsAs now (Some (endings.PoolFull (line_of a) live))) (sym is_step) refl;
@@ -253,6 +258,7 @@ module _ (wanted : Bool) (r q d : Routine) (hs : List Happening) (ready : IsRead
             events = λ store. h.quiet.events store ∙ ap (λ (x : Progress). noted wanted x.events) (sym all);
             lists = h.quiet.lists;
             params = next-params;
+            left = λ none. left ∙ h.left none;
           };
           none = λ none. over-fires p s h.rs (held_in q) (held_in d) (state_now r q) h.coming over;
           ended = subst (EndsAs d (Some endings.Done)) (sym is_step) refl;

@@ -46,14 +46,14 @@ use Rattle.tb_run.specs.declared.routine.Routine.{Routine}
 use Rattle.tb_items.specs.RunEvents.{RunEvent}
 use Rattle.tb_steps.specs.Run.{held_count, Progress, firing_step}
 use Rattle.tb_steps.specs.Runnable.{AreRunnable, AreRunClasses}
-use Rattle.tb_run.specs.ServedStates.{IsTextKind, notes_left, IsServedPage}
+use Rattle.tb_run.specs.ServedStates.{IsTextKind, notes_waiting, notes_taken, notes_left, IsServedPage}
 use Rattle.tb_run.specs.Routine.{built_in, held_in, state_of, IsConsistent, IsBetweenFirings, IsReady}
 use Rattle.tb_items.specs.Happenings.{noted}
 use Rattle.tb_run.specs.FilledPages.{fired_whole, IsBoundedPage, IsFiring}
 use Rattle.tb_run.proofs.ServedAgain.ServedFirings.{reach_where}
 use Rattle.tb_run.proofs.Turns.CountedLemmas.{leaves-count}
 use Rattle.tb_run.proofs.Filling.ComingLemmas.{start, fires-progress, fires-is, fires-state, fires-page}
-use Rattle.tb_run.proofs.Filling.ComingPages.{fired-mild, fired-few, fired-served}
+use Rattle.tb_run.proofs.Filling.ComingPages.{fired-mild, fired-few, fired-notes, fired-served}
 use Rattle.tb_run.proofs.Filling.FillingLemmas.{state_now, IsUnderway, next-is, next-whole, next-state, next-params, next-taken}
 
 -- ---- nodes of a page
@@ -145,6 +145,14 @@ module _ (wanted : Bool) (r q d : Routine) (hs : List Happening) (ready : IsRead
   served-now = page-same d.store s.boxes (held_in d).boxes s.waiting (held_in d).waiting d.machine (fired_whole d page)
       (subst (IsServedPage (state_now r d)) (sym fired-same) (subst (λ t. IsServedPage t f) (sym t-now) served))
 
+  -- no more marginal notes have no place yet
+  notes-now : notes_left ((fired_whole d page).held ++ (fired_whole d page).rest) (state_of d) ≤ notes_left s.waiting s
+  notes-now =
+      let a = fired-notes p s set.params set.classes set.whole.machine.goal set.served few h.rs (held_in q) (state_now r q) h.coming fires.stopped (page-quiet q.builder q.store h.whole.builder fires.stopped) of-boxes in
+      let b = ap (λ (x : Fired). notes_waiting (x.held ++ x.rest)) fired-same in
+      let e = ap (λ (t : State). notes_taken t.floats.current) t-now in
+      omega (arith, a, b, e)
+
   counted : fired_count f ≤ node_count s.waiting + 1 + box_count s.boxes
   counted = fired-few p s set.params set.classes set.whole.machine.goal set.served few h.rs (held_in q) (state_now r q) h.coming fires.stopped (page-quiet q.builder q.store h.whole.builder fires.stopped) of-boxes
 
@@ -203,6 +211,7 @@ module _ (wanted : Bool) (r q d : Routine) (hs : List Happening) (ready : IsRead
           events = λ store. h.quiet.events store ∙ ap (λ (x : Progress). noted wanted x.events) (sym all);
           lists = h.quiet.lists;
           params = params-now;
+          left = λ none. d_left ∙ h.left none;
         };
         fires = record {
           none = ap (λ (x : Progress). x.fault) all ∙ h.coming.none;
@@ -220,4 +229,6 @@ module _ (wanted : Bool) (r q d : Routine) (hs : List Happening) (ready : IsRead
           bounded = bounded;
           ends = open_so fires.stopped;
         };
+        notes = notes-now;
+        bottom = ap (λ (t : State). t.note_bottom) t-now ∙ h.coming.keeps.bottom;
       }

@@ -103,6 +103,7 @@ module _ (wanted : Bool) (r b d : Routine) (hs : List Happening) (u : IsUnderway
       taken = ap (λ (m : MachineView). m.events) (sup.machine ∙ same) ∙ u.taken;
       params = ap (λ (m : MachineView). m.params) (sup.machine ∙ same) ∙ u.params;
       most = sup.most ∙ most ∙ u.most;
+      left = λ none. let no : Some l ≡ None = sym some ∙ u.left none in cc;
       ends = ends-now;
     }
 

@@ -1,5 +1,5 @@
 -- The routine before the first page.
-use Rattle.std.proofs.Common.{◌≡◌, refl, sym, subst, ◌∙◌, ap, ◌≤◌, List, [], ◌∷◌, ◌++◌, false, Option, None, Some, arith}
+use Rattle.std.proofs.Common.{◌≡◌, refl, sym, subst, ◌∙◌, ap, ◌≤◌, List, [], ◌∷◌, ◌++◌, Option, None, Some, arith}
 use Rattle.std.specs.List.{AllByRecursion}
 use Rattle.std.specs.FinMap.{get}
 use Rattle.std.proofs.lemmas.Int.{ints}
@@ -27,8 +27,7 @@ use Rattle.tb_sheet.specs.ApartLists.{AreNoneOf}
 use Rattle.tb_builder.proofs.Ownership.LackLemmas.{lacks-none}
 use Rattle.tb_run.specs.declared.routine.Routine.{Routine}
 use Rattle.tb_items.specs.declared.items_left.ItemsLeft.{ItemsLeft}
-use Rattle.tb_items.specs.ItemsLeft.{nodes_of, with_more, kern_last}
-use Rattle.tb_items.specs.WaitingNodes.{AreItems}
+use Rattle.tb_items.specs.ItemsLeft.{nodes_left, with_more, AreItemsLeft, IsOpen}
 use Rattle.tb_items.specs.GalleyNodes.{AreGalleyNodes}
 use Rattle.tb_steps.specs.Run.{held_count}
 use Rattle.tb_steps.specs.Runnable.{AreRunnable, AreRunClasses}
@@ -58,7 +57,7 @@ void-count : (cs : List Class) → box_count (void_boxes cs) ≡ 0
 void-count [] = refl
 void-count (c ∷ cs) = let e = void-count cs in omega (arith, e)
 
-first-served : (p : Params) (cs : List Class) (ns : List PlainNode) → AreGalleyNodes cs ns → IsServed ns (first_state p cs ns)
+pub first-served : (p : Params) (cs : List Class) (ns : List PlainNode) → AreGalleyNodes cs ns → IsServed ns (first_state p cs ns)
 first-served p cs ns h = record {
   nodes = h.nodes;
   held = tt;
@@ -77,12 +76,17 @@ no-left : (store : Lists Node) (o : Option Column) → left_shown store o ≡ No
 no-left store None is = refl
 no-left store (Some c) is = cc
 
--- a machine that opened a list for its held page, beside a builder for which nothing waits; these items are left, and have these nodes
+-- whatever is left comes behind nothing
+open-first : (o : Option ItemsLeft) → IsOpen o []
+open-first None = tt
+open-first (Some l) = refl
+
+-- a machine that opened a list for its held page, beside a builder for which nothing waits; what is left has these nodes
 module _ (p : Params) (m : MachineView) (v w : Lists Node) (d : Builder) (cs : List Class) (ns : List PlainNode) (begins : (waiting : List PlainNode) → state_shown w (void_boxes cs) waiting m ≡ first_state p cs waiting) (machine : IsMachine m w) (params : m.params ≡ p) (classes : m.classes ≡ cs)
     (fault : m.fault ≡ None) (taken : m.events ≡ []) (fresh : get v.lists m.held_page ≡ None) (opened : w.lists ≡ with_list v m.held_page []) (sound : IsSound d v) (holds : contents_of d v ≡ nothing_yet cs)
-    (l : ItemsLeft) (nodes_are : nodes_of l ≡ ns) (items : AreItems cs l.items.now) where
+    (o : Option ItemsLeft) (nodes_are : nodes_left o ≡ ns) (items : AreItemsLeft cs o) where
   abbrev begun : Routine
-  begun = record { store = w; builder = d; machine = m; most = 600005; left = Some l }
+  begun = record { store = w; builder = d; machine = m; most = 600005; left = o }
 
   same : AllSame v w (owned (ids_of d) v)
   same = opened_same d v w m.held_page sound fresh opened
@@ -91,7 +95,7 @@ module _ (p : Params) (m : MachineView) (v w : Lists Node) (d : Builder) (cs : L
   built = frame_contents d v w sound same ∙ holds
 
   begun-holds : held_in begun ≡ record (nothing_yet cs) { waiting = ns }
-  begun-holds = ap (with_more (nodes_of l)) built ∙ ap (λ xs. record (nothing_yet cs) { waiting = xs }) nodes_are
+  begun-holds = ap (with_more (nodes_left o)) built ∙ ap (λ xs. record (nothing_yet cs) { waiting = xs }) nodes_are
 
   pub begin-state : state_of begun ≡ first_state p cs ns
   begin-state = (λ i. state_shown w (begun-holds i).boxes (begun-holds i).waiting m) ∙ begins ns
@@ -106,13 +110,13 @@ module _ (p : Params) (m : MachineView) (v w : Lists Node) (d : Builder) (cs : L
   pub begin-ready : AreRunnable p → AreRunClasses cs → AreGalleyNodes cs ns → IsReady begun
   begin-ready runs known nodes = record {
     settled = record {
-      whole = record { builder = frame_sound d v w sound same; machine = machine; fault = fault; apart = apart; items = subst (λ (c : Contents). AreItems c.classes l.items.now) (sym built) items };
+      whole = record { builder = frame_sound d v w sound same; machine = machine; fault = fault; apart = apart; items = subst (λ (c : Contents). AreItemsLeft c.classes o) (sym built) items };
       params = subst AreRunnable (sym params) runs;
       classes = subst AreRunClasses (sym classes) known;
       between = begun-holds ∙ ap between_pages (sym begin-state);
       served = subst (λ (s : State). IsServed s.waiting s) (sym begin-state) (first-served p cs ns nodes);
       bounded = record { held = subst (λ (s : State). held_count s ≤ 600005) (sym begin-state) (first-count p cs ns nodes); few = omega arith };
-      ends = ap (λ (c : Contents). kern_last false c.waiting) built;
+      ends = subst (λ (c : Contents). IsOpen o c.waiting) (sym built) (open-first o);
     };
     events = taken;
   }

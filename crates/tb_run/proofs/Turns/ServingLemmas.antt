@@ -28,7 +28,7 @@ use Rattle.tb_steps.specs.Runnable.{AreRunnable, AreRunClasses}
 use Rattle.tb_run.specs.ServedStates.{IsServed, IsServedPage}
 use Rattle.tb_run.specs.Routine.{built_in, held_in, state_of, IsConsistent, IsBounded, between_pages, IsEnded, over_limit}
 use Rattle.tb_run.specs.FilledPages.{fired_whole, IsBoundedPage}
-use Rattle.tb_run.specs.RoutinePages.{work_of, IsServedOn, IsFaultOf, ServesTo, Serves}
+use Rattle.tb_run.specs.RoutinePages.{work_of, IsServedOn, IsFaultOf, ServesTo, Serves, ServesAll}
 use Rattle.tb_run.proofs.Turns.CountedLemmas.{shown-sized}
 use Rattle.tb_run.proofs.ServedAgain.ServedOut.{out-count, out-served}
 
@@ -96,6 +96,14 @@ module _ (r : Routine) (page : Page) (whole : IsConsistent r) (can : CanFire r.m
 
     pub refused-serves : (e : RunFault) → e ≢ faults.Memory → IfNone r.machine.fault (IsRefusal e r.machine now r.builder d r.store new short) → Serves page r (Some (endings.Fault e)) at_fault
     refused-serves e other h = record {
+      served = fault-of e other (subst (λ o. IfNone o (IsRefusal e r.machine now r.builder d r.store new short)) whole.fault h);
+      ended = sound-ended at_fault keeps.builder keeps.machine;
+      params = keeps.params;
+      classes = keeps.classes;
+    }
+
+    pub refused-serves_all : (e : RunFault) → e ≢ faults.Memory → IfNone r.machine.fault (IsRefusal e r.machine now r.builder d r.store new short) → ServesAll page r (Some (endings.Fault e)) at_fault
+    refused-serves_all e other h = record {
       served = fault-of e other (subst (λ o. IfNone o (IsRefusal e r.machine now r.builder d r.store new short)) whole.fault h);
       ended = sound-ended at_fault keeps.builder keeps.machine;
       params = keeps.params;
@@ -194,24 +202,33 @@ module _ (r : Routine) (page : Page) (whole : IsConsistent r) (can : CanFire r.m
           ∙ sym (ap (λ (c : Contents). c.waiting) q_contents ∙ ap (λ (c : Contents). c.held ++ (plain_list store turn.put_back ++ c.waiting)) contents))
           (subst (λ o. IsOpen o ((f.held ++ plain_list store turn.put_back) ++ (built_in r).waiting)) (sym q_left) (ends (f.held ++ plain_list store turn.put_back)))
 
+      abbrev of_most : ℕ → Routine
+      of_most k = record q { most = k }
+
+      served-on : (k : ℕ) → IsBounded 8388608 (of_most k) → IsServedOn page r (of_most k)
+      served-on k few = record {
+        alive = fired.alive;
+        done = fired.served;
+        state = after-state;
+        sent = events ∙ fired.sent;
+        whole = record { builder = q_whole.builder; machine = q_whole.machine; fault = q_whole.fault; apart = q_whole.apart; items = q_whole.items };
+        between = after-between;
+        served = after-served;
+        bounded = few;
+        ends = after-ends;
+      }
+
+      -- the nodes need not be counted
+      pub serves-all : ServesAll page r None (of_most (q.most + 300))
+      serves-all = record {
+        served = (served-on (q.most + 300) after-bounded, q_left);
+        ended = sound-ended (of_most (q.most + 300)) q_whole.builder q_whole.machine;
+        params = ap (λ (v : MachineView). v.params) machine ∙ keeps.params;
+        classes = ap (λ (v : MachineView). v.classes) machine ∙ keeps.classes;
+      }
+
       -- the nodes were counted, if that was to be done
       module _ (o : Option Ending) (end : Routine) (over : o ≡ over_limit q.machine.params (held_count (state_of q))) (same : end ≡ record q { most = end.most }) (end_bounded : IsBounded 8388608 end) (within : IfNone o (pos end.most ≤ℤ q.machine.params.maxnodes)) where
-        abbrev of_most : ℕ → Routine
-        of_most k = record q { most = k }
-
-        served-on : (k : ℕ) → IsBounded 8388608 (of_most k) → IsServedOn page r (of_most k)
-        served-on k few = record {
-          alive = fired.alive;
-          done = fired.served;
-          state = after-state;
-          sent = events ∙ fired.sent;
-          whole = record { builder = q_whole.builder; machine = q_whole.machine; fault = q_whole.fault; apart = q_whole.apart; items = q_whole.items };
-          between = after-between;
-          served = after-served;
-          bounded = few;
-          ends = after-ends;
-        }
-
         serves-by : (k : ℕ) → IsBounded 8388608 (of_most k) → (t : Bool) → int_lt q.machine.params.maxnodes (pos (held_count (state_of q))) ≡ t → (x : Option Ending) → x ≡ (if t then Some (endings.NodeLimit (held_count (state_of q))) else None) → IfNone x (pos k ≤ℤ q.machine.params.maxnodes)
             → ServesTo page r x (of_most k)
         serves-by k few true e None is n = cc

@@ -33,7 +33,7 @@ use Rattle.tb_items.specs.RunEvents.{RunEvent, sent}
 use Rattle.tb_steps.specs.Run.{done, dead_cycles, page_limit, node_limit, Progress, Step, ends, goes_on, after_firing, fire, after_progress, step, held_count, firing_step, step_events}
 use Rattle.tb_steps.specs.Runnable.{AreRunnable, AreRunClasses}
 use Rattle.tb_items.specs.Happenings.{events_of, noted, happened_lists, IsPage, ArePages}
-use Rattle.tb_run.specs.Routine.{held_in, state_of, with_events, IsReady, EndsAs, IsTurned, AreHappened, IsEnded}
+use Rattle.tb_run.specs.Routine.{held_in, state_of, with_events, IsConsistent, IsReady, EndsAs, IsTurned, AreHappened, IsEnded}
 use Rattle.tb_run.specs.FilledPages.{sent_happenings, reach_in, progress_in, sent_by, fired_whole, CanServe, IsFiring, IsFilledLast, is_dead, HasServed}
 use Rattle.tb_run.specs.RoutinePages.{work_of, IsServedOn, IsOverLimit, IsFaultOf, ServesTo, Serves}
 use Rattle.tb_items.proofs.HappenedLemmas.{lists-append, events-append, noted-append, noted-sent}
@@ -205,6 +205,27 @@ module _ (q d : Routine) (page : Page) (taken : q.machine.events ≡ []) where
   served-allowed (Some (endings.Fault f)) h = fault-allowed f h
   served-allowed (Some (endings.NodeLimit n)) h = allowed (Some (endings.NodeLimit n)) refl h.0.alive h.0.sent
 
+-- ---- what was sent is handed over
+
+module _ (d : Routine) (hs new : List Happening) (quiet : happened_lists hs ≡ []) (handed : new ≡ hs ++ sent_happenings d.machine.events) (ended : IsEnded d) where
+  pub pages-on : ArePages d.store new
+  pages-on = subst (ArePages d.store) (sym handed) (all-join (IsPage d.store) hs (sent_happenings d.machine.events) (quiet-pages d.store hs quiet) (sent-pages d.store d.machine.events ended.machine.events))
+
+  lists-are : happened_lists new ≡ event_lists d.machine.events
+  lists-are = ap happened_lists handed ∙ lists-append hs (sent_happenings d.machine.events) ∙ (λ i. quiet i ++ sent-lists d.machine.events i)
+
+  pub happened-on : IsConsistent d → AreHappened (with_events [] d) new
+  happened-on whole =
+      let m = d.machine in
+      record {
+        pages = pages-on;
+        distinct = subst AreDistinct (sym lists-are) (distinct-back (m.held_page ∷ left_lists m.left_column) (event_lists m.events) whole.machine.apart);
+        machine =
+            subst (λ ls. AreNoneOf ls (machine_lists (record m { events = [] }))) (sym lists-are)
+            (subst (λ ls. AreNoneOf (event_lists m.events) (m.held_page ∷ ls)) (sym (append-nil (left_lists m.left_column))) (apart-swap (m.held_page ∷ left_lists m.left_column) (event_lists m.events) (distinct-apart (m.held_page ∷ left_lists m.left_column) (event_lists m.events) whole.machine.apart)));
+        builder = subst (λ ls. AreNoneOf ls (builder_lists d.builder d.store)) (sym lists-are) (all-back (λ l. IsNoneOf l (builder_lists d.builder d.store)) (m.held_page ∷ left_lists m.left_column) (event_lists m.events) whole.apart);
+      }
+
 -- ---- the page is served, and what was sent is handed over
 
 module _ (q d : Routine) (page : Page) (o : Option Ending) (hs new : List Happening) (can : CanServe page q) (k : Serves page q o d) (quiet : happened_lists hs ≡ []) (handed : new ≡ hs ++ sent_happenings d.machine.events) where
@@ -242,25 +263,13 @@ module _ (q d : Routine) (page : Page) (o : Option Ending) (hs new : List Happen
   served-ready = settled-by o k.served
 
   pub served-pages : ArePages d.store new
-  served-pages = subst (ArePages d.store) (sym handed) (all-join (IsPage d.store) hs (sent_happenings d.machine.events) (quiet-pages d.store hs quiet) (sent-pages d.store d.machine.events k.ended.machine.events))
+  served-pages = pages-on d hs new quiet handed k.ended
 
   pub served-ended : IsEnded end
   served-ended = record { machine = taken-machine d.machine d.store k.ended.machine; page = k.ended.page }
 
-  lists-are : happened_lists new ≡ event_lists d.machine.events
-  lists-are = ap happened_lists handed ∙ lists-append hs (sent_happenings d.machine.events) ∙ (λ i. quiet i ++ sent-lists d.machine.events i)
-
   happened-by : (x : Option Ending) → ServesTo page q x d → IfNone x (AreHappened end new)
-  happened-by None s =
-      let m = d.machine in
-      record {
-        pages = served-pages;
-        distinct = subst AreDistinct (sym lists-are) (distinct-back (m.held_page ∷ left_lists m.left_column) (event_lists m.events) s.0.whole.machine.apart);
-        machine =
-            subst (λ ls. AreNoneOf ls (machine_lists end.machine)) (sym lists-are)
-            (subst (λ ls. AreNoneOf (event_lists m.events) (m.held_page ∷ ls)) (sym (append-nil (left_lists m.left_column))) (apart-swap (m.held_page ∷ left_lists m.left_column) (event_lists m.events) (distinct-apart (m.held_page ∷ left_lists m.left_column) (event_lists m.events) s.0.whole.machine.apart)));
-        builder = subst (λ ls. AreNoneOf ls (builder_lists d.builder d.store)) (sym lists-are) (all-back (λ l. IsNoneOf l (builder_lists d.builder d.store)) (m.held_page ∷ left_lists m.left_column) (event_lists m.events) s.0.whole.apart);
-      }
+  happened-by None s = happened-on d hs new quiet handed k.ended s.0.whole
   happened-by (Some x) s = tt
 
   pub served-lists : IfNone o (AreHappened end new)

@@ -1,0 +1,5 @@
+pub mod WaitingLemmas
+pub mod ServedLemmas
+pub mod StartLemmas
+pub mod TakenLemmas
+pub mod BoxLemmas

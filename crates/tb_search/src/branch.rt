@@ -1,0 +1,89 @@
+//! A state of the search, with its moves.
+
+ghost use Rattle.std.specs.Prelude.{◌≡◌, ◌<◌, ◌++◌, true, false, IfOk, OnOk};
+ghost use Rattle.tb_builder.specs.Reach.{holds_box};
+ghost use Rattle.tb_galley.specs.GalleyNodes.{expanded};
+ghost use Rattle.tb_items.specs.Classes.{classes_of};
+ghost use Rattle.tb_items.specs.GalleyNodes.{AreGalleyNodes};
+ghost use Rattle.tb_items.specs.WaitingNodes.{AreItems};
+ghost use Rattle.tb_steps.specs.Run.{held_count};
+ghost use Rattle.tb_steps.specs.Runnable.{AreRunnable, AreRunClasses};
+ghost use Rattle.tb_best.specs.ItemsAhead.{empty_start};
+ghost use Rattle.tb_search.specs.Branches.{shown, nodes_ahead, next_of, break_before, IsBranch, HasTaken};
+
+use crate::moves::{hand_cut, hand_next, holds_box};
+use std::alloc::{AllocError, Global};
+use tb_galley::Galley;
+use tb_items::{ItemsLeft, all_items};
+use tb_run::Routine;
+
+/// A state of the search: a run in which the nodes wait that were taken and are on no page, and the items that are ahead.
+#[derive(Drop)]
+pub struct Branch<'a> {
+    // Nothing is left in it.
+    routine: Routine<'a>,
+    // None once the clear at the end was taken.
+    ahead: Option<ItemsLeft<'a>>,
+}
+
+impl<'a> Branch<'a> {
+    /// The state in which the search begins: all items of a galley are ahead. It fails only if memory runs out.
+    pub fn start(alloc: Global, galley: &'a Galley) -> Result<Self, AllocError>
+        requires params { AreRunnable galley.now.params }
+        requires classes { AreRunClasses (classes_of galley.now) }
+        requires items { AreItems (classes_of galley.now) galley.now.items }
+        requires nodes { AreGalleyNodes (classes_of galley.now) (expanded galley.now) }
+
+        ensures state { IfOk result (λ b. shown b ≡ empty_start galley.now) }
+        ensures ahead { IfOk result (λ b. nodes_ahead b ≡ expanded galley.now) }
+        ensures params { IfOk result (λ b. b.routine.machine.params ≡ galley.now.params) }
+        ensures branch { IfOk result IsBranch }
+    {
+        let routine = Routine::empty(alloc, galley)?;
+        Ok(Branch {
+            routine,
+            ahead: Some(all_items(galley)),
+        })
+    }
+
+    /// The next item is taken, or the clear at the end: its nodes wait behind the others. If nothing is ahead, nothing changes.
+    /// Returns whether no more than 4194304 nodes are held then; if more are, the search can't go on from here. It fails only
+    /// if memory runs out, and can't go on then either.
+    pub fn take(&mut self) -> Result<bool, AllocError>
+        requires { IsBranch self.old }
+
+        ensures taken { OnOk result (HasTaken (next_of self.old.ahead) self.old self.new) }
+        ensures branch { IfOk result (λ few. few ≡ true → IsBranch self.new) }
+        ensures many { IfOk result (λ few. few ≡ false → 4194304 < held_count (shown self.new)) }
+    {
+        let Some(ahead) = self.ahead else {
+            return Ok(true);
+        };
+        self.ahead = hand_next(&mut self.routine, ahead)?;
+        Ok(self.routine.most_limit().is_none())
+    }
+
+    /// A break is put in before the next item, and the item is taken: a penalty of -10000 on the line of the item waits behind
+    /// the others, and then the item's nodes. Before the clear at the end no break is put in. All else is as in [`Self::take`].
+    pub fn cut(&mut self) -> Result<bool, AllocError>
+        requires { IsBranch self.old }
+
+        ensures taken { OnOk result (HasTaken (break_before self.old.ahead ++ next_of self.old.ahead) self.old self.new) }
+        ensures branch { IfOk result (λ few. few ≡ true → IsBranch self.new) }
+        ensures many { IfOk result (λ few. few ≡ false → 4194304 < held_count (shown self.new)) }
+    {
+        let Some(ahead) = self.ahead else {
+            return Ok(true);
+        };
+        self.ahead = hand_cut(&mut self.routine, ahead)?;
+        Ok(self.routine.most_limit().is_none())
+    }
+
+    /// Whether a box or rule waits. Before the first box of a page a break need not be put in.
+    pub fn holds_box(&self) -> bool
+        requires { IsBranch self.now }
+        ensures { result ≡ holds_box (shown self.now).waiting }
+    {
+        holds_box(&self.routine.store, self.routine.builder.waiting())
+    }
+}

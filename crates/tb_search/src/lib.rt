@@ -1,0 +1,8 @@
+//! The search for the best pages. A state of it is a run whose pages were made of the items that were taken so far, with the
+//! items that are still ahead, and the moves of the search are its calls.
+#![tactic(auto)]
+
+mod branch;
+mod moves;
+
+pub use crate::branch::Branch;
