@@ -66,6 +66,19 @@ fn heights(pool: &Pool, p: Part) -> i64 {
 }
 
 #[test]
+fn a_copy_has_the_floats_of_the_pool(rt: HostRuntime) -> Result<(), Fail> {
+    let name = name_of(b"F").ok_or("name")?;
+    let mut pool = new_pool(rt.alloc(), 2)?;
+    assert!(rt; pool.take(float_of(name, 1, 5)).is_ok());
+    let mut copy = pool.copy(rt.alloc())?;
+    assert!(rt; copy.take(float_of(name, 1, 6)).is_ok());
+    assert!(rt; copy.take(float_of(name, 1, 7)).is_err());
+    assert_eq!(rt; heights(&copy, Part::Current), 56);
+    assert_eq!(rt; heights(&pool, Part::Current), 5);
+    Ok(())
+}
+
+#[test]
 fn a_pool_of_two_is_full_at_two(rt: HostRuntime) -> Result<(), Fail> {
     let name = name_of(b"F").ok_or("name")?;
     let mut pool = new_pool(rt.alloc(), 2)?;

@@ -45,6 +45,22 @@ fn moves_values_between_lists(rt: HostRuntime) -> Result<(), Fail> {
     Ok(())
 }
 
+#[tactic(auto, using(tb_pool::proofs::MapLemmas::list_steps))]
+#[test]
+fn a_copy_has_the_lists_of_the_store(rt: HostRuntime) -> Result<(), Fail> {
+    let mut lists = Lists::new(rt.alloc());
+    let a = lists.add_list()?;
+    lists.reserve(2)?;
+    lists.push_back(a, 7u64);
+    let mut copy = lists.copy()?;
+    copy.push_back(a, 8);
+    assert_eq!(rt; copy.len(a), 2);
+    assert_eq!(rt; copy.pop_front(a), Some(7));
+    assert_eq!(rt; lists.len(a), 1);
+    assert_eq!(rt; lists.pop_front(a), Some(7));
+    Ok(())
+}
+
 // The first value of a list goes to the end of another.
 fn move_value(lists: &mut Lists<u64>, from: ListId, to: ListId)
     requires from_live { IsLive lists.old from }

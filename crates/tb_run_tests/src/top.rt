@@ -1,4 +1,5 @@
 // Whole runs over ends in memory.
+mod copies;
 mod float_places;
 mod generated;
 mod pages;
