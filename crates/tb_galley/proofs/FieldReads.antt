@@ -23,11 +23,11 @@ use Rattle.tb_galley.specs.declared.contents.Content.TheVariants as contents
 use Rattle.tb_galley.specs.declared.ItemKind.TheVariants as items
 use Rattle.tb_galley.specs.declared.LeafKind.TheVariants as leaves
 use Rattle.tb_galley.specs.declared.fields.At.{At}
-use Rattle.tb_galley.specs.Words.{LineWord, header, setting, class_line, hbox, rule, skip, kern, penalty, mark, note, foot, endfoot, float, margin, newpage, clearpage, pagebreak, nopagebreak, onecolumn, twocolumn, suppressfloats, end, Known, number_in, first_field}
+use Rattle.tb_galley.specs.Words.{LineWord, header, setting, class_line, hbox, rule, skip, kern, penalty, mark, note, foot, endfoot, float, margin, newpage, clearpage, pagebreak, nopagebreak, onecolumn, twocolumn, suppressfloats, end, Known, number_in, version_named, first_field}
 use Rattle.tb_galley.specs.Fields.{Slot, name_slot, dimension_slot, least_slot, range_slot, stretch_slot, fraction_slot, word_slot, places_slot, seen_slot, wrong_slot, slot_cause, word_slots, size_slot, glue_slots, stretch_slots, shrink_slots, past_one, paragraph_slot, form_slots, row_slots, row_cause, class_slot, class_slots, foot_slots}
 use Rattle.tb_galley.specs.Faults.{is_printable, cause_if, causes_in, ascii_causes, value_causes, missing_cause}
 use Rattle.tb_galley.specs.Grammar.{content_of, field_at, dimension_at, stretch_at, glue_at, glue_from, places_at, has_byte, value_by, set_content, class_at, foot_class_at}
-use Rattle.tb_galley.specs.FieldReader.{Left, ◌>>=◌, at_fault, printed, extra_by, minus_next, settled, field_read, dimension_in, integer_in, stretch_in, name_left, dimension_left, stretch_left, least_left, range_left, choice_left, places_left, sized_left, float_left, margin_left, glue_left, stretch_part, plus_part, shrink_part, end_left, finished, mapped, content_left, area_left, value_left, set_by, set_left, fraction_left, fraction_in, class_left, named_class, foot_left}
+use Rattle.tb_galley.specs.FieldReader.{Left, ◌>>=◌, at_fault, printed, extra_by, minus_next, settled, field_read, dimension_in, integer_in, stretch_in, name_left, dimension_left, stretch_left, least_left, range_left, choice_left, version_left, places_left, sized_left, float_left, margin_left, glue_left, stretch_part, plus_part, shrink_part, end_left, finished, mapped, content_left, area_left, value_left, set_by, set_left, fraction_left, fraction_in, class_left, named_class, foot_left}
 
 abbrev pub left : ℕ → Cause → List (List ℕ) → Left
 left n m fs = record { number = n; missing = m; fields = fs }
@@ -371,10 +371,10 @@ first-is (f ∷ fs) = refl
 
 pub reads : (k : Known) (line : ℕ) (fs : List (List ℕ)) (w : LineWord)
     → finished (content_left k line w (left 2 (missing_cause w) fs)) ≡ settle (first_at 2 (value_causes (missing_cause w) (word_slots k fs w) fs)) (content_of line fs w)
-unfolding content_left name_left dimension_left range_left choice_left
+unfolding content_left name_left dimension_left range_left version_left
 reads k line fs header =
-    one_slot (λ b. contents.Header (if b then 2 else 1)) (word_slot (codes "1" ∷ codes "2" ∷ []) causes.NoHeader) (λ f. bytes_eq f (codes "2")) causes.NoHeader fs
-    ∙ ap (λ f. settle (first_at 2 (value_causes causes.NoHeader (word_slots k fs header) fs)) (contents.Header (if bytes_eq f (codes "2") then 2 else 1))) (first-is fs)
+    one_slot (λ v. contents.Header v) (word_slot (codes "1" ∷ codes "2" ∷ codes "3" ∷ []) causes.NoHeader) version_named causes.NoHeader fs
+    ∙ ap (λ f. settle (first_at 2 (value_causes causes.NoHeader (word_slots k fs header) fs)) (contents.Header (version_named f))) (first-is fs)
 reads k line fs setting = set_slots_read k line causes.MissingField fs
 reads k line fs class_line = class_slots_read line causes.MissingField fs
 reads k line fs hbox = sized_slots (one (λ s. contents.Plain (leaves.Hbox s.0 s.1 s.2))) (λ e. refl) 2 causes.MissingField [] (λ fs. content_of line fs hbox) (λ f g h fs. end_here 5 causes.MissingField fs _) fs

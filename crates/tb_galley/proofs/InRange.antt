@@ -1,5 +1,5 @@
 -- What a line says is in its ranges: the test of each field implies its range.
-use Rattle.std.proofs.Common.{◌≡◌, ℕ, ◌≤◌, ℤ, pos, negsuc, Bool, true, false, not, ◌||◌, ◌&&◌, ◌==◌, nat_lt, nat_le, nat_abs, List, [], ◌∷◌, Option, Some, None, Result, Ok, Err, IfOk, if◌then◌else◌, refl, arith}
+use Rattle.std.proofs.Common.{◌≡◌, ℕ, ◌≤◌, ℤ, pos, negsuc, Bool, true, false, not, ◌||◌, ◌&&◌, ◌==◌, nat_lt, nat_le, nat_abs, List, [], ◌∷◌, Option, Some, None, Result, Ok, Err, IfOk, if◌then◌else◌, refl, arith, bytes_eq}
 use Rattle.std.specs.Cmp.{first_so, second_so}
 use Rattle.std.specs.Prelude.{int_lt, codes}
 use Rattle.std.specs.List.{list_all, list_any}
@@ -19,11 +19,11 @@ use Rattle.tb_param.specs.Table.{is_within, is_dimen, is_glue}
 use Rattle.tb_galley.specs.declared.Cause.{Cause}
 use Rattle.tb_galley.specs.declared.Cause.TheVariants as causes
 use Rattle.tb_galley.specs.declared.fields.At.{At}
-use Rattle.tb_galley.specs.Fields.{Slot, name_slot, dimension_slot, least_slot, range_slot, stretch_slot, fraction_slot, places_slot, class_slot, is_class_among, is_foot_class, slot_cause, cause_of_read, cause_unless, are_places, is_place_byte}
+use Rattle.tb_galley.specs.Fields.{Slot, name_slot, dimension_slot, least_slot, range_slot, stretch_slot, fraction_slot, places_slot, class_slot, is_class_among, is_foot_class, slot_cause, cause_of_read, cause_unless, are_places, is_place_byte, word_slot}
 use Rattle.tb_galley.specs.Grammar.{read_or, places_at, has_byte}
-use Rattle.tb_galley.specs.FieldReader.{Left, ◌>>=◌, at_fault, settled, next_left, field_read, dimension_in, integer_in, stretch_in, fraction_in, name_left, dimension_left, stretch_left, least_left, range_left, choice_left, places_left, sized_left, float_left, margin_left, glue_left, stretch_part, plus_part, shrink_part, minus_part, minus_next, next_is_by, is_end, mapped, fraction_left, value_left, class_left, named_class, foot_left}
-use Rattle.tb_galley.specs.Words.{Known, number_in, number_or}
-use Rattle.tb_galley.specs.Valid.{is_size, is_float, is_margin, is_class}
+use Rattle.tb_galley.specs.FieldReader.{Left, ◌>>=◌, at_fault, settled, next_left, field_read, dimension_in, integer_in, stretch_in, fraction_in, name_left, dimension_left, stretch_left, least_left, range_left, choice_left, places_left, sized_left, float_left, margin_left, glue_left, stretch_part, plus_part, shrink_part, minus_part, minus_next, next_is_by, is_end, mapped, fraction_left, value_left, class_left, named_class, foot_left, version_left}
+use Rattle.tb_galley.specs.Words.{Known, number_in, number_or, version_named}
+use Rattle.tb_galley.specs.Valid.{is_size, is_float, is_margin, is_class, is_version}
 use Rattle.tb_param.specs.declared.table.Form.{Form}
 use Rattle.tb_param.specs.declared.table.Form.TheVariants as forms
 use Rattle.tb_param.specs.declared.Value.TheVariants as values
@@ -179,6 +179,19 @@ places_has : (l : Left) → IfOk (places_left l) (λ x. has_place x.0.0 ≡ true
 unfolding places_left
 places_has l = field_has (λ v. has_place v.0 ≡ true) places_slot (λ f. (places_at f, has_byte 33 f))
     (λ f h. places_some f (first_so (list_all is_place_byte f) _ (unless_none (are_places f) causes.BadPlace h)) (second_so (list_all is_place_byte f) _ (unless_none (are_places f) causes.BadPlace h))) l
+
+-- ---- versions
+
+pub version_has : (l : Left) → IfOk (version_left l) (λ x. is_version x.0 ≡ true)
+unfolding version_left
+version_has l =
+    field_has (λ v. is_version v ≡ true) (word_slot (codes "1" ∷ codes "2" ∷ codes "3" ∷ []) causes.NoHeader) version_named
+    (λ f h. some_version (bytes_eq f (codes "3")) (bytes_eq f (codes "2"))) l
+  where
+    some_version : (third second : Bool) → is_version (if third then 3 else (if second then 2 else 1)) ≡ true
+    some_version true second = refl
+    some_version false true = refl
+    some_version false false = refl
 
 -- ---- glue and boxes
 

@@ -22,7 +22,7 @@ use Rattle.tb_galley.specs.declared.contents.Content.{Content}
 use Rattle.tb_galley.specs.declared.contents.Content.TheVariants as contents
 use Rattle.tb_galley.specs.declared.ItemKind.TheVariants as items
 use Rattle.tb_galley.specs.declared.LeafKind.TheVariants as leaves
-use Rattle.tb_galley.specs.Words.{LineWord, header, setting, class_line, hbox, rule, skip, kern, penalty, mark, note, foot, endfoot, float, margin, newpage, clearpage, pagebreak, nopagebreak, onecolumn, twocolumn, suppressfloats, end, Known, number_in}
+use Rattle.tb_galley.specs.Words.{LineWord, header, setting, class_line, hbox, rule, skip, kern, penalty, mark, note, foot, endfoot, float, margin, newpage, clearpage, pagebreak, nopagebreak, onecolumn, twocolumn, suppressfloats, end, Known, number_in, version_named}
 use Rattle.tb_galley.specs.declared.Cause.{Cause}
 use Rattle.tb_galley.specs.declared.Cause.TheVariants as causes
 use Rattle.tb_galley.specs.declared.fields.At.{At}
@@ -139,6 +139,10 @@ range_left low high c l = field_read (range_slot low high c) integer_in l
 -- one of two words: whether it is the second
 unfoldable pub choice_left : List ℕ → List ℕ → Cause → Left → Result (Bool × Left) At
 choice_left first second c l = field_read (word_slot (first ∷ second ∷ []) c) (λ f. bytes_eq f second) l
+
+-- the version of a galley
+unfoldable pub version_left : Left → Result (ℕ × Left) At
+version_left l = field_read (word_slot (codes "1" ∷ codes "2" ∷ codes "3" ∷ []) causes.NoHeader) version_named l
 
 -- places, and whether `!` is among them
 unfoldable pub places_left : Left → Result ((Places × Bool) × Left) At
@@ -275,7 +279,7 @@ set_left version l = do
 
 -- what a line of this number says, by its word and by what is known before it
 unfoldable pub content_left : Known → ℕ → LineWord → Left → Result (Content × Left) At
-content_left k n header l = mapped (λ b. contents.Header (if b then 2 else 1)) (choice_left (codes "1") (codes "2") causes.NoHeader l)
+content_left k n header l = mapped (λ v. contents.Header v) (version_left l)
 content_left k n setting l = set_left k.version l
 content_left k n class_line l = mapped (λ c. contents.Class c) (class_left n l)
 content_left k n hbox l = mapped (λ s. contents.Plain (leaves.Hbox s.0 s.1 s.2)) (sized_left l)

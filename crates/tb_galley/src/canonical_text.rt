@@ -324,10 +324,10 @@ fn put_leaves(out: &mut Vec<u8>, leaves: &[Leaf]) -> Result<(), AllocError>
 fn header(version: u8) -> &'static [u8]
     ensures { result.now ≡ header_text version }
 {
-    if version == 1 {
-        b"galley 1\n"
-    } else {
-        b"galley 2\n"
+    match version {
+        1 => b"galley 1\n",
+        2 => b"galley 2\n",
+        _ => b"galley 3\n",
     }
 }
 
@@ -357,7 +357,7 @@ fn put_classes(out: &mut Vec<u8>, classes: &[ClassLine]) -> Result<(), AllocErro
     Ok(())
 }
 
-// The line that begins a footnote: in version 2 it names the class.
+// The line that begins a footnote: from version 2 on it names the class.
 fn put_foot(out: &mut Vec<u8>, version: u8, class: u8) -> Result<(), AllocError>
     ensures { OnOk result (out.new.items ≡ out.old.items ++ foot_text version class) }
 {
@@ -448,7 +448,7 @@ fn put_items(out: &mut Vec<u8>, version: u8, items: &[Item]) -> Result<(), Alloc
 }
 
 /// The canonical text of a galley: its header, a `set` line for each parameter that its version has, a `class` line for
-/// each class in rising number, its items and its end, with single spaces. In version 2 each `foot` names its class.
+/// each class in rising number, its items and its end, with single spaces. From version 2 on each `foot` names its class.
 /// Dimensions are bare integers, glue has all three parts, and fractions are in 65536ths. If the galley is valid and the
 /// text is no longer than an input may be, the text is read as the same galley, but for its line numbers.
 #[tactic(auto, unfolding(crate::specs::CanonicalText::printed))]

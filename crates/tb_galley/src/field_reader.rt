@@ -1,11 +1,11 @@
 //! Reads the fields of a line.
-ghost use Rattle.std.specs.Prelude.{◌≡◌, ◌<◌, ◌≤◌, ◌+◌, [], map, ◌≤ℤ◌, true, IfOk, nat_abs, not, ◌==◌, codes, false, Option, Some, None, if◌then◌else◌, IsTrue};
+ghost use Rattle.std.specs.Prelude.{◌≡◌, ◌<◌, ◌≤◌, ◌+◌, [], map, ◌≤ℤ◌, true, IfOk, nat_abs, not, ◌==◌, codes, false, Option, Some, None, if◌then◌else◌, IsTrue, bytes_eq, ◌∷◌};
 ghost use Rattle.std.specs.List.{list_all, list_any};
 ghost use Rattle.tb_galley.specs.Faults.{is_printable};
 ghost use Rattle.tb_galley.specs.Fields.{text_cause, are_places, is_place_byte, is_foot_class, class_slot};
-ghost use Rattle.tb_galley.specs.Words.{number_in};
+ghost use Rattle.tb_galley.specs.Words.{number_in, version_named};
 ghost use Rattle.tb_galley.specs.Grammar.{has_byte, places_at};
-ghost use Rattle.tb_galley.specs.FieldReader.{left_of, Gives, GivesBy, next_left, end_left, field_read, dimension_left, stretch_left, least_left, range_left, stretch_part, shrink_part, glue_left, next_is_by, is_end, fraction_left, choice_left, places_left, sized_left, name_left};
+ghost use Rattle.tb_galley.specs.FieldReader.{left_of, Gives, GivesBy, next_left, end_left, field_read, dimension_left, stretch_left, least_left, range_left, stretch_part, shrink_part, glue_left, next_is_by, is_end, fraction_left, choice_left, version_left, places_left, sized_left, name_left};
 ghost use Rattle.tb_text.specs.Lines.{begins_with};
 
 use crate::fields::{At, Fields};
@@ -362,6 +362,22 @@ impl<'a> Fields<'a> {
         }
     }
 
+    /// The next field as the version of a galley.
+    #[tactic(auto, unfolding(crate::specs::FieldReader::version_left))]
+    pub fn version(&mut self) -> Result<u8, At>
+        ensures { Gives result (left_of self.new) (version_left (left_of self.old)) }
+    {
+        let number = self.number;
+        let field = self.next()?;
+        match version_of(field) {
+            Some(version) => Ok(version),
+            None => Err(At {
+                field: number,
+                cause: Cause::NoHeader,
+            }),
+        }
+    }
+
     /// The next field as the places of a float, and whether it has the mark `!`.
     #[tactic(auto, unfolding(crate::specs::FieldReader::places_left))]
     pub fn places(&mut self) -> Result<(Places, bool), At>
@@ -423,6 +439,21 @@ fn cause_in(field: &[u8], cause: Cause) -> Cause
         cause
     } else {
         Cause::NotAscii
+    }
+}
+
+// The version that a field says, if it says one.
+fn version_of(field: &[u8]) -> Option<u8>
+    ensures { result ≡ if list_any (λ w. bytes_eq w field.now) (codes "1" ∷ codes "2" ∷ codes "3" ∷ []) then Some (version_named field.now) else None }
+{
+    if field == b"3".as_slice() {
+        Some(3)
+    } else if field == b"2".as_slice() {
+        Some(2)
+    } else if field == b"1".as_slice() {
+        Some(1)
+    } else {
+        None
     }
 }
 
