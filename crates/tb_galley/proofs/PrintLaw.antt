@@ -1,5 +1,5 @@
 -- The canonical text of a valid galley is read as the galley itself, but for its line numbers.
-use Rattle.std.proofs.Common.{◌≡◌, ℕ, zero, suc, ◌+◌, ◌≤◌, Bool, true, false, not, ◌&&◌, ◌||◌, ◌==◌, nat_lt, nat_le, List, [], ◌∷◌, ◌++◌, length, map, filter, Some, None, Ok, Err, if◌then◌else◌, refl, ap, sym, subst, ◌∙◌, ◌⊎◌, inl, inr, arith, append_assoc}
+use Rattle.std.proofs.Common.{◌≡◌, ℕ, ◌+◌, ◌≤◌, Bool, true, false, ◌||◌, ◌==◌, nat_lt, nat_le, List, [], ◌∷◌, ◌++◌, length, map, filter, Some, None, Ok, Err, if◌then◌else◌, refl, ap, sym, subst, ◌∙◌, ◌⊎◌, inl, inr, arith, append_assoc}
 use Rattle.std.proofs.Math.Bool.{or-false}
 use Rattle.std.specs.Cmp.{first_so, second_so}
 use Rattle.std.specs.Prelude.{codes, decimal}
@@ -11,13 +11,10 @@ use Rattle.tb_text.proofs.LineTexts.{joined_lines, joined_lines-append, lines_of
 use Rattle.tb_param.specs.declared.params.Params.{Params}
 use Rattle.tb_param.specs.Fields.{value_of}
 use Rattle.tb_param.specs.Defaults.{default_params}
-use Rattle.tb_param.specs.Table.{Row, rows, rows_for, row_of, value_fault}
-use Rattle.tb_param.specs.Release.{is_2014, has_second}
-use Rattle.tb_param.specs.declared.Choice.{Choice}
-use Rattle.tb_param.specs.declared.Choice.TheVariants as choices
-use Rattle.tb_param.specs.declared.Value.TheVariants as values
-use Rattle.tb_param.specs.declared.table.Form.TheVariants as forms
-use Rattle.tb_param.specs.Ranges.{are_params, is_no_fault}
+use Rattle.tb_param.specs.Values.{glue_of, choice_of, rule_of}
+use Rattle.tb_param.specs.declared.fields.Field.TheVariants as fields
+use Rattle.tb_param.specs.Table.{Row, rows, rows_for, row_of}
+use Rattle.tb_param.specs.Ranges.{are_params}
 use Rattle.tb_param.proofs.RangeLemmas.{AllRows}
 use Rattle.tb_param.proofs.AllSet.{all_set}
 use Rattle.tb_param.proofs.RowNames.{rows_found}
@@ -224,15 +221,40 @@ all_known q (r ∷ rs) = keep (q r) refl (all_known q rs)
     keep true e k = and_from (q r) (list_all q (filter q rs)) e k
     keep false e k = k
 
--- the parameters that version 1 does not have have their defaults
+-- the parameters of versions 1 and 2, set from the defaults; the others have their defaults
+second_set : (g : Params) → OthersDefault 2 g → set_all g default_params (rows_for 2) ≡ g
+unfolding default_params
+second_set g others = (λ i. record g {
+  texttop = sym (ap glue_of (others fields.Texttop refl)) i;
+  textbottom = sym (ap glue_of (others fields.Textbottom refl)) i;
+  footrule = sym (ap rule_of (others fields.Footrule refl)) i;
+  toprule = sym (ap rule_of (others fields.Toprule refl)) i;
+  bottomrule = sym (ap rule_of (others fields.Bottomrule refl)) i;
+  dblrule = sym (ap rule_of (others fields.Dblrule refl)) i;
+  footdepth = sym (ap choice_of (others fields.Footdepth refl)) i;
+  footfill = sym (ap glue_of (others fields.Footfill refl)) i;
+  footplace = sym (ap choice_of (others fields.Footplace refl)) i;
+})
+
 first_set : (g : Params) → OthersDefault 1 g → set_all g default_params (rows_for 1) ≡ g
 unfolding default_params
-first_set g others = ap (λ c. record g { release = c }) (sym (ap choice_of (others fields.Release refl)))
+first_set g others = (λ i. record g {
+  release = sym (ap choice_of (others fields.Release refl)) i;
+  texttop = sym (ap glue_of (others fields.Texttop refl)) i;
+  textbottom = sym (ap glue_of (others fields.Textbottom refl)) i;
+  footrule = sym (ap rule_of (others fields.Footrule refl)) i;
+  toprule = sym (ap rule_of (others fields.Toprule refl)) i;
+  bottomrule = sym (ap rule_of (others fields.Bottomrule refl)) i;
+  dblrule = sym (ap rule_of (others fields.Dblrule refl)) i;
+  footdepth = sym (ap choice_of (others fields.Footdepth refl)) i;
+  footfill = sym (ap glue_of (others fields.Footfill refl)) i;
+  footplace = sym (ap choice_of (others fields.Footplace refl)) i;
+})
 
 -- setting all parameters of the version from the defaults gives the parameters
 each_set : (v : ℕ) (g : Params) → OthersDefault v g → (v ≡ 1) ⊎ ((v ≡ 2) ⊎ (v ≡ 3)) → set_all g default_params (rows_for v) ≡ g
 each_set v g others (inl e) = subst (λ n. set_all g default_params (rows_for n) ≡ g) (sym e) (first_set g (subst (λ n. OthersDefault n g) e others))
-each_set v g others (inr (inl e)) = subst (λ n. set_all g default_params (rows_for n) ≡ g) (sym e) (all_set g default_params)
+each_set v g others (inr (inl e)) = subst (λ n. set_all g default_params (rows_for n) ≡ g) (sym e) (second_set g (subst (λ n. OthersDefault n g) e others))
 each_set v g others (inr (inr e)) = subst (λ n. set_all g default_params (rows_for n) ≡ g) (sym e) (all_set g default_params)
 
 pub not_long : (k : ℕ) → k ≤ 8388608 → nat_lt 8388608 k ≡ false

@@ -1,19 +1,17 @@
 -- A reader is sound: what it has drafted so far is in its ranges; each line of a known content keeps it so.
-use Rattle.std.proofs.Common.{◌≡◌, ℕ, ◌+◌, ◌≤◌, ◌<◌, Bool, true, false, ◌&&◌, not, ◌||◌, ◌==◌, nat_lt, nat_le, length, map, List, [], ◌∷◌, ◌++◌, Option, Some, None, refl, ap, sym, subst, ◌∙◌, ◌⊎◌, inl, inr, arith, append_assoc, length-append, append-nil}
+use Rattle.std.proofs.Common.{◌≡◌, ℕ, zero, suc, ◌+◌, ◌≤◌, ◌<◌, Bool, true, false, ◌&&◌, ◌||◌, ◌==◌, nat_lt, nat_le, length, map, List, [], ◌∷◌, ◌++◌, Option, Some, None, refl, ap, sym, subst, ◌∙◌, ◌⊎◌, inl, inr, arith, append_assoc, length-append, append-nil}
 use Rattle.std.specs.Prelude.{is_some, is_none}
-use Rattle.std.proofs.lemmas.Bool.{eqb-true, or_right}
+use Rattle.std.proofs.lemmas.Bool.{eqb-true}
 use Rattle.std.specs.List.{list_all}
 use Rattle.std.proofs.lemmas.Bool.Decides.{nat_tests}
 use Rattle.std.proofs.lemmas.List.Folds.{list_all-append}
-use Rattle.std.proofs.Math.Bool.{or-true}
 use Rattle.tb_param.specs.declared.params.Params.{Params}
 use Rattle.tb_param.specs.declared.fields.Field.{Field}
 use Rattle.tb_param.specs.declared.Value.{Value}
 use Rattle.tb_param.specs.Ranges.{are_params}
 use Rattle.tb_param.specs.Fields.{with_value, value_of}
 use Rattle.tb_param.specs.declared.fields.Field.TheVariants as fields
-use Rattle.tb_param.specs.Table.{is_known_in}
-use Rattle.tb_param.specs.Release.{has_second}
+use Rattle.tb_param.specs.Table.{is_known_in, first_version}
 use Rattle.tb_galley.specs.declared.Cause.TheVariants as causes
 use Rattle.tb_galley.specs.declared.contents.Content.TheVariants as contents
 use Rattle.tb_galley.specs.declared.Item.{Item}
@@ -182,12 +180,18 @@ header_fits : (u v : ℕ) (cs : List ClassLine) → (u == 1) ≡ true → is_ver
 header_fits u v cs one some h = fits_each v cs some (subst (λ n. fits_version n cs ≡ true) (eqb-true u 1 one) h)
 
 -- what some version does not have, version 1 does not have
-lacks-first : (v : ℕ) (field : Field) → is_known_in v field ≡ false → is_known_in 1 field ≡ false
-lacks-first v fields.Release h = refl
-lacks-first v field h = cc
+lacks-first : (v k : ℕ) → is_version v ≡ true → nat_le k v ≡ false → nat_le k 1 ≡ false
+lacks-first v k some h = below (at_least v some)
+  where
+    at_least : (v : ℕ) → is_version v ≡ true → nat_le 1 v ≡ true
+    at_least zero some = cc
+    at_least (suc v) some = grind (arith, nat_tests)
 
-header_others : (u v : ℕ) (ps : Params) → (u == 1) ≡ true → OthersDefault u ps → OthersDefault v ps
-header_others u v ps one others field h = subst (λ n. OthersDefault n ps) (eqb-true u 1 one) others field (lacks-first v field h)
+    below : nat_le 1 v ≡ true → nat_le k 1 ≡ false
+    below least = grind (arith, nat_tests)
+
+header_others : (u v : ℕ) (ps : Params) → (u == 1) ≡ true → is_version v ≡ true → OthersDefault u ps → OthersDefault v ps
+header_others u v ps one some others field h = subst (λ n. OthersDefault n ps) (eqb-true u 1 one) others field (lacks-first v (first_version field) some h)
 
 pub header_line : (n : ℕ) (p : Phase) (c : ℕ) (d : Draft) (v : ℕ) → is_version v ≡ true → first_of (place_causes p (Some header)) ≡ None → Sound n p c d
     → Sound (n + 1) (next_phase p (Some header)) c (record d { version = v })
@@ -199,7 +203,7 @@ header_line n at_start c d v some place s =
       leaves = next.leaves;
       classed = record {
         version = header_fits d.version v d.classes s.classed.fresh some s.classed.version;
-        others = header_others d.version v d.params s.classed.fresh s.classed.others;
+        others = header_others d.version v d.params s.classed.fresh some s.classed.others;
         fresh = refl;
         classes = s.classed.classes;
         feet = s.classed.feet;
@@ -215,11 +219,40 @@ header_line n among_items c d v some place s = cc
 header_line n in_foot c d v some place s = cc
 header_line n ended c d v some place s = cc
 
+-- a version with some parameter has all those of version 1
+has-version : (field : Field) → nat_le 1 (first_version field) ≡ true
+has-version fields.Release = refl
+has-version field = refl
+
+none-lacks : (v : ℕ) (field : Field) → is_known_in v field ≡ true → nat_le 1 v ≡ false → ⊥
+none-lacks v field known lacks = apart (first_version field) (has-version field) known
+  where
+    apart : (k : ℕ) → nat_le 1 k ≡ true → nat_le k v ≡ true → ⊥
+    apart k some few = grind (arith, nat_tests)
+
 -- a parameter that the version does not have stays if one that it has is set
 other-stays : (v : ℕ) (other field : Field) (value : Value) (ps : Params) → is_known_in v field ≡ true → is_known_in v other ≡ false → value_of other (with_value field value ps) ≡ value_of other ps
 other-stays v fields.Release fields.Release value ps known lacks = cc
 other-stays v fields.Release field value ps known lacks = refl
-other-stays v other field value ps known lacks = cc
+other-stays v fields.Texttop fields.Texttop value ps known lacks = cc
+other-stays v fields.Texttop field value ps known lacks = refl
+other-stays v fields.Textbottom fields.Textbottom value ps known lacks = cc
+other-stays v fields.Textbottom field value ps known lacks = refl
+other-stays v fields.Footrule fields.Footrule value ps known lacks = cc
+other-stays v fields.Footrule field value ps known lacks = refl
+other-stays v fields.Toprule fields.Toprule value ps known lacks = cc
+other-stays v fields.Toprule field value ps known lacks = refl
+other-stays v fields.Bottomrule fields.Bottomrule value ps known lacks = cc
+other-stays v fields.Bottomrule field value ps known lacks = refl
+other-stays v fields.Dblrule fields.Dblrule value ps known lacks = cc
+other-stays v fields.Dblrule field value ps known lacks = refl
+other-stays v fields.Footdepth fields.Footdepth value ps known lacks = cc
+other-stays v fields.Footdepth field value ps known lacks = refl
+other-stays v fields.Footfill fields.Footfill value ps known lacks = cc
+other-stays v fields.Footfill field value ps known lacks = refl
+other-stays v fields.Footplace fields.Footplace value ps known lacks = cc
+other-stays v fields.Footplace field value ps known lacks = refl
+other-stays v other field value ps known lacks = absurd (none-lacks v field known lacks)
 
 set_others : (v : ℕ) (field : Field) (value : Value) (ps : Params) → is_known_in v field ≡ true → OthersDefault v ps → OthersDefault v (with_value field value ps)
 set_others v field value ps known others other lacks = other-stays v other field value ps known lacks ∙ others other lacks

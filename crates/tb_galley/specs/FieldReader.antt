@@ -15,7 +15,8 @@ use Rattle.tb_param.specs.declared.table.Form.{Form}
 use Rattle.tb_param.specs.declared.table.Form.TheVariants as forms
 use Rattle.tb_param.specs.declared.Value.{Value}
 use Rattle.tb_param.specs.declared.Value.TheVariants as values
-use Rattle.tb_param.specs.declared.Choice.TheVariants.{Flush, Ragged, On, Off, R2014, R2015}
+use Rattle.tb_param.specs.declared.Choice.TheVariants.{Flush, Ragged, On, Off, R2014, R2015, Keep, Drop, Above, Below}
+use Rattle.tb_param.specs.declared.Rule.{Rule}
 use Rattle.tb_param.specs.Table.{Row, row_for}
 use Rattle.tb_galley.specs.declared.classes.ClassLine.{ClassLine}
 use Rattle.tb_galley.specs.declared.contents.Content.{Content}
@@ -238,6 +239,23 @@ area_by l false = mapped (λ b. if b then areas.Bottom else areas.Top) (choice_l
 unfoldable pub area_left : Left → Result (Area × Left) At
 area_left l = area_by l (is_end l.fields)
 
+-- a rule that is drawn: a kern, a height and a kern
+unfoldable pub drawn_left : Left → Result (Option Rule × Left) At
+drawn_left l = do
+  a ← dimension_left l
+  h ← least_left (pos 0) causes.Parameter a.1
+  b ← dimension_left h.1
+  Ok (Some (record { above = a.0; height = h.0; below = b.0 }), b.1)
+
+-- no rule, if its word is next
+abbrev pub rule_by : Left → Bool → Result (Option Rule × Left) At
+rule_by l true = next_left l >>= λ x. Ok (None, x.1)
+rule_by l false = drawn_left l
+
+-- a rule: `none`, or one that is drawn
+unfoldable pub rule_left : Left → Result (Option Rule × Left) At
+rule_left l = rule_by l (next_is_by (codes "none") l.fields)
+
 -- the value of a parameter by its form
 unfoldable pub value_left : Form → Left → Result (Value × Left) At
 value_left (forms.Int low high) l = mapped (λ n. values.Int n) (range_left low high causes.Parameter l)
@@ -247,6 +265,9 @@ value_left forms.Skip l = mapped (λ g. values.Skip g) (glue_left causes.WrongFo
 value_left forms.Bottom l = mapped (λ b. values.Word (if b then Flush else Ragged)) (choice_left (codes "ragged") (codes "flush") causes.WrongForm l)
 value_left forms.Switch l = mapped (λ b. values.Word (if b then On else Off)) (choice_left (codes "off") (codes "on") causes.WrongForm l)
 value_left forms.Release l = mapped (λ b. values.Word (if b then R2015 else R2014)) (choice_left (codes "2014") (codes "2015") causes.WrongForm l)
+value_left forms.Rule l = mapped (λ r. values.Rule r) (rule_left l)
+value_left forms.FootDepth l = mapped (λ b. values.Word (if b then Drop else Keep)) (choice_left (codes "keep") (codes "drop") causes.WrongForm l)
+value_left forms.FootPlace l = mapped (λ b. values.Word (if b then Below else Above)) (choice_left (codes "above") (codes "below") causes.WrongForm l)
 
 -- a class: its number, factor, limit and glue
 unfoldable pub class_left : ℕ → Left → Result (ClassLine × Left) At

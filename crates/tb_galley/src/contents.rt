@@ -110,6 +110,15 @@ fn value(form: Form, fields: &mut Fields<'_>) -> Result<Value, At>
             let last = fields.choice(b"2014", b"2015", Cause::WrongForm)?;
             Ok(Value::Word(if last { Choice::R2015 } else { Choice::R2014 }))
         }
+        Form::Rule => Ok(Value::Rule(fields.rule()?)),
+        Form::FootDepth => {
+            let drop = fields.choice(b"keep", b"drop", Cause::WrongForm)?;
+            Ok(Value::Word(if drop { Choice::Drop } else { Choice::Keep }))
+        }
+        Form::FootPlace => {
+            let below = fields.choice(b"above", b"below", Cause::WrongForm)?;
+            Ok(Value::Word(if below { Choice::Below } else { Choice::Above }))
+        }
     }
 }
 
