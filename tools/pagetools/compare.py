@@ -16,7 +16,7 @@ column, and in every place; then come the totals and the first difference. Pages
 The exit status is 0 if all agrees, 1 if anything differs, 2 if a file can't be read."""
 
 # What no galley says and LaTeX's pages have otherwise: it takes no part in the comparison of contents and places.
-APART = ('mark', 'note', 'footrule')
+APART = ('mark', 'note', 'footrule', 'floatrule')
 
 # The warnings of a report, by how LaTeX's own are told in its log.
 LATEX_WARNINGS = {'large': 'LaTeX Warning: Float too large for page', 'ht': 'float specifier changed to',
@@ -54,7 +54,7 @@ def sizes(item):
 
 def contents(page):
     """The items of a page in order, each with its column, and the kinds of its columns."""
-    out = [('page', page.kind)] + [(0,) + key(item) for item in page.wide]
+    out = [('page', page.kind)] + [(0,) + key(item) for item in page.wide if item.kind not in APART]
     for column in page.columns:
         out.append((column.number, column.kind + ' column'))
         out += [(column.number,) + key(item) for item in column.items if item.kind not in APART]

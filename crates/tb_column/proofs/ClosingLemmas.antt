@@ -11,6 +11,7 @@ use Rattle.tb_pool.proofs.CallerLemmas.{list_same, live_same}
 use Rattle.tb_node.specs.declared.Node.{Node}
 use Rattle.tb_node.specs.declared.Kind.TheVariants as kinds
 use Rattle.tb_node.specs.declared.Sums.{Sums}
+use Rattle.tb_node.specs.Shape as shapes_of_nodes
 use Rattle.tb_node.specs.PlainNodes.{shape_of}
 use Rattle.tb_node.specs.Sums.{last_depth, limited_depth, sums_of}
 use Rattle.tb_node.specs.NodeSums.{added_node}
@@ -23,7 +24,8 @@ use Rattle.tb_float.specs.Ranges.{IsWithin}
 use Rattle.tb_column.specs.Column.{is_ragged}
 use Rattle.tb_column.specs.Page.{AreLeaves, IsPageList}
 use Rattle.tb_column.specs.TextColumns.{made_node, closing_by, closed_list}
-use Rattle.tb_column.proofs.FloatLemmas.{leaves-append}
+use Rattle.tb_column.specs.Ranges.{IsSizedGlue}
+use Rattle.tb_column.proofs.FloatLemmas.{leaves-append, one-sized}
 
 pub kept_width : (limit d : ℤ) → pos 0 ≤ℤ limit → IsExtent d → IsDimension (neg_ℤ (min_ℤ d limit))
 kept_width limit d low h = record { low = grind (arith, ints); high = grind (arith, ints) }
@@ -93,3 +95,34 @@ closed_page p old new body limit page few e =
       sized = subst (All IsSizedNode) (sym is) (closed_sized p limit ns page.sized);
       few = subst (λ (ms : List Node). length ms ≤ 8388608) (sym is) (closed_few p limit ns page.sized few);
     }
+
+-- ---- glue behind a list of a page
+
+module _ (p : Params) (limit : IsExtent p.maxdepth) (old new : Lists Node) (body : ℕ) (g : Glue) (sized : IsSizedGlue g) (page : IsPageList old body) (few : length (list_at old body) < 8388608)
+    (put : new.lists ≡ with_list old body (list_at old body ++ made_node (kinds.Skip g) ∷ [])) where
+  glued-is : list_at new body ≡ list_at old body ++ made_node (kinds.Skip g) ∷ []
+  glued-is = list_same old new body (list_at old body ++ made_node (kinds.Skip g) ∷ []) put
+
+  glued-sized : All IsSizedNode (list_at old body ++ made_node (kinds.Skip g) ∷ [])
+  glued-sized = All-append IsSizedNode (list_at old body) (made_node (kinds.Skip g) ∷ []) page.sized (one-sized g sized)
+
+  glued-few : length (list_at old body ++ made_node (kinds.Skip g) ∷ []) ≤ 8388608
+  glued-few = omega (arith, few, length-append (list_at old body) (made_node (kinds.Skip g) ∷ []))
+
+  pub glued-page : IsPageList new body
+  glued-page = record {
+    live = live_same old new body (list_at old body ++ made_node (kinds.Skip g) ∷ []) put;
+    leaves = subst AreLeaves (sym glued-is) (leaves-append (list_at old body) (made_node (kinds.Skip g) ∷ []) page.leaves (tt, tt));
+    sized = subst (All IsSizedNode) (sym glued-is) glued-sized;
+    few = subst (λ (ms : List Node). length ms ≤ 8388608) (sym glued-is) glued-few;
+  }
+
+  pub glued-small : IsSmall (sums_of p.maxdepth (map shape_of (list_at old body ++ made_node (kinds.Skip g) ∷ [])))
+  glued-small = whole_fits p.maxdepth (map shape_of (list_at old body ++ made_node (kinds.Skip g) ∷ [])) (sums_fit p.maxdepth _ limit.low (summable _ glued-sized glued-few))
+
+  pub glued-sums : (s t : Sums) → s ≡ sums_of p.maxdepth (map shape_of (list_at old body)) → t ≡ added_node p.maxdepth s (shapes_of_nodes.glue g) → t ≡ sums_of p.maxdepth (map shape_of (list_at old body ++ made_node (kinds.Skip g) ∷ []))
+  glued-sums s t before e =
+      e
+      ∙ ap (λ (u : Sums). added_node p.maxdepth u (shapes_of_nodes.glue g)) before
+      ∙ sym (sums-append p.maxdepth (map shape_of (list_at old body)) (shapes_of_nodes.glue g))
+      ∙ ap (sums_of p.maxdepth) (sym (map-append shape_of (list_at old body) (made_node (kinds.Skip g) ∷ [])))

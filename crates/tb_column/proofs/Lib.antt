@@ -9,4 +9,5 @@ pub mod ClosingLemmas
 pub mod PageLemmas
 pub mod RangeLemmas
 pub mod Within
+pub mod ColumnParts
 pub mod PrintedLines

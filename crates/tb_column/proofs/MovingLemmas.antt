@@ -1,5 +1,6 @@
 -- Floats that go one by one from a pool to the end of a list.
-use Rattle.std.proofs.Common.{◌≡◌, ◌≢◌, refl, sym, ap, ◌∙◌, ℕ, suc, ◌+◌, ◌*◌, ◌<◌, List, [], ◌∷◌, ◌++◌, length, append_assoc, append-nil, Some, slice_get, true, arith}
+use Rattle.std.proofs.Common.{◌≡◌, ◌≢◌, refl, sym, ap, ◌∙◌, ℕ, suc, ◌+◌, ◌*◌, ◌<◌, List, [], ◌∷◌, ◌++◌, length, append_assoc, append-nil, Option, Some, slice_get, Bool, true, arith}
+use Rattle.std.specs.Prelude.{if◌then◌else◌}
 use Rattle.std.proofs.lemmas.List.{nil_from_length}
 use Rattle.tb_pool.specs.Lists.{Lists, IsLive, list_at, with_list}
 use Rattle.tb_pool.proofs.CallerLemmas.{list_same, with_list-twice, with_list-same}
@@ -10,6 +11,8 @@ use Rattle.tb_node.specs.declared.Kind.TheVariants as kinds
 use Rattle.tb_node.specs.declared.Where.{Where}
 use Rattle.tb_node.specs.declared.Where.TheVariants as places
 use Rattle.tb_node.specs.declared.Float.{Float}
+use Rattle.tb_node.specs.declared.RuleOf.TheVariants.{Floats}
+use Rattle.tb_param.specs.declared.Rule.{Rule}
 use Rattle.tb_float.specs.declared.Entry.{Entry}
 use Rattle.tb_float.specs.declared.Entry.TheVariants as entries
 use Rattle.tb_float.specs.declared.Part.{Part}
@@ -23,7 +26,8 @@ use Rattle.tb_float.proofs.ListLemmas.{length-without_place}
 use Rattle.tb_float.proofs.MarkLemmas.{first_marked-le, none-marked}
 use Rattle.tb_float.proofs.RetireLemmas.{one-left, all-left}
 use Rattle.tb_column.specs.declared.float_columns.PageGlue.{PageGlue}
-use Rattle.tb_column.specs.FloatColumns.{made_node, float_box, boxes_with, boxes_above, boxes_below, boxes_after, page_list}
+use Rattle.tb_column.specs.Column.{is_no_glue}
+use Rattle.tb_column.specs.FloatColumns.{made_node, float_box, boxes_with, boxes_above, boxes_below, boxes_after, glue_list, rule_list, page_list}
 use Rattle.tb_column.proofs.StoreLemmas.{with_list-added}
 
 -- two nodes were put at the end of a list that was changed before, and what is to come after them
@@ -183,41 +187,47 @@ area_count parts.Bottom area v = refl
 area_count parts.Double area v = refl
 area_count a area v = absurd area
 
-above-full : (place : Where) (sep last : Glue) (fs : List Float) → length fs ≢ 0 → boxes_with place sep fs ++ made_node (kinds.Skip (negated_glue sep)) ∷ made_node (kinds.Skip last) ∷ [] ≡ boxes_above place sep last fs
-above-full place sep last [] some = absurd (some refl)
-above-full place sep last (f ∷ fs) some = refl
+above-full : (place : Where) (sep : Glue) (across : Option Rule) (last : Glue) (fs : List Float) → length fs ≢ 0
+    → boxes_with place sep fs ++ (made_node (kinds.Skip (negated_glue sep)) ∷ rule_list Floats across) ++ made_node (kinds.Skip last) ∷ [] ≡ boxes_above place sep across last fs
+above-full place sep across last [] some = absurd (some refl)
+above-full place sep across last (f ∷ fs) some = refl
 
-below-full : (place : Where) (sep first : Glue) (fs : List Float) → length fs ≢ 0 → made_node (kinds.Skip first) ∷ boxes_with place sep fs ++ made_node (kinds.Skip (negated_glue sep)) ∷ [] ≡ boxes_below place sep first fs
-below-full place sep first [] some = absurd (some refl)
-below-full place sep first (f ∷ fs) some = refl
+below-full : (place : Where) (sep : Glue) (across : Option Rule) (first : Glue) (fs : List Float) → length fs ≢ 0
+    → (made_node (kinds.Skip first) ∷ rule_list Floats across) ++ boxes_with place sep fs ++ made_node (kinds.Skip (negated_glue sep)) ∷ [] ≡ boxes_below place sep across first fs
+below-full place sep across first [] some = absurd (some refl)
+below-full place sep across first (f ∷ fs) some = refl
 
-module _ (s : Lists Node) (l : ℕ) (live : IsLive s l) (place : Where) (sep g : Glue) (fs : List Float) (none : fs ≡ []) where
+module _ (s : Lists Node) (l : ℕ) (live : IsLive s l) (place : Where) (sep : Glue) (across : Option Rule) (g : Glue) (fs : List Float) (none : fs ≡ []) where
   -- if there are no floats, nothing is put there
-  pub above-none : s.lists ≡ with_list s l (list_at s l ++ boxes_above place sep g fs)
-  above-none = with_list-same s s l live refl ∙ ap (with_list s l) (sym (append-nil (list_at s l)) ∙ ap (λ (hs : List Float). list_at s l ++ boxes_above place sep g hs) (sym none))
+  pub above-none : s.lists ≡ with_list s l (list_at s l ++ boxes_above place sep across g fs)
+  above-none = with_list-same s s l live refl ∙ ap (with_list s l) (sym (append-nil (list_at s l)) ∙ ap (λ (hs : List Float). list_at s l ++ boxes_above place sep across g hs) (sym none))
 
-  pub before-none : s.lists ≡ with_list s l (boxes_above place sep g fs ++ list_at s l)
-  before-none = with_list-same s s l live refl ∙ ap (λ (hs : List Float). with_list s l (boxes_above place sep g hs ++ list_at s l)) (sym none)
+  pub before-none : s.lists ≡ with_list s l (boxes_above place sep across g fs ++ list_at s l)
+  before-none = with_list-same s s l live refl ∙ ap (λ (hs : List Float). with_list s l (boxes_above place sep across g hs ++ list_at s l)) (sym none)
 
-  pub below-none : s.lists ≡ with_list s l (list_at s l ++ boxes_below place sep g fs)
-  below-none = with_list-same s s l live refl ∙ ap (with_list s l) (sym (append-nil (list_at s l)) ∙ ap (λ (hs : List Float). list_at s l ++ boxes_below place sep g hs) (sym none))
+  pub below-none : s.lists ≡ with_list s l (list_at s l ++ boxes_below place sep across g fs)
+  below-none = with_list-same s s l live refl ∙ ap (with_list s l) (sym (append-nil (list_at s l)) ∙ ap (λ (hs : List Float). list_at s l ++ boxes_below place sep across g hs) (sym none))
 
-module _ (s0 s1 s2 s3 : Lists Node) (l : ℕ) (place : Where) (sep g : Glue) (fs : List Float) (some : length fs ≢ 0) where
-  -- the floats, and then two pieces of glue
+module _ (s0 s1 s2 s3 s4 : Lists Node) (l : ℕ) (place : Where) (sep : Glue) (across : Option Rule) (g : Glue) (fs : List Float) (some : length fs ≢ 0) where
+  -- the floats, glue, a rule, and glue
   pub above-put : s1.lists ≡ with_list s0 l (list_at s0 l ++ boxes_with place sep fs) → s2.lists ≡ with_list s1 l (list_at s1 l ++ made_node (kinds.Skip (negated_glue sep)) ∷ [])
-      → s3.lists ≡ with_list s2 l (list_at s2 l ++ made_node (kinds.Skip g) ∷ []) → s3.lists ≡ with_list s0 l (list_at s0 l ++ boxes_above place sep g fs)
-  above-put e1 e2 e3 =
-      with_list-added s0 s1 s3 l (boxes_with place sep fs) (made_node (kinds.Skip (negated_glue sep)) ∷ made_node (kinds.Skip g) ∷ []) e1
-      (with_list-added s1 s2 s3 l (made_node (kinds.Skip (negated_glue sep)) ∷ []) (made_node (kinds.Skip g) ∷ []) e2 e3)
-      ∙ ap (λ (ns : List Node). with_list s0 l (list_at s0 l ++ ns)) (above-full place sep g fs some)
+      → s3.lists ≡ with_list s2 l (list_at s2 l ++ rule_list Floats across) → s4.lists ≡ with_list s3 l (list_at s3 l ++ made_node (kinds.Skip g) ∷ [])
+      → s4.lists ≡ with_list s0 l (list_at s0 l ++ boxes_above place sep across g fs)
+  above-put e1 e2 e3 e4 =
+      let gap = with_list-added s1 s2 s3 l (made_node (kinds.Skip (negated_glue sep)) ∷ []) (rule_list Floats across) e2 e3 in
+      let front = with_list-added s0 s1 s3 l (boxes_with place sep fs) (made_node (kinds.Skip (negated_glue sep)) ∷ rule_list Floats across) e1 gap in
+      with_list-added s0 s3 s4 l (boxes_with place sep fs ++ (made_node (kinds.Skip (negated_glue sep)) ∷ rule_list Floats across)) (made_node (kinds.Skip g) ∷ []) front e4
+      ∙ ap (λ (ns : List Node). with_list s0 l (list_at s0 l ++ ns)) (above-full place sep across g fs some)
 
-  -- glue, the floats, and glue
-  pub below-put : s1.lists ≡ with_list s0 l (list_at s0 l ++ made_node (kinds.Skip g) ∷ []) → s2.lists ≡ with_list s1 l (list_at s1 l ++ boxes_with place sep fs)
-      → s3.lists ≡ with_list s2 l (list_at s2 l ++ made_node (kinds.Skip (negated_glue sep)) ∷ []) → s3.lists ≡ with_list s0 l (list_at s0 l ++ boxes_below place sep g fs)
-  below-put e1 e2 e3 =
-      with_list-added s0 s2 s3 l (made_node (kinds.Skip g) ∷ boxes_with place sep fs) (made_node (kinds.Skip (negated_glue sep)) ∷ [])
-      (with_list-added s0 s1 s2 l (made_node (kinds.Skip g) ∷ []) (boxes_with place sep fs) e1 e2) e3
-      ∙ ap (λ (ns : List Node). with_list s0 l (list_at s0 l ++ ns)) (below-full place sep g fs some)
+  -- glue, a rule, the floats, and glue
+  pub below-put : s1.lists ≡ with_list s0 l (list_at s0 l ++ made_node (kinds.Skip g) ∷ []) → s2.lists ≡ with_list s1 l (list_at s1 l ++ rule_list Floats across)
+      → s3.lists ≡ with_list s2 l (list_at s2 l ++ boxes_with place sep fs) → s4.lists ≡ with_list s3 l (list_at s3 l ++ made_node (kinds.Skip (negated_glue sep)) ∷ [])
+      → s4.lists ≡ with_list s0 l (list_at s0 l ++ boxes_below place sep across g fs)
+  below-put e1 e2 e3 e4 =
+      let gap = with_list-added s0 s1 s2 l (made_node (kinds.Skip g) ∷ []) (rule_list Floats across) e1 e2 in
+      let front = with_list-added s0 s2 s3 l (made_node (kinds.Skip g) ∷ rule_list Floats across) (boxes_with place sep fs) gap e3 in
+      with_list-added s0 s3 s4 l ((made_node (kinds.Skip g) ∷ rule_list Floats across) ++ boxes_with place sep fs) (made_node (kinds.Skip (negated_glue sep)) ∷ []) front e4
+      ∙ ap (λ (ns : List Node). with_list s0 l (list_at s0 l ++ ns)) (below-full place sep across g fs some)
 
 -- glue, glue, the floats, and glue
 pub page-put : (s0 s1 s2 s3 s4 : Lists Node) (l : ℕ) (g : PageGlue) (fs : List Float) → s1.lists ≡ with_list s0 l (list_at s0 l ++ made_node (kinds.Skip g.above) ∷ [])
@@ -227,3 +237,15 @@ page-put s0 s1 s2 s3 s4 l g fs e1 e2 e3 e4 =
     let two = with_list-added s0 s1 s2 l (made_node (kinds.Skip g.above) ∷ []) (made_node (kinds.Skip (negated_glue g.between)) ∷ []) e1 e2 in
     let three = with_list-added s0 s2 s3 l (made_node (kinds.Skip g.above) ∷ made_node (kinds.Skip (negated_glue g.between)) ∷ []) (boxes_after g.between fs) two e3 in
     with_list-added s0 s3 s4 l (made_node (kinds.Skip g.above) ∷ made_node (kinds.Skip (negated_glue g.between)) ∷ boxes_after g.between fs) (made_node (kinds.Skip g.below) ∷ []) three e4
+
+-- ---- glue, a rule and a kern that may be none
+
+-- nothing was put there
+pub nothing-added : (s : Lists Node) (l : ℕ) (xs : List Node) → IsLive s l → xs ≡ [] → s.lists ≡ with_list s l (list_at s l ++ xs)
+nothing-added s l xs live none = with_list-same s s l live refl ∙ ap (with_list s l) (sym (append-nil (list_at s l)) ∙ ap (λ ys. list_at s l ++ ys) (sym none))
+
+pub nothing-before : (s : Lists Node) (l : ℕ) (xs : List Node) → IsLive s l → xs ≡ [] → s.lists ≡ with_list s l (xs ++ list_at s l)
+nothing-before s l xs live none = with_list-same s s l live refl ∙ ap (λ ys. with_list s l (ys ++ list_at s l)) (sym none)
+
+pub glue-is : (g : Glue) (t : Bool) → is_no_glue g ≡ t → glue_list g ≡ (if t then [] else made_node (kinds.Skip g) ∷ [])
+glue-is g t e = ap (λ b. if b then [] else made_node (kinds.Skip g) ∷ []) e

@@ -1,9 +1,10 @@
 -- Insertions of one class after another join a text.
-use Rattle.std.proofs.Common.{◌≡◌, ◌≢◌, sym, ap, ◌∙◌, subst, ℕ, zero, suc, ◌+◌, ◌<◌, ◌≤◌, ◌==◌, Bool, true, false, List, [], ◌∷◌, ◌++◌, length, take, get_or, append_assoc, append-nil, Some, unwrap_or, is_some, arith}
+use Rattle.std.proofs.Common.{◌≡◌, ◌≢◌, refl, sym, ap, ◌∙◌, subst, ℕ, ℤ, zero, suc, ◌+◌, ◌<◌, ◌≤◌, ◌==◌, Bool, true, false, not, List, [], ◌∷◌, ◌++◌, length, take, drop, get_or, append_assoc, append-nil, Option, Some, unwrap_or, is_some, arith}
 use Rattle.std.specs.Prelude.{if◌then◌else◌}
 use Rattle.std.specs.List.{AllByRecursion}
 use Rattle.std.specs.FinMap.{get, insert}
 use Rattle.std.proofs.lemmas.List.{map-append}
+use Rattle.std.proofs.lemmas.List.Elements.{filter-append}
 use Rattle.tb_pool.specs.Lists.{Lists, IsLive, list_at, with_list}
 use Rattle.tb_pool.specs.Frame.{IsNoneOf}
 use Rattle.tb_pool.proofs.FrameLemmas.{none-front, none-back}
@@ -11,7 +12,8 @@ use Rattle.tb_pool.proofs.MapLemmas.{get-insert_same, get-insert_other}
 use Rattle.tb_node.specs.declared.Node.{Node}
 use Rattle.tb_param.specs.declared.Params.{Params}
 use Rattle.tb_column.specs.declared.NoteBox.{NoteBox}
-use Rattle.tb_column.specs.Notes.{note_lists, AreRisingFrom, AreDistinct}
+use Rattle.tb_column.specs.Column.{is_among}
+use Rattle.tb_column.specs.Notes.{note_lists, boxes_among, AreRisingFrom, AreDistinct, AreApart}
 use Rattle.tb_column.specs.ColumnChanges.{AreJoined}
 use Rattle.tb_column.specs.TextColumns.{class_above, above_length, above_count, notes_list}
 use Rattle.tb_column.proofs.StoreLemmas.{list-get}
@@ -26,46 +28,131 @@ rising-at k (n ∷ ns) h (suc i) d lt = omega (arith, h.0, rising-at (suc n.clas
 
 -- ---- how many nodes are above the insertions
 
-pub above_length-le : (class : ℕ) → above_length class ≤ 4
+pub above_length-le : (class : ℕ) → above_length class ≤ 6
 above_length-le class = by_test (class == 254)
   where
-    by_test : (b : Bool) → (if b then 4 else 1) ≤ 4
+    by_test : (b : Bool) → (if b then 6 else 1) ≤ 6
     by_test true = omega arith
     by_test false = omega arith
 
+pub above_count-append : (ms ns : List NoteBox) → above_count (ms ++ ns) ≡ above_count ms + above_count ns
+above_count-append [] ns = omega arith
+above_count-append (m ∷ ms) ns = omega (arith, above_count-append ms ns)
+
 pub above_count-snoc : (ns : List NoteBox) (n : NoteBox) → above_count (ns ++ n ∷ []) ≡ above_count ns + above_length n.class
-above_count-snoc [] n = omega arith
-above_count-snoc (m ∷ ns) n = omega (arith, above_count-snoc ns n)
+above_count-snoc ns n = omega (arith, above_count-append ns (n ∷ []))
 
--- those of the first classes, of the next one and of the others
-pub above_count-take : (ns : List NoteBox) (i : ℕ) (d : NoteBox) → i < length ns → above_count (take i ns) + above_length (get_or ns i d).class ≤ above_count ns
-above_count-take [] i d lt = absurd (omega arith)
-above_count-take (n ∷ ns) zero d lt = omega arith
-above_count-take (n ∷ ns) (suc i) d lt = omega (arith, above_count-take ns i d (omega arith))
+pub notes_list-snoc : (p : Params) (kern : Option ℤ) (store : Lists Node) (ns : List NoteBox) (n : NoteBox) → notes_list p kern store (ns ++ n ∷ []) ≡ notes_list p kern store ns ++ (class_above p kern n ++ list_at store n.list)
+notes_list-snoc p kern store [] n = append-nil (class_above p kern n ++ list_at store n.list)
+notes_list-snoc p kern store (m ∷ ns) n =
+    ap (λ (xs : List Node). (class_above p kern m ++ list_at store m.list) ++ xs) (notes_list-snoc p kern store ns n)
+    ∙ sym (append_assoc (class_above p kern m ++ list_at store m.list) (notes_list p kern store ns) (class_above p kern n ++ list_at store n.list))
 
-pub notes_list-snoc : (p : Params) (store : Lists Node) (ns : List NoteBox) (n : NoteBox) → notes_list p store (ns ++ n ∷ []) ≡ notes_list p store ns ++ (class_above p n ++ list_at store n.list)
-notes_list-snoc p store [] n = append-nil (class_above p n ++ list_at store n.list)
-notes_list-snoc p store (m ∷ ns) n =
-    ap (λ (xs : List Node). (class_above p m ++ list_at store m.list) ++ xs) (notes_list-snoc p store ns n)
-    ∙ sym (append_assoc (class_above p m ++ list_at store m.list) (notes_list p store ns) (class_above p n ++ list_at store n.list))
+-- ---- footnotes, and the insertions of the other classes
+
+kept-one : (feet b : Bool) (n : NoteBox) → is_among feet n.class ≡ b → boxes_among feet (n ∷ []) ≡ (if b then n ∷ [] else [])
+kept-one feet b n e = ap (λ t. if t then n ∷ [] else []) e
+
+-- one more, or none, is behind the first ones
+pub among-more : (feet b : Bool) (ns : List NoteBox) (n : NoteBox) → is_among feet n.class ≡ b → boxes_among feet (ns ++ n ∷ []) ≡ boxes_among feet ns ++ (if b then n ∷ [] else [])
+among-more feet b ns n e = filter-append (λ (m : NoteBox). is_among feet m.class) ns (n ∷ []) ∙ ap (λ ms. boxes_among feet ns ++ ms) (kept-one feet b n e)
+
+split-at : (ns : List NoteBox) (i : ℕ) (d : NoteBox) → i < length ns → ns ≡ take i ns ++ get_or ns i d ∷ drop (suc i) ns
+split-at [] i d lt = absurd (omega arith)
+split-at (n ∷ ns) zero d lt = refl
+split-at (n ∷ ns) (suc i) d lt = ap (λ ms. n ∷ ms) (split-at ns i d (omega arith))
+
+-- what is before the next one, and what is behind it
+pub among-split : (feet : Bool) (ns : List NoteBox) (i : ℕ) (n : NoteBox) → i < length ns → n ≡ get_or ns i n → is_among feet n.class ≡ true → boxes_among feet ns ≡ boxes_among feet (take i ns) ++ n ∷ boxes_among feet (drop (suc i) ns)
+among-split feet ns i n lt is e =
+    ap (boxes_among feet) (split-at ns i n lt ∙ ap (λ (m : NoteBox). take i ns ++ m ∷ drop (suc i) ns) (sym is))
+    ∙ filter-append (λ (m : NoteBox). is_among feet m.class) (take i ns) (n ∷ drop (suc i) ns)
+    ∙ ap (λ t. boxes_among feet (take i ns) ++ (if t then n ∷ boxes_among feet (drop (suc i) ns) else boxes_among feet (drop (suc i) ns))) e
+
+-- what holds of each of these, if it holds of each
+pub all-among : (P : NoteBox → Type 0) (feet : Bool) (ns : List NoteBox) → AllByRecursion P ns → AllByRecursion P (boxes_among feet ns)
+all-among P feet [] h = tt
+all-among P feet (n ∷ ns) h = by_test (is_among feet n.class) (all-among P feet ns h.1)
+  where
+    by_test : (b : Bool) → AllByRecursion P (boxes_among feet ns) → AllByRecursion P (if b then n ∷ boxes_among feet ns else boxes_among feet ns)
+    by_test true k = (h.0, k)
+    by_test false k = k
+
+-- what holds of footnotes and of the others holds of each
+pub all-both : (P : NoteBox → Type 0) (ns : List NoteBox) → AllByRecursion P (boxes_among false ns) → AllByRecursion P (boxes_among true ns) → AllByRecursion P ns
+all-both P [] h k = tt
+all-both P (n ∷ ns) h k = by_test (all-both P ns) (n.class == 254) h k
+  where
+    by_test : (AllByRecursion P (boxes_among false ns) → AllByRecursion P (boxes_among true ns) → AllByRecursion P ns)
+        → (b : Bool) → AllByRecursion P (if not b then n ∷ boxes_among false ns else boxes_among false ns) → AllByRecursion P (if b then n ∷ boxes_among true ns else boxes_among true ns) → AllByRecursion P (n ∷ ns)
+    by_test rest true h k = (k.0, rest h k.1)
+    by_test rest false h k = (h.0, rest h.1 k)
+
+pub count-both : (ns : List NoteBox) → above_count (boxes_among false ns) + above_count (boxes_among true ns) ≡ above_count ns
+count-both [] = refl
+count-both (n ∷ ns) = by_test (n.class == 254) (count-both ns)
+  where
+    by_test : (b : Bool) → above_count (boxes_among false ns) + above_count (boxes_among true ns) ≡ above_count ns
+        → above_count (if not b then n ∷ boxes_among false ns else boxes_among false ns) + above_count (if b then n ∷ boxes_among true ns else boxes_among true ns) ≡ above_length n.class + above_count ns
+    by_test true e = omega arith
+    by_test false e = omega arith
+
+none-among : (q : ℕ) (feet : Bool) (ns : List NoteBox) → IsNoneOf q (note_lists ns) → IsNoneOf q (note_lists (boxes_among feet ns))
+none-among q feet [] h = tt
+none-among q feet (n ∷ ns) h = by_test (is_among feet n.class) (none-among q feet ns h.1)
+  where
+    by_test : (b : Bool) → IsNoneOf q (note_lists (boxes_among feet ns)) → IsNoneOf q (note_lists (if b then n ∷ boxes_among feet ns else boxes_among feet ns))
+    by_test true k = (h.0, k)
+    by_test false k = k
+
+distinct-notes : (feet : Bool) (ns : List NoteBox) → AreDistinct (note_lists ns) → AreDistinct (note_lists (boxes_among feet ns))
+distinct-notes feet [] h = tt
+distinct-notes feet (n ∷ ns) h = by_test (is_among feet n.class) (distinct-notes feet ns h.1)
+  where
+    by_test : (b : Bool) → AreDistinct (note_lists (boxes_among feet ns)) → AreDistinct (note_lists (if b then n ∷ boxes_among feet ns else boxes_among feet ns))
+    by_test true k = (none-among n.list feet ns h.0, k)
+    by_test false k = k
+
+pub distinct-among : (body : ℕ) (feet : Bool) (ns : List NoteBox) → AreDistinct (body ∷ note_lists ns) → AreDistinct (body ∷ note_lists (boxes_among feet ns))
+distinct-among body feet ns h = (none-among body feet ns h.0, distinct-notes feet ns h.1)
+
+-- another list than one more
+add-one : (m : NoteBox) (ls : List ℕ) (ks : List NoteBox) → IsNoneOf m.list (note_lists ks) → AllByRecursion (λ k. IsNoneOf k.list ls) ks → AllByRecursion (λ k. IsNoneOf k.list (m.list ∷ ls)) ks
+add-one m ls [] none h = tt
+add-one m ls (k ∷ ks) none h = (((λ e. none.0 (sym e)), h.0), add-one m ls ks none.1 h.1)
+
+-- the list of each other class is none of those of footnotes, and the other way round
+pub footnotes-apart : (ns : List NoteBox) → AreDistinct (note_lists ns) → AllByRecursion (λ k. IsNoneOf k.list (note_lists (boxes_among true ns))) (boxes_among false ns)
+footnotes-apart [] h = tt
+footnotes-apart (n ∷ ns) h = by_test (n.class == 254) (footnotes-apart ns h.1)
+  where
+    by_test : (b : Bool) → AllByRecursion (λ k. IsNoneOf k.list (note_lists (boxes_among true ns))) (boxes_among false ns)
+        → AllByRecursion (λ (k : NoteBox). IsNoneOf k.list (note_lists (if b then n ∷ boxes_among true ns else boxes_among true ns))) (if not b then n ∷ boxes_among false ns else boxes_among false ns)
+    by_test true k = add-one n (note_lists (boxes_among true ns)) (boxes_among false ns) (none-among n.list false ns h.0) k
+    by_test false k = (none-among n.list true ns h.0, k)
+
+pub others-apart : (ns : List NoteBox) → AreDistinct (note_lists ns) → AllByRecursion (λ k. IsNoneOf k.list (note_lists (boxes_among false ns))) (boxes_among true ns)
+others-apart [] h = tt
+others-apart (n ∷ ns) h = by_test (n.class == 254) (others-apart ns h.1)
+  where
+    by_test : (b : Bool) → AllByRecursion (λ k. IsNoneOf k.list (note_lists (boxes_among false ns))) (boxes_among true ns)
+        → AllByRecursion (λ (k : NoteBox). IsNoneOf k.list (note_lists (if not b then n ∷ boxes_among false ns else boxes_among false ns))) (if b then n ∷ boxes_among true ns else boxes_among true ns)
+    by_test true k = (none-among n.list false ns h.0, k)
+    by_test false k = add-one n (note_lists (boxes_among false ns)) (boxes_among true ns) (none-among n.list true ns h.0) k
 
 -- ---- lists that differ
 
-none-take : (q : ℕ) (ns : List NoteBox) (i : ℕ) → IsNoneOf q (note_lists ns) → IsNoneOf q (note_lists (take i ns))
-none-take q [] zero h = tt
-none-take q [] (suc i) h = tt
-none-take q (n ∷ ns) zero h = tt
-none-take q (n ∷ ns) (suc i) h = (h.0, none-take q ns i h.1)
+none-middle : (q : ℕ) (done : List NoteBox) (n : NoteBox) (rest : List NoteBox) → IsNoneOf q (note_lists (done ++ n ∷ rest)) → n.list ≢ q
+none-middle q [] n rest h = h.0
+none-middle q (m ∷ done) n rest h = none-middle q done n rest h.1
 
-none-at : (q : ℕ) (ns : List NoteBox) (i : ℕ) (d : NoteBox) → IsNoneOf q (note_lists ns) → i < length ns → (get_or ns i d).list ≢ q
-none-at q [] i d h lt = absurd (omega arith)
-none-at q (n ∷ ns) zero d h lt = h.0
-none-at q (n ∷ ns) (suc i) d h lt = none-at q ns i d h.1 (omega arith)
+none-done : (q : ℕ) (done rest : List NoteBox) → IsNoneOf q (note_lists (done ++ rest)) → IsNoneOf q (note_lists done)
+none-done q [] rest h = tt
+none-done q (m ∷ done) rest h = (h.0, none-done q done rest h.1)
 
-distinct-at : (ns : List NoteBox) (i : ℕ) (d : NoteBox) → AreDistinct (note_lists ns) → i < length ns → IsNoneOf (get_or ns i d).list (note_lists (take i ns))
-distinct-at [] i d h lt = absurd (omega arith)
-distinct-at (n ∷ ns) zero d h lt = tt
-distinct-at (n ∷ ns) (suc i) d h lt = ((λ e. none-at n.list ns i d h.0 (omega arith) (sym e)), distinct-at ns i d h.1 (omega arith))
+distinct-middle : (done : List NoteBox) (n : NoteBox) (rest : List NoteBox) → AreDistinct (note_lists (done ++ n ∷ rest)) → IsNoneOf n.list (note_lists done)
+distinct-middle [] n rest h = tt
+distinct-middle (m ∷ done) n rest h = ((λ e. none-middle m.list done n rest h.0 (sym e)), distinct-middle done n rest h.1)
 
 -- the list of a class is neither the text's nor that of an earlier class
 pub record IsNextNote (body : ℕ) (done : List NoteBox) (n : NoteBox) : Type 0 where
@@ -73,18 +160,39 @@ pub record IsNextNote (body : ℕ) (done : List NoteBox) (n : NoteBox) : Type 0 
   pub done_text : IsNoneOf body (note_lists done)
   pub earlier : IsNoneOf n.list (note_lists done)
 
-pub next_note : (body : ℕ) (ns : List NoteBox) (i : ℕ) (n : NoteBox) → AreDistinct (body ∷ note_lists ns) → i < length ns → n ≡ get_or ns i n → IsNextNote body (take i ns) n
-next_note body ns i n h lt is =
-    subst (IsNextNote body (take i ns)) (sym is) (record { text = none-at body ns i n h.0 lt; done_text = none-take body ns i h.0; earlier = distinct-at ns i n h.1 lt })
+pub next_note : (body : ℕ) (done : List NoteBox) (n : NoteBox) (rest : List NoteBox) → AreDistinct (body ∷ note_lists (done ++ n ∷ rest)) → IsNextNote body done n
+next_note body done n rest h = record { text = none-middle body done n rest h.0; done_text = none-done body done (n ∷ rest) h.0; earlier = distinct-middle done n rest h.1 }
+
+all-middle : (P : NoteBox → Type 0) (done : List NoteBox) (n : NoteBox) (rest : List NoteBox) → AllByRecursion P (done ++ n ∷ rest) → P n
+all-middle P [] n rest h = h.0
+all-middle P (m ∷ done) n rest h = all-middle P done n rest h.1
+
+-- what the loop over all classes has of the next one that it joins
+pub record IsTurn (store : Lists Node) (body : ℕ) (done : List NoteBox) (n : NoteBox) (all : List NoteBox) : Type 0 where
+  pub next : IsNextNote body done n
+  pub live : IsLive store n.list
+  pub room : above_count done + above_length n.class ≤ above_count all
+
+pub next_turn : (store : Lists Node) (body : ℕ) (feet : Bool) (ns : List NoteBox) (i : ℕ) (n : NoteBox) → AreApart store body (boxes_among feet ns) → i < length ns → n ≡ get_or ns i n → is_among feet n.class ≡ true
+    → IsTurn store body (boxes_among feet (take i ns)) n (boxes_among feet ns)
+next_turn store body feet ns i n can lt is e =
+    let done = boxes_among feet (take i ns) in
+    let rest = boxes_among feet (drop (suc i) ns) in
+    let parts = among-split feet ns i n lt is e in
+    record {
+      next = next_note body done n rest (subst (λ ms. AreDistinct (body ∷ note_lists ms)) parts can.apart);
+      live = all-middle (λ m. IsLive store m.list) done n rest (subst (AllByRecursion (λ m. IsLive store m.list)) parts can.live);
+      room = omega (arith, ap above_count parts, above_count-append done (n ∷ rest));
+    }
 
 -- ---- the classes join the text one by one
 
--- the first classes have joined the text
-pub record JoinedSoFar (p : Params) (body : ℕ) (s0 : Lists Node) (done : List NoteBox) (s : Lists Node) : Type 0 where
-  pub text : list_at s body ≡ list_at s0 body ++ notes_list p s0 done
+-- these classes have joined the text
+pub record JoinedSoFar (p : Params) (kern : Option ℤ) (body : ℕ) (s0 : Lists Node) (done : List NoteBox) (s : Lists Node) : Type 0 where
+  pub text : list_at s body ≡ list_at s0 body ++ notes_list p kern s0 done
   pub live : IsLive s body
   pub lists : AreJoined body done s0 s
-  pub spare : s.spare + above_count done ≡ s0.spare
+  pub spare : s0.spare ≤ s.spare + above_count done
 
 -- what the map has after a list took all of another
 module _ (s s' : Lists Node) (body : ℕ) (n : NoteBox) (xs : List Node) (text : n.list ≢ body) (e : s'.lists ≡ insert (with_list s body xs) n.list []) where
@@ -102,26 +210,29 @@ module _ (s s' : Lists Node) (body : ℕ) (n : NoteBox) (xs : List Node) (text :
   emptied-on [] a b h = (get-note, tt)
   emptied-on (m ∷ ms) a b h = (get-others m.list a.0 b.0 ∙ h.0, emptied-on ms a.1 b.1 h.1)
 
-module _ (p : Params) (body : ℕ) (s0 : Lists Node) where
+module _ (p : Params) (kern : Option ℤ) (body : ℕ) (s0 : Lists Node) where
+  pub joined_begin : IsLive s0 body → JoinedSoFar p kern body s0 [] s0
+  joined_begin live = record { text = sym (append-nil (list_at s0 body)); live = live; lists = record { emptied = tt; others = λ q none. refl }; spare = omega arith }
+
   -- the list of the next class holds what it held
-  pub next_same : (done : List NoteBox) (n : NoteBox) (s : Lists Node) → IsNextNote body done n → JoinedSoFar p body s0 done s → get s.lists n.list ≡ get s0.lists n.list
+  pub next_same : (done : List NoteBox) (n : NoteBox) (s : Lists Node) → IsNextNote body done n → JoinedSoFar p kern body s0 done s → get s.lists n.list ≡ get s0.lists n.list
   next_same done n s next so = so.lists.others n.list ((λ e. next.text (sym e)), next.earlier)
 
   -- one more has joined it
-  pub joined_go : (done : List NoteBox) (n : NoteBox) (s s' : Lists Node) → IsNextNote body done n → JoinedSoFar p body s0 done s
-      → s'.lists ≡ insert (with_list s body (list_at s body ++ (class_above p n ++ list_at s n.list))) n.list [] → s'.spare + above_length n.class ≡ s.spare
-      → JoinedSoFar p body s0 (done ++ n ∷ []) s'
+  pub joined_go : (done : List NoteBox) (n : NoteBox) (s s' : Lists Node) → IsNextNote body done n → JoinedSoFar p kern body s0 done s
+      → s'.lists ≡ insert (with_list s body (list_at s body ++ (class_above p kern n ++ list_at s n.list))) n.list [] → s.spare ≤ s'.spare + above_length n.class
+      → JoinedSoFar p kern body s0 (done ++ n ∷ []) s'
   joined_go done n s s' next so e less =
-      let xs = list_at s body ++ (class_above p n ++ list_at s n.list) in
+      let xs = list_at s body ++ (class_above p kern n ++ list_at s n.list) in
       let held = list-get s0 s n.list (next_same done n s next so) in
       let there = get-body s s' body n xs next.text e in
       record {
         text =
             ap (λ o. unwrap_or o []) there
-            ∙ ap (λ (ys : List Node). ys ++ (class_above p n ++ list_at s n.list)) so.text
-            ∙ ap (λ (ys : List Node). (list_at s0 body ++ notes_list p s0 done) ++ (class_above p n ++ ys)) held
-            ∙ append_assoc (list_at s0 body) (notes_list p s0 done) (class_above p n ++ list_at s0 n.list)
-            ∙ ap (λ (ys : List Node). list_at s0 body ++ ys) (sym (notes_list-snoc p s0 done n));
+            ∙ ap (λ (ys : List Node). ys ++ (class_above p kern n ++ list_at s n.list)) so.text
+            ∙ ap (λ (ys : List Node). (list_at s0 body ++ notes_list p kern s0 done) ++ (class_above p kern n ++ ys)) held
+            ∙ append_assoc (list_at s0 body) (notes_list p kern s0 done) (class_above p kern n ++ list_at s0 n.list)
+            ∙ ap (λ (ys : List Node). list_at s0 body ++ ys) (sym (notes_list-snoc p kern s0 done n));
         live = ap (λ o. is_some o) there;
         lists = record {
           emptied = emptied-on s s' body n xs next.text e done next.done_text next.earlier so.lists.emptied;
@@ -132,3 +243,24 @@ module _ (p : Params) (body : ℕ) (s0 : Lists Node) where
         };
         spare = omega (arith, less, so.spare, above_count-snoc done n);
       }
+
+-- ---- footnotes join after all others
+
+module _ (body : ℕ) (ns : List NoteBox) (a b c : Lists Node) (d : AreDistinct (body ∷ note_lists ns)) (f : AreJoined body (boxes_among false ns) a b) where
+  -- the lists of footnotes are as they were before
+  pub footnotes-same : AllByRecursion (λ n. get b.lists n.list ≡ get a.lists n.list) (boxes_among true ns)
+  footnotes-same = go (boxes_among true ns) (none-among body true ns d.0) (others-apart ns d.1)
+    where
+      go : (ks : List NoteBox) → IsNoneOf body (note_lists ks) → AllByRecursion (λ k. IsNoneOf k.list (note_lists (boxes_among false ns))) ks → AllByRecursion (λ n. get b.lists n.list ≡ get a.lists n.list) ks
+      go [] none apart = tt
+      go (k ∷ ks) none apart = (f.others k.list ((λ e. none.0 (sym e)), apart.0), go ks none.1 apart.1)
+
+  pub both-joined : AreJoined body (boxes_among true ns) b c → AreJoined body ns a c
+  both-joined t = record {
+    emptied = all-both (λ n. get c.lists n.list ≡ Some []) ns (go (boxes_among false ns) (none-among body false ns d.0) (footnotes-apart ns d.1) f.emptied) t.emptied;
+    others = λ q none. t.others q (none.0, none-among q true ns none.1) ∙ f.others q (none.0, none-among q false ns none.1);
+  }
+    where
+      go : (ks : List NoteBox) → IsNoneOf body (note_lists ks) → AllByRecursion (λ k. IsNoneOf k.list (note_lists (boxes_among true ns))) ks → AllByRecursion (λ k. get b.lists k.list ≡ Some []) ks → AllByRecursion (λ k. get c.lists k.list ≡ Some []) ks
+      go [] none apart h = tt
+      go (k ∷ ks) none apart h = (t.others k.list ((λ e. none.0 (sym e)), apart.0) ∙ h.0, go ks none.1 apart.1 h.1)

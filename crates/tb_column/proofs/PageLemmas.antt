@@ -113,14 +113,14 @@ module _ (old new : Lists Node) (l : ℕ) (is_wide : Bool) (p : Params) (fs : Li
 
 -- ---- the floats above a pair
 
-module _ (old new : Lists Node) (l : ℕ) (p : Params) (fs : FloatLists) (made_lists : new.lists ≡ with_list old l (boxes_above places.Double p.dblfloatsep p.dbltextfloatsep fs.double)) where
+module _ (old new : Lists Node) (l : ℕ) (p : Params) (fs : FloatLists) (made_lists : new.lists ≡ with_list old l (boxes_above places.Double p.dblfloatsep p.dblrule p.dbltextfloatsep fs.double)) where
   pub pair-shown : plain_list new l ≡ pair_floats p fs
   pair-shown =
-      ap (map (plain_of (list_at new))) (list_same old new l (boxes_above places.Double p.dblfloatsep p.dbltextfloatsep fs.double) made_lists)
-      ∙ boxes_above-held (list_at new) places.Double p.dblfloatsep p.dbltextfloatsep fs.double
+      ap (map (plain_of (list_at new))) (list_same old new l (boxes_above places.Double p.dblfloatsep p.dblrule p.dbltextfloatsep fs.double) made_lists)
+      ∙ boxes_above-held (list_at new) places.Double p.dblfloatsep p.dblrule p.dbltextfloatsep fs.double
 
   pub pair-list : get old.lists l ≡ None → AreColumnParams p → All IsSizedFloat fs.double → length fs.double ≤ 4096 → IsPageList new l
   pair-list fresh ranges sized few =
-      opened-page old new l (boxes_above places.Double p.dblfloatsep p.dbltextfloatsep fs.double) fresh made_lists (boxes_above-leaves places.Double p.dblfloatsep p.dbltextfloatsep fs.double)
-      (boxes_above-sized places.Double p.dblfloatsep p.dbltextfloatsep fs.double ranges.dblfloatsep ranges.dbltextfloatsep sized)
-      (omega (arith, few, boxes_above-length places.Double p.dblfloatsep p.dbltextfloatsep fs.double))
+      opened-page old new l (boxes_above places.Double p.dblfloatsep p.dblrule p.dbltextfloatsep fs.double) fresh made_lists (boxes_above-leaves places.Double p.dblfloatsep p.dblrule p.dbltextfloatsep fs.double)
+      (boxes_above-sized places.Double p.dblfloatsep p.dblrule p.dbltextfloatsep fs.double ranges.dblfloatsep ranges.dblrule ranges.dbltextfloatsep sized)
+      (omega (arith, few, boxes_above-length places.Double p.dblfloatsep p.dblrule p.dbltextfloatsep fs.double))

@@ -1,15 +1,16 @@
 -- Parameters in the ranges of their rows are in the ranges that the calls on columns need.
-use Rattle.std.proofs.Common.{◌≡◌, refl, ℤ, pos, Bool, true, false, arith}
+use Rattle.std.proofs.Common.{◌≡◌, refl, ℤ, pos, Bool, true, false, Option, Some, None, arith}
 use Rattle.std.specs.Prelude.{◌&&◌, IsTrue}
 use Rattle.std.proofs.lemmas.Int.{ints}
 use Rattle.tb_scaled.specs.declared.Glue.{Glue}
-use Rattle.tb_node.specs.Fit.{IsDimension}
+use Rattle.tb_node.specs.Fit.{IsDimension, IsExtent}
 use Rattle.tb_param.specs.declared.Params.{Params}
+use Rattle.tb_param.specs.declared.Rule.{Rule}
 use Rattle.tb_param.specs.Fields.{value_of}
-use Rattle.tb_param.specs.Table.{Row, rows, value_fault, is_dimen, is_glue, out_of_range}
+use Rattle.tb_param.specs.Table.{Row, rows, value_fault, is_within, is_dimen, is_glue, is_rule, out_of_range}
 use Rattle.tb_param.specs.Ranges.{is_no_fault, are_params}
 use Rattle.tb_float.proofs.ParamLemmas.{all-at, dim-extent, float-params}
-use Rattle.tb_column.specs.Ranges.{IsSizedGlue, AreColumnParams}
+use Rattle.tb_column.specs.Ranges.{IsSizedGlue, IsSizedRule, AreColumnParams}
 
 pub dimension : (z : ℤ) → IsTrue (is_dimen z) → IsDimension z
 dimension z h = record { low = grind (arith, ints, h); high = grind (arith, ints, h) }
@@ -22,6 +23,20 @@ dimensions g false b d e f k h = cc
 
 pub glue-in_range : (g : Glue) → IsTrue (is_no_fault (out_of_range (is_glue g))) → IsSizedGlue g
 glue-in_range g h = dimensions g (is_dimen g.width) (is_dimen g.stretch) (is_dimen g.shrink) refl refl refl h
+
+-- a height that is not below 0
+extent : (z : ℤ) → IsTrue (is_within (pos 0) (pos 1073741823) z) → IsExtent z
+extent z h = record { low = grind (arith, ints, h); high = grind (arith, ints, h) }
+
+ruled : (r : Rule) → (a b d : Bool) → is_dimen r.above ≡ a → is_within (pos 0) (pos 1073741823) r.height ≡ b → is_dimen r.below ≡ d → IsTrue (is_no_fault (out_of_range (a && b && d))) → IsSizedRule (Some r)
+ruled r true true true e f k h = (dimension r.above e, extent r.height f, dimension r.below k)
+ruled r true true false e f k h = cc
+ruled r true false d e f k h = cc
+ruled r false b d e f k h = cc
+
+rule-in_range : (r : Option Rule) → IsTrue (is_no_fault (out_of_range (is_rule r))) → IsSizedRule r
+rule-in_range None h = tt
+rule-in_range (Some r) h = ruled r (is_dimen r.above) (is_within (pos 0) (pos 1073741823) r.height) (is_dimen r.below) refl refl refl h
 
 pub column-params : (p : Params) → IsTrue (are_params p) → AreColumnParams p
 unfolding are_params
@@ -41,4 +56,11 @@ column-params p h =
       dblfptop = glue-in_range p.dblfptop (all-at test rows 23 _ refl h);
       dblfpsep = glue-in_range p.dblfpsep (all-at test rows 24 _ refl h);
       dblfpbot = glue-in_range p.dblfpbot (all-at test rows 25 _ refl h);
+      texttop = glue-in_range p.texttop (all-at test rows 44 _ refl h);
+      textbottom = glue-in_range p.textbottom (all-at test rows 45 _ refl h);
+      footfill = glue-in_range p.footfill (all-at test rows 51 _ refl h);
+      footrule = rule-in_range p.footrule (all-at test rows 46 _ refl h);
+      toprule = rule-in_range p.toprule (all-at test rows 47 _ refl h);
+      bottomrule = rule-in_range p.bottomrule (all-at test rows 48 _ refl h);
+      dblrule = rule-in_range p.dblrule (all-at test rows 49 _ refl h);
     }

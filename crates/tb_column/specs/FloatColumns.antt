@@ -1,5 +1,5 @@
 -- The nodes of floats as a store holds them (ltoutput.dtx, \@cflt, \@cflb and \@vtryfc).
-use Rattle.std.specs.Prelude.{pos, Bool, true, false, List, [], ◌∷◌, ◌++◌}
+use Rattle.std.specs.Prelude.{pos, Bool, true, false, List, [], ◌∷◌, ◌++◌, Option, Some, None, if◌then◌else◌}
 use Rattle.tb_scaled.specs.declared.Glue.{Glue}
 use Rattle.tb_scaled.specs.Glue.{negated_glue}
 use Rattle.tb_node.specs.declared.Node.{Node}
@@ -9,8 +9,12 @@ use Rattle.tb_node.specs.declared.What.TheVariants as what
 use Rattle.tb_node.specs.declared.Where.{Where}
 use Rattle.tb_node.specs.declared.Where.TheVariants as places
 use Rattle.tb_node.specs.declared.Float.{Float}
+use Rattle.tb_node.specs.declared.RuleOf.{RuleOf}
+use Rattle.tb_node.specs.declared.RuleOf.TheVariants.{Floats}
+use Rattle.tb_param.specs.declared.Rule.{Rule}
 use Rattle.tb_param.specs.declared.Params.{Params}
 use Rattle.tb_column.specs.declared.float_columns.PageGlue.{PageGlue}
+use Rattle.tb_column.specs.Column.{is_no_glue}
 
 -- a node that is made here has line 0
 abbrev pub made_node : Kind → Node
@@ -20,20 +24,29 @@ made_node k = record { line = 0; kind = k }
 abbrev pub float_box : Where → Float → Node
 float_box place f = made_node (kinds.Hbox (what.Float f.name f.class place f.line) f.height (pos 0))
 
+-- glue of a parameter, unless it is no glue
+abbrev pub glue_list : Glue → List Node
+glue_list g = if is_no_glue g then [] else made_node (kinds.Skip g) ∷ []
+
+-- a rule of a parameter between its kerns, or nothing
+abbrev pub rule_list : RuleOf → Option Rule → List Node
+rule_list of None = []
+rule_list of (Some r) = made_node (kinds.Kern r.above) ∷ made_node (kinds.Rule of r.height (pos 0)) ∷ made_node (kinds.Kern r.below) ∷ []
+
 -- each float followed by glue
 abbrev pub boxes_with : Where → Glue → List Float → List Node
 boxes_with place sep [] = []
 boxes_with place sep (f ∷ fs) = float_box place f ∷ made_node (kinds.Skip sep) ∷ boxes_with place sep fs
 
--- floats above the text: the separator from the text replaces the last one
-abbrev pub boxes_above : Where → Glue → Glue → List Float → List Node
-boxes_above place sep last [] = []
-boxes_above place sep last (f ∷ fs) = boxes_with place sep (f ∷ fs) ++ made_node (kinds.Skip (negated_glue sep)) ∷ made_node (kinds.Skip last) ∷ []
+-- floats above the text: the rule and the separator from the text replace the last separator
+abbrev pub boxes_above : Where → Glue → Option Rule → Glue → List Float → List Node
+boxes_above place sep across last [] = []
+boxes_above place sep across last (f ∷ fs) = boxes_with place sep (f ∷ fs) ++ (made_node (kinds.Skip (negated_glue sep)) ∷ rule_list Floats across) ++ made_node (kinds.Skip last) ∷ []
 
--- floats below the text
-abbrev pub boxes_below : Where → Glue → Glue → List Float → List Node
-boxes_below place sep first [] = []
-boxes_below place sep first (f ∷ fs) = made_node (kinds.Skip first) ∷ boxes_with place sep (f ∷ fs) ++ made_node (kinds.Skip (negated_glue sep)) ∷ []
+-- floats below the text, under the separator from it and the rule
+abbrev pub boxes_below : Where → Glue → Option Rule → Glue → List Float → List Node
+boxes_below place sep across first [] = []
+boxes_below place sep across first (f ∷ fs) = (made_node (kinds.Skip first) ∷ rule_list Floats across) ++ boxes_with place sep (f ∷ fs) ++ made_node (kinds.Skip (negated_glue sep)) ∷ []
 
 -- each float after glue
 abbrev pub boxes_after : Glue → List Float → List Node

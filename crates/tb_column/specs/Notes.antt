@@ -1,12 +1,12 @@
 -- The boxes of classes of insertions that a text column is made of.
-use Rattle.std.specs.Prelude.{ℕ, suc, ◌+◌, ◌≤◌, List, [], ◌∷◌, length, map}
+use Rattle.std.specs.Prelude.{ℕ, suc, ◌+◌, ◌≤◌, Bool, List, [], ◌∷◌, length, map, filter}
 use Rattle.std.specs.List.{AllByRecursion}
-use Rattle.tb_pool.specs.Lists.{Lists, list_at}
+use Rattle.tb_pool.specs.Lists.{Lists, IsLive, list_at}
 use Rattle.tb_pool.specs.Frame.{IsNoneOf}
 use Rattle.tb_node.specs.declared.Node.{Node}
 use Rattle.tb_node.specs.PlainNodes.{leaf_of}
 use Rattle.tb_column.specs.declared.NoteBox.{NoteBox}
-use Rattle.tb_column.specs.Column.{Notes}
+use Rattle.tb_column.specs.Column.{Notes, is_among}
 use Rattle.tb_column.specs.Page.{IsPageList}
 use Rattle.tb_column.specs.Ranges.{IsSizedGlue}
 
@@ -17,6 +17,10 @@ note_shown store n = record { class = n.class; skip = n.skip; inner = map leaf_o
 -- the same of each of the boxes
 abbrev pub notes_shown : Lists Node → List NoteBox → List Notes
 notes_shown store ns = map (note_shown store) ns
+
+-- the boxes of the class of footnotes, or those of all others
+abbrev pub boxes_among : Bool → List NoteBox → List NoteBox
+boxes_among feet ns = filter (λ n. is_among feet n.class) ns
 
 -- the lists of the boxes
 abbrev pub note_lists : List NoteBox → List ℕ
@@ -41,6 +45,11 @@ AreDistinct (l ∷ ls) = IsNoneOf l ls × AreDistinct ls
 pub record IsNote (store : Lists Node) (n : NoteBox) : Type 0 where
   pub list : IsPageList store n.list
   pub skip : IsSizedGlue n.skip
+
+-- boxes whose lists live and are neither the text's nor each other's
+pub record AreApart (store : Lists Node) (body : ℕ) (ns : List NoteBox) : Type 0 where
+  pub apart : AreDistinct (body ∷ note_lists ns)
+  pub live : AllByRecursion (λ n. IsLive store n.list) ns
 
 -- boxes of rising classes, whose lists may join the text's
 pub record AreNotes (store : Lists Node) (body : ℕ) (ns : List NoteBox) : Type 0 where

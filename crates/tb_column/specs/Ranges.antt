@@ -1,7 +1,9 @@
 -- The ranges of the parameters on which columns depend.
+use Rattle.std.specs.Prelude.{Option, Some, None}
 use Rattle.tb_scaled.specs.declared.Glue.{Glue}
 use Rattle.tb_node.specs.Fit.{IsDimension, IsExtent}
 use Rattle.tb_param.specs.declared.Params.{Params}
+use Rattle.tb_param.specs.declared.Rule.{Rule}
 use Rattle.tb_float.specs.Ranges.{AreFloatParams}
 
 -- the amounts of glue are dimensions
@@ -10,7 +12,12 @@ pub record IsSizedGlue (g : Glue) : Type 0 where
   pub stretch : IsDimension g.stretch
   pub shrink : IsDimension g.shrink
 
--- heights, limits and glue of a column are in their ranges
+-- the kerns of a rule are dimensions, and its height is one that is not below 0
+abbrev pub IsSizedRule : Option Rule → Type 0
+IsSizedRule None = Unit {0}
+IsSizedRule (Some r) = IsDimension r.above × IsExtent r.height × IsDimension r.below
+
+-- heights, limits, glue and rules of a column are in their ranges
 pub record AreColumnParams (p : Params) : Type 0 where
   pub floats : AreFloatParams p
   pub maxdepth : IsExtent p.maxdepth
@@ -25,3 +32,10 @@ pub record AreColumnParams (p : Params) : Type 0 where
   pub dblfptop : IsSizedGlue p.dblfptop
   pub dblfpsep : IsSizedGlue p.dblfpsep
   pub dblfpbot : IsSizedGlue p.dblfpbot
+  pub texttop : IsSizedGlue p.texttop
+  pub textbottom : IsSizedGlue p.textbottom
+  pub footfill : IsSizedGlue p.footfill
+  pub footrule : IsSizedRule p.footrule
+  pub toprule : IsSizedRule p.toprule
+  pub bottomrule : IsSizedRule p.bottomrule
+  pub dblrule : IsSizedRule p.dblrule

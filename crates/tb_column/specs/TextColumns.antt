@@ -1,10 +1,11 @@
 -- The nodes of a text column as a store holds them (ltoutput.dtx, \@makecol and \@combinefloats).
-use Rattle.std.specs.Prelude.{ℕ, ℤ, pos, negsuc, neg_ℤ, ◌+◌, ◌==◌, List, [], ◌∷◌, ◌++◌, map, None, if◌then◌else◌}
+use Rattle.std.specs.Prelude.{ℕ, ℤ, pos, negsuc, neg_ℤ, ◌+◌, ◌==◌, true, false, List, [], ◌∷◌, ◌++◌, length, map, Option, Some, None, if◌then◌else◌}
 use Rattle.tb_pool.specs.Lists.{Lists, list_at}
 use Rattle.tb_scaled.specs.declared.Glue.{Glue}
 use Rattle.tb_scaled.specs.declared.Order.TheVariants.{Normal, Fil}
 use Rattle.tb_node.specs.declared.Node.{Node}
 use Rattle.tb_node.specs.declared.Kind.TheVariants as kinds
+use Rattle.tb_node.specs.declared.RuleOf.TheVariants.{Footnotes}
 use Rattle.tb_node.specs.declared.Where.TheVariants as places
 use Rattle.tb_node.specs.PlainNodes.{shape_of}
 use Rattle.tb_node.specs.Sums.{limited_depth}
@@ -12,32 +13,42 @@ use Rattle.tb_param.specs.declared.Params.{Params}
 use Rattle.tb_param.specs.declared.Choice.{Choice}
 use Rattle.tb_float.specs.Lists.{FloatLists}
 use Rattle.tb_column.specs.declared.NoteBox.{NoteBox}
-use Rattle.tb_column.specs.Column.{is_ragged}
-use Rattle.tb_column.specs.FloatColumns.{boxes_above, boxes_below}
+use Rattle.tb_column.specs.Column.{is_ragged, is_below, foot_kern}
+use Rattle.tb_column.specs.Notes.{boxes_among}
+use Rattle.tb_column.specs.FloatColumns.{boxes_above, boxes_below, glue_list, rule_list}
 pub use Rattle.tb_column.specs.FloatColumns.{made_node}
 pub use Rattle.tb_column.specs.Page.{is_leaf_kind, AreLeaves}
 
--- what is above footnotes: glue, and a rule between kerns
+-- glue, and the rule of plain TeX's footnotes between its kerns
 abbrev pub rule_above : Glue → List Node
-rule_above g = made_node (kinds.Skip g) ∷ made_node (kinds.Kern (negsuc 196607)) ∷ made_node (kinds.Rule None (pos 26214) (pos 0)) ∷ made_node (kinds.Kern (pos 170394)) ∷ []
+rule_above g = made_node (kinds.Skip g) ∷ made_node (kinds.Kern (negsuc 196607)) ∷ made_node (kinds.Rule Footnotes (pos 26214) (pos 0)) ∷ made_node (kinds.Kern (pos 170394)) ∷ []
+
+-- a kern, if there is one
+abbrev pub kern_list : Option ℤ → List Node
+kern_list None = []
+kern_list (Some w) = made_node (kinds.Kern w) ∷ []
+
+-- what is above footnotes: the kern that takes back the depth of the text, the filling glue, the skip and the rule
+abbrev pub feet_list : Params → Option ℤ → List Node
+feet_list p kern = kern_list kern ++ glue_list p.footfill ++ (made_node (kinds.Skip p.skipfootins) ∷ rule_list Footnotes p.footrule)
 
 -- what is above the insertions of a class: those of class 254 are footnotes
-abbrev pub class_above : Params → NoteBox → List Node
-class_above p n = if n.class == 254 then rule_above p.skipfootins else made_node (kinds.Skip n.skip) ∷ []
+abbrev pub class_above : Params → Option ℤ → NoteBox → List Node
+class_above p kern n = if n.class == 254 then feet_list p kern else made_node (kinds.Skip n.skip) ∷ []
 
--- how many nodes are above the insertions of a class
+-- at most how many nodes are above the insertions of a class
 abbrev pub above_length : ℕ → ℕ
-above_length class = if class == 254 then 4 else 1
+above_length class = if class == 254 then 6 else 1
 
--- how many nodes are above the insertions of all classes
+-- at most how many nodes are above the insertions of all classes
 abbrev pub above_count : List NoteBox → ℕ
 above_count [] = 0
 above_count (n ∷ ns) = above_length n.class + above_count ns
 
--- the insertions of all classes
-abbrev pub notes_list : Params → Lists Node → List NoteBox → List Node
-notes_list p store [] = []
-notes_list p store (n ∷ ns) = (class_above p n ++ list_at store n.list) ++ notes_list p store ns
+-- the insertions of these classes
+abbrev pub notes_list : Params → Option ℤ → Lists Node → List NoteBox → List Node
+notes_list p kern store [] = []
+notes_list p kern store (n ∷ ns) = (class_above p kern n ++ list_at store n.list) ++ notes_list p kern store ns
 
 -- the glue that backs up over this depth, and stretches at a ragged bottom
 abbrev pub closing_by : Choice → ℤ → Glue
@@ -48,22 +59,38 @@ closing_by bottom depth = record {
   shrink = pos 0;
 }
 
--- the nodes with the glue that ends a text column
+-- the nodes with the glue that backs up over their depth
 abbrev pub closed_list : Params → List Node → List Node
 closed_list p ns = ns ++ made_node (kinds.Skip (closing_by p.bottom (limited_depth p.maxdepth (map shape_of ns)))) ∷ []
 
+-- and with the glue at the bottom of a column
+abbrev pub ended_list : Params → List Node → List Node
+ended_list p ns = closed_list p ns ++ glue_list p.textbottom
+
 -- the floats at the top of a column, with their glue
 abbrev pub top_list : Params → FloatLists → List Node
-top_list p l = boxes_above places.Top p.floatsep p.textfloatsep l.top
+top_list p l = boxes_above places.Top p.floatsep p.toprule p.textfloatsep l.top
 
 -- the floats at the bottom of a column, with their glue
 abbrev pub bottom_list : Params → FloatLists → List Node
-bottom_list p l = boxes_below places.Bottom p.floatsep p.textfloatsep l.bottom
+bottom_list p l = boxes_below places.Bottom p.floatsep p.bottomrule p.textfloatsep l.bottom
 
--- top floats, text, insertions and bottom floats
+-- the glue at the top, top floats, text, insertions that are no footnotes
+abbrev pub front_list : Params → FloatLists → Lists Node → ℕ → List NoteBox → List Node
+front_list p l store body notes = (glue_list p.texttop ++ (top_list p l ++ list_at store body)) ++ notes_list p None store (boxes_among false notes)
+
+-- the nodes with footnotes below, in a column with this many floats at its bottom
+abbrev pub footed_list : Params → ℕ → Lists Node → List NoteBox → List Node → List Node
+footed_list p bottoms store notes ns = ns ++ notes_list p (foot_kern p bottoms (map shape_of ns)) store (boxes_among true notes)
+
+-- the nodes with footnotes and bottom floats below, in the order that is asked for
+abbrev pub below_list : Params → FloatLists → Lists Node → List NoteBox → List Node → List Node
+below_list p l store notes ns = if is_below p.footplace then footed_list p (length l.bottom) store notes (ns ++ bottom_list p l) else footed_list p (length l.bottom) store notes ns ++ bottom_list p l
+
+-- all but what ends the column
 abbrev pub text_list : Params → FloatLists → Lists Node → ℕ → List NoteBox → List Node
-text_list p l store body notes = top_list p l ++ list_at store body ++ notes_list p store notes ++ bottom_list p l
+text_list p l store body notes = below_list p l store notes (front_list p l store body notes)
 
 -- the same and the closing glue
 abbrev pub column_list : Params → FloatLists → Lists Node → ℕ → List NoteBox → List Node
-column_list p l store body notes = closed_list p (text_list p l store body notes)
+column_list p l store body notes = ended_list p (text_list p l store body notes)

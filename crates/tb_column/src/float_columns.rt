@@ -15,7 +15,7 @@ ghost use Rattle.tb_column.specs.Ranges.{IsSizedGlue, AreColumnParams};
 ghost use Rattle.tb_column.specs.ColumnChanges.{IsOpened};
 ghost use Rattle.tb_column.specs.FloatColumns.{boxes_after, page_list, page_glue};
 
-use crate::areas::push_above;
+use crate::areas::{Gaps, push_above};
 use crate::nodes::{push_float, push_made};
 use crate::{Column, ColumnKind};
 use std::alloc::AllocError;
@@ -148,7 +148,7 @@ pub fn float_column(
     })
 }
 
-/// Puts the wide floats above two columns into a new list, with the glue below them (ltoutput.dtx,
+/// Puts the wide floats above two columns into a new list, with the rule and the glue below them (ltoutput.dtx,
 /// `\@combinedblfloats`).
 ///
 /// They leave the pool. If there is no memory for the list, the pool and all lists stay as they were.
@@ -164,16 +164,13 @@ pub fn pair_tops(store: &mut Lists<Node>, pool: &mut Pool, p: &Params) -> Result
     ensures err_lists { OnErr result (store.new.lists ≡ store.old.lists) }
     ensures err_pool { OnErr result (pool.new ≡ pool.old) }
 {
-    store.reserve(2 * pool.len(Part::Double) + 2)?;
+    store.reserve(2 * pool.len(Part::Double) + 5)?;
     let tops = store.add_list()?;
-    push_above(
-        store,
-        pool,
-        tops,
-        Part::Double,
-        Where::Double,
-        p.dblfloatsep,
-        p.dbltextfloatsep,
-    );
+    let gaps = Gaps {
+        between: p.dblfloatsep,
+        rule: p.dblrule,
+        text: p.dbltextfloatsep,
+    };
+    push_above(store, pool, tops, Part::Double, Where::Double, &gaps);
     Ok(tops)
 }

@@ -1,10 +1,13 @@
 //! Nodes that come from no galley item.
-ghost use Rattle.std.specs.Prelude.{◌≡◌, ◌+◌, ◌<◌, ◌++◌, ◌∷◌, []};
+ghost use Rattle.std.specs.Prelude.{◌≡◌, ◌+◌, ◌<◌, ◌≤◌, ◌++◌, ◌∷◌, []};
 ghost use Rattle.tb_pool.specs.Lists.{IsLive, list_at, with_list};
-ghost use Rattle.tb_column.specs.FloatColumns.{made_node, float_box};
+ghost use Rattle.tb_column.specs.Column.{is_no_glue};
+ghost use Rattle.tb_column.specs.FloatColumns.{made_node, float_box, glue_list, rule_list};
 
-use tb_node::{Float, Kind, Node, What, Where};
+use tb_node::{Float, Kind, Node, RuleOf, What, Where};
+use tb_param::Rule;
 use tb_pool::{ListId, Lists};
+use tb_scaled::Glue;
 
 // A node that comes from no galley item.
 pub(crate) fn made_node(kind: Kind) -> Node
@@ -23,6 +26,52 @@ pub fn push_made(store: &mut Lists<Node>, l: ListId, kind: Kind)
     ensures spare { store.new.spare + 1 ≡ store.old.spare }
 {
     store.push_back(l, made_node(kind));
+}
+
+/// Whether glue has no width, no stretch and no shrink.
+pub(crate) fn is_no_glue(glue: Glue) -> bool
+    ensures { result ≡ is_no_glue glue }
+{
+    glue.width == 0 && glue.stretch == 0 && glue.shrink == 0
+}
+
+/// Puts glue at the end of a list, in a spare place; glue that is none puts nothing.
+pub(crate) fn push_glue(store: &mut Lists<Node>, l: ListId, glue: Glue)
+    requires live { IsLive store.old l }
+    requires room { 0 < store.old.spare }
+    ensures lists { store.new.lists ≡ with_list store.old l (list_at store.old l ++ glue_list glue) }
+    ensures live { IsLive store.new l }
+    ensures spare { store.old.spare ≤ store.new.spare + 1 }
+{
+    if !is_no_glue(glue) {
+        push_made(store, l, Kind::Skip(glue));
+    }
+}
+
+/// Puts a rule between its kerns at the end of a list, in three spare places; no rule puts nothing.
+pub(crate) fn push_rule(store: &mut Lists<Node>, l: ListId, of: RuleOf, rule: Option<Rule>)
+    requires live { IsLive store.old l }
+    requires room { 3 ≤ store.old.spare }
+    ensures lists { store.new.lists ≡ with_list store.old l (list_at store.old l ++ rule_list of rule) }
+    ensures live { IsLive store.new l }
+    ensures spare { store.old.spare ≤ store.new.spare + 3 }
+{
+    match rule {
+        None => {}
+        Some(rule) => {
+            push_made(store, l, Kind::Kern(rule.above));
+            push_made(
+                store,
+                l,
+                Kind::Rule {
+                    of,
+                    height: rule.height,
+                    depth: 0,
+                },
+            );
+            push_made(store, l, Kind::Kern(rule.below));
+        }
+    }
 }
 
 /// Puts the box of a float at the end of a list, in a spare place; it has the float's height and no depth.

@@ -1,5 +1,7 @@
 -- What a shipped page shows, and where.
 use Rattle.std.specs.Prelude.{ℕ, ℤ, pos, ◌+ℤ◌, List, [], ◌∷◌, ◌++◌, map, flat_map, Option, Some, None, codes}
+use Rattle.tb_node.specs.declared.RuleOf.{RuleOf}
+use Rattle.tb_node.specs.declared.RuleOf.TheVariants.{Item, Footnotes, Floats}
 use Rattle.tb_node.specs.declared.Name.{Name}
 use Rattle.tb_node.specs.declared.What.{What}
 use Rattle.tb_node.specs.declared.What.TheVariants as what
@@ -47,14 +49,15 @@ box_spot (what.Float name class place item) height depth = ruled height (codes "
 box_spot (what.Margin name side shift rise fall item) height depth = ruled (shift +ℤ fall) (codes "margin " ++ name ++ and_text (side_text side)) (rise +ℤ fall)
 
 -- the label of a rule: that above footnotes has no name
-abbrev pub rule_label : Option Name → List ℕ
-rule_label None = codes "footrule"
-rule_label (Some name) = codes "rule " ++ name
+abbrev pub rule_label : RuleOf → List ℕ
+rule_label Footnotes = codes "footrule"
+rule_label Floats = codes "floatrule"
+rule_label (Item name) = codes "rule " ++ name
 
 -- what is shown of what any list may hold; most is not
 abbrev pub matter_spot : Matter → Option Spot
 matter_spot (hbox content height depth) = box_spot content height depth
-matter_spot (rule name height depth) = ruled (height +ℤ depth) (rule_label name) (height +ℤ depth)
+matter_spot (rule of height depth) = ruled (height +ℤ depth) (rule_label of) (height +ℤ depth)
 matter_spot (skip g) = None
 matter_spot (kerned w) = None
 matter_spot (pen p) = None

@@ -10,7 +10,7 @@ ghost use Rattle.tb_dvi.specs.Page.{Writes, Shows};
 
 use crate::file::{put_four, put_low, put_signed};
 use std::alloc::AllocError;
-use tb_node::{Kind, Name, Node, Side, What, Where};
+use tb_node::{Kind, Name, Node, RuleOf, Side, What, Where};
 use tb_report::{put_named, side_text, where_text};
 use tb_text::{put, put_count, put_text};
 
@@ -111,12 +111,13 @@ fn put_margin(label: &mut Vec<u8>, name: &Name, side: Side) -> Result<(), AllocE
     put_text(label, side_text(side))
 }
 
-fn put_rule(label: &mut Vec<u8>, name: &Option<Name>) -> Result<(), AllocError>
-    ensures { OnOk result (label.new.items ≡ label.old.items ++ rule_label name.now) }
+fn put_rule(label: &mut Vec<u8>, of: &RuleOf) -> Result<(), AllocError>
+    ensures { OnOk result (label.new.items ≡ label.old.items ++ rule_label of.now) }
 {
-    match name {
-        Some(name) => put_name(label, b"rule ", name),
-        None => put(label, b"footrule"),
+    match of {
+        RuleOf::Item(name) => put_name(label, b"rule ", name),
+        RuleOf::Footnotes => put(label, b"footrule"),
+        RuleOf::Floats => put(label, b"floatrule"),
     }
 }
 
@@ -200,12 +201,8 @@ fn node_label(label: &mut Vec<u8>, node: &Node) -> Result<Option<Extent>, AllocE
             height,
             depth,
         } => box_label(label, what, *height, *depth),
-        Kind::Rule {
-            name,
-            height,
-            depth,
-        } => {
-            put_rule(label, name)?;
+        Kind::Rule { of, height, depth } => {
+            put_rule(label, of)?;
             Ok(standing(*height, *depth))
         }
         Kind::Mark(name) => {

@@ -13,7 +13,7 @@ use Rattle.tb_param.specs.Table.{Row, row_for}
 use Rattle.tb_galley.specs.declared.Cause.{Cause}
 use Rattle.tb_galley.specs.declared.Cause.TheVariants as causes
 use Rattle.tb_galley.specs.Words.{LineWord, header, setting, class_line, hbox, rule, skip, kern, penalty, mark, note, foot, endfoot, float, margin, newpage, clearpage, pagebreak, nopagebreak, onecolumn, twocolumn, suppressfloats, end, Line, Phase, at_start, among_sets, among_items, in_foot, ended, phase_after, item_count, content_at, is_item_word, Known, known_after, word_here}
-use Rattle.tb_galley.specs.Fields.{Slot, name_slot, parameter_slot, dimension_slot, least_slot, range_slot, stretch_slot, fraction_slot, word_slot, places_slot, seen_slot, wrong_slot, test_slot, class_slot, slot_cause, text_cause, cause_of_read, row_cause, glue_slots, stretch_slots, shrink_slots, past_one, form_slots, row_slots, set_slots, foot_slots, suppress_slots, word_slots}
+use Rattle.tb_galley.specs.Fields.{Slot, name_slot, parameter_slot, dimension_slot, least_slot, range_slot, stretch_slot, fraction_slot, word_slot, places_slot, seen_slot, wrong_slot, test_slot, class_slot, slot_cause, text_cause, cause_of_read, row_cause, glue_slots, stretch_slots, shrink_slots, past_one, form_slots, row_slots, set_slots, foot_slots, suppress_slots, word_slots, drawn_slots, rule_slots}
 use Rattle.tb_galley.specs.Faults.{cause_rank, cause_if, causes_in, ascii_causes, is_printable, place_causes, item_causes, missing_cause, value_causes, later_causes, all_content_causes, line_causes, end_causes, causes_from}
 use Rattle.tb_galley.proofs.FirstFaults.{is_led}
 
@@ -132,8 +132,17 @@ late_glue : (c : Cause) (fs : List (List ℕ)) → is_late c ≡ true → list_a
 late_glue c [] h = refl
 late_glue c (f ∷ fs) h = late_stretch c fs h
 
+late_rule_by : (t : Bool) → list_all is_late_slot (if t then seen_slot ∷ [] else drawn_slots) ≡ true
+late_rule_by true = refl
+late_rule_by false = refl
+
+late_rule : (fs : List (List ℕ)) → list_all is_late_slot (rule_slots fs) ≡ true
+late_rule [] = refl
+late_rule (f ∷ fs) = late_rule_by (bytes_eq f (codes "none"))
+
 late_form : (fs : List (List ℕ)) (form : Form) → list_all is_late_slot (form_slots fs form) ≡ true
 late_form fs forms.Skip = late_glue causes.WrongForm fs refl
+late_form fs forms.Rule = late_rule fs
 late_form fs form = refl
 
 late_rows : (fs : List (List ℕ)) (r : Option Row) → list_all is_late_slot (row_slots fs r) ≡ true

@@ -13,7 +13,8 @@ use Rattle.tb_param.specs.declared.table.Form.{Form}
 use Rattle.tb_param.specs.declared.table.Form.TheVariants as forms
 use Rattle.tb_param.specs.declared.Value.{Value}
 use Rattle.tb_param.specs.declared.Value.TheVariants as values
-use Rattle.tb_param.specs.declared.Choice.TheVariants.{Flush, Ragged, On, Off, R2014, R2015}
+use Rattle.tb_param.specs.declared.Choice.TheVariants.{Flush, Ragged, On, Off, R2014, R2015, Keep, Drop, Above, Below}
+use Rattle.tb_param.specs.declared.Rule.{Rule}
 use Rattle.tb_param.specs.Table.{Row, row_of, row_for, row_known, is_known_in}
 use Rattle.tb_galley.specs.declared.Cause.{Cause}
 use Rattle.tb_galley.specs.declared.Cause.TheVariants as causes
@@ -23,11 +24,11 @@ use Rattle.tb_galley.specs.declared.contents.Content.TheVariants as contents
 use Rattle.tb_galley.specs.declared.ItemKind.TheVariants as items
 use Rattle.tb_galley.specs.declared.LeafKind.TheVariants as leaves
 use Rattle.tb_galley.specs.declared.fields.At.{At}
-use Rattle.tb_galley.specs.Words.{LineWord, header, setting, class_line, hbox, rule, skip, kern, penalty, mark, note, foot, endfoot, float, margin, newpage, clearpage, pagebreak, nopagebreak, onecolumn, twocolumn, suppressfloats, end, Known, number_in, first_field}
-use Rattle.tb_galley.specs.Fields.{Slot, name_slot, dimension_slot, least_slot, range_slot, stretch_slot, fraction_slot, word_slot, places_slot, seen_slot, wrong_slot, slot_cause, word_slots, size_slot, glue_slots, stretch_slots, shrink_slots, past_one, paragraph_slot, form_slots, row_slots, row_cause, class_slot, class_slots, foot_slots}
+use Rattle.tb_galley.specs.Words.{LineWord, header, setting, class_line, hbox, rule, skip, kern, penalty, mark, note, foot, endfoot, float, margin, newpage, clearpage, pagebreak, nopagebreak, onecolumn, twocolumn, suppressfloats, end, Known, number_in, version_named, first_field}
+use Rattle.tb_galley.specs.Fields.{Slot, name_slot, dimension_slot, least_slot, range_slot, stretch_slot, fraction_slot, word_slot, places_slot, seen_slot, wrong_slot, slot_cause, word_slots, size_slot, glue_slots, stretch_slots, shrink_slots, past_one, paragraph_slot, form_slots, row_slots, row_cause, class_slot, class_slots, foot_slots, drawn_slots, rule_slots}
 use Rattle.tb_galley.specs.Faults.{is_printable, cause_if, causes_in, ascii_causes, value_causes, missing_cause}
-use Rattle.tb_galley.specs.Grammar.{content_of, field_at, dimension_at, stretch_at, glue_at, glue_from, places_at, has_byte, value_by, set_content, class_at, foot_class_at}
-use Rattle.tb_galley.specs.FieldReader.{Left, ◌>>=◌, at_fault, printed, extra_by, minus_next, settled, field_read, dimension_in, integer_in, stretch_in, name_left, dimension_left, stretch_left, least_left, range_left, choice_left, places_left, sized_left, float_left, margin_left, glue_left, stretch_part, plus_part, shrink_part, end_left, finished, mapped, content_left, area_left, value_left, set_by, set_left, fraction_left, fraction_in, class_left, named_class, foot_left}
+use Rattle.tb_galley.specs.Grammar.{content_of, field_at, dimension_at, stretch_at, glue_at, glue_from, places_at, has_byte, value_by, set_content, class_at, foot_class_at, rule_at}
+use Rattle.tb_galley.specs.FieldReader.{Left, ◌>>=◌, at_fault, printed, extra_by, minus_next, settled, field_read, dimension_in, integer_in, stretch_in, name_left, dimension_left, stretch_left, least_left, range_left, choice_left, version_left, places_left, sized_left, float_left, margin_left, glue_left, stretch_part, plus_part, shrink_part, end_left, finished, mapped, content_left, area_left, value_left, set_by, set_left, fraction_left, fraction_in, class_left, named_class, foot_left, drawn_left, rule_by, rule_left}
 
 abbrev pub left : ℕ → Cause → List (List ℕ) → Left
 left n m fs = record { number = n; missing = m; fields = fs }
@@ -257,6 +258,36 @@ form_slot field k s value n m fs =
     then_slot (λ r. finished (mapped (λ v. contents.Set field v) (mapped k r))) (λ e. refl) s value n m [] (λ gs. contents.Set field (k (value (field_at gs 0))))
     (λ f gs. end_here (n + 1) m gs (contents.Set field (k (value f)))) fs
 
+abbrev ruled : {Z : Type 0} → (Option Rule → Z) → Result (Option Rule × Left) At → Result Z At
+ruled k r = finished (mapped k r)
+
+-- a rule that is drawn
+drawn_slots_read : {Z : Type 0} (k : Option Rule → Z) (n : ℕ) (m : Cause) (fs : List (List ℕ))
+    → ruled k (drawn_left (left n m fs)) ≡ settle (first_at n (value_causes m drawn_slots fs)) (k (Some (record { above = dimension_at fs 0; height = dimension_at fs 1; below = dimension_at fs 2 })))
+unfolding drawn_left dimension_left least_left
+drawn_slots_read k n m fs =
+    then_slot (λ r. ruled k (r >>= λ a. least_left (pos 0) causes.Parameter a.1 >>= λ h. dimension_left h.1 >>= λ b. Ok (Some (record { above = a.0; height = h.0; below = b.0 }), b.1)))
+    (λ e. refl) dimension_slot dimension_in n m (least_slot (pos 0) causes.Parameter ∷ dimension_slot ∷ []) (λ gs. k (Some (record { above = dimension_at gs 0; height = dimension_at gs 1; below = dimension_at gs 2 })))
+    (λ f. then_slot (λ r. ruled k (r >>= λ h. dimension_left h.1 >>= λ b. Ok (Some (record { above = dimension_in f; height = h.0; below = b.0 }), b.1)))
+    (λ e. refl) (least_slot (pos 0) causes.Parameter) dimension_in (n + 1) m (dimension_slot ∷ []) (λ gs. k (Some (record { above = dimension_in f; height = dimension_at gs 0; below = dimension_at gs 1 })))
+    (λ g. then_slot (λ r. ruled k (r >>= λ b. Ok (Some (record { above = dimension_in f; height = dimension_in g; below = b.0 }), b.1)))
+    (λ e. refl) dimension_slot dimension_in (n + 1 + 1) m [] (λ gs. k (Some (record { above = dimension_in f; height = dimension_in g; below = dimension_at gs 0 })))
+    (λ h gs. end_here (n + 1 + 1 + 1) m gs (k (Some (record { above = dimension_in f; height = dimension_in g; below = dimension_in h })))))) fs
+
+rule_by_word : {Z : Type 0} (t : Bool) (k : Option Rule → Z) (n : ℕ) (m : Cause) (f : List ℕ) (fs : List (List ℕ))
+    → ruled k (rule_by (left n m (f ∷ fs)) t)
+    ≡ settle (first_at n (value_causes m (if t then seen_slot ∷ [] else drawn_slots) (f ∷ fs)))
+    (k (if t then None else Some (record { above = dimension_at (f ∷ fs) 0; height = dimension_at (f ∷ fs) 1; below = dimension_at (f ∷ fs) 2 })))
+rule_by_word true k n m f fs =
+    skip_read (ruled k) (λ e. refl) (list_all is_printable f) n f (left (n + 1) m fs) (λ l. Ok (None, l)) (value_causes m [] fs) (k None) (end_here (n + 1) m fs (k None))
+rule_by_word false k n m f fs = drawn_slots_read k n m (f ∷ fs)
+
+rule_slots_read : {Z : Type 0} (k : Option Rule → Z) (n : ℕ) (m : Cause) (fs : List (List ℕ))
+    → ruled k (rule_left (left n m fs)) ≡ settle (first_at n (value_causes m (rule_slots fs) fs)) (k (rule_at fs 0))
+unfolding rule_left
+rule_slots_read k n m [] = drawn_slots_read k n m []
+rule_slots_read k n m (f ∷ fs) = rule_by_word (bytes_eq f (codes "none")) k n m f fs
+
 value_slots : (field : Field) (form : Form) (n : ℕ) (m : Cause) (name : List ℕ) (fs : List (List ℕ))
     → finished (mapped (λ v. contents.Set field v) (value_left form (left n m fs))) ≡ settle (first_at n (value_causes m (form_slots fs form) fs)) (contents.Set field (value_by (name ∷ fs) form))
 unfolding value_left range_left least_left fraction_left choice_left
@@ -272,6 +303,13 @@ value_slots field forms.Switch n m name fs =
     form_slot field (λ b. values.Word (if b then On else Off)) (word_slot (codes "off" ∷ codes "on" ∷ []) causes.WrongForm) (λ f. bytes_eq f (codes "on")) n m fs
 value_slots field forms.Release n m name fs =
     form_slot field (λ b. values.Word (if b then R2015 else R2014)) (word_slot (codes "2014" ∷ codes "2015" ∷ []) causes.WrongForm) (λ f. bytes_eq f (codes "2015")) n m fs
+value_slots field forms.Rule n m name fs =
+    ap (λ r. finished r) (mapped_twice (λ v. contents.Set field v) (λ r. values.Rule r) (rule_left (left n m fs)))
+    ∙ rule_slots_read (λ r. contents.Set field (values.Rule r)) n m fs
+value_slots field forms.FootDepth n m name fs =
+    form_slot field (λ b. values.Word (if b then Drop else Keep)) (word_slot (codes "keep" ∷ codes "drop" ∷ []) causes.WrongForm) (λ f. bytes_eq f (codes "drop")) n m fs
+value_slots field forms.FootPlace n m name fs =
+    form_slot field (λ b. values.Word (if b then Below else Above)) (word_slot (codes "above" ∷ codes "below" ∷ []) causes.WrongForm) (λ f. bytes_eq f (codes "below")) n m fs
 
 -- a parameter that the version does not know is at fault, whatever its line is read as
 set_known : (t : Bool) (r : Row) (n : ℕ) (m : Cause) (name : List ℕ) (fs : List (List ℕ))
@@ -371,10 +409,10 @@ first-is (f ∷ fs) = refl
 
 pub reads : (k : Known) (line : ℕ) (fs : List (List ℕ)) (w : LineWord)
     → finished (content_left k line w (left 2 (missing_cause w) fs)) ≡ settle (first_at 2 (value_causes (missing_cause w) (word_slots k fs w) fs)) (content_of line fs w)
-unfolding content_left name_left dimension_left range_left choice_left
+unfolding content_left name_left dimension_left range_left version_left
 reads k line fs header =
-    one_slot (λ b. contents.Header (if b then 2 else 1)) (word_slot (codes "1" ∷ codes "2" ∷ []) causes.NoHeader) (λ f. bytes_eq f (codes "2")) causes.NoHeader fs
-    ∙ ap (λ f. settle (first_at 2 (value_causes causes.NoHeader (word_slots k fs header) fs)) (contents.Header (if bytes_eq f (codes "2") then 2 else 1))) (first-is fs)
+    one_slot (λ v. contents.Header v) (word_slot (codes "1" ∷ codes "2" ∷ codes "3" ∷ []) causes.NoHeader) version_named causes.NoHeader fs
+    ∙ ap (λ f. settle (first_at 2 (value_causes causes.NoHeader (word_slots k fs header) fs)) (contents.Header (version_named f))) (first-is fs)
 reads k line fs setting = set_slots_read k line causes.MissingField fs
 reads k line fs class_line = class_slots_read line causes.MissingField fs
 reads k line fs hbox = sized_slots (one (λ s. contents.Plain (leaves.Hbox s.0 s.1 s.2))) (λ e. refl) 2 causes.MissingField [] (λ fs. content_of line fs hbox) (λ f g h fs. end_here 5 causes.MissingField fs _) fs

@@ -1,5 +1,5 @@
 -- What a line says is in its ranges: the test of each field implies its range.
-use Rattle.std.proofs.Common.{◌≡◌, ℕ, ◌≤◌, ℤ, pos, negsuc, Bool, true, false, not, ◌||◌, ◌&&◌, ◌==◌, nat_lt, nat_le, nat_abs, List, [], ◌∷◌, Option, Some, None, Result, Ok, Err, IfOk, if◌then◌else◌, refl, arith}
+use Rattle.std.proofs.Common.{◌≡◌, ℕ, ◌≤◌, ℤ, pos, negsuc, Bool, true, false, not, ◌||◌, ◌&&◌, ◌==◌, nat_lt, nat_le, nat_abs, List, [], ◌∷◌, Option, Some, None, Result, Ok, Err, IfOk, if◌then◌else◌, refl, arith, bytes_eq}
 use Rattle.std.specs.Cmp.{first_so, second_so}
 use Rattle.std.specs.Prelude.{int_lt, codes}
 use Rattle.std.specs.List.{list_all, list_any}
@@ -15,19 +15,19 @@ use Rattle.tb_node.specs.declared.Margin.{Margin}
 use Rattle.tb_text.specs.declared.TextFault.{TextFault}
 use Rattle.tb_text.specs.declared.TextFault.TheVariants.{BadNumber, BadUnit, Dimension}
 use Rattle.tb_text.specs.Numbers.{has_no_digit, has_unit, in_points, whole_of, is_scaled, NumberPart, number_part, integer_of, dimension_of, dimension_by, stretch_by_order, points_order, scaled_order, with_order, within_dimen, signed, fraction_of_field}
-use Rattle.tb_param.specs.Table.{is_within, is_dimen, is_glue}
+use Rattle.tb_param.specs.Table.{is_within, is_dimen, is_glue, is_rule}
 use Rattle.tb_galley.specs.declared.Cause.{Cause}
 use Rattle.tb_galley.specs.declared.Cause.TheVariants as causes
 use Rattle.tb_galley.specs.declared.fields.At.{At}
-use Rattle.tb_galley.specs.Fields.{Slot, name_slot, dimension_slot, least_slot, range_slot, stretch_slot, fraction_slot, places_slot, class_slot, is_class_among, is_foot_class, slot_cause, cause_of_read, cause_unless, are_places, is_place_byte}
+use Rattle.tb_galley.specs.Fields.{Slot, name_slot, dimension_slot, least_slot, range_slot, stretch_slot, fraction_slot, places_slot, class_slot, is_class_among, is_foot_class, slot_cause, cause_of_read, cause_unless, are_places, is_place_byte, word_slot}
 use Rattle.tb_galley.specs.Grammar.{read_or, places_at, has_byte}
-use Rattle.tb_galley.specs.FieldReader.{Left, ◌>>=◌, at_fault, settled, next_left, field_read, dimension_in, integer_in, stretch_in, fraction_in, name_left, dimension_left, stretch_left, least_left, range_left, choice_left, places_left, sized_left, float_left, margin_left, glue_left, stretch_part, plus_part, shrink_part, minus_part, minus_next, next_is_by, is_end, mapped, fraction_left, value_left, class_left, named_class, foot_left}
-use Rattle.tb_galley.specs.Words.{Known, number_in, number_or}
-use Rattle.tb_galley.specs.Valid.{is_size, is_float, is_margin, is_class}
+use Rattle.tb_galley.specs.FieldReader.{Left, ◌>>=◌, at_fault, settled, next_left, field_read, dimension_in, integer_in, stretch_in, fraction_in, name_left, dimension_left, stretch_left, least_left, range_left, choice_left, places_left, sized_left, float_left, margin_left, glue_left, stretch_part, plus_part, shrink_part, minus_part, minus_next, next_is_by, is_end, mapped, fraction_left, value_left, class_left, named_class, foot_left, version_left, drawn_left, rule_left, rule_by}
+use Rattle.tb_galley.specs.Words.{Known, number_in, number_or, version_named}
+use Rattle.tb_galley.specs.Valid.{is_size, is_float, is_margin, is_class, is_version}
 use Rattle.tb_param.specs.declared.table.Form.{Form}
 use Rattle.tb_param.specs.declared.table.Form.TheVariants as forms
 use Rattle.tb_param.specs.declared.Value.TheVariants as values
-use Rattle.tb_param.specs.declared.Choice.TheVariants.{Flush, Ragged, On, Off, R2014, R2015}
+use Rattle.tb_param.specs.declared.Choice.TheVariants.{Flush, Ragged, On, Off, R2014, R2015, Keep, Drop, Above, Below}
 use Rattle.tb_param.specs.Table.{out_of_range}
 use Rattle.tb_param.specs.Ranges.{is_no_fault}
 use Rattle.tb_param.proofs.RangeLemmas.{fits}
@@ -180,6 +180,19 @@ unfolding places_left
 places_has l = field_has (λ v. has_place v.0 ≡ true) places_slot (λ f. (places_at f, has_byte 33 f))
     (λ f h. places_some f (first_so (list_all is_place_byte f) _ (unless_none (are_places f) causes.BadPlace h)) (second_so (list_all is_place_byte f) _ (unless_none (are_places f) causes.BadPlace h))) l
 
+-- ---- versions
+
+pub version_has : (l : Left) → IfOk (version_left l) (λ x. is_version x.0 ≡ true)
+unfolding version_left
+version_has l =
+    field_has (λ v. is_version v ≡ true) (word_slot (codes "1" ∷ codes "2" ∷ codes "3" ∷ []) causes.NoHeader) version_named
+    (λ f h. some_version (bytes_eq f (codes "3")) (bytes_eq f (codes "2"))) l
+  where
+    some_version : (third second : Bool) → is_version (if third then 3 else (if second then 2 else 1)) ≡ true
+    some_version true second = refl
+    some_version false true = refl
+    some_version false false = refl
+
 -- ---- glue and boxes
 
 glue_dimens : (w s z : ℤ) → is_dimen w ≡ true → is_dimen s ≡ true → is_dimen z ≡ true → (is_dimen w && is_dimen s && is_dimen z) ≡ true
@@ -275,6 +288,30 @@ release_word : (b : Bool) → fits forms.Release (values.Word (if b then R2015 e
 release_word true = refl
 release_word false = refl
 
+foot_depth_word : (b : Bool) → fits forms.FootDepth (values.Word (if b then Drop else Keep)) ≡ true
+foot_depth_word true = refl
+foot_depth_word false = refl
+
+foot_place_word : (b : Bool) → fits forms.FootPlace (values.Word (if b then Below else Above)) ≡ true
+foot_place_word true = refl
+foot_place_word false = refl
+
+drawn_has : (l : Left) → IfOk (drawn_left l) (λ x. is_rule x.0 ≡ true)
+unfolding drawn_left
+drawn_has l =
+    then_has (λ a. is_dimen a.0 ≡ true) (λ x. is_rule x.0 ≡ true) (dimension_left l) _ (dimension_has l)
+    (λ a in_a. then_has (λ h. is_size h.0 ≡ true) (λ x. is_rule x.0 ≡ true) (least_left (pos 0) causes.Parameter a.1) _ (least_has (pos 0) causes.Parameter a.1)
+    (λ h in_h. then_has (λ b. is_dimen b.0 ≡ true) (λ x. is_rule x.0 ≡ true) (dimension_left h.1) _ (dimension_has h.1)
+    (λ b in_b. and_from (is_dimen a.0 && is_size h.0) (is_dimen b.0) (and_from (is_dimen a.0) (is_size h.0) in_a in_h) in_b)))
+
+rule_has : (l : Left) → IfOk (rule_left l) (λ x. is_rule x.0 ≡ true)
+unfolding rule_left
+rule_has l = by_word (next_is_by (codes "none") l.fields)
+  where
+    by_word : (t : Bool) → IfOk (rule_by l t) (λ x. is_rule x.0 ≡ true)
+    by_word true = bind_has (λ x. is_rule x.0 ≡ true) (next_left l) (λ x. Ok (None, x.1)) (λ x. refl)
+    by_word false = drawn_has l
+
 pub value_has : (form : Form) (l : Left) → IfOk (value_left form l) (λ x. fits form x.0 ≡ true)
 unfolding value_left
 value_has (forms.Int low high) l =
@@ -298,6 +335,15 @@ value_has forms.Switch l =
 value_has forms.Release l =
     mapped_has (λ v. fits forms.Release v ≡ true) (λ b. values.Word (if b then R2015 else R2014)) (choice_left (codes "2014") (codes "2015") causes.WrongForm l)
     (always (λ x. release_word x.0) (choice_left (codes "2014") (codes "2015") causes.WrongForm l))
+value_has forms.Rule l =
+    mapped_has (λ v. fits forms.Rule v ≡ true) (λ r. values.Rule r) (rule_left l)
+    (has_more (λ x. is_rule x.0 ≡ true) (λ x. fits forms.Rule (values.Rule x.0) ≡ true) (rule_left l) (λ x h. if_fits (is_rule x.0) h) (rule_has l))
+value_has forms.FootDepth l =
+    mapped_has (λ v. fits forms.FootDepth v ≡ true) (λ b. values.Word (if b then Drop else Keep)) (choice_left (codes "keep") (codes "drop") causes.WrongForm l)
+    (always (λ x. foot_depth_word x.0) (choice_left (codes "keep") (codes "drop") causes.WrongForm l))
+value_has forms.FootPlace l =
+    mapped_has (λ v. fits forms.FootPlace v ≡ true) (λ b. values.Word (if b then Below else Above)) (choice_left (codes "above") (codes "below") causes.WrongForm l)
+    (always (λ x. foot_place_word x.0) (choice_left (codes "above") (codes "below") causes.WrongForm l))
 
 -- ---- classes
 

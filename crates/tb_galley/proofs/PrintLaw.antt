@@ -1,5 +1,5 @@
 -- The canonical text of a valid galley is read as the galley itself, but for its line numbers.
-use Rattle.std.proofs.Common.{◌≡◌, ℕ, zero, suc, ◌+◌, ◌≤◌, Bool, true, false, not, ◌&&◌, ◌||◌, ◌==◌, nat_lt, nat_le, List, [], ◌∷◌, ◌++◌, length, map, filter, Some, None, Ok, Err, if◌then◌else◌, refl, ap, sym, subst, ◌∙◌, ◌⊎◌, inl, inr, arith, append_assoc}
+use Rattle.std.proofs.Common.{◌≡◌, ℕ, ◌+◌, ◌≤◌, Bool, true, false, ◌||◌, ◌==◌, nat_lt, nat_le, List, [], ◌∷◌, ◌++◌, length, map, filter, Some, None, Ok, Err, if◌then◌else◌, refl, ap, sym, subst, ◌∙◌, ◌⊎◌, inl, inr, arith, append_assoc}
 use Rattle.std.proofs.Math.Bool.{or-false}
 use Rattle.std.specs.Cmp.{first_so, second_so}
 use Rattle.std.specs.Prelude.{codes, decimal}
@@ -11,13 +11,10 @@ use Rattle.tb_text.proofs.LineTexts.{joined_lines, joined_lines-append, lines_of
 use Rattle.tb_param.specs.declared.params.Params.{Params}
 use Rattle.tb_param.specs.Fields.{value_of}
 use Rattle.tb_param.specs.Defaults.{default_params}
-use Rattle.tb_param.specs.Table.{Row, rows, rows_for, row_of, value_fault}
-use Rattle.tb_param.specs.Release.{is_2014, has_second}
-use Rattle.tb_param.specs.declared.Choice.{Choice}
-use Rattle.tb_param.specs.declared.Choice.TheVariants as choices
-use Rattle.tb_param.specs.declared.Value.TheVariants as values
-use Rattle.tb_param.specs.declared.table.Form.TheVariants as forms
-use Rattle.tb_param.specs.Ranges.{are_params, is_no_fault}
+use Rattle.tb_param.specs.Values.{glue_of, choice_of, rule_of}
+use Rattle.tb_param.specs.declared.fields.Field.TheVariants as fields
+use Rattle.tb_param.specs.Table.{Row, rows, rows_for, row_of}
+use Rattle.tb_param.specs.Ranges.{are_params}
 use Rattle.tb_param.proofs.RangeLemmas.{AllRows}
 use Rattle.tb_param.proofs.AllSet.{all_set}
 use Rattle.tb_param.proofs.RowNames.{rows_found}
@@ -37,9 +34,9 @@ use Rattle.tb_galley.specs.Grammar.{empty_draft, grammar, spelled, input_limit}
 use Rattle.tb_galley.specs.GalleyReader.{State, start, verdict}
 use Rattle.tb_galley.specs.CanonicalText.{set_lines, leaf_text, leaf_lines, item_text, item_lines, class_lines, header_text, foot_text, printed}
 use Rattle.tb_text.specs.Fields.{line, and_count}
-use Rattle.tb_galley.specs.Valid.{weight_of, weight, fits_version, is_class, do_classes_rise, has_known_class, IsValid}
+use Rattle.tb_galley.specs.Valid.{weight_of, weight, fits_version, is_class, do_classes_rise, has_known_class, IsValid, is_version, OthersDefault}
 use Rattle.tb_galley.specs.ReadBack.{unnumbered_leaf, unnumbered_kind, unnumbered_item, unnumbered, ReadsBack}
-use Rattle.tb_galley.proofs.SoundLines.{drafted}
+use Rattle.tb_galley.proofs.SoundLines.{drafted, fits_later}
 use Rattle.tb_galley.proofs.SameStep.{left_exact}
 use Rattle.tb_galley.proofs.FieldTexts.{tail_text, nothing_more}
 use Rattle.tb_galley.proofs.SlotTexts.{spelling}
@@ -52,13 +49,14 @@ use Rattle.tb_galley.proofs.PrintRuns.{Runs, then_lines, to_state, word_runs, se
 
 -- ---- the canonical text by its lines
 
-abbrev version_field : Bool → List ℕ
-version_field true = codes "1"
-version_field false = codes "2"
+abbrev version_field : Bool → Bool → List ℕ
+version_field true second = codes "1"
+version_field false true = codes "2"
+version_field false false = codes "3"
 
 -- the first line
 abbrev header_line : ℕ → List ℕ
-header_line v = codes "galley" ++ tail_text (version_field (v == 1) ∷ [])
+header_line v = codes "galley" ++ tail_text (version_field (v == 1) (v == 2) ∷ [])
 
 -- the lines between the header and the items
 abbrev front_lines : Galley → List (List ℕ)
@@ -68,11 +66,12 @@ abbrev canonical_lines : Galley → List (List ℕ)
 canonical_lines g = header_line g.version ∷ (front_lines g ++ (item_texts g.version g.items ++ codes "end" ∷ []))
 
 header_is : (v : ℕ) → header_text v ≡ joined_lines (header_line v ∷ [])
-header_is v = by_version (v == 1)
+header_is v = by_version (v == 1) (v == 2)
   where
-    by_version : (t : Bool) → (if t then codes "galley 1\n" else codes "galley 2\n") ≡ joined_lines ((codes "galley" ++ tail_text (version_field t ∷ [])) ∷ [])
-    by_version true = refl
-    by_version false = refl
+    by_version : (one two : Bool) → (if one then codes "galley 1\n" else (if two then codes "galley 2\n" else codes "galley 3\n")) ≡ joined_lines ((codes "galley" ++ tail_text (version_field one two ∷ [])) ∷ [])
+    by_version true two = refl
+    by_version false true = refl
+    by_version false false = refl
 
 foot_is : (v class : ℕ) → foot_text v class ≡ joined_lines (foot_line v class ∷ [])
 foot_is v class = by_version (v == 1)
@@ -167,25 +166,30 @@ end_runs n among_sets c ps v cs e is takes = word_runs n among_sets c (drafted p
 end_runs n among_items c ps v cs e is takes = word_runs n among_items c (drafted ps v cs is None e) end [] (λ m. contents.End) refl (record { fit = tt; short = omega arith; content = λ m. refl }) refl refl
 end_runs n p c ps v cs e is takes = cc
 
--- there are two versions
-version_cases : (v : ℕ) (cs : List ClassLine) (ps : Params) → fits_version v cs ps ≡ true → ((v ≡ 1) × (has_second ps ≡ false)) ⊎ (v ≡ 2)
-version_cases v [] ps h = by_version (v == 1) (v == 2) (has_second ps) refl (λ e. eqb-true v 1 e) (λ e. eqb-true v 2 e) h
+-- there are three versions
+version_cases : (v : ℕ) (cs : List ClassLine) → fits_version v cs ≡ true → (v ≡ 1) ⊎ ((v ≡ 2) ⊎ (v ≡ 3))
+version_cases v cs h = by_version (v == 1) (v == 2) (v == 3) (eqb-true v 1) (eqb-true v 2) (eqb-true v 3) (some_version v cs h)
   where
-    by_version : (one two second : Bool) → has_second ps ≡ second → (one ≡ true → v ≡ 1) → (two ≡ true → v ≡ 2) → ((one && not second) || two) ≡ true → ((v ≡ 1) × (has_second ps ≡ false)) ⊎ (v ≡ 2)
-    by_version one true second s is_one is_two h = inr (is_two refl)
-    by_version true false false s is_one is_two h = inl (is_one refl, s)
-    by_version true false true s is_one is_two h = cc
-    by_version false false second s is_one is_two h = cc
-version_cases v (c ∷ cs) ps h = inr (eqb-true v 2 h)
+    some_version : (v : ℕ) (cs : List ClassLine) → fits_version v cs ≡ true → is_version v ≡ true
+    some_version v [] h = h
+    some_version v (c ∷ cs) h = fits_later v [] h
+
+    by_version : (one two three : Bool) → (one ≡ true → v ≡ 1) → (two ≡ true → v ≡ 2) → (three ≡ true → v ≡ 3) → (one || two || three) ≡ true → (v ≡ 1) ⊎ ((v ≡ 2) ⊎ (v ≡ 3))
+    by_version true two three is_one is_two is_three h = inl (is_one refl)
+    by_version false true three is_one is_two is_three h = inr (inl (is_two refl))
+    by_version false false true is_one is_two is_three h = inr (inr (is_three refl))
+    by_version false false false is_one is_two is_three h = cc
 
 abbrev HeaderRuns : ℕ → Type 0
 HeaderRuns v = Runs start (header_line v ∷ []) (item_state 1 among_sets 0 default_params v [] 0 [])
 
-header_runs : (v : ℕ) (cs : List ClassLine) (ps : Params) → ((v ≡ 1) × (has_second ps ≡ false)) ⊎ (v ≡ 2) → HeaderRuns v
-header_runs v cs ps (inl e) =
-    subst HeaderRuns (sym e.0) (word_runs 0 at_start 0 empty_draft header (codes "1" ∷ []) (λ m. contents.Header 1) refl (record { fit = (record { text = record { printable = refl; some = omega arith }; slot = refl }, tt); short = omega arith; content = λ m. refl }) refl refl)
-header_runs v cs ps (inr e) =
+header_runs : (v : ℕ) → (v ≡ 1) ⊎ ((v ≡ 2) ⊎ (v ≡ 3)) → HeaderRuns v
+header_runs v (inl e) =
+    subst HeaderRuns (sym e) (word_runs 0 at_start 0 empty_draft header (codes "1" ∷ []) (λ m. contents.Header 1) refl (record { fit = (record { text = record { printable = refl; some = omega arith }; slot = refl }, tt); short = omega arith; content = λ m. refl }) refl refl)
+header_runs v (inr (inl e)) =
     subst HeaderRuns (sym e) (word_runs 0 at_start 0 empty_draft header (codes "2" ∷ []) (λ m. contents.Header 2) refl (record { fit = (record { text = record { printable = refl; some = omega arith }; slot = refl }, tt); short = omega arith; content = λ m. refl }) refl refl)
+header_runs v (inr (inr e)) =
+    subst HeaderRuns (sym e) (word_runs 0 at_start 0 empty_draft header (codes "3" ∷ []) (λ m. contents.Header 3) refl (record { fit = (record { text = record { printable = refl; some = omega arith }; slot = refl }, tt); short = omega arith; content = λ m. refl }) refl refl)
 
 params_in_range : (p : Params) → are_params p ≡ true → list_all (is_in_range p) rows ≡ true
 unfolding are_params
@@ -217,34 +221,41 @@ all_known q (r ∷ rs) = keep (q r) refl (all_known q rs)
     keep true e k = and_from (q r) (list_all q (filter q rs)) e k
     keep false e k = k
 
-past : ℕ → List Row → List Row
-past zero rs = rs
-past (suc n) [] = []
-past (suc n) (r ∷ rs) = past n rs
-
-all_past : (p : Row → Bool) (n : ℕ) (rs : List Row) → list_all p rs ≡ true → list_all p (past n rs) ≡ true
-unfolding past
-all_past p zero rs h = h
-all_past p (suc n) [] h = refl
-all_past p (suc n) (r ∷ rs) h = all_past p n rs (second_so (p r) (list_all p rs) h)
-
-release_is : (c : Choice) → (is_no_fault (value_fault forms.Release (values.Word c)) && true) ≡ true → is_2014 c ≡ false → c ≡ choices.R2015
-release_is choices.R2015 good not_2014 = refl
-release_is choices.R2014 good not_2014 = cc
-release_is c good not_2014 = cc
-
-release_of : (g : Params) → are_params g ≡ true → has_second g ≡ false → g.release ≡ choices.R2015
-unfolding past
-release_of g good second = release_is g.release (all_past (is_in_range g) 43 rows (params_in_range g good)) second
-
-first_set : (g : Params) → g.release ≡ choices.R2015 → set_all g default_params (rows_for 1) ≡ g
+-- the parameters of versions 1 and 2, set from the defaults; the others have their defaults
+second_set : (g : Params) → OthersDefault 2 g → set_all g default_params (rows_for 2) ≡ g
 unfolding default_params
-first_set g same = ap (λ c. record g { release = c }) (sym same)
+second_set g others = (λ i. record g {
+  texttop = sym (ap glue_of (others fields.Texttop refl)) i;
+  textbottom = sym (ap glue_of (others fields.Textbottom refl)) i;
+  footrule = sym (ap rule_of (others fields.Footrule refl)) i;
+  toprule = sym (ap rule_of (others fields.Toprule refl)) i;
+  bottomrule = sym (ap rule_of (others fields.Bottomrule refl)) i;
+  dblrule = sym (ap rule_of (others fields.Dblrule refl)) i;
+  footdepth = sym (ap choice_of (others fields.Footdepth refl)) i;
+  footfill = sym (ap glue_of (others fields.Footfill refl)) i;
+  footplace = sym (ap choice_of (others fields.Footplace refl)) i;
+})
+
+first_set : (g : Params) → OthersDefault 1 g → set_all g default_params (rows_for 1) ≡ g
+unfolding default_params
+first_set g others = (λ i. record g {
+  release = sym (ap choice_of (others fields.Release refl)) i;
+  texttop = sym (ap glue_of (others fields.Texttop refl)) i;
+  textbottom = sym (ap glue_of (others fields.Textbottom refl)) i;
+  footrule = sym (ap rule_of (others fields.Footrule refl)) i;
+  toprule = sym (ap rule_of (others fields.Toprule refl)) i;
+  bottomrule = sym (ap rule_of (others fields.Bottomrule refl)) i;
+  dblrule = sym (ap rule_of (others fields.Dblrule refl)) i;
+  footdepth = sym (ap choice_of (others fields.Footdepth refl)) i;
+  footfill = sym (ap glue_of (others fields.Footfill refl)) i;
+  footplace = sym (ap choice_of (others fields.Footplace refl)) i;
+})
 
 -- setting all parameters of the version from the defaults gives the parameters
-each_set : (v : ℕ) (g : Params) → are_params g ≡ true → ((v ≡ 1) × (has_second g ≡ false)) ⊎ (v ≡ 2) → set_all g default_params (rows_for v) ≡ g
-each_set v g good (inl e) = subst (λ n. set_all g default_params (rows_for n) ≡ g) (sym e.0) (first_set g (release_of g good e.1))
-each_set v g good (inr e) = subst (λ n. set_all g default_params (rows_for n) ≡ g) (sym e) (all_set g default_params)
+each_set : (v : ℕ) (g : Params) → OthersDefault v g → (v ≡ 1) ⊎ ((v ≡ 2) ⊎ (v ≡ 3)) → set_all g default_params (rows_for v) ≡ g
+each_set v g others (inl e) = subst (λ n. set_all g default_params (rows_for n) ≡ g) (sym e) (first_set g (subst (λ n. OthersDefault n g) e others))
+each_set v g others (inr (inl e)) = subst (λ n. set_all g default_params (rows_for n) ≡ g) (sym e) (second_set g (subst (λ n. OthersDefault n g) e others))
+each_set v g others (inr (inr e)) = subst (λ n. set_all g default_params (rows_for n) ≡ g) (sym e) (all_set g default_params)
 
 pub not_long : (k : ℕ) → k ≤ 8388608 → nat_lt 8388608 k ≡ false
 not_long k h = grind (arith, nat_tests)
@@ -257,12 +268,12 @@ still_takes [] = refl
 still_takes (i ∷ is) = refl
 
 -- version 1 has no classes
-first_version : (v : ℕ) (cs : List ClassLine) (ps : Params) → fits_version v cs ps ≡ true → (v == 1) ≡ true → cs ≡ []
-first_version v [] ps h one = refl
-first_version v (c ∷ cs) ps h one = unlike v h one
+first_version : (v : ℕ) (cs : List ClassLine) → fits_version v cs ≡ true → (v == 1) ≡ true → cs ≡ []
+first_version v [] h one = refl
+first_version v (c ∷ cs) h one = unlike (subst (λ n. ((n == 2) || (n == 3)) ≡ true) (eqb-true v 1 one) h)
   where
-    unlike : (v : ℕ) → (v == 2) ≡ true → (v == 1) ≡ true → (c ∷ cs) ≡ []
-    unlike v h k = absurd (let two : v ≡ 2 = eqb-true v 2 h in let one : v ≡ 1 = eqb-true v 1 k in omega arith)
+    unlike : ((1 == 2) || (1 == 3)) ≡ true → (c ∷ cs) ≡ []
+    unlike h = cc
 
 only_last : (cs : List ClassLine) (class : ℕ) → cs ≡ [] → is_class_among (numbers_of cs) class ≡ true → class ≡ 254
 only_last [] class none h = eqb-true class 254 (sym (or-false (class == 254)) ∙ h)
@@ -271,7 +282,7 @@ only_last (c ∷ cs) class none h = cc
 has_classes : (g : Galley) → IsValid g → HasClasses g.version (classes_in g)
 has_classes g valid = record {
   good = still_classes (sets_end g + 1) g.classes (first_so (list_all is_class g.classes) (do_classes_rise g.classes) valid.classes);
-  first = λ class one h. only_last g.classes class (first_version g.version g.classes g.params valid.version one) (subst (λ ks. is_class_among ks class ≡ true) (same_numbers (sets_end g + 1) g.classes) h);
+  first = λ class one h. only_last g.classes class (first_version g.version g.classes valid.version one) (subst (λ ks. is_class_among ks class ≡ true) (same_numbers (sets_end g + 1) g.classes) h);
 }
 
 galley_runs : (g : Galley) → IsValid g
@@ -286,21 +297,21 @@ galley_runs g valid =
     let declared : State = item_state (front g) among_sets 0 g.params g.version (classes_in g) 0 [] in
     let written : State = item_state (front g + weight g.items) (phase_past_items among_sets g.items) (0 + weight g.items) g.params g.version (classes_in g) 0 (numbered_items (front g + 1) g.items) in
     let done : State = item_state (front g + weight g.items + 1) ended (0 + weight g.items) g.params g.version (classes_in g) (front g + weight g.items + 1) (numbered_items (front g + 1) g.items) in
-    let which : ((g.version ≡ 1) × (has_second g.params ≡ false)) ⊎ (g.version ≡ 2) = version_cases g.version g.classes g.params valid.version in
+    let which : (g.version ≡ 1) ⊎ ((g.version ≡ 2) ⊎ (g.version ≡ 3)) = version_cases g.version g.classes valid.version in
     let sets : Runs begun (map (set_text g.params) (rows_for g.version)) set =
     to_state begun (item_state (sets_end g) among_sets 0 (set_all g.params default_params (rows_for g.version)) g.version [] 0 []) set (map (set_text g.params) (rows_for g.version))
-    (ap (λ ps. item_state (sets_end g) among_sets 0 ps g.version [] 0 []) (each_set g.version g.params valid.params which))
+    (ap (λ ps. item_state (sets_end g) among_sets 0 ps g.version [] 0 []) (each_set g.version g.params valid.others which))
     (sets_run g.params default_params g.version 1 (rows_for g.version) (named_kept (is_known_row g.version) rows rows_found) (all_known (is_known_row g.version) rows) (all_kept is_plain_row (is_known_row g.version) rows plain_rows)
     (all_kept (is_in_range g.params) (is_known_row g.version) rows (params_in_range g.params valid.params))) in
     let classes : Runs set (class_texts g.classes) declared =
-    classes_run g.params g.version (sets_end g) g.classes (first_version g.version g.classes g.params valid.version) (first_so (list_all is_class g.classes) (do_classes_rise g.classes) valid.classes) (second_so (list_all is_class g.classes) (do_classes_rise g.classes) valid.classes) in
+    classes_run g.params g.version (sets_end g) g.classes (first_version g.version g.classes valid.version) (first_so (list_all is_class g.classes) (do_classes_rise g.classes) valid.classes) (second_so (list_all is_class g.classes) (do_classes_rise g.classes) valid.classes) in
     let known : list_all (λ (i : Item). has_known_class (numbers_of (classes_in g)) i.kind) g.items ≡ true =
     subst (λ ks. list_all (λ (i : Item). has_known_class ks i.kind) g.items ≡ true) (sym (same_numbers (sets_end g + 1) g.classes)) valid.feet in
     let inner : Runs declared (item_texts g.version g.items) written =
     items_run (front g) among_sets 0 g.params g.version (classes_in g) 0 [] g.items (has_classes g valid) refl (few_items (weight g.items) few) valid.items known in
     let last : Runs written (codes "end" ∷ []) done =
     end_runs (front g + weight g.items) (phase_past_items among_sets g.items) (0 + weight g.items) g.params g.version (classes_in g) 0 (numbered_items (front g + 1) g.items) (still_takes g.items) in
-    then_lines start begun done (header_line g.version ∷ []) (front_lines g ++ (item_texts g.version g.items ++ codes "end" ∷ [])) (header_runs g.version g.classes g.params which)
+    then_lines start begun done (header_line g.version ∷ []) (front_lines g ++ (item_texts g.version g.items ++ codes "end" ∷ [])) (header_runs g.version which)
     (then_lines begun declared done (front_lines g) (item_texts g.version g.items ++ codes "end" ∷ [])
     (then_lines begun set declared (map (set_text g.params) (rows_for g.version)) (class_texts g.classes) sets classes)
     (then_lines declared written done (item_texts g.version g.items) (codes "end" ∷ []) inner last))

@@ -1,19 +1,17 @@
 -- A reader is sound: what it has drafted so far is in its ranges; each line of a known content keeps it so.
-use Rattle.std.proofs.Common.{◌≡◌, ℕ, ◌+◌, ◌≤◌, ◌<◌, Bool, true, false, ◌&&◌, not, ◌||◌, ◌==◌, nat_lt, nat_le, length, map, List, [], ◌∷◌, ◌++◌, Option, Some, None, refl, ap, sym, subst, ◌∙◌, ◌⊎◌, inl, inr, arith, append_assoc, length-append, append-nil}
+use Rattle.std.proofs.Common.{◌≡◌, ℕ, zero, suc, ◌+◌, ◌≤◌, ◌<◌, Bool, true, false, ◌&&◌, ◌||◌, ◌==◌, nat_lt, nat_le, length, map, List, [], ◌∷◌, ◌++◌, Option, Some, None, refl, ap, sym, subst, ◌∙◌, ◌⊎◌, inl, inr, arith, append_assoc, length-append, append-nil}
 use Rattle.std.specs.Prelude.{is_some, is_none}
-use Rattle.std.proofs.lemmas.Bool.{eqb-true, or_right}
+use Rattle.std.proofs.lemmas.Bool.{eqb-true}
 use Rattle.std.specs.List.{list_all}
 use Rattle.std.proofs.lemmas.Bool.Decides.{nat_tests}
 use Rattle.std.proofs.lemmas.List.Folds.{list_all-append}
-use Rattle.std.proofs.Math.Bool.{or-true}
 use Rattle.tb_param.specs.declared.params.Params.{Params}
 use Rattle.tb_param.specs.declared.fields.Field.{Field}
 use Rattle.tb_param.specs.declared.Value.{Value}
 use Rattle.tb_param.specs.Ranges.{are_params}
-use Rattle.tb_param.specs.Fields.{with_value}
+use Rattle.tb_param.specs.Fields.{with_value, value_of}
 use Rattle.tb_param.specs.declared.fields.Field.TheVariants as fields
-use Rattle.tb_param.specs.Table.{is_known_in}
-use Rattle.tb_param.specs.Release.{has_second}
+use Rattle.tb_param.specs.Table.{is_known_in, first_version}
 use Rattle.tb_galley.specs.declared.Cause.TheVariants as causes
 use Rattle.tb_galley.specs.declared.contents.Content.TheVariants as contents
 use Rattle.tb_galley.specs.declared.Item.{Item}
@@ -28,7 +26,7 @@ use Rattle.tb_galley.specs.Faults.{place_causes, cause_if}
 use Rattle.tb_galley.specs.Grammar.{OpenFoot, Draft, with_item, with_plain, with_foot, with_content}
 use Rattle.tb_galley.specs.Line.{first_of}
 use Rattle.tb_galley.specs.GalleyReader.{next_phase}
-use Rattle.tb_galley.specs.Valid.{is_leaf, is_item, weight_of, weight, leaf_lines, lines_of_item, named_lines, rise_from, is_class, do_classes_rise, has_known_class, fits_version}
+use Rattle.tb_galley.specs.Valid.{is_leaf, is_item, weight_of, weight, leaf_lines, lines_of_item, named_lines, rise_from, is_class, do_classes_rise, has_known_class, fits_version, OthersDefault, is_version}
 use Rattle.tb_galley.proofs.SuitedLines.{SetsInRange}
 
 -- ---- lists that rise
@@ -120,7 +118,8 @@ is_fresh ended v = true
 
 -- the version knows what the draft has, and the classes of feet were declared
 pub record Classed (p : Phase) (d : Draft) : Type 0 where
-  pub version : fits_version d.version d.classes d.params ≡ true
+  pub version : fits_version d.version d.classes ≡ true
+  pub others : OthersDefault d.version d.params
   pub fresh : is_fresh p d.version ≡ true
   pub classes : (list_all is_class d.classes && do_classes_rise d.classes) ≡ true
   pub feet : list_all (λ (i : Item). has_known_class (numbers d.classes) i.kind) d.items ≡ true
@@ -162,24 +161,39 @@ past_line n p c d s = record {
 
 -- ---- the header and the sets
 
-pub fits_two : (v : ℕ) (cs : List ClassLine) (ps : Params) → (v == 2) ≡ true → fits_version v cs ps ≡ true
-fits_two v [] ps h = or_right ((v == 1) && not (has_second ps)) (v == 2) h
-fits_two v (c ∷ cs) ps h = h
-
--- a draft that fits version 1 fits each version
-fits_each : (v : ℕ) (cs : List ClassLine) (ps : Params) → ((v == 1) || (v == 2)) ≡ true → fits_version 1 cs ps ≡ true → fits_version v cs ps ≡ true
-fits_each v [] ps some h = either (v == 1) (v == 2) (not (has_second ps)) some h
+-- in a version after the first, classes may be declared
+pub fits_later : (v : ℕ) (cs : List ClassLine) → ((v == 2) || (v == 3)) ≡ true → fits_version v cs ≡ true
+fits_later v [] h = by_first (v == 1) (v == 2) (v == 3) h
   where
-    either : (a b x : Bool) → (a || b) ≡ true → (x || false) ≡ true → ((a && x) || b) ≡ true
-    either true b true some h = refl
-    either true b false some h = cc
-    either false b x some h = some
-fits_each v (c ∷ cs) ps some h = cc
+    by_first : (one two three : Bool) → (two || three) ≡ true → (one || two || three) ≡ true
+    by_first true true three h = refl
+    by_first true false three h = refl
+    by_first false two three h = h
+fits_later v (c ∷ cs) h = h
 
-header_fits : (u v : ℕ) (cs : List ClassLine) (ps : Params) → (u == 1) ≡ true → ((v == 1) || (v == 2)) ≡ true → fits_version u cs ps ≡ true → fits_version v cs ps ≡ true
-header_fits u v cs ps one some h = fits_each v cs ps some (subst (λ n. fits_version n cs ps ≡ true) (eqb-true u 1 one) h)
+-- classes that fit version 1 fit each version
+fits_each : (v : ℕ) (cs : List ClassLine) → is_version v ≡ true → fits_version 1 cs ≡ true → fits_version v cs ≡ true
+fits_each v [] some h = some
+fits_each v (c ∷ cs) some h = cc
 
-pub header_line : (n : ℕ) (p : Phase) (c : ℕ) (d : Draft) (v : ℕ) → ((v == 1) || (v == 2)) ≡ true → first_of (place_causes p (Some header)) ≡ None → Sound n p c d
+header_fits : (u v : ℕ) (cs : List ClassLine) → (u == 1) ≡ true → is_version v ≡ true → fits_version u cs ≡ true → fits_version v cs ≡ true
+header_fits u v cs one some h = fits_each v cs some (subst (λ n. fits_version n cs ≡ true) (eqb-true u 1 one) h)
+
+-- what some version does not have, version 1 does not have
+lacks-first : (v k : ℕ) → is_version v ≡ true → nat_le k v ≡ false → nat_le k 1 ≡ false
+lacks-first v k some h = below (at_least v some)
+  where
+    at_least : (v : ℕ) → is_version v ≡ true → nat_le 1 v ≡ true
+    at_least zero some = cc
+    at_least (suc v) some = grind (arith, nat_tests)
+
+    below : nat_le 1 v ≡ true → nat_le k 1 ≡ false
+    below least = grind (arith, nat_tests)
+
+header_others : (u v : ℕ) (ps : Params) → (u == 1) ≡ true → is_version v ≡ true → OthersDefault u ps → OthersDefault v ps
+header_others u v ps one some others field h = subst (λ n. OthersDefault n ps) (eqb-true u 1 one) others field (lacks-first v (first_version field) some h)
+
+pub header_line : (n : ℕ) (p : Phase) (c : ℕ) (d : Draft) (v : ℕ) → is_version v ≡ true → first_of (place_causes p (Some header)) ≡ None → Sound n p c d
     → Sound (n + 1) (next_phase p (Some header)) c (record d { version = v })
 header_line n at_start c d v some place s =
     let next : Sound (n + 1) at_start c d = past_line n at_start c d s in
@@ -188,7 +202,8 @@ header_line n at_start c d v some place s =
       items = next.items;
       leaves = next.leaves;
       classed = record {
-        version = header_fits d.version v d.classes d.params s.classed.fresh some s.classed.version;
+        version = header_fits d.version v d.classes s.classed.fresh some s.classed.version;
+        others = header_others d.version v d.params s.classed.fresh some s.classed.others;
         fresh = refl;
         classes = s.classed.classes;
         feet = s.classed.feet;
@@ -204,23 +219,43 @@ header_line n among_items c d v some place s = cc
 header_line n in_foot c d v some place s = cc
 header_line n ended c d v some place s = cc
 
--- the release stays if another parameter is set
-keeps_release : (field : Field) (value : Value) (ps : Params) → is_known_in 1 field ≡ true → has_second (with_value field value ps) ≡ has_second ps
-keeps_release fields.Release value ps known = cc
-keeps_release field value ps known = refl
+-- a version with some parameter has all those of version 1
+has-version : (field : Field) → nat_le 1 (first_version field) ≡ true
+has-version fields.Release = refl
+has-version field = refl
 
--- a parameter that the version knows
-set_fits : (v : ℕ) (cs : List ClassLine) (field : Field) (value : Value) (ps : Params) → is_known_in v field ≡ true → fits_version v cs ps ≡ true → fits_version v cs (with_value field value ps) ≡ true
-set_fits v [] field value ps known h = by_version (v == 1) (v == 2) (λ e. eqb-true v 1 e) h
+none-lacks : (v : ℕ) (field : Field) → is_known_in v field ≡ true → nat_le 1 v ≡ false → ⊥
+none-lacks v field known lacks = apart (first_version field) (has-version field) known
   where
-    with_second : (x y : Bool) → y ≡ x → (not x || false) ≡ true → (not y || false) ≡ true
-    with_second x y e h = subst (λ z. (not z || false) ≡ true) (sym e) h
+    apart : (k : ℕ) → nat_le 1 k ≡ true → nat_le k v ≡ true → ⊥
+    apart k some few = grind (arith, nat_tests)
 
-    by_version : (one two : Bool) → (one ≡ true → v ≡ 1) → ((one && not (has_second ps)) || two) ≡ true → ((one && not (has_second (with_value field value ps))) || two) ≡ true
-    by_version true true is h = or-true (not (has_second (with_value field value ps)))
-    by_version true false is h = with_second (has_second ps) (has_second (with_value field value ps)) (keeps_release field value ps (subst (λ n. is_known_in n field ≡ true) (is refl) known)) h
-    by_version false two is h = h
-set_fits v (c ∷ cs) field value ps known h = h
+-- a parameter that the version does not have stays if one that it has is set
+other-stays : (v : ℕ) (other field : Field) (value : Value) (ps : Params) → is_known_in v field ≡ true → is_known_in v other ≡ false → value_of other (with_value field value ps) ≡ value_of other ps
+other-stays v fields.Release fields.Release value ps known lacks = cc
+other-stays v fields.Release field value ps known lacks = refl
+other-stays v fields.Texttop fields.Texttop value ps known lacks = cc
+other-stays v fields.Texttop field value ps known lacks = refl
+other-stays v fields.Textbottom fields.Textbottom value ps known lacks = cc
+other-stays v fields.Textbottom field value ps known lacks = refl
+other-stays v fields.Footrule fields.Footrule value ps known lacks = cc
+other-stays v fields.Footrule field value ps known lacks = refl
+other-stays v fields.Toprule fields.Toprule value ps known lacks = cc
+other-stays v fields.Toprule field value ps known lacks = refl
+other-stays v fields.Bottomrule fields.Bottomrule value ps known lacks = cc
+other-stays v fields.Bottomrule field value ps known lacks = refl
+other-stays v fields.Dblrule fields.Dblrule value ps known lacks = cc
+other-stays v fields.Dblrule field value ps known lacks = refl
+other-stays v fields.Footdepth fields.Footdepth value ps known lacks = cc
+other-stays v fields.Footdepth field value ps known lacks = refl
+other-stays v fields.Footfill fields.Footfill value ps known lacks = cc
+other-stays v fields.Footfill field value ps known lacks = refl
+other-stays v fields.Footplace fields.Footplace value ps known lacks = cc
+other-stays v fields.Footplace field value ps known lacks = refl
+other-stays v other field value ps known lacks = absurd (none-lacks v field known lacks)
+
+set_others : (v : ℕ) (field : Field) (value : Value) (ps : Params) → is_known_in v field ≡ true → OthersDefault v ps → OthersDefault v (with_value field value ps)
+set_others v field value ps known others other lacks = other-stays v other field value ps known lacks ∙ others other lacks
 
 pub set_line : (n : ℕ) (p : Phase) (c : ℕ) (d : Draft) (field : Field) (value : Value) → first_of (place_causes p (Some setting)) ≡ None → SetsInRange field value → is_known_in d.version field ≡ true → Sound n p c d
     → Sound (n + 1) (next_phase p (Some setting)) c (record d { params = with_value field value d.params })
@@ -232,7 +267,8 @@ set_line n among_sets c d field value place good known s =
       items = next.items;
       leaves = next.leaves;
       classed = record {
-        version = set_fits d.version d.classes field value d.params known s.classed.version;
+        version = s.classed.version;
+        others = set_others d.version field value d.params known s.classed.others;
         fresh = refl;
         classes = s.classed.classes;
         feet = s.classed.feet;
@@ -271,7 +307,7 @@ item_line n c ps v cs is e k fits good one known named p next s =
       params = s.params;
       items = all_more (λ (j : Item). is_item j.line j.kind) is i s.items good;
       leaves = refl;
-      classed = record { version = s.classed.version; fresh = refl; classes = s.classed.classes; feet = all_more (λ (j : Item). has_known_class (numbers cs) j.kind) is i s.classed.feet known; foot = refl };
+      classed = record { version = s.classed.version; others = s.classed.others; fresh = refl; classes = s.classed.classes; feet = all_more (λ (j : Item). has_known_class (numbers cs) j.kind) is i s.classed.feet known; foot = refl };
       weight = omega arith;
       count = fits;
       phase = refl;
@@ -291,7 +327,7 @@ leaf_line n c ps v cs is o e k fits good s =
       params = s.params;
       items = s.items;
       leaves = all_more (λ (m : Leaf). is_leaf m.kind) o.leaves l s.leaves good;
-      classed = record { version = s.classed.version; fresh = refl; classes = s.classed.classes; feet = s.classed.feet; foot = s.classed.foot };
+      classed = record { version = s.classed.version; others = s.classed.others; fresh = refl; classes = s.classed.classes; feet = s.classed.feet; foot = s.classed.foot };
       weight = omega arith;
       count = fits;
       phase = refl;
@@ -308,7 +344,7 @@ foot_line n c ps v cs is e class fits known p next s =
       params = s.params;
       items = s.items;
       leaves = refl;
-      classed = record { version = s.classed.version; fresh = refl; classes = s.classed.classes; feet = s.classed.feet; foot = known };
+      classed = record { version = s.classed.version; others = s.classed.others; fresh = refl; classes = s.classed.classes; feet = s.classed.feet; foot = known };
       weight = omega arith;
       count = fits;
       phase = refl;
@@ -325,7 +361,7 @@ endfoot_line n c ps v cs is o e fits s =
       params = s.params;
       items = all_more (λ (j : Item). is_item j.line j.kind) is i s.items s.leaves;
       leaves = refl;
-      classed = record { version = s.classed.version; fresh = refl; classes = s.classed.classes; feet = all_more (λ (j : Item). has_known_class (numbers cs) j.kind) is i s.classed.feet s.classed.foot; foot = refl };
+      classed = record { version = s.classed.version; others = s.classed.others; fresh = refl; classes = s.classed.classes; feet = all_more (λ (j : Item). has_known_class (numbers cs) j.kind) is i s.classed.feet s.classed.foot; foot = refl };
       weight = omega arith;
       count = fits;
       phase = refl;
@@ -340,7 +376,7 @@ end_line n c ps v cs is e p next s = record {
   params = s.params;
   items = s.items;
   leaves = s.leaves;
-  classed = record { version = s.classed.version; fresh = refl; classes = s.classed.classes; feet = s.classed.feet; foot = s.classed.foot };
+  classed = record { version = s.classed.version; others = s.classed.others; fresh = refl; classes = s.classed.classes; feet = s.classed.feet; foot = s.classed.foot };
   weight = s.weight;
   count = s.count;
   phase = refl;

@@ -1,5 +1,5 @@
 -- The reader's galley stays valid, line by line.
-use Rattle.std.proofs.Common.{◌≡◌, ℕ, ◌+◌, ◌≤◌, Bool, true, false, ◌&&◌, not, ◌||◌, ◌==◌, nat_le, List, [], ◌∷◌, Option, Some, None, Result, Ok, Err, IfOk, refl, sym, subst, ◌⊎◌, inl, inr, arith, if◌then◌else◌, append-nil}
+use Rattle.std.proofs.Common.{◌≡◌, ℕ, ◌+◌, ◌≤◌, Bool, true, false, ◌||◌, ◌==◌, nat_le, List, [], ◌∷◌, Option, Some, None, Result, Ok, Err, IfOk, refl, sym, subst, ◌⊎◌, inl, inr, arith, if◌then◌else◌, append-nil}
 use Rattle.std.specs.Cmp.{first_so, second_so}
 use Rattle.std.proofs.lemmas.Bool.{and_from}
 use Rattle.std.specs.List.{list_all, fold}
@@ -7,7 +7,6 @@ use Rattle.std.proofs.lemmas.Bool.Decides.{nat_tests}
 use Rattle.tb_param.specs.declared.params.Params.{Params}
 use Rattle.tb_param.specs.Defaults.{default_params}
 use Rattle.tb_param.specs.Fields.{with_value}
-use Rattle.tb_param.specs.Release.{has_second}
 use Rattle.tb_param.proofs.RangeLemmas.{defaults_are_in_range}
 use Rattle.tb_galley.specs.declared.contents.Content.{Content}
 use Rattle.tb_galley.specs.declared.contents.Content.TheVariants as contents
@@ -29,7 +28,7 @@ use Rattle.tb_galley.specs.GalleyReader.{State, next_phase, item_phase, known_in
 use Rattle.tb_galley.specs.Valid.{is_leaf, is_item, weight_of, weight, lines_of_item, named_lines, is_class, do_classes_rise, has_known_class, fits_version, IsValid}
 use Rattle.tb_galley.proofs.SuitedLines.{is_single_word, LeafSaid, ItemSaid, Suits, SaidSuits, IfSaid, line_suits}
 use Rattle.tb_galley.proofs.WithClass.{rise-with, all-with, among-with}
-use Rattle.tb_galley.proofs.SoundLines.{Rises, numbers, Sound, drafted, past_line, fits_two, header_line, set_line, items_left, item_line, leaf_line, foot_line, endfoot_line, end_line}
+use Rattle.tb_galley.proofs.SoundLines.{Rises, numbers, Sound, drafted, past_line, fits_later, header_line, set_line, items_left, item_line, leaf_line, foot_line, endfoot_line, end_line}
 
 -- ---- each content, in each phase
 
@@ -144,13 +143,13 @@ end_steps n c ps v cs is e among_items None place s = end_line n c ps v cs is e 
 end_steps n c ps v cs is e p ft place s = cc
 
 -- the version of a galley in which `class` is a word
-second_version : (v : ℕ) (cs : List ClassLine) (ps : Params) → (v == 1) ≡ false → fits_version v cs ps ≡ true → (v == 2) ≡ true
-second_version v [] ps other h = by_test (v == 1) (v == 2) (not (has_second ps)) other h
+later_version : (v : ℕ) (cs : List ClassLine) → (v == 1) ≡ false → fits_version v cs ≡ true → ((v == 2) || (v == 3)) ≡ true
+later_version v [] other h = by_test (v == 1) (v == 2) (v == 3) other h
   where
-    by_test : (a b x : Bool) → a ≡ false → ((a && x) || b) ≡ true → b ≡ true
-    by_test true b x e h = cc
-    by_test false b x e h = h
-second_version v (c ∷ cs) ps other h = h
+    by_test : (one two three : Bool) → one ≡ false → (one || two || three) ≡ true → (two || three) ≡ true
+    by_test true two three e h = cc
+    by_test false two three e h = h
+later_version v (c ∷ cs) other h = h
 
 class_version : (k : Known) → word_here k (Some class_line) ≡ Some class_line → (k.version == 1) ≡ false
 class_version k h = by_test (k.version == 1) h
@@ -180,7 +179,8 @@ class_steps n c ps v cs is e line later good among_sets None place s =
       items = next.items;
       leaves = next.leaves;
       classed = record {
-        version = fits_two v (with_class line cs) ps (second_version v cs ps later s.classed.version);
+        version = fits_later v (with_class line cs) (later_version v cs later s.classed.version);
+        others = s.classed.others;
         fresh = refl;
         classes =
             and_from (list_all is_class (with_class line cs)) (do_classes_rise (with_class line cs)) (all-with line cs good (first_so (list_all is_class cs) (do_classes_rise cs) s.classed.classes))
@@ -253,7 +253,7 @@ start_sound = record {
   params = defaults_are_in_range;
   items = refl;
   leaves = refl;
-  classed = record { version = refl; fresh = refl; classes = refl; feet = refl; foot = refl };
+  classed = record { version = refl; others = λ field lacks. refl; fresh = refl; classes = refl; feet = refl; foot = refl };
   weight = omega arith;
   count = omega arith;
   phase = refl;
@@ -267,6 +267,7 @@ ended_galley n c ps v cs is None e s =
     record {
       params = s.params;
       version = s.classed.version;
+      others = s.classed.others;
       classes = s.classed.classes;
       items = s.items;
       feet = s.classed.feet;

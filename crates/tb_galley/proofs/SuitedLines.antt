@@ -1,6 +1,5 @@
 -- What a line says suits its word and its place, and is in its ranges.
-use Rattle.std.proofs.Common.{◌≡◌, ℕ, Bool, true, false, ◌||◌, ◌==◌, nat_lt, nat_abs, length, List, [], ◌∷◌, Option, Some, None, Result, Ok, Err, IfOk, if◌then◌else◌, refl, sym, subst, ◌⊎◌, inl, inr, pos, negsuc}
-use Rattle.std.specs.Prelude.{codes}
+use Rattle.std.proofs.Common.{◌≡◌, ℕ, Bool, true, false, nat_lt, nat_abs, length, List, [], ◌∷◌, Option, Some, None, Result, Ok, Err, IfOk, if◌then◌else◌, refl, sym, subst, ◌⊎◌, inl, inr, pos, negsuc}
 use Rattle.std.specs.List.{list_all}
 use Rattle.tb_node.specs.Names.{is_name}
 use Rattle.tb_text.specs.Lines.{fields_of, is_skipped}
@@ -21,12 +20,12 @@ use Rattle.tb_galley.specs.declared.LeafKind.TheVariants as leaves
 use Rattle.tb_galley.specs.declared.fields.At.{At}
 use Rattle.tb_galley.specs.Words.{LineWord, header, setting, class_line, hbox, rule, skip, kern, penalty, mark, note, foot, endfoot, float, margin, newpage, clearpage, pagebreak, nopagebreak, onecolumn, twocolumn, suppressfloats, end, Phase, Line, line_at, content_at, is_leaf_word, Known, word_here}
 use Rattle.tb_galley.specs.Faults.{is_printable, place_causes, item_causes, missing_cause}
-use Rattle.tb_galley.specs.FieldReader.{Left, at_fault, settled, next_left, name_left, dimension_left, range_left, sized_left, glue_left, float_left, margin_left, area_left, value_left, set_by, set_left, choice_left, class_left, foot_left, mapped, end_left, finished, content_left}
+use Rattle.tb_galley.specs.FieldReader.{Left, at_fault, settled, next_left, name_left, dimension_left, range_left, sized_left, glue_left, float_left, margin_left, area_left, value_left, set_by, set_left, class_left, foot_left, mapped, end_left, finished, content_left, version_left}
 use Rattle.tb_galley.specs.Line.{first_of, Said, said, worded_left, content_line, content_lines, line_left}
-use Rattle.tb_galley.specs.Valid.{is_leaf, is_item, weight_of, lines_of_item, is_class, has_known_class}
+use Rattle.tb_galley.specs.Valid.{is_leaf, is_item, weight_of, lines_of_item, is_class, has_known_class, is_version}
 use Rattle.tb_galley.specs.Fields.{is_class_among}
 use Rattle.tb_galley.proofs.SameStep.{here_cases}
-use Rattle.tb_galley.proofs.InRange.{bind_has, then_has, mapped_has, has_more, settled_has, always, is_sized, sized_has, name_has, dimension_has, range_has, glue_has, float_has, is_float_at, margin_has, is_margin_at, value_has, degree_at_most, class_has, foot_has}
+use Rattle.tb_galley.proofs.InRange.{bind_has, then_has, mapped_has, has_more, settled_has, always, is_sized, sized_has, name_has, dimension_has, range_has, glue_has, float_has, is_float_at, margin_has, is_margin_at, value_has, degree_at_most, class_has, foot_has, version_has}
 
 -- ---- what a line may say by its word
 
@@ -62,7 +61,7 @@ SetsInRange field value = (p : Params) → are_params p ≡ true → are_params 
 
 -- what the word of a line and what is known before it let the line say
 abbrev pub Suits : Known → ℕ → LineWord → Content → Type 0
-Suits k n w (contents.Header version) = (w ≡ header) × (((version == 1) || (version == 2)) ≡ true)
+Suits k n w (contents.Header version) = (w ≡ header) × (is_version version ≡ true)
 Suits k n w (contents.Set field value) = (w ≡ setting) × SetsInRange field value × (is_known_in k.version field ≡ true)
 Suits k n w (contents.Class c) = (w ≡ class_line) × (is_class c ≡ true)
 Suits k n w (contents.Plain l) = LeafSaid w l
@@ -95,11 +94,7 @@ made_has k n w P f r h good = mapped_has (λ c. Suits k n w c) f r (has_more (λ
 
 content_suits : (k : Known) (n : ℕ) (w : LineWord) (l : Left) → IfOk (content_left k n w l) (λ x. Suits k n w x.0)
 unfolding content_left set_left
-content_suits k n header l = mapped_has (λ c. Suits k n header c) (λ b. contents.Header (if b then 2 else 1)) (choice_left (codes "1") (codes "2") causes.NoHeader l) (always (λ x. (refl, some_version x.0)) (choice_left (codes "1") (codes "2") causes.NoHeader l))
-  where
-    some_version : (b : Bool) → (((if b then 2 else 1) == 1) || ((if b then 2 else 1) == 2)) ≡ true
-    some_version true = refl
-    some_version false = refl
+content_suits k n header l = made_has k n header (λ v. is_version v ≡ true) (λ v. contents.Header v) (version_left l) (version_has l) (λ v h. (refl, h))
 content_suits k n setting l = bind_has (λ x. Suits k n setting x.0) (next_left l) (λ x. set_by l.number x.1 (row_for k.version x.0)) (λ x. set_suits k n l.number x.1 x.0 (row_for k.version x.0) refl)
 content_suits k n class_line l = made_has k n class_line (λ c. is_class c ≡ true) (λ c. contents.Class c) (class_left n l) (class_has n l) (λ c h. (refl, h))
 content_suits k n hbox l = made_has k n hbox (λ s. is_sized s ≡ true) (λ s. contents.Plain (leaves.Hbox s.0 s.1 s.2)) (sized_left l) (sized_has l) (λ s h. record { word = refl; range = h })

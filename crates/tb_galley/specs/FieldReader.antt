@@ -15,14 +15,15 @@ use Rattle.tb_param.specs.declared.table.Form.{Form}
 use Rattle.tb_param.specs.declared.table.Form.TheVariants as forms
 use Rattle.tb_param.specs.declared.Value.{Value}
 use Rattle.tb_param.specs.declared.Value.TheVariants as values
-use Rattle.tb_param.specs.declared.Choice.TheVariants.{Flush, Ragged, On, Off, R2014, R2015}
+use Rattle.tb_param.specs.declared.Choice.TheVariants.{Flush, Ragged, On, Off, R2014, R2015, Keep, Drop, Above, Below}
+use Rattle.tb_param.specs.declared.Rule.{Rule}
 use Rattle.tb_param.specs.Table.{Row, row_for}
 use Rattle.tb_galley.specs.declared.classes.ClassLine.{ClassLine}
 use Rattle.tb_galley.specs.declared.contents.Content.{Content}
 use Rattle.tb_galley.specs.declared.contents.Content.TheVariants as contents
 use Rattle.tb_galley.specs.declared.ItemKind.TheVariants as items
 use Rattle.tb_galley.specs.declared.LeafKind.TheVariants as leaves
-use Rattle.tb_galley.specs.Words.{LineWord, header, setting, class_line, hbox, rule, skip, kern, penalty, mark, note, foot, endfoot, float, margin, newpage, clearpage, pagebreak, nopagebreak, onecolumn, twocolumn, suppressfloats, end, Known, number_in}
+use Rattle.tb_galley.specs.Words.{LineWord, header, setting, class_line, hbox, rule, skip, kern, penalty, mark, note, foot, endfoot, float, margin, newpage, clearpage, pagebreak, nopagebreak, onecolumn, twocolumn, suppressfloats, end, Known, number_in, version_named}
 use Rattle.tb_galley.specs.declared.Cause.{Cause}
 use Rattle.tb_galley.specs.declared.Cause.TheVariants as causes
 use Rattle.tb_galley.specs.declared.fields.At.{At}
@@ -140,6 +141,10 @@ range_left low high c l = field_read (range_slot low high c) integer_in l
 unfoldable pub choice_left : List ℕ → List ℕ → Cause → Left → Result (Bool × Left) At
 choice_left first second c l = field_read (word_slot (first ∷ second ∷ []) c) (λ f. bytes_eq f second) l
 
+-- the version of a galley
+unfoldable pub version_left : Left → Result (ℕ × Left) At
+version_left l = field_read (word_slot (codes "1" ∷ codes "2" ∷ codes "3" ∷ []) causes.NoHeader) version_named l
+
 -- places, and whether `!` is among them
 unfoldable pub places_left : Left → Result ((Places × Bool) × Left) At
 places_left l = field_read places_slot (λ f. (places_at f, has_byte 33 f)) l
@@ -234,6 +239,23 @@ area_by l false = mapped (λ b. if b then areas.Bottom else areas.Top) (choice_l
 unfoldable pub area_left : Left → Result (Area × Left) At
 area_left l = area_by l (is_end l.fields)
 
+-- a rule that is drawn: a kern, a height and a kern
+unfoldable pub drawn_left : Left → Result (Option Rule × Left) At
+drawn_left l = do
+  a ← dimension_left l
+  h ← least_left (pos 0) causes.Parameter a.1
+  b ← dimension_left h.1
+  Ok (Some (record { above = a.0; height = h.0; below = b.0 }), b.1)
+
+-- no rule, if its word is next
+abbrev pub rule_by : Left → Bool → Result (Option Rule × Left) At
+rule_by l true = next_left l >>= λ x. Ok (None, x.1)
+rule_by l false = drawn_left l
+
+-- a rule: `none`, or one that is drawn
+unfoldable pub rule_left : Left → Result (Option Rule × Left) At
+rule_left l = rule_by l (next_is_by (codes "none") l.fields)
+
 -- the value of a parameter by its form
 unfoldable pub value_left : Form → Left → Result (Value × Left) At
 value_left (forms.Int low high) l = mapped (λ n. values.Int n) (range_left low high causes.Parameter l)
@@ -243,6 +265,9 @@ value_left forms.Skip l = mapped (λ g. values.Skip g) (glue_left causes.WrongFo
 value_left forms.Bottom l = mapped (λ b. values.Word (if b then Flush else Ragged)) (choice_left (codes "ragged") (codes "flush") causes.WrongForm l)
 value_left forms.Switch l = mapped (λ b. values.Word (if b then On else Off)) (choice_left (codes "off") (codes "on") causes.WrongForm l)
 value_left forms.Release l = mapped (λ b. values.Word (if b then R2015 else R2014)) (choice_left (codes "2014") (codes "2015") causes.WrongForm l)
+value_left forms.Rule l = mapped (λ r. values.Rule r) (rule_left l)
+value_left forms.FootDepth l = mapped (λ b. values.Word (if b then Drop else Keep)) (choice_left (codes "keep") (codes "drop") causes.WrongForm l)
+value_left forms.FootPlace l = mapped (λ b. values.Word (if b then Below else Above)) (choice_left (codes "above") (codes "below") causes.WrongForm l)
 
 -- a class: its number, factor, limit and glue
 unfoldable pub class_left : ℕ → Left → Result (ClassLine × Left) At
@@ -275,7 +300,7 @@ set_left version l = do
 
 -- what a line of this number says, by its word and by what is known before it
 unfoldable pub content_left : Known → ℕ → LineWord → Left → Result (Content × Left) At
-content_left k n header l = mapped (λ b. contents.Header (if b then 2 else 1)) (choice_left (codes "1") (codes "2") causes.NoHeader l)
+content_left k n header l = mapped (λ v. contents.Header v) (version_left l)
 content_left k n setting l = set_left k.version l
 content_left k n class_line l = mapped (λ c. contents.Class c) (class_left n l)
 content_left k n hbox l = mapped (λ s. contents.Plain (leaves.Hbox s.0 s.1 s.2)) (sized_left l)

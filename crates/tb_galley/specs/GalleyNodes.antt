@@ -1,8 +1,9 @@
 -- The nodes of a galley.
-use Rattle.std.specs.Prelude.{ℕ, suc, zero, ℤ, pos, neg_ℤ, Bool, ◌&&◌, List, [], ◌∷◌, ◌++◌, map, Some, if◌then◌else◌}
+use Rattle.std.specs.Prelude.{ℕ, suc, zero, ℤ, pos, neg_ℤ, Bool, ◌&&◌, List, [], ◌∷◌, ◌++◌, map, if◌then◌else◌}
 use Rattle.tb_node.specs.PlainNodes.{Matter, hbox, rule, skip, kerned, pen, mark, note, Leaf as PlainLeaf, leaf_shape, PlainKind, plain, ins, act, PlainNode, blank_box, on_line, newpage_kinds, clearpage_kinds}
 use Rattle.tb_node.specs.Sums.{size_of}
 use Rattle.tb_node.specs.declared.What.TheVariants.{Text}
+use Rattle.tb_node.specs.declared.RuleOf.TheVariants as rules
 use Rattle.tb_node.specs.declared.Float.{Float}
 use Rattle.tb_node.specs.declared.Act.{Act}
 use Rattle.tb_node.specs.declared.Act.TheVariants as acts
@@ -19,7 +20,7 @@ use Rattle.tb_galley.specs.declared.Galley.{Galley}
 -- the node that a box, rule, glue, kern or penalty is
 abbrev pub leaf_matter : LeafKind → Matter
 leaf_matter (leaves.Hbox name h d) = hbox (Text name) h d
-leaf_matter (leaves.Rule name h d) = rule (Some name) h d
+leaf_matter (leaves.Rule name h d) = rule (rules.Item name) h d
 leaf_matter (leaves.Skip g) = skip g
 leaf_matter (leaves.Kern w) = kerned w
 leaf_matter (leaves.Penalty p) = pen p
@@ -59,7 +60,7 @@ break_strength (suc (suc (suc (suc n)))) = pos 10000
 -- the nodes of an item in order, by whether the last change of columns before it was to two columns
 abbrev pub item_kinds : Params → Bool → ItemKind → List PlainKind
 item_kinds p two (items.Hbox name h d) = plain (hbox (Text name) h d) ∷ []
-item_kinds p two (items.Rule name h d) = plain (rule (Some name) h d) ∷ []
+item_kinds p two (items.Rule name h d) = plain (rule (rules.Item name) h d) ∷ []
 item_kinds p two (items.Skip g) = plain (skip g) ∷ []
 item_kinds p two (items.Kern w) = plain (kerned w) ∷ []
 item_kinds p two (items.Penalty n) = plain (pen n) ∷ []

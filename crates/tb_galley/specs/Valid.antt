@@ -1,13 +1,15 @@
 -- Galleys whose values are in their ranges.
-use Rattle.std.specs.Prelude.{ℕ, ◌+◌, ℤ, pos, neg_ℤ, Bool, true, not, ◌&&◌, ◌||◌, ◌==◌, nat_le, nat_lt, IsTrue, List, [], ◌∷◌, ◌++◌, length, map}
+use Rattle.std.specs.Prelude.{◌≡◌, ℕ, ◌+◌, ℤ, pos, neg_ℤ, Bool, true, false, ◌&&◌, ◌||◌, ◌==◌, nat_le, nat_lt, IsTrue, List, [], ◌∷◌, ◌++◌, length, map}
 use Rattle.std.specs.List.{list_all}
 use Rattle.tb_scaled.specs.Scaled.{max_dimen}
 use Rattle.tb_node.specs.Names.{is_name, is_between}
 use Rattle.tb_node.specs.declared.Float.{Float}
 use Rattle.tb_node.specs.declared.Margin.{Margin}
 unfoldable pub use Rattle.tb_param.specs.Ranges.{are_params}
-use Rattle.tb_param.specs.Release.{has_second}
-use Rattle.tb_param.specs.Table.{is_within, is_dimen, is_glue}
+use Rattle.tb_param.specs.Defaults.{default_params}
+use Rattle.tb_param.specs.Fields.{value_of}
+use Rattle.tb_param.specs.Table.{is_within, is_dimen, is_glue, is_known_in}
+use Rattle.tb_param.specs.declared.fields.Field.{Field}
 use Rattle.tb_param.specs.declared.Params.{Params}
 pub use Rattle.tb_galley.specs.Classes.{do_classes_rise}
 use Rattle.tb_galley.specs.Fields.{is_class_among}
@@ -105,15 +107,24 @@ abbrev pub has_known_class : List ℕ → ItemKind → Bool
 has_known_class ks (items.Foot class ls) = is_class_among ks class
 has_known_class ks _ = true
 
--- a galley of version 1 declares no class and follows release 2015
-abbrev pub fits_version : ℕ → List ClassLine → Params → Bool
-fits_version version [] p = (version == 1 && not (has_second p)) || version == 2
-fits_version version (c ∷ cs) p = version == 2
+-- a version of the galley
+abbrev pub is_version : ℕ → Bool
+is_version version = (version == 1) || (version == 2) || (version == 3)
 
--- all values are in their ranges, the version knows what the galley has, each footnote's class is declared, the items are not too many, and the lines rise
+-- a galley of version 1 declares no class
+abbrev pub fits_version : ℕ → List ClassLine → Bool
+fits_version version [] = is_version version
+fits_version version (c ∷ cs) = (version == 2) || (version == 3)
+
+-- each parameter that a galley of the version does not have has its default
+abbrev pub OthersDefault : ℕ → Params → Type 0
+OthersDefault version p = (field : Field) → is_known_in version field ≡ false → value_of field p ≡ value_of field default_params
+
+-- all values are in their ranges, the version has what the galley has, the parameters that it does not have have their defaults, each footnote's class is declared, the items are not too many, and the lines rise
 pub record IsValid (g : Galley) : Type 0 where
   pub params : IsTrue (are_params g.params)
-  pub version : IsTrue (fits_version g.version g.classes g.params)
+  pub others : OthersDefault g.version g.params
+  pub version : IsTrue (fits_version g.version g.classes)
   pub classes : IsTrue (list_all is_class g.classes && do_classes_rise g.classes)
   pub items : IsTrue (list_all (λ n. is_item n.line n.kind) g.items)
   pub feet : IsTrue (list_all (λ n. has_known_class (map (λ c. c.number) g.classes) n.kind) g.items)

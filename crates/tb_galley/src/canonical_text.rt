@@ -5,13 +5,13 @@ ghost use Rattle.tb_galley.specs.ReadBack.{ReadsBack};
 ghost use Rattle.tb_galley.specs.Valid.{IsValid};
 ghost use Rattle.tb_param.specs.TableRows.{row_seen};
 ghost use Rattle.tb_param.specs.Table.{is_known_in};
-ghost use Rattle.tb_galley.specs.CanonicalText.{unit_text, plus_text, minus_text, glue_text, choice_text, value_text, set_lines, text_if, places_text, wide_text, box_text, leaf_text, leaf_lines, paragraph_text, header_text, class_text, class_lines, foot_text, float_text, margin_text, sides_text, pair_text, area_text, item_text, item_lines, printed};
+ghost use Rattle.tb_galley.specs.CanonicalText.{unit_text, plus_text, minus_text, glue_text, choice_text, rule_text, value_text, set_lines, text_if, places_text, wide_text, box_text, leaf_text, leaf_lines, paragraph_text, header_text, class_text, class_lines, foot_text, float_text, margin_text, sides_text, pair_text, area_text, item_text, item_lines, printed};
 ghost use Rattle.tb_text.specs.Fields.{and_count, line};
 
 use crate::{ClassLine, Galley, Item, ItemKind, Leaf, LeafKind};
 use std::alloc::{AllocError, Global};
 use tb_node::{Area, Float, Margin, Name, Places};
-use tb_param::{Choice, Field, Form, LIVE_PARAMS, Params, Value, is_known_in};
+use tb_param::{Choice, Field, Form, LIVE_PARAMS, Params, Rule, Value, is_known_in};
 use tb_scaled::{Glue, Order};
 use tb_text::{put, put_amount, put_count, put_text, write_field, write_text};
 
@@ -100,7 +100,22 @@ fn choice(choice: Choice) -> &'static [u8]
         Choice::Off => b" off",
         Choice::R2014 => b" 2014",
         Choice::R2015 => b" 2015",
+        Choice::Keep => b" keep",
+        Choice::Drop => b" drop",
+        Choice::Above => b" above",
+        Choice::Below => b" below",
     }
+}
+
+fn put_rule(out: &mut Vec<u8>, rule: Option<Rule>) -> Result<(), AllocError>
+    ensures { OnOk result (out.new.items ≡ out.old.items ++ rule_text rule) }
+{
+    let Some(rule) = rule else {
+        return put(out, b" none");
+    };
+    put_amount(out, rule.above)?;
+    put_amount(out, rule.height)?;
+    put_amount(out, rule.below)
 }
 
 fn put_value(out: &mut Vec<u8>, value: &Value) -> Result<(), AllocError>
@@ -115,6 +130,7 @@ fn put_value(out: &mut Vec<u8>, value: &Value) -> Result<(), AllocError>
             put(out, b"/65536")
         }
         Value::Word(word) => put(out, choice(*word)),
+        Value::Rule(rule) => put_rule(out, *rule),
     }
 }
 
@@ -324,10 +340,10 @@ fn put_leaves(out: &mut Vec<u8>, leaves: &[Leaf]) -> Result<(), AllocError>
 fn header(version: u8) -> &'static [u8]
     ensures { result.now ≡ header_text version }
 {
-    if version == 1 {
-        b"galley 1\n"
-    } else {
-        b"galley 2\n"
+    match version {
+        1 => b"galley 1\n",
+        2 => b"galley 2\n",
+        _ => b"galley 3\n",
     }
 }
 
@@ -357,7 +373,7 @@ fn put_classes(out: &mut Vec<u8>, classes: &[ClassLine]) -> Result<(), AllocErro
     Ok(())
 }
 
-// The line that begins a footnote: in version 2 it names the class.
+// The line that begins a footnote: from version 2 on it names the class.
 fn put_foot(out: &mut Vec<u8>, version: u8, class: u8) -> Result<(), AllocError>
     ensures { OnOk result (out.new.items ≡ out.old.items ++ foot_text version class) }
 {
@@ -448,7 +464,7 @@ fn put_items(out: &mut Vec<u8>, version: u8, items: &[Item]) -> Result<(), Alloc
 }
 
 /// The canonical text of a galley: its header, a `set` line for each parameter that its version has, a `class` line for
-/// each class in rising number, its items and its end, with single spaces. In version 2 each `foot` names its class.
+/// each class in rising number, its items and its end, with single spaces. From version 2 on each `foot` names its class.
 /// Dimensions are bare integers, glue has all three parts, and fractions are in 65536ths. If the galley is valid and the
 /// text is no longer than an input may be, the text is read as the same galley, but for its line numbers.
 #[tactic(auto, unfolding(crate::specs::CanonicalText::printed))]

@@ -11,7 +11,7 @@ use tb_param::{Choice, Field, Form, Value, row_for};
 /// What a content line says.
 #[derive(Drop)]
 pub enum Content {
-    /// The header, with the version, 1 or 2.
+    /// The header, with the version, 1, 2 or 3.
     Header { version: u8 },
     /// `set`: a parameter and its value.
     Set { field: Field, value: Value },
@@ -110,6 +110,15 @@ fn value(form: Form, fields: &mut Fields<'_>) -> Result<Value, At>
             let last = fields.choice(b"2014", b"2015", Cause::WrongForm)?;
             Ok(Value::Word(if last { Choice::R2015 } else { Choice::R2014 }))
         }
+        Form::Rule => Ok(Value::Rule(fields.rule()?)),
+        Form::FootDepth => {
+            let drop = fields.choice(b"keep", b"drop", Cause::WrongForm)?;
+            Ok(Value::Word(if drop { Choice::Drop } else { Choice::Keep }))
+        }
+        Form::FootPlace => {
+            let below = fields.choice(b"above", b"below", Cause::WrongForm)?;
+            Ok(Value::Word(if below { Choice::Below } else { Choice::Above }))
+        }
     }
 }
 
@@ -167,12 +176,9 @@ pub(crate) fn read_content(
     ensures { Gives result (left_of fields.new) (content_left (known_in draft.now) line word (left_of fields.old)) }
 {
     match word {
-        Word::Header => {
-            let second = fields.choice(b"1", b"2", Cause::NoHeader)?;
-            Ok(Content::Header {
-                version: if second { 2 } else { 1 },
-            })
-        }
+        Word::Header => Ok(Content::Header {
+            version: fields.version()?,
+        }),
         Word::Setting => set(draft.version, fields),
         Word::Class => Ok(Content::Class(class(line, fields)?)),
         Word::Hbox => {

@@ -25,7 +25,7 @@ pub struct OpenFoot {
 pub struct Draft {
     /// The parameters, as they were set so far.
     pub params: Params,
-    /// The version, 1 or 2.
+    /// The version, 1, 2 or 3.
     pub version: u8,
     /// The classes of insertions that were declared.
     pub classes: Classes,

@@ -5,11 +5,12 @@ ghost use Rattle.tb_galley.specs.Faults.{is_printable};
 ghost use Rattle.tb_galley.specs.Fields.{text_cause, are_places, is_place_byte, is_foot_class, class_slot};
 ghost use Rattle.tb_galley.specs.Words.{number_in};
 ghost use Rattle.tb_galley.specs.Grammar.{has_byte, places_at};
-ghost use Rattle.tb_galley.specs.FieldReader.{left_of, Gives, GivesBy, next_left, end_left, field_read, dimension_left, stretch_left, least_left, range_left, stretch_part, shrink_part, glue_left, next_is_by, is_end, fraction_left, choice_left, places_left, sized_left, name_left};
+ghost use Rattle.tb_galley.specs.FieldReader.{left_of, Gives, GivesBy, next_left, end_left, field_read, dimension_left, stretch_left, least_left, range_left, stretch_part, shrink_part, glue_left, next_is_by, is_end, fraction_left, choice_left, version_left, places_left, sized_left, name_left};
 ghost use Rattle.tb_text.specs.Lines.{begins_with};
 
 use crate::fields::{At, Fields};
 use crate::glue_words::{after_minus, after_plus};
+use crate::words::version_of;
 use crate::{Cause, ClassLine};
 use tb_node::{FOOTNOTES, Name, Places, name_of};
 use tb_scaled::{Glue, Order};
@@ -359,6 +360,22 @@ impl<'a> Fields<'a> {
                 field: number,
                 cause,
             })
+        }
+    }
+
+    /// The next field as the version of a galley.
+    #[tactic(auto, unfolding(crate::specs::FieldReader::version_left))]
+    pub fn version(&mut self) -> Result<u8, At>
+        ensures { Gives result (left_of self.new) (version_left (left_of self.old)) }
+    {
+        let number = self.number;
+        let field = self.next()?;
+        match version_of(field) {
+            Some(version) => Ok(version),
+            None => Err(At {
+                field: number,
+                cause: Cause::NoHeader,
+            }),
         }
     }
 

@@ -1,4 +1,4 @@
-//! The words of glue: what follows them in a line.
+//! The words of glue and of rules: what follows them in a line.
 ghost use Rattle.std.specs.Prelude.{◌≡◌, ◌<◌, ◌≤◌, ◌∷◌, true, false, length, codes, IfSome, MatchOption};
 ghost use Rattle.tb_galley.specs.FieldReader.{next_is_by};
 ghost use Rattle.tb_text.specs.Lines.{begins_with, fields_of};
@@ -49,6 +49,14 @@ fn near_minus(line: &[u8]) -> Option<&[u8]>
         [b' ', b'm', b'i', b'n', b'u', b's', rest @ ..] if begins_with_space(rest) => Some(rest),
         _ => None,
     }
+}
+
+/// What follows the first field of a line, if that is `none`.
+pub(crate) fn after_none(line: &[u8]) -> Option<&[u8]>
+    ensures fields { MatchOption result (next_is_by (codes "none") (fields_of line.now) ≡ false) (λ r. fields_of line.now ≡ codes "none" ∷ fields_of r.now) }
+    ensures shorter { MatchOption result (0 ≤ length line.now) (λ r. length r.now < length line.now) }
+{
+    after_word(b"none", line)
 }
 
 /// Whether a line begins with a space.

@@ -1,5 +1,6 @@
 mod classes;
 mod cuts;
+mod rules;
 
 use std::alloc::Global;
 use std::test::Fail;
@@ -133,7 +134,7 @@ fn finds_the_first_fault(rt: HostRuntime) -> Result<(), Fail> {
         (b"", 1, 0, b"NoHeader"),
         (b"\n# x\n", 3, 0, b"NoHeader"),
         (b"galley", 1, 2, b"NoHeader"),
-        (b"galley 3", 1, 2, b"NoHeader"),
+        (b"galley 4", 1, 2, b"NoHeader"),
         (b"galley 1 x", 1, 3, b"ExtraField"),
         (b"end", 1, 1, b"NoHeader"),
         (b"g\x01 1", 1, 1, b"NotAscii"),
@@ -348,13 +349,23 @@ fn canonical(alloc: Global, text: &[u8]) -> Result<Vec<u8>, Fail> {
 
 #[test]
 fn prints_the_canonical_text(rt: HostRuntime) -> Result<(), Fail> {
-    let rows: [(&[u8], &[u8], &[u8]); 8] = [
+    let rows: [(&[u8], &[u8], &[u8]); 10] = [
         (b"galley 1\nend", b"galley 1\n", b"end\n"),
         (b"galley 2\nend", b"galley 2\n", b"set release 2015\nend\n"),
         (
             b"galley 2\nset release 2015\nset release 2014\nend",
             b"galley 2\n",
             b"set release 2014\nend\n",
+        ),
+        (
+            b"galley 3\nend",
+            b"galley 3\n",
+            b"set release 2015\nset texttop 0 plus 0 minus 0\nset textbottom 0 plus 0 minus 0\nset footrule -196608 26214 170394\nset toprule none\nset bottomrule none\nset dblrule none\nset footdepth keep\nset footfill 0 plus 0 minus 0\nset footplace above\nend\n",
+        ),
+        (
+            b"galley 3\nset footplace below\nset footfill 0 plus 1fil\nset footdepth drop\nset dblrule 1pt 0 -1\nset toprule 1 2 3\nset toprule none\nset footrule +0 1pt -2\nset texttop 1\nclass 3 1000 1 0\nfoot\nendfoot\nend",
+            b"galley 3\n",
+            b"set release 2015\nset texttop 1 plus 0 minus 0\nset textbottom 0 plus 0 minus 0\nset footrule 0 65536 -2\nset toprule none\nset bottomrule none\nset dblrule 65536 0 -1\nset footdepth drop\nset footfill 0 plus 65536sfil minus 0\nset footplace below\nclass 3 1000 1 0 plus 0 minus 0\nfoot 254\nendfoot\nend\n",
         ),
         (
             b"galley 1\nfoot\nkern 1\nendfoot\nend",

@@ -12,7 +12,7 @@ use Rattle.tb_node.specs.declared.Role.TheVariants as roles
 -- the act, if the node is one
 abbrev pub act_of_kind : Kind → Option Act
 act_of_kind (kinds.Hbox what h d) = None
-act_of_kind (kinds.Rule name h d) = None
+act_of_kind (kinds.Rule of h d) = None
 act_of_kind (kinds.Skip g) = None
 act_of_kind (kinds.Kern w) = None
 act_of_kind (kinds.Pen p) = None
@@ -25,7 +25,7 @@ act_of_kind (kinds.Act a) = Some a
 -- the insertion, if the node is one
 abbrev pub insertion_of_kind : Kind → Option Insertion
 insertion_of_kind (kinds.Hbox what h d) = None
-insertion_of_kind (kinds.Rule name h d) = None
+insertion_of_kind (kinds.Rule of h d) = None
 insertion_of_kind (kinds.Skip g) = None
 insertion_of_kind (kinds.Kern w) = None
 insertion_of_kind (kinds.Pen p) = None

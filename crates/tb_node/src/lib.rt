@@ -111,6 +111,17 @@ pub enum What {
     },
 }
 
+/// Whose a rule is: an item's of the galley, or the output routine's, which puts it above footnotes or beside floats.
+#[derive(Clone, Copy)]
+pub enum RuleOf {
+    /// An item's, with its name.
+    Item(Name),
+    /// That above footnotes.
+    Footnotes,
+    /// That below the floats at the top of a column, above those at its bottom, or below those above a pair.
+    Floats,
+}
+
 /// An insertion, with the list of its material (TeX: The Program §140).
 #[derive(Clone, Copy)]
 pub struct Insertion {
@@ -216,10 +227,10 @@ pub enum Kind {
         /// Its depth.
         depth: i64,
     },
-    /// A rule. Its height and depth are not below 0. One that the output routine makes has no name.
+    /// A rule. Its height and depth are not below 0.
     Rule {
-        /// The name of a rule of the galley.
-        name: Option<Name>,
+        /// Whose it is.
+        of: RuleOf,
         /// Its height.
         height: i64,
         /// Its depth.

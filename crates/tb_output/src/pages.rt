@@ -1,18 +1,20 @@
 //! Pages are shipped: of one column, of two, or of wide floats.
 
-ghost use Rattle.std.specs.Prelude.{◌≡◌, ◌≤◌, pos, ◌-ℤ◌, ◌∷◌, [], false, Some, IsSome, OnOk, OnErr, IfOk, IfErr, IsTrue, MatchBool};
+ghost use Rattle.std.specs.Prelude.{◌≡◌, ◌≤◌, pos, ◌+ℤ◌, ◌-ℤ◌, ◌∷◌, [], false, Some, IsSome, OnOk, OnErr, IfOk, IfErr, IsTrue, MatchBool};
 ghost use Rattle.tb_scaled.specs.Amount.{IsAmount};
 ghost use Rattle.tb_pool.specs.Frame.{IsNoneOf};
 ghost use Rattle.tb_node.specs.PlainNodes.{plain_list};
 ghost use Rattle.tb_float.specs.Lists.{IsWaiting, wide_part};
 ghost use Rattle.tb_float.specs.Pool.{HasNoMarks};
-ghost use Rattle.tb_float.specs.Ranges.{AreFloatParams};
-ghost use Rattle.tb_float.specs.Rooms.{column_height_of};
+ghost use Rattle.tb_node.specs.Fit.{IsDimension, IsExtent};
+ghost use Rattle.tb_float.specs.Ranges.{AreFloatParams, IsWithin};
 ghost use Rattle.tb_fpage.specs.Choice.{IsChosen};
 ghost use Rattle.tb_column.specs.Column.{pair_floats};
 ghost use Rattle.tb_column.specs.StoredColumns.{column_shown};
 ghost use Rattle.tb_column.specs.Page.{IsPageList, IsPageColumn};
+ghost use Rattle.tb_column.specs.Ranges.{IsSizedRule, AreColumnParams};
 ghost use Rattle.tb_column.specs.ColumnChanges.{IsOpened};
+ghost use Rattle.tb_sheet.specs.Sheet.{rule_room, pair_top};
 ghost use Rattle.tb_output.specs.Pages.{wide_wanted, all_wide_pages, ship_pair};
 ghost use Rattle.tb_output.specs.Machine.{machine_lists, AreOutputParams, IsMachine};
 ghost use Rattle.tb_output.specs.FiringWork.{shows, IsCutShort, Does};
@@ -27,7 +29,7 @@ use tb_column::{Column, pair_tops};
 use tb_float::{Part, share_of};
 use tb_fpage::choose;
 use tb_node::Node;
-use tb_param::{Params, exceeds};
+use tb_param::{Params, Rule, exceeds};
 use tb_pool::{ListId, Lists};
 use tb_sheet::{Sent, Sheet};
 
@@ -40,6 +42,43 @@ pub(crate) fn wide_part(p: &Params) -> Part
         Part::Second
     } else {
         Part::Deferred
+    }
+}
+
+// The room of a rule between its kerns.
+fn rule_room(above: i64, height: i64, below: i64) -> i64
+    requires above { IsDimension above }
+    requires height { IsExtent height }
+    requires below { IsDimension below }
+    ensures value { result ≡ above +ℤ height +ℤ below }
+    ensures within { IsWithin 4294967296 result }
+{
+    above + height + below
+}
+
+// How far a rule of this room goes below what a column of this height leaves of a page.
+fn below_rule(page: i64, column: i64, room: i64) -> i64
+    requires page { IsExtent page }
+    requires column { IsWithin 35184372088832 column }
+    requires room { IsWithin 4294967296 room }
+    ensures { result ≡ (page -ℤ column) +ℤ room }
+{
+    page - column + room
+}
+
+// Where two columns of this height begin on a page of this one, below the rule under its wide floats.
+fn place_below(page: i64, column: i64, rule: Option<Rule>) -> i64
+    requires page { IsExtent page }
+    requires column { IsWithin 35184372088832 column }
+    requires rule { IsSizedRule rule }
+    ensures { result ≡ (page -ℤ column) +ℤ rule_room rule }
+{
+    match rule {
+        None => below_rule(page, column, 0),
+        Some(rule) => {
+            let room = rule_room(rule.above, rule.height, rule.below);
+            below_rule(page, column, room)
+        }
     }
 }
 
@@ -106,15 +145,18 @@ impl Machine {
         }
     }
 
-    // How far below the top of a page its two columns begin.
+    // How far below the top of a page its two columns begin: below the wide floats, their rule and their glue.
     fn pair_place(&self) -> i64
-        requires { AreFloatParams self.now.params }
-        ensures { result ≡ self.now.params.textheight -ℤ column_height_of self.now.params self.now.pool.lists }
+        requires { AreColumnParams self.now.params }
+        ensures { result ≡ pair_top self.now.params self.now.pool.lists }
     {
-        difference(
-            self.params.textheight,
-            self.pool.column_height(&self.params),
-        )
+        let height = self.pool.column_height(&self.params);
+        let rule = if self.pool.len(Part::Double) == 0 {
+            None
+        } else {
+            self.params.dblrule
+        };
+        place_below(self.params.textheight, height, rule)
     }
 
     // Puts the wide floats of a page into a list; they leave the pool. If there is no memory, all is as before.
@@ -199,13 +241,4 @@ impl Machine {
         let from = wide_part(&self.params);
         tb_area::fill_double(&mut self.pool, &self.params, from);
     }
-}
-
-// The first minus the second.
-fn difference(a: i64, b: i64) -> i64
-    requires first { IsAmount a }
-    requires second { IsAmount b }
-    ensures { result ≡ a -ℤ b }
-{
-    a - b
 }

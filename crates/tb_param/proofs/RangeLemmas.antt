@@ -9,7 +9,7 @@ use Rattle.tb_param.specs.declared.Value.TheVariants as kinds
 use Rattle.tb_param.specs.declared.table.Form.{Form}
 use Rattle.tb_param.specs.declared.table.Form.TheVariants as forms
 use Rattle.tb_param.specs.Fields.{with_value}
-use Rattle.tb_param.specs.Values.{amount_of, glue_of, choice_of}
+use Rattle.tb_param.specs.Values.{amount_of, glue_of, choice_of, rule_of}
 use Rattle.tb_param.specs.Table.{Row, rows, row_in, row_of, value_fault, set_unless, set_by, set_to}
 use Rattle.tb_param.specs.Defaults.{default_params}
 use Rattle.tb_param.specs.Ranges.{is_no_fault, are_params}
@@ -81,6 +81,18 @@ switch_fits v h = cc
 release_fits : (v : Value) → fits forms.Release v ≡ true → fits forms.Release (kinds.Word (choice_of v)) ≡ true
 release_fits (kinds.Word c) h = h
 release_fits v h = cc
+
+foot_depth_fits : (v : Value) → fits forms.FootDepth v ≡ true → fits forms.FootDepth (kinds.Word (choice_of v)) ≡ true
+foot_depth_fits (kinds.Word c) h = h
+foot_depth_fits v h = cc
+
+foot_place_fits : (v : Value) → fits forms.FootPlace v ≡ true → fits forms.FootPlace (kinds.Word (choice_of v)) ≡ true
+foot_place_fits (kinds.Word c) h = h
+foot_place_fits v h = cc
+
+rule_fits : (v : Value) → fits forms.Rule v ≡ true → fits forms.Rule (kinds.Rule (rule_of v)) ≡ true
+rule_fits (kinds.Rule r) h = h
+rule_fits v h = cc
 
 rows_fit : AllRows FitsPlace rows
 rows_fit = (
@@ -169,7 +181,7 @@ rows_fit = (
                                                                                     int_fits (pos 1) (pos 1000000),
                                                                                     (
                                                                                       int_fits (pos 100) (pos 4194304),
-                                                                                      (release_fits, tt),
+                                                                                      (release_fits, (skip_fits, (skip_fits, (rule_fits, (rule_fits, (rule_fits, (rule_fits, (foot_depth_fits, (skip_fits, (foot_place_fits, tt)))))))))),
                                                                                     ),
                                                                                   ),
                                                                                 ),

@@ -12,6 +12,10 @@ is_2014 choices.On = false
 is_2014 choices.Off = false
 is_2014 choices.R2014 = true
 is_2014 choices.R2015 = false
+is_2014 choices.Keep = false
+is_2014 choices.Drop = false
+is_2014 choices.Above = false
+is_2014 choices.Below = false
 
 -- wide floats that wait have a list of their own; in the release of 2015 all floats wait in one list
 abbrev pub has_second : Params → Bool

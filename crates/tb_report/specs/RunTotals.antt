@@ -1,5 +1,6 @@
 -- What a run shipped: boxes and rules that came from items, and floats.
 use Rattle.std.specs.Prelude.{ℕ, ◌+◌, ◌<◌, ◌^◌, Bool, true, false, List, [], ◌∷◌, ◌++◌, Some}
+use Rattle.tb_node.specs.declared.RuleOf.TheVariants.{Item}
 use Rattle.tb_node.specs.declared.What.TheVariants as what
 use Rattle.tb_node.specs.PlainNodes.{hbox, rule, PlainKind, plain, PlainNode}
 use Rattle.tb_sheet.specs.Sheet.{PlainSheet, one, wide, two, PlainSent, warned, shipped}
@@ -8,7 +9,7 @@ use Rattle.tb_report.specs.declared.Totals.{Totals}
 -- a box of text, or a rule with a name: what came from a box or rule item
 abbrev pub is_item_box : PlainKind → Bool
 is_item_box (plain (hbox (what.Text name) h d)) = true
-is_item_box (plain (rule (Some name) h d)) = true
+is_item_box (plain (rule (Item name) h d)) = true
 is_item_box _ = false
 
 -- the box of a float

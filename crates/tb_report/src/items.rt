@@ -7,7 +7,7 @@ ghost use Rattle.tb_text.specs.Fronts.{PutsAfter};
 
 use crate::fields::put_named;
 use std::alloc::AllocError;
-use tb_node::{Kind, Name, Node, Side, What, Where};
+use tb_node::{Kind, Name, Node, RuleOf, Side, What, Where};
 use tb_text::{end_line, put, put_amount, put_count, put_field, put_text, write_field, write_text};
 
 /// The word of a place of a float.
@@ -274,16 +274,17 @@ fn put_box(
 
 fn put_rule(
     out: &mut Vec<u8>,
-    name: &Option<Name>,
+    of: &RuleOf,
     top: i128,
     height: i64,
     depth: i64,
 ) -> Result<(), AllocError>
-    ensures { PutsAfter result out.old.items (rule_line name.now top height depth) out.new.items }
+    ensures { PutsAfter result out.old.items (rule_line of.now top height depth) out.new.items }
 {
-    match name {
-        Some(name) => put_item(out, b"rule ", name, top, height, depth),
-        None => put_sized(out, b"footrule", top, height, depth),
+    match of {
+        RuleOf::Item(name) => put_item(out, b"rule ", name, top, height, depth),
+        RuleOf::Footnotes => put_sized(out, b"footrule", top, height, depth),
+        RuleOf::Floats => put_sized(out, b"floatrule", top, height, depth),
     }
 }
 
@@ -297,11 +298,7 @@ pub(crate) fn put_node(out: &mut Vec<u8>, node: &Node, top: i128) -> Result<(), 
             height,
             depth,
         } => put_box(out, what, top, *height, *depth),
-        Kind::Rule {
-            name,
-            height,
-            depth,
-        } => put_rule(out, name, top, *height, *depth),
+        Kind::Rule { of, height, depth } => put_rule(out, of, top, *height, *depth),
         Kind::Mark(name) => put_at(out, b"mark ", name, top),
         Kind::Note(name) => put_at(out, b"note ", name, top),
         Kind::Skip(_) => Ok(()),

@@ -5,7 +5,7 @@ ghost use Rattle.tb_node.specs.PlainNodes.{plain, matter_of};
 ghost use Rattle.tb_report.specs.RunTotals.{is_item_box, is_float_box};
 
 use crate::Totals;
-use tb_node::{Kind, Node, What};
+use tb_node::{Kind, Node, RuleOf, What};
 use tb_pool::{ListId, Lists};
 use tb_sheet::{Sent, Sheet};
 
@@ -99,7 +99,10 @@ fn is_item(node: &Node) -> bool
         Kind::Hbox {
             what: What::Text(_),
             ..
-        } | Kind::Rule { name: Some(_), .. }
+        } | Kind::Rule {
+            of: RuleOf::Item(_),
+            ..
+        }
     )
 }
 

@@ -1,5 +1,5 @@
 use std::test::Fail;
-use tb_param::{Choice, ParamFault, Params, Value, defaults};
+use tb_param::{Choice, ParamFault, Params, Rule, Value, defaults};
 use tb_scaled::{Glue, Order};
 
 const WIDE_GLUE: Glue = Glue {
@@ -16,8 +16,25 @@ const TOO_WIDE_GLUE: Glue = Glue {
     shrink: 0,
 };
 
+// A rule between two kerns.
+fn ruled(above: i64, height: i64, below: i64) -> Value {
+    Value::Rule(Some(Rule {
+        above,
+        height,
+        below,
+    }))
+}
+
+// The height of a rule; -1 of none.
+fn height_of(rule: Option<Rule>) -> i64 {
+    match rule {
+        Some(rule) => rule.height,
+        None => -1,
+    }
+}
+
 // Of each form of parameter an amount.
-fn amounts(p: &Params) -> [i64; 8] {
+fn amounts(p: &Params) -> [i64; 10] {
     [
         p.textheight,
         p.topfraction,
@@ -27,6 +44,8 @@ fn amounts(p: &Params) -> [i64; 8] {
         p.pool,
         p.maxdeadcycles,
         p.maxnodes,
+        p.texttop.width,
+        height_of(p.footrule),
     ]
 }
 
@@ -35,7 +54,7 @@ fn amounts(p: &Params) -> [i64; 8] {
 fn keeps_to_the_ranges(rt: HostRuntime) -> Result<(), Fail> {
     let refused = Err(ParamFault::Range);
     let wrong = Err(ParamFault::WrongForm);
-    let rows: [(&[u8], Value, Result<(), ParamFault>); 26] = [
+    let rows: [(&[u8], Value, Result<(), ParamFault>); 36] = [
         (b"textheight", Value::Dim(1), Ok(())),
         (b"textheight", Value::Dim(0), refused),
         (b"topskip", Value::Dim(1_073_741_824), refused),
@@ -61,6 +80,20 @@ fn keeps_to_the_ranges(rt: HostRuntime) -> Result<(), Fail> {
         (b"maxdeadcycles", Value::Int(0), refused),
         (b"maxnodes", Value::Int(99), refused),
         (b"maxnodes", Value::Int(4_194_304), Ok(())),
+        (b"footrule", Value::Rule(None), Ok(())),
+        (
+            b"footrule",
+            ruled(-1_073_741_823, 1_073_741_823, -1_073_741_823),
+            Ok(()),
+        ),
+        (b"footrule", ruled(0, -1, 0), refused),
+        (b"toprule", ruled(1_073_741_824, 0, 0), refused),
+        (b"dblrule", ruled(0, 0, -1_073_741_824), refused),
+        (b"bottomrule", Value::Dim(0), wrong),
+        (b"footdepth", Value::Word(Choice::Drop), Ok(())),
+        (b"footdepth", Value::Word(Choice::Below), refused),
+        (b"footplace", Value::Word(Choice::Below), Ok(())),
+        (b"footplace", Value::Word(Choice::Keep), refused),
         (
             b"Pool",
             Value::Word(Choice::On),
@@ -100,6 +133,19 @@ fn keeps_what_is_set(rt: HostRuntime) -> Result<(), Fail> {
     assert_eq!(rt;
         (params.topnumber, params.bottomnumber, params.totalnumber),
         (2, 1, 3)
+    );
+    assert!(rt; params.set(b"toprule", ruled(1, 2, 3)).is_ok());
+    assert_eq!(rt;
+        (height_of(params.toprule), height_of(params.footrule)),
+        (2, 26_214)
+    );
+    assert_eq!(rt;
+        (
+            height_of(params.bottomrule),
+            height_of(params.dblrule),
+            params.footfill.width
+        ),
+        (-1, -1, 0)
     );
     Ok(())
 }

@@ -15,7 +15,7 @@ use Rattle.tb_sheet.specs.declared.Sheet.{Sheet}
 use Rattle.tb_sheet.specs.declared.Sheet.TheVariants as sheets
 use Rattle.tb_sheet.specs.declared.Sent.TheVariants as events
 use Rattle.tb_column.specs.Column.{PlainColumn, pair_floats}
-use Rattle.tb_sheet.specs.Sheet.{two, pair_sheet}
+use Rattle.tb_sheet.specs.Sheet.{two, pair_top, pair_sheet}
 use Rattle.tb_column.specs.StoredColumns.{column_shown}
 use Rattle.tb_sheet.specs.StoredSheets.{sheet_shown, IsPageSent}
 use Rattle.tb_column.specs.Notes.{AreDistinct}
@@ -60,7 +60,7 @@ failed-of e m mid now same h = subst (λ n. HasNotShipped e n now) same h
 
 -- ---- in a store that holds the list of wide floats
 
-module _ (m now : MachineView) (s : Lists Node) (tops : ℕ) (at : ℤ) (left right : Column) (has_left : m.left_column ≡ Some left) (place : at ≡ m.params.textheight -ℤ column_height_of m.params m.pool.lists) (floats : plain_list s tops ≡ pair_floats m.params m.pool.lists) where
+module _ (m now : MachineView) (s : Lists Node) (tops : ℕ) (at : ℤ) (left right : Column) (has_left : m.left_column ≡ Some left) (place : at ≡ pair_top m.params m.pool.lists) (floats : plain_list s tops ≡ pair_floats m.params m.pool.lists) where
   abbrev sheet : Sheet
   sheet = sheets.Two tops at left right
 
@@ -88,7 +88,7 @@ module _ (m now : MachineView) (s : Lists Node) (tops : ℕ) (at : ℤ) (left ri
 
 -- ---- from the store in which that list was opened
 
-module _ (m now : MachineView) (store s : Lists Node) (tops : ℕ) (at : ℤ) (left right : Column) (has_left : m.left_column ≡ Some left) (place : at ≡ m.params.textheight -ℤ column_height_of m.params m.pool.lists)
+module _ (m now : MachineView) (store s : Lists Node) (tops : ℕ) (at : ℤ) (left right : Column) (has_left : m.left_column ≡ Some left) (place : at ≡ pair_top m.params m.pool.lists)
     (floats : plain_list s tops ≡ pair_floats m.params m.pool.lists) (opened : IsOpened tops store s) (is : IsMachine m store) (page : IsPageColumn store right) where
   abbrev both : Sheet
   both = sheets.Two tops at left right

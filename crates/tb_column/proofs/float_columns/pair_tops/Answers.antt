@@ -10,7 +10,7 @@ pub push_above-requires-clause-live : goal.push_above-requires-clause-live
 push_above-requires-clause-live c = live_same c.reserve.new.self c.add_list.new.self c.in_ok-tops.tops _ c.in_ok-tops.ensures.opened
 
 -- what the store holds then
-made_lists : (c : goal.After-push_above) → c.push_above.new.store.lists ≡ with_list c.args.store.now c.in_ok-tops.tops (boxes_above places.Double c.args.p.now.dblfloatsep c.args.p.now.dbltextfloatsep c.args.pool.now.lists.double)
+made_lists : (c : goal.After-push_above) → c.push_above.new.store.lists ≡ with_list c.args.store.now c.in_ok-tops.tops (boxes_above places.Double c.args.p.now.dblfloatsep c.args.p.now.dblrule c.args.p.now.dbltextfloatsep c.args.pool.now.lists.double)
 made_lists c = list-opened c.args.store.now c.reserve.new.self c.add_list.new.self c.push_above.new.store c.in_ok-tops.tops _ c.in_ok-reserve.ensures.lists c.in_ok-tops.ensures.opened c.push_above.ensures.lists
 
 pub returns-clause-floats : goal.returns-clause-floats

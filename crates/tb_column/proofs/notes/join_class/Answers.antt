@@ -10,4 +10,4 @@ append-requires-clause-second_live c =
 
 pub returns-clause-lists : goal.returns-clause-lists
 returns-clause-lists c =
-    joined c.args.store.now c.push_class.new.store c.append.new.self c.args.body c.args.note.now.list (class_above c.args.p.now c.args.note.now) (λ e. c.requires.apart (sym e)) c.push_class.ensures.lists c.append.ensures.joined
+    joined c.args.store.now c.push_class.new.store c.append.new.self c.args.body c.args.note.now.list (class_above c.args.p.now c.args.kern c.args.note.now) (λ e. c.requires.apart (sym e)) c.push_class.ensures.lists c.append.ensures.joined

@@ -1,31 +1,59 @@
-use Rattle.std.proofs.Common.{◌<◌, ap, sym, subst, ◌∙◌, ◌++◌, ◌∷◌, [], length, take, IsSome, arith}
+use Rattle.std.proofs.Common.{◌≡◌, ◌+◌, ◌<◌, sym, ap, subst, ◌∙◌, ◌++◌, ◌∷◌, [], append-nil, length, take, IsSome, true, arith}
+use Rattle.std.specs.Prelude.{if◌then◌else◌}
+use Rattle.tb_pool.specs.Lists.{Lists}
+use Rattle.tb_node.specs.declared.Node.{Node}
 use Rattle.std.proofs.lemmas.List.{take_more}
-use Rattle.std.proofs.lemmas.List.Elements.{All-from_recursion}
 use Rattle.tb_column.specs.declared.NoteBox.{NoteBox}
-use Rattle.tb_column.specs.Notes.{IsNote}
-use Rattle.tb_column.proofs.NoteLemmas.{JoinedSoFar, next_note, next_same, joined_go, above_count-take}
+use Rattle.tb_column.specs.Column.{is_among}
+use Rattle.tb_column.specs.Notes.{boxes_among}
+use Rattle.tb_column.proofs.NoteLemmas.{JoinedSoFar, IsTurn, next_turn, next_same, joined_begin, joined_go, among-more}
+use Rattle.tb_column.proofs.notes.join_notes.Goals.{After-is_among, then-is_among, else-is_among}
 use Rattle.tb_column.proofs.notes.join_notes.Goals as goal
+
+pub loop-note-init : goal.loop-note-init
+loop-note-init c = joined_begin c.args.p.now c.args.kern c.args.body c.args.store.now c.requires.live
+
+turn : (c : After-is_among) → c.is_among.result ≡ true
+    → IsTurn c.args.store.now c.args.body (boxes_among c.args.feet (take c.loop-note.note-index c.args.notes.now)) c.note-item.result (boxes_among c.args.feet c.args.notes.now)
+turn c e =
+    let lt : c.loop-note.note-index < length c.args.notes.now = omega arith in
+    let among : is_among c.args.feet c.note-item.result.class ≡ true = sym c.is_among.ensures ∙ e in
+    next_turn c.args.store.now c.args.body c.args.feet c.args.notes.now c.loop-note.note-index c.note-item.result c.requires.notes lt c.note-item.is among
 
 pub join_class-requires-clause-note : goal.join_class-requires-clause-note
 join_class-requires-clause-note c =
-    let lt : c.loop-note.note-index < length c.args.notes.now = omega arith in
-    let note = subst (IsNote c.args.store.now) (sym c.note-item.is) (All-from_recursion (IsNote c.args.store.now) c.args.notes.now c.requires.notes.each c.loop-note.note-index c.note-item.result lt) in
-    subst (λ o. IsSome o) (sym (next_same c.args.p.now c.args.body c.args.store.now (take c.loop-note.note-index c.args.notes.now) c.note-item.result c.loop-note.store (next_note c.args.body c.args.notes.now c.loop-note.note-index c.note-item.result c.requires.notes.apart lt c.note-item.is) c.loop-note.invariant)) note.list.live
+    let t = turn (goal.at.join_class-requires-clause-note c).After-is_among c.if-is_among.true in
+    subst (λ o. IsSome o) (sym (next_same c.args.p.now c.args.kern c.args.body c.args.store.now (boxes_among c.args.feet (take c.loop-note.note-index c.args.notes.now)) c.note-item.result c.loop-note.store t.next c.loop-note.invariant)) t.live
 
 pub join_class-requires-clause-apart : goal.join_class-requires-clause-apart
-join_class-requires-clause-apart c =
-    let lt : c.loop-note.note-index < length c.args.notes.now = omega arith in
-    λ e. (next_note c.args.body c.args.notes.now c.loop-note.note-index c.note-item.result c.requires.notes.apart lt c.note-item.is).text (sym e)
+join_class-requires-clause-apart c = let t = turn (goal.at.join_class-requires-clause-apart c).After-is_among c.if-is_among.true in λ e. t.next.text (sym e)
 
 pub join_class-requires-clause-room : goal.join_class-requires-clause-room
-join_class-requires-clause-room c =
-    let lt : c.loop-note.note-index < length c.args.notes.now = omega arith in
-    omega (arith, c.loop-note.invariant.spare, c.requires.room, rw (← c.note-item.is) at (above_count-take c.args.notes.now c.loop-note.note-index c.note-item.result lt))
+join_class-requires-clause-room c = let t = turn (goal.at.join_class-requires-clause-room c).After-is_among c.if-is_among.true in omega (arith, t.room, c.loop-note.invariant.spare, c.requires.room)
+
+-- those among the first classes and the next one
+next : (c : goal.Joined-is_among) → boxes_among c.args.feet (take (c.loop-note.note-index + 1) c.args.notes.now) ≡ boxes_among c.args.feet (take c.loop-note.note-index c.args.notes.now) ++ (if c.is_among.result then c.note-item.result ∷ [] else [])
+next c =
+    let i = c.loop-note.note-index in
+    let ns = c.args.notes.now in
+    let lt : i < length ns = omega arith in
+    ap (boxes_among c.args.feet) (take_more ns i c.note-item.result lt ∙ ap (λ (m : NoteBox). take i ns ++ m ∷ []) (sym c.note-item.is))
+    ∙ among-more c.args.feet c.is_among.result (take i ns) c.note-item.result (sym c.is_among.ensures)
 
 pub loop-note-preserved : goal.loop-note-preserved
 loop-note-preserved c =
-    let lt : c.loop-note.note-index < length c.args.notes.now = omega arith in
-    let more = take_more c.args.notes.now c.loop-note.note-index c.note-item.result lt ∙ ap (λ (n : NoteBox). take c.loop-note.note-index c.args.notes.now ++ n ∷ []) (sym c.note-item.is) in
-    subst (λ ns. JoinedSoFar c.args.p.now c.args.body c.args.store.now ns c.join_class.new.store) (sym more)
-    (joined_go c.args.p.now c.args.body c.args.store.now (take c.loop-note.note-index c.args.notes.now) c.note-item.result c.loop-note.store c.join_class.new.store (next_note c.args.body c.args.notes.now c.loop-note.note-index c.note-item.result c.requires.notes.apart lt c.note-item.is) c.loop-note.invariant
-    c.join_class.ensures.lists c.join_class.ensures.spare)
+    let done = boxes_among c.args.feet (take c.loop-note.note-index c.args.notes.now) in
+    let n = c.note-item.result in
+    let taken = next c in
+    elim c.if-is_among.branch [
+      | then-is_among w ↦
+          let t = turn (goal.at.loop-note-preserved c).After-is_among w.if-is_among.true in
+          let more = taken ∙ ap (λ b. done ++ (if b then n ∷ [] else [])) w.if-is_among.true in
+          let go = joined_go c.args.p.now c.args.kern c.args.body c.args.store.now done n c.loop-note.store w.join_class.new.store t.next c.loop-note.invariant w.join_class.ensures.lists w.join_class.ensures.spare in
+          subst (λ (s : Lists Node). JoinedSoFar c.args.p.now c.args.kern c.args.body c.args.store.now (boxes_among c.args.feet (take (c.loop-note.note-index + 1) c.args.notes.now)) s) (sym w.store-is)
+          (subst (λ ns. JoinedSoFar c.args.p.now c.args.kern c.args.body c.args.store.now ns w.join_class.new.store) (sym more) go)
+      | else-is_among w ↦
+          let more = taken ∙ ap (λ b. done ++ (if b then n ∷ [] else [])) w.if-is_among.false ∙ append-nil done in
+          subst (λ (s : Lists Node). JoinedSoFar c.args.p.now c.args.kern c.args.body c.args.store.now (boxes_among c.args.feet (take (c.loop-note.note-index + 1) c.args.notes.now)) s) (sym w.store-is)
+          (subst (λ ns. JoinedSoFar c.args.p.now c.args.kern c.args.body c.args.store.now ns c.loop-note.store) (sym more) c.loop-note.invariant)
+    ]

@@ -6,7 +6,7 @@ use Rattle.tb_node.specs.Sums.{sums_of}
 use Rattle.tb_pack.specs.declared.Set.{Set}
 use Rattle.tb_pack.specs.Pack.{packed}
 use Rattle.tb_pack.proofs.PackLemmas.{packed-divisor}
-use Rattle.tb_column.specs.TextColumns.{closed_list, column_list}
+use Rattle.tb_column.specs.TextColumns.{ended_list, column_list}
 use Rattle.tb_column.proofs.ShownLemmas.{column-made}
 use Rattle.tb_column.proofs.GatherLemmas.{column_list-made, column-joined, joined-frame}
 use Rattle.tb_column.proofs.ClosingLemmas.{height_amount}
@@ -22,28 +22,28 @@ set_is : (c : goal.After-pack_sums) → c.pack_sums.result ≡ packed c.column_h
 set_is c =
     let height : FitsSigned w64 c.column_height-height.result = search rules in
     let ns = column_list c.args.p.now c.args.pool.now.lists c.args.store.now c.args.body c.args.notes.now in
-    let sums = c.close_text-sums.ensures.sums ∙ ap (λ (ms : List Node). sums_of c.args.p.now.maxdepth (map shape_of (closed_list c.args.p.now ms))) c.in_ok-gather.ensures.text in
+    let sums = c.end_text-sums.ensures.sums ∙ ap (λ (ms : List Node). sums_of c.args.p.now.maxdepth (map shape_of (ended_list c.args.p.now ms))) c.in_ok-gather.ensures.text in
     let value = c.pack_sums.ensures.value c.args.p.now.maxdepth (map shape_of ns) sums in
     simp to_z-of_z at value
 
 pub returns-clause-column : goal.returns-clause-column
 returns-clause-column c =
-    let list = column_list-made c.args.store.now c.gather.new.store c.close_text-sums.new.store c.args.p.now c.args.pool.now.lists c.args.body c.args.notes.now c.in_ok-gather.ensures.text c.close_text-sums.ensures.lists in
-    column-made c.args.p.now c.args.pool.now.lists c.args.store.now c.close_text-sums.new.store c.args.body c.args.notes.now c.requires.body.leaves c.requires.notes.each list
+    let list = column_list-made c.args.store.now c.gather.new.store c.end_text-sums.new.store c.args.p.now c.args.pool.now.lists c.args.body c.args.notes.now c.in_ok-gather.ensures.text c.end_text-sums.ensures.lists in
+    column-made c.args.p.now c.args.pool.now.lists c.args.store.now c.end_text-sums.new.store c.args.body c.args.notes.now c.requires.body.leaves c.requires.notes.each list
     c.column_height-height.result c.pack_sums.result c.column_height-height.ensures.value (set_is c)
 
 pub returns-clause-page : goal.returns-clause-page
 returns-clause-page c =
     let P : Set → Type 0 = λ s. s.den ≢ pos 0 in
     record {
-      list = c.close_text-sums.ensures.page;
+      list = c.end_text-sums.ensures.page;
       share = subst P (sym (set_is c)) (packed-divisor c.column_height-height.result c.args.p.now.maxdepth (map shape_of (column_list c.args.p.now c.args.pool.now.lists c.args.store.now c.args.body c.args.notes.now)));
     }
 
 pub returns-clause-lists : goal.returns-clause-lists
-returns-clause-lists c = column-joined c.args.store.now c.gather.new.store c.close_text-sums.new.store c.args.body c.args.notes.now _ c.requires.notes c.in_ok-gather.ensures.lists c.close_text-sums.ensures.lists
+returns-clause-lists c = column-joined c.args.store.now c.gather.new.store c.end_text-sums.new.store c.args.body c.args.notes.now _ c.requires.notes c.in_ok-gather.ensures.lists c.end_text-sums.ensures.lists
 
 pub returns-clause-frame : goal.returns-clause-frame
 returns-clause-frame c =
-    joined-frame c.args.body c.args.notes.now c.args.store.now c.close_text-sums.new.store
-    (column-joined c.args.store.now c.gather.new.store c.close_text-sums.new.store c.args.body c.args.notes.now _ c.requires.notes c.in_ok-gather.ensures.lists c.close_text-sums.ensures.lists)
+    joined-frame c.args.body c.args.notes.now c.args.store.now c.end_text-sums.new.store
+    (column-joined c.args.store.now c.gather.new.store c.end_text-sums.new.store c.args.body c.args.notes.now _ c.requires.notes c.in_ok-gather.ensures.lists c.end_text-sums.ensures.lists)

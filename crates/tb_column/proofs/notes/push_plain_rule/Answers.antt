@@ -1,5 +1,5 @@
 use Rattle.tb_column.proofs.StoreLemmas.{with_list-added}
-use Rattle.tb_column.proofs.notes.push_rule.Goals as goal
+use Rattle.tb_column.proofs.notes.push_plain_rule.Goals as goal
 
 pub returns-clause-lists : goal.returns-clause-lists
 returns-clause-lists c =
