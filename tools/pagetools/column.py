@@ -135,9 +135,10 @@ class ColumnDrawing:
         top = self.y + item.top / PT
         if item.kind == 'float':
             draw_float(self.drawing, item, self.box_x, top, self.width - 13)
-        elif item.kind == 'footrule':
+        elif item.kind in ('footrule', 'floatrule'):
             middle = top + item.height / PT / 2
-            self.drawing.line(self.box_x, middle, self.box_x + self.box_width * 0.4, middle, 'footrule', width=0.9)
+            end = self.box_x + self.box_width * (0.4 if item.kind == 'footrule' else 1)
+            self.drawing.line(self.box_x, middle, end, middle, 'footrule', width=0.9)
         elif item.kind == 'rule':
             self.drawing.rect(self.box_x, top, self.box_width, max((item.height + item.depth) / PT, 0.4), 'rule',
                               'rule ' + item.name)

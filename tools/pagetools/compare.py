@@ -16,7 +16,7 @@ column, and in every place; then come the totals and the first difference. Pages
 The exit status is 0 if all agrees, 1 if anything differs, 2 if a file can't be read."""
 
 # What no galley says and LaTeX's pages have otherwise: it takes no part in the comparison of contents and places.
-APART = ('mark', 'note', 'footrule')
+APART = ('mark', 'note', 'footrule', 'floatrule')
 
 # The warnings of a report, by how LaTeX's own are told in its log.
 LATEX_WARNINGS = {'large': 'LaTeX Warning: Float too large for page', 'ht': 'float specifier changed to',

@@ -12,7 +12,7 @@ class ReportFault(Exception):
 
 @dataclass
 class Item:
-    """A line below a column, or above the first: a box, rule, footrule, mark, note, float or marginal note."""
+    """A line below a column, or above the first: a box, rule, footrule, floatrule, mark, note, float or marginal note."""
     kind: str
     name: str = ''
     top: int = 0
@@ -116,7 +116,7 @@ def _item(kind, words):
         return Item(kind, words[0], int(words[3]), int(words[4]), 0, words[2], int(words[1]))
     if kind == 'margin':
         return Item(kind, words[0], int(words[3]), int(words[4]), int(words[5]), words[1], int(words[2]))
-    if kind == 'footrule':
+    if kind in ('footrule', 'floatrule'):
         return Item(kind, '', int(words[0]), int(words[1]), int(words[2]))
     if kind in ('mark', 'note'):
         return Item(kind, words[0], int(words[1]))
@@ -151,7 +151,7 @@ class _Reader:
             self.report.warnings.append(' '.join(words))
         elif word == 'end':
             self.report.end = ' '.join(['end'] + words)
-        elif word in ('box', 'rule', 'footrule', 'mark', 'note', 'float', 'margin'):
+        elif word in ('box', 'rule', 'footrule', 'floatrule', 'mark', 'note', 'float', 'margin'):
             page = pages[-1]
             (page.columns[-1].items if page.columns else page.wide).append(_item(word, words))
         elif word == 'left':
@@ -221,7 +221,7 @@ def _column_data(column):
 
 def _item_data(item):
     out = {'kind': item.kind}
-    if item.kind != 'footrule':
+    if item.kind not in ('footrule', 'floatrule'):
         out['name'] = item.name
     if item.kind == 'float':
         out['class'] = item.number
