@@ -18,7 +18,7 @@ use Rattle.tb_float.specs.Lists.{FloatLists, has_class, wide_part, wide_waiting}
 use Rattle.tb_float.specs.Rooms.{column_height_of}
 use Rattle.tb_fpage.specs.Company.{Choice, company, chosen_floats, left_floats}
 use Rattle.tb_area.specs.Area.{at_top, at_bottom, deferred, where_of, tries_top, tries_bottom, fits_column, fits_above, fits_below, next_separator, text_minimum, may_enter, bottom_or_deferred, top_or_bottom, here_or_area, by_class, current_place, next_place, double_place}
-use Rattle.tb_column.specs.Column.{Notes, PlainColumn, class_below, notes_below, closing_glue, column_of, floats_above, floats_below, text_column, single_floats_column}
+use Rattle.tb_column.specs.Column.{Notes, PlainColumn, glue_if_any, is_below, foot_kern, class_below, notes_below, notes_among, text_above_feet, with_feet, with_bottoms, with_below, text_nodes, closed_nodes, column_of, floats_above, text_column, single_floats_column}
 use Rattle.tb_column.specs.declared.ColumnKind.TheVariants as column_kinds
 use Rattle.tb_sheet.specs.Sheet.{one, pair_sheet}
 use Rattle.tb_sheet.specs.Asked.{clear_penalty, par_penalty, vert_penalty}
@@ -102,17 +102,23 @@ module _ (p : Params) (m : ℤ) where
       let v = records_also (output c) w in
       λ i. after_column (if not v.state.two_columns then ship p (one c) v else (if v.state.first_column then keep_left c v else pair-lim c v i))
 
-  notes-lim : (ns : List Notes) → notes_below lim ns ≡ notes_below p ns
-  notes-lim [] = refl
-  notes-lim (n ∷ ns) = ap (λ l. class_below p n ++ l) (notes-lim ns)
+  notes-lim : (kern : Option ℤ) (ns : List Notes) → notes_below lim kern ns ≡ notes_below p kern ns
+  notes-lim kern [] = refl
+  notes-lim kern (n ∷ ns) = ap (λ l. class_below p kern n ++ l) (notes-lim kern ns)
 
-  nodes-with : FloatLists → List PlainNode → List PlainNode → List PlainNode
-  nodes-with l body below = floats_above places.Top p.floatsep p.textfloatsep l.top ++ body ++ below ++ floats_below places.Bottom p.floatsep p.textfloatsep l.bottom
+  with-feet-lim : (l : FloatLists) (notes : List Notes) (ns : List PlainNode) → with_feet lim l notes ns ≡ with_feet p l notes ns
+  with-feet-lim l notes ns = ap (λ ms. ns ++ ms) (notes-lim (foot_kern p (length l.bottom) (map node_shape ns)) (notes_among true notes))
+
+  below-lim : (l : FloatLists) (notes : List Notes) (ns : List PlainNode) → with_below lim l notes ns ≡ with_below p l notes ns
+  below-lim l notes ns = λ i. if is_below p.footplace then with-feet-lim l notes (with_bottoms p l ns) i else with_bottoms p l (with-feet-lim l notes ns i)
+
+  text-nodes-lim : (l : FloatLists) (body : List PlainNode) (notes : List Notes) → text_nodes lim l body notes ≡ text_nodes p l body notes
+  text-nodes-lim l body notes =
+      below-lim l notes (text_above_feet lim l body notes)
+      ∙ ap (λ ms. with_below p l notes ((glue_if_any p.texttop ++ (floats_above places.Top p.floatsep p.toprule p.textfloatsep l.top ++ body)) ++ ms)) (notes-lim None (notes_among false notes))
 
   text-column-lim : (l : FloatLists) (body : List PlainNode) (notes : List Notes) → text_column lim l body notes ≡ text_column p l body notes
-  unfolding nodes-with
-  text-column-lim l body notes = λ i.
-      column_of column_kinds.Text (column_height_of p l) p.maxdepth (nodes-with l body (notes-lim notes i) ++ made (skip (closing_glue p (nodes-with l body (notes-lim notes i)))) ∷ [])
+  text-column-lim l body notes = ap (λ ns. column_of column_kinds.Text (column_height_of p l) p.maxdepth (closed_nodes p ns)) (text-nodes-lim l body notes)
 
   text-lim : (body : List PlainNode) (w : Work) → put_out_text lim body w ≡ put_out_text p body w
   text-lim body w = λ i. put-out-lim (text-column-lim w.state.floats body (footnotes w.state) i) (without_column_floats w) i

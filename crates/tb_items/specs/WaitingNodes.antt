@@ -2,6 +2,7 @@
 use Rattle.std.specs.Prelude.{◌≡◌, false, ℕ, true, List, [], ◌++◌, ◌≤◌, map, length, All, Some}
 use Rattle.std.specs.FinMap.{get}
 use Rattle.tb_pool.specs.Lists.{Lists, IsLive}
+use Rattle.tb_node.specs.declared.RuleOf.TheVariants as rules
 use Rattle.tb_node.specs.declared.What.TheVariants.{Text}
 use Rattle.tb_node.specs.declared.Kind.{Kind}
 use Rattle.tb_node.specs.declared.Kind.TheVariants as kinds
@@ -42,7 +43,7 @@ lone line kind = plain_of (λ l. []) (record { line = line; kind = kind })
 -- the node of the store that a box, rule, glue, kern or penalty is
 abbrev pub leaf_kind : LeafKind → Kind
 leaf_kind (leaves.Hbox name h d) = kinds.Hbox (Text name) h d
-leaf_kind (leaves.Rule name h d) = kinds.Rule (Some name) h d
+leaf_kind (leaves.Rule name h d) = kinds.Rule (rules.Item name) h d
 leaf_kind (leaves.Skip g) = kinds.Skip g
 leaf_kind (leaves.Kern w) = kinds.Kern w
 leaf_kind (leaves.Penalty q) = kinds.Pen q

@@ -13,7 +13,7 @@ ghost use Rattle.tb_items.specs.WaitingNodes.{CanTake, Waits, leaf_kind, leaf_li
 use std::alloc::AllocError;
 use tb_builder::Builder;
 use tb_galley::{Leaf, LeafKind};
-use tb_node::{Insertion, Kind, Node, What, list_extent};
+use tb_node::{Insertion, Kind, Node, RuleOf, What, list_extent};
 use tb_param::Params;
 use tb_pool::{ListId, Lists};
 
@@ -36,7 +36,7 @@ fn leaf_kind(kind: &LeafKind) -> Kind
             height,
             depth,
         } => Kind::Rule {
-            name: Some(*name),
+            of: RuleOf::Item(*name),
             height: *height,
             depth: *depth,
         },

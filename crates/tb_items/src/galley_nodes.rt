@@ -12,7 +12,7 @@ use std::alloc::AllocError;
 use tb_builder::Builder;
 use tb_galley::{Item, ItemKind};
 use tb_node::{
-    Act, Area, CLEAR_PENALTY, Float, HOLD_PENALTY, Kind, Margin, Name, Node, PAR_PENALTY,
+    Act, Area, CLEAR_PENALTY, Float, HOLD_PENALTY, Kind, Margin, Name, Node, PAR_PENALTY, RuleOf,
     VERT_PENALTY, What,
 };
 use tb_param::Params;
@@ -189,14 +189,14 @@ fn put_rule(
     depth: i64,
 ) -> Result<(), AllocError>
     requires can { CanTake builder.old store.old }
-    ensures { OnOk result (Waits (lone line (Kind.Rule (Some name.now) height depth) ∷ []) builder.old store.old builder.new store.new) }
+    ensures { OnOk result (Waits (lone line (Kind.Rule (RuleOf.Item name.now) height depth) ∷ []) builder.old store.old builder.new store.new) }
 {
     put(
         store,
         builder,
         line,
         Kind::Rule {
-            name: Some(*name),
+            of: RuleOf::Item(*name),
             height,
             depth,
         },

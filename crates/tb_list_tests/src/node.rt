@@ -6,7 +6,7 @@ ghost use Rattle.tb_node.specs.Fit.{IsSizedNode, IsSized};
 ghost use Rattle.tb_node.specs.PlainNodes.{shape_of_kind};
 
 use std::test::Fail;
-use tb_node::{Kind, Node, What, list_extent, list_sums, name_of};
+use tb_node::{Kind, Node, RuleOf, What, list_extent, list_sums, name_of};
 use tb_pool::{ListId, Lists};
 use tb_scaled::{Glue, Order};
 
@@ -44,7 +44,7 @@ fn adds_up_a_list(rt: HostRuntime) -> Result<(), Fail> {
         &mut lists,
         l,
         Kind::Rule {
-            name: None,
+            of: RuleOf::Footnotes,
             height: 12,
             depth: 3,
         },

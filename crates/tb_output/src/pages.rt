@@ -1,6 +1,6 @@
 //! Pages are shipped: of one column, of two, or of wide floats.
 
-ghost use Rattle.std.specs.Prelude.{◌≡◌, ◌≤◌, pos, ◌+ℤ◌, ◌-ℤ◌, ◌∷◌, [], false, Some, IsSome, OnOk, OnErr, IfOk, IfErr, IsTrue, MatchBool};
+ghost use Rattle.std.specs.Prelude.{◌≡◌, ◌≤◌, pos, ◌+ℤ◌, ◌-ℤ◌, ◌==◌, if◌then◌else◌, ◌∷◌, [], false, Some, IsSome, OnOk, OnErr, IfOk, IfErr, IsTrue, MatchBool};
 ghost use Rattle.tb_scaled.specs.Amount.{IsAmount};
 ghost use Rattle.tb_pool.specs.Frame.{IsNoneOf};
 ghost use Rattle.tb_node.specs.PlainNodes.{plain_list};
@@ -64,6 +64,14 @@ fn below_rule(page: i64, column: i64, room: i64) -> i64
     ensures { result ≡ (page -ℤ column) +ℤ room }
 {
     page - column + room
+}
+
+// The rule under this many wide floats: none if there are none.
+fn rule_under(doubles: usize, rule: Option<Rule>) -> Option<Rule>
+    ensures room { rule_room result ≡ if doubles == 0 then pos 0 else rule_room rule }
+    ensures sized { IsSizedRule rule → IsSizedRule result }
+{
+    if doubles == 0 { None } else { rule }
 }
 
 // Where two columns of this height begin on a page of this one, below the rule under its wide floats.
@@ -151,11 +159,7 @@ impl Machine {
         ensures { result ≡ pair_top self.now.params self.now.pool.lists }
     {
         let height = self.pool.column_height(&self.params);
-        let rule = if self.pool.len(Part::Double) == 0 {
-            None
-        } else {
-            self.params.dblrule
-        };
+        let rule = rule_under(self.pool.len(Part::Double), self.params.dblrule);
         place_below(self.params.textheight, height, rule)
     }
 

@@ -10,6 +10,7 @@ use Rattle.tb_scaled.specs.Scaled.{min_ℤ}
 use Rattle.tb_scaled.specs.Glue.{filling_glue}
 use Rattle.tb_pool.specs.Lists.{Lists, list_at, with_list}
 use Rattle.tb_pool.proofs.CallerLemmas.{list_same, live_same, get_other}
+use Rattle.tb_node.specs.declared.RuleOf.TheVariants.{Footnotes}
 use Rattle.tb_node.specs.declared.Node.{Node}
 use Rattle.tb_node.specs.declared.Kind.TheVariants as node_kinds
 use Rattle.tb_node.specs.PlainNodes.{rule, skip, kerned, Leaf, leaf_node, PlainNode, plain_of, node_shape, shape_of, made, plain_list}
@@ -155,9 +156,9 @@ extent z low high = record { low = low; high = high }
 feet-sized : (p : Params) (o : Option (List Leaf)) → IsSizedGlue p.skipfootins → All IsSizedLeaf (content_of o) → AreSized (feet_below p o)
 feet-sized p None foot h = All-nil IsSizedPlain
 feet-sized p (Some ls) foot h =
-    All-cons IsSizedPlain (made (skip p.skipfootins)) (made (kerned (negsuc 196607)) ∷ made (rule None (pos 26214) (pos 0)) ∷ made (kerned (pos 170394)) ∷ map leaf_node ls) (foot.width, foot.stretch, foot.shrink)
-    (All-cons IsSizedPlain (made (kerned (negsuc 196607))) (made (rule None (pos 26214) (pos 0)) ∷ made (kerned (pos 170394)) ∷ map leaf_node ls) (number (negsuc 196607) (omega (arith, ints)) (omega (arith, ints)))
-    (All-cons IsSizedPlain (made (rule None (pos 26214) (pos 0))) (made (kerned (pos 170394)) ∷ map leaf_node ls) (extent (pos 26214) (omega (arith, ints)) (omega (arith, ints)), extent (pos 0) (omega (arith, ints)) (omega (arith, ints)))
+    All-cons IsSizedPlain (made (skip p.skipfootins)) (made (kerned (negsuc 196607)) ∷ made (rule Footnotes (pos 26214) (pos 0)) ∷ made (kerned (pos 170394)) ∷ map leaf_node ls) (foot.width, foot.stretch, foot.shrink)
+    (All-cons IsSizedPlain (made (kerned (negsuc 196607))) (made (rule Footnotes (pos 26214) (pos 0)) ∷ made (kerned (pos 170394)) ∷ map leaf_node ls) (number (negsuc 196607) (omega (arith, ints)) (omega (arith, ints)))
+    (All-cons IsSizedPlain (made (rule Footnotes (pos 26214) (pos 0))) (made (kerned (pos 170394)) ∷ map leaf_node ls) (extent (pos 26214) (omega (arith, ints)) (omega (arith, ints)), extent (pos 0) (omega (arith, ints)) (omega (arith, ints)))
     (All-cons IsSizedPlain (made (kerned (pos 170394))) (map leaf_node ls) (number (pos 170394) (omega (arith, ints)) (omega (arith, ints))) (leaves-sized ls h))))
 
 end-sized : (p : Params) (ns : List PlainNode) → IsExtent p.maxdepth → AreSized ns → AreSized (if is_ragged p.bottom then ragged_end p ns else [])

@@ -1,18 +1,24 @@
 -- A page fires: it ships as one column, with the top floats above and the footnotes below.
-use Rattle.std.specs.Prelude.{pos, neg_ℤ, Bool, true, false, ◌&&◌, List, [], ◌∷◌, ◌++◌, map, Option, Some, None, int_le, if◌then◌else◌}
+use Rattle.std.specs.Prelude.{pos, negsuc, neg_ℤ, Bool, true, false, ◌&&◌, List, [], ◌∷◌, ◌++◌, map, Option, Some, None, int_le, if◌then◌else◌}
 use Rattle.tb_scaled.specs.Glue.{filling_glue}
 use Rattle.tb_scaled.specs.Scaled.{min_ℤ}
-use Rattle.tb_node.specs.PlainNodes.{skip, kerned, pen, Leaf, leaf_node, PlainNode, node_shape, made, blank_box}
+use Rattle.tb_node.specs.declared.RuleOf.TheVariants.{Footnotes}
+use Rattle.tb_node.specs.PlainNodes.{rule, skip, kerned, pen, Leaf, leaf_node, PlainNode, node_shape, made, blank_box}
 use Rattle.tb_node.specs.Sums.{last_depth}
 use Rattle.tb_param.specs.declared.Params.{Params}
 use Rattle.tb_builder.specs.FiredPages.{Fired, box_content, content_of}
 use Rattle.tb_column.specs.declared.ColumnKind.TheVariants as kinds
-use Rattle.tb_column.specs.Column.{PlainColumn, column_of, notes_under_rule, is_ragged}
+use Rattle.tb_column.specs.Column.{PlainColumn, column_of, is_ragged}
 use Rattle.tb_plain.specs.GalleyNodes.{clearing_glue, clearing_penalty}
 
 -- at a ragged bottom a kern backs up over the depth of the body, and glue stretches
 abbrev pub ragged_end : Params → List PlainNode → List PlainNode
 ragged_end p body = made (kerned (neg_ℤ (min_ℤ (last_depth (map node_shape body)) p.maxdepth))) ∷ made (skip filling_glue) ∷ []
+
+-- the footnotes under their glue and plain TeX's rule between its kerns
+abbrev pub notes_under_rule : Params → List Leaf → List PlainNode
+notes_under_rule p ns =
+    made (skip p.skipfootins) ∷ made (kerned (negsuc 196607)) ∷ made (rule Footnotes (pos 26214) (pos 0)) ∷ made (kerned (pos 170394)) ∷ map leaf_node ns
 
 -- the footnotes under their rule, if their box is not void
 abbrev pub feet_below : Params → Option (List Leaf) → List PlainNode

@@ -21,7 +21,7 @@ ghost use Rattle.tb_plain.specs.MakeupCalls.{AreMakeupParams, IsPlain, CanFire, 
 use crate::{Plain, PlainFault, PlainPage, TOP_FLOATS};
 use std::alloc::AllocError;
 use tb_builder::{Builder, Page};
-use tb_column::{Column, ColumnKind, is_ragged, push_made, push_rule};
+use tb_column::{Column, ColumnKind, is_ragged, push_made, push_plain_rule};
 use tb_node::{FOOTNOTES, Kind, Node, What, list_sums};
 use tb_pack::pack;
 use tb_param::{Params, exceeds};
@@ -195,7 +195,7 @@ fn push_above_feet(store: &mut Lists<Node>, p: &Params, list: ListId, void: bool
     if void {
         return;
     }
-    push_rule(store, list, p.skipfootins);
+    push_plain_rule(store, list, p.skipfootins);
 }
 
 // At a ragged bottom a kern backs up over the depth of the text, and glue stretches (plain.tex, \pagecontents).

@@ -8,8 +8,9 @@ use std::alloc::Global;
 use std::process::Abort;
 use std::test::Fail;
 use tb_worked_rows::{
-    COLUMN_ROWS, FLOAT_ROWS, INPUT, MODE_ROWS, ModeRow, NONE, RATE_ROWS, REPORT, ROWS, Row,
-    VERSION_ROWS, WHY_ROWS, long_galley, long_report, run_by, run_on, run_with, words_of,
+    COLUMN_END_ROWS, COLUMN_ROWS, FLOAT_ROWS, INPUT, MODE_ROWS, ModeRow, NONE, RATE_ROWS, REPORT,
+    ROWS, Row, VERSION_ROWS, WHY_ROWS, long_galley, long_report, run_by, run_on, run_with,
+    words_of,
 };
 
 // Runs each row on an input that is read by pieces of this size, and says where it differs.
@@ -30,6 +31,11 @@ fn rows_give_what_they_say(rt: HostRuntime) -> Result<(), Fail> {
     check(&rt, rt.alloc(), &FLOAT_ROWS, 50)?;
     check(&rt, rt.alloc(), &COLUMN_ROWS, 50)?;
     check(&rt, rt.alloc(), &VERSION_ROWS, 50)
+}
+
+#[test]
+fn rows_of_version_3_give_what_they_say(rt: HostRuntime) -> Result<(), Fail> {
+    check(&rt, rt.alloc(), &COLUMN_END_ROWS, 50)
 }
 
 #[test]

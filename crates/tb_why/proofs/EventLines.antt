@@ -7,6 +7,8 @@ use Rattle.tb_scaled.specs.declared.Order.{Order}
 use Rattle.tb_scaled.specs.declared.Order.TheVariants as orders
 use Rattle.tb_text.specs.Lines.{IsUnended}
 use Rattle.tb_text.specs.Fields.{and_number, and_count, and_text, line}
+use Rattle.tb_node.specs.declared.RuleOf.{RuleOf}
+use Rattle.tb_node.specs.declared.RuleOf.TheVariants.{Item, Footnotes, Floats}
 use Rattle.tb_node.specs.declared.Name.{Name}
 use Rattle.tb_node.specs.declared.What.{What}
 use Rattle.tb_node.specs.declared.What.TheVariants as what
@@ -32,7 +34,7 @@ use Rattle.tb_builder.specs.declared.Try.{Try}
 use Rattle.tb_trace.specs.Lines.{and_cost, and_numbers, champion_text, try_line}
 use Rattle.tb_items.specs.RunEvents.{RunEvent, offered, sent}
 use Rattle.tb_why.specs.ShownLines.{event_lines, ending_lines}
-use Rattle.tb_why.specs.PlainNames.{HasPlainName, IsPlainIf, IsPlainMatter, IsPlainKind, ArePlainNodes, IsPlainSheet, IsPlainWarning, IsPlainEvent, IsPlainEnd}
+use Rattle.tb_why.specs.PlainNames.{HasPlainName, IsPlainRule, IsPlainMatter, IsPlainKind, ArePlainNodes, IsPlainSheet, IsPlainWarning, IsPlainEvent, IsPlainEnd}
 use Rattle.tb_why.proofs.TextLines.{Kept, none-kept, both-kept, line-kept, count-plain, number-plain, plain-join}
 
 pub where-plain : (place : Where) → IsUnended (where_text place)
@@ -49,13 +51,14 @@ box-kept what.Blank top h d p = none-kept
 box-kept (what.Float name class place item) top h d p = line-kept (codes "float " ++ name ++ and_count class ++ and_text (where_text place) ++ and_number top ++ and_number h) (simp (list_all-append, p, number-plain, count-plain, where-plain) refl) refl
 box-kept (what.Margin name side shift height depth item) top h d p = line-kept (codes "margin " ++ name ++ and_text (side_text side) ++ and_number shift ++ and_number top ++ and_number height ++ and_number depth) (simp (list_all-append, p, number-plain, side-plain) refl) refl
 
-rule-kept : (name : Option Name) (top h d : ℤ) → IsPlainIf name → Kept (rule_line name top h d)
-rule-kept None top h d p = line-kept (codes "footrule" ++ and_number top ++ and_number h ++ and_number d) (simp (list_all-append, number-plain) refl) refl
-rule-kept (Some name) top h d p = line-kept (codes "rule " ++ name ++ and_number top ++ and_number h ++ and_number d) (simp (list_all-append, p, number-plain) refl) refl
+rule-kept : (of : RuleOf) (top h d : ℤ) → IsPlainRule of → Kept (rule_line of top h d)
+rule-kept Footnotes top h d p = line-kept (codes "footrule" ++ and_number top ++ and_number h ++ and_number d) (simp (list_all-append, number-plain) refl) refl
+rule-kept Floats top h d p = line-kept (codes "floatrule" ++ and_number top ++ and_number h ++ and_number d) (simp (list_all-append, number-plain) refl) refl
+rule-kept (Item name) top h d p = line-kept (codes "rule " ++ name ++ and_number top ++ and_number h ++ and_number d) (simp (list_all-append, p, number-plain) refl) refl
 
 matter-kept : (m : Matter) (top : ℤ) → IsPlainMatter m → Kept (matter_line m top)
 matter-kept (hbox content h d) top p = box-kept content top h d p
-matter-kept (rule name h d) top p = rule-kept name top h d p
+matter-kept (rule of h d) top p = rule-kept of top h d p
 matter-kept (mark name) top p = line-kept (codes "mark " ++ name ++ and_number top) (simp (list_all-append, p, number-plain) refl) refl
 matter-kept (note name) top p = line-kept (codes "note " ++ name ++ and_number top) (simp (list_all-append, p, number-plain) refl) refl
 matter-kept m top p = none-kept

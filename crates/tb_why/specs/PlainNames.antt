@@ -2,6 +2,8 @@
 use Rattle.std.specs.Prelude.{List, Option, Some, None}
 use Rattle.std.specs.List.{AllByRecursion}
 use Rattle.tb_text.specs.Lines.{IsUnended}
+use Rattle.tb_node.specs.declared.RuleOf.{RuleOf}
+use Rattle.tb_node.specs.declared.RuleOf.TheVariants.{Item, Footnotes, Floats}
 use Rattle.tb_node.specs.declared.Name.{Name}
 use Rattle.tb_node.specs.declared.Float.{Float}
 use Rattle.tb_node.specs.declared.What.{What}
@@ -29,14 +31,15 @@ HasPlainName what.Blank = Unit {0}
 HasPlainName (what.Float name class place item) = IsUnended name
 HasPlainName (what.Margin name side shift height depth item) = IsUnended name
 
--- a name, if there is one
-abbrev pub IsPlainIf : Option Name → Type 0
-IsPlainIf None = Unit {0}
-IsPlainIf (Some name) = IsUnended name
+-- the name of a rule that has one
+abbrev pub IsPlainRule : RuleOf → Type 0
+IsPlainRule (Item name) = IsUnended name
+IsPlainRule Footnotes = Unit {0}
+IsPlainRule Floats = Unit {0}
 
 abbrev pub IsPlainMatter : Matter → Type 0
 IsPlainMatter (hbox content h d) = HasPlainName content
-IsPlainMatter (rule name h d) = IsPlainIf name
+IsPlainMatter (rule of h d) = IsPlainRule of
 IsPlainMatter (skip g) = Unit {0}
 IsPlainMatter (kerned w) = Unit {0}
 IsPlainMatter (pen p) = Unit {0}

@@ -2,6 +2,7 @@
 //! For tests alone.
 #![tactic(auto)]
 
+mod column_end_rows;
 mod column_rows;
 mod float_rows;
 mod long_page;
@@ -13,6 +14,7 @@ mod runs;
 mod version_rows;
 mod why_rows;
 
+pub use column_end_rows::COLUMN_END_ROWS;
 pub use column_rows::COLUMN_ROWS;
 pub use float_rows::FLOAT_ROWS;
 pub use long_page::{long_galley, long_report};

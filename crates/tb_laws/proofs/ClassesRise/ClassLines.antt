@@ -1,14 +1,18 @@
 -- The lines of the floats of a kind, in their order in lists, columns, pages and events.
-use Rattle.std.proofs.Common.{◌≡◌, refl, sym, ◌∙◌, ap, ℕ, ◌==◌, ℤ, Bool, true, false, cond, List, [], ◌∷◌, ◌++◌, map, Option, Some, None, append_assoc, append-nil}
+use Rattle.std.proofs.Common.{◌≡◌, refl, sym, ◌∙◌, ap, ℕ, ◌==◌, ℤ, Bool, true, false, cond, List, [], ◌∷◌, ◌++◌, map, length, Option, Some, None, append_assoc, append-nil}
 use Rattle.std.specs.Prelude.{◌&&◌, if◌then◌else◌}
 use Rattle.std.specs.List.{AllByRecursion}
 use Rattle.tb_scaled.specs.declared.Glue.{Glue}
+use Rattle.tb_scaled.specs.Glue.{negated_glue}
+use Rattle.tb_node.specs.declared.RuleOf.{RuleOf}
+use Rattle.tb_node.specs.declared.RuleOf.TheVariants.{Footnotes, Floats}
 use Rattle.tb_node.specs.declared.What.TheVariants as what
 use Rattle.tb_node.specs.declared.Where.{Where}
 use Rattle.tb_node.specs.declared.Where.TheVariants as places
 use Rattle.tb_node.specs.declared.Float.{Float}
-use Rattle.tb_node.specs.PlainNodes.{hbox, skip, made, Leaf, leaf_node, PlainKind, plain, PlainNode}
+use Rattle.tb_node.specs.PlainNodes.{hbox, skip, made, Leaf, leaf_node, PlainKind, plain, PlainNode, node_shape}
 use Rattle.tb_param.specs.declared.Params.{Params}
+use Rattle.tb_param.specs.declared.Rule.{Rule}
 use Rattle.tb_param.specs.Release.{has_second}
 use Rattle.tb_float.specs.declared.Suppress.{Suppress}
 use Rattle.tb_float.specs.declared.Part.{Part}
@@ -19,7 +23,8 @@ use Rattle.tb_area.proofs.OrderLemmas.{fill-order, double-order}
 use Rattle.tb_fpage.specs.declared.Wanted.{Wanted}
 use Rattle.tb_fpage.specs.Company.{Choice, company, chosen_floats, left_floats}
 use Rattle.tb_fpage.proofs.LawLemmas.{order-company}
-use Rattle.tb_column.specs.Column.{Notes, notes_under_rule, class_below, PlainColumn, floats_with, floats_above, floats_below, notes_below, text_nodes, text_column, floats_after, floats_column}
+use Rattle.tb_column.specs.Column.{Notes, is_no_glue, glue_if_any, rule_if_any, kern_if_any, is_below, foot_kern, feet_above, class_below, PlainColumn, floats_with, floats_above, floats_below, notes_below, notes_among, text_above_feet, with_feet, with_bottoms, with_below, text_nodes, closing_glue, text_column, floats_after, floats_column}
+use Rattle.tb_column.proofs.ColumnParts.{among-have}
 use Rattle.tb_sheet.specs.Sheet.{PlainSheet, PlainSent, warned, shipped, one, wide, two}
 
 -- by where they wait: in release 2015 all wait among the deferred ones; in release 2014 the wide ones wait in the second list, and the others do not
@@ -182,13 +187,44 @@ floats_with-lines : (k : FloatKind) (place : Where) (sep : Glue) (fs : List Floa
 floats_with-lines k place sep [] = refl
 floats_with-lines k place sep (f ∷ fs) = ap (λ l. line_if (is_of k f.class f.line) f.line ++ l) (floats_with-lines k place sep fs)
 
-pub floats_above-lines : (k : FloatKind) (place : Where) (sep last : Glue) (fs : List Float) → class_lines k (floats_above place sep last fs) ≡ float_lines k fs
-floats_above-lines k place sep last [] = refl
-floats_above-lines k place sep last (f ∷ fs) = lines-append k (floats_with place sep (f ∷ fs)) _ ∙ append-nil (class_lines k (floats_with place sep (f ∷ fs))) ∙ floats_with-lines k place sep (f ∷ fs)
+-- rules, glue and kerns are no floats
+across-lines : (k : FloatKind) (of : RuleOf) (r : Option Rule) → class_lines k (rule_if_any of r) ≡ []
+across-lines k of None = refl
+across-lines k of (Some r) = refl
 
-floats_below-lines : (k : FloatKind) (place : Where) (sep first : Glue) (fs : List Float) → class_lines k (floats_below place sep first fs) ≡ float_lines k fs
-floats_below-lines k place sep first [] = refl
-floats_below-lines k place sep first (f ∷ fs) = lines-append k (floats_with place sep (f ∷ fs)) _ ∙ append-nil (class_lines k (floats_with place sep (f ∷ fs))) ∙ floats_with-lines k place sep (f ∷ fs)
+glue-lines : (k : FloatKind) (g : Glue) → class_lines k (glue_if_any g) ≡ []
+glue-lines k g = by_test (is_no_glue g)
+  where
+    by_test : (t : Bool) → class_lines k (if t then [] else made (skip g) ∷ []) ≡ []
+    by_test true = refl
+    by_test false = refl
+
+kern-lines : (k : FloatKind) (kern : Option ℤ) → class_lines k (kern_if_any kern) ≡ []
+kern-lines k None = refl
+kern-lines k (Some w) = refl
+
+-- a list with one behind it that has no floats, and the other way round
+lines-front : (k : FloatKind) (xs ys : List PlainNode) → class_lines k ys ≡ [] → class_lines k (xs ++ ys) ≡ class_lines k xs
+lines-front k xs ys none = lines-append k xs ys ∙ ap (λ l. class_lines k xs ++ l) none ∙ append-nil (class_lines k xs)
+
+lines-back : (k : FloatKind) (xs ys : List PlainNode) → class_lines k xs ≡ [] → class_lines k (xs ++ ys) ≡ class_lines k ys
+lines-back k xs ys none = lines-append k xs ys ∙ ap (λ l. l ++ class_lines k ys) none
+
+pub floats_above-lines : (k : FloatKind) (place : Where) (sep : Glue) (across : Option Rule) (last : Glue) (fs : List Float) → class_lines k (floats_above place sep across last fs) ≡ float_lines k fs
+floats_above-lines k place sep across last [] = refl
+floats_above-lines k place sep across last (f ∷ fs) =
+    let gap = made (skip (negated_glue sep)) ∷ rule_if_any Floats across in
+    lines-front k (floats_with place sep (f ∷ fs) ++ gap) (made (skip last) ∷ []) refl
+    ∙ lines-front k (floats_with place sep (f ∷ fs)) gap (across-lines k Floats across)
+    ∙ floats_with-lines k place sep (f ∷ fs)
+
+floats_below-lines : (k : FloatKind) (place : Where) (sep : Glue) (across : Option Rule) (first : Glue) (fs : List Float) → class_lines k (floats_below place sep across first fs) ≡ float_lines k fs
+floats_below-lines k place sep across first [] = refl
+floats_below-lines k place sep across first (f ∷ fs) =
+    let gap = made (skip first) ∷ rule_if_any Floats across in
+    lines-front k (gap ++ floats_with place sep (f ∷ fs)) (made (skip (negated_glue sep)) ∷ []) refl
+    ∙ lines-back k gap (floats_with place sep (f ∷ fs)) (across-lines k Floats across)
+    ∙ floats_with-lines k place sep (f ∷ fs)
 
 floats_after-lines : (k : FloatKind) (sep : Glue) (fs : List Float) → class_lines k (floats_after sep fs) ≡ float_lines k fs
 floats_after-lines k sep [] = refl
@@ -212,25 +248,57 @@ leaves-lines k (l ∷ ls) h = ap (λ x. x ++ class_lines k (map leaf_node ls)) h
 abbrev pub NotesFloatless : FloatKind → List Notes → Type 0
 NotesFloatless k = AllByRecursion (λ n. AreFloatless k n.inner)
 
-class_below-lines : (k : FloatKind) (p : Params) (n : Notes) → AreFloatless k n.inner → class_lines k (class_below p n) ≡ []
-class_below-lines k p n h = by_class (n.class == 254)
+feet-lines : (k : FloatKind) (p : Params) (kern : Option ℤ) → class_lines k (feet_above p kern) ≡ []
+feet-lines k p kern =
+    lines-front k (kern_if_any kern ++ glue_if_any p.footfill) (made (skip p.skipfootins) ∷ rule_if_any Footnotes p.footrule) (across-lines k Footnotes p.footrule)
+    ∙ lines-front k (kern_if_any kern) (glue_if_any p.footfill) (glue-lines k p.footfill)
+    ∙ kern-lines k kern
+
+class_below-lines : (k : FloatKind) (p : Params) (kern : Option ℤ) (n : Notes) → AreFloatless k n.inner → class_lines k (class_below p kern n) ≡ []
+class_below-lines k p kern n h = by_class (n.class == 254)
   where
-    by_class : (t : Bool) → class_lines k (if t then notes_under_rule p n.inner else made (skip n.skip) ∷ map leaf_node n.inner) ≡ []
-    by_class true = leaves-lines k n.inner h
+    by_class : (t : Bool) → class_lines k (if t then feet_above p kern ++ map leaf_node n.inner else made (skip n.skip) ∷ map leaf_node n.inner) ≡ []
+    by_class true = lines-back k (feet_above p kern) (map leaf_node n.inner) (feet-lines k p kern) ∙ leaves-lines k n.inner h
     by_class false = leaves-lines k n.inner h
 
-notes_below-lines : (k : FloatKind) (p : Params) (ns : List Notes) → NotesFloatless k ns → class_lines k (notes_below p ns) ≡ []
-notes_below-lines k p [] h = refl
-notes_below-lines k p (n ∷ ns) h = lines-append k (class_below p n) (notes_below p ns) ∙ ap (λ x. x ++ class_lines k (notes_below p ns)) (class_below-lines k p n h.0) ∙ notes_below-lines k p ns h.1
+notes_below-lines : (k : FloatKind) (p : Params) (kern : Option ℤ) (ns : List Notes) → NotesFloatless k ns → class_lines k (notes_below p kern ns) ≡ []
+notes_below-lines k p kern [] h = refl
+notes_below-lines k p kern (n ∷ ns) h = lines-back k (class_below p kern n) (notes_below p kern ns) (class_below-lines k p kern n h.0) ∙ notes_below-lines k p kern ns h.1
+
+module _ (k : FloatKind) (p : Params) (l : FloatLists) (notes : List Notes) (h : NotesFloatless k notes) where
+  feet-none : (kern : Option ℤ) (feet : Bool) → class_lines k (notes_below p kern (notes_among feet notes)) ≡ []
+  feet-none kern feet = notes_below-lines k p kern (notes_among feet notes) (among-have (λ n. AreFloatless k n.inner) feet notes h)
+
+  with_feet-lines : (ns : List PlainNode) → class_lines k (with_feet p l notes ns) ≡ class_lines k ns
+  with_feet-lines ns = lines-front k ns (notes_below p (foot_kern p (length l.bottom) (map node_shape ns)) (notes_among true notes)) (feet-none (foot_kern p (length l.bottom) (map node_shape ns)) true)
+
+  with_bottoms-lines : (ns : List PlainNode) → class_lines k (with_bottoms p l ns) ≡ class_lines k ns ++ float_lines k l.bottom
+  with_bottoms-lines ns =
+      lines-append k ns (floats_below places.Bottom p.floatsep p.bottomrule p.textfloatsep l.bottom)
+      ∙ ap (λ x. class_lines k ns ++ x) (floats_below-lines k places.Bottom p.floatsep p.bottomrule p.textfloatsep l.bottom)
+
+  with_below-lines : (ns : List PlainNode) → class_lines k (with_below p l notes ns) ≡ class_lines k ns ++ float_lines k l.bottom
+  with_below-lines ns = by_place (is_below p.footplace)
+    where
+      by_place : (t : Bool) → class_lines k (if t then with_feet p l notes (with_bottoms p l ns) else with_bottoms p l (with_feet p l notes ns)) ≡ class_lines k ns ++ float_lines k l.bottom
+      by_place true = with_feet-lines (with_bottoms p l ns) ∙ with_bottoms-lines ns
+      by_place false = with_bottoms-lines (with_feet p l notes ns) ∙ ap (λ x. x ++ float_lines k l.bottom) (with_feet-lines ns)
+
+  text_above-lines : (body : List PlainNode) → class_lines k (text_above_feet p l body notes) ≡ float_lines k l.top ++ class_lines k body
+  text_above-lines body =
+      let tops = floats_above places.Top p.floatsep p.toprule p.textfloatsep l.top in
+      lines-front k (glue_if_any p.texttop ++ (tops ++ body)) (notes_below p None (notes_among false notes)) (feet-none None false)
+      ∙ lines-back k (glue_if_any p.texttop) (tops ++ body) (glue-lines k p.texttop)
+      ∙ lines-append k tops body
+      ∙ ap (λ x. x ++ class_lines k body) (floats_above-lines k places.Top p.floatsep p.toprule p.textfloatsep l.top)
 
 -- a text column has the floats at the top, those in its text, and those at the bottom
 pub text_column-lines : (k : FloatKind) (p : Params) (l : FloatLists) (body : List PlainNode) (notes : List Notes) → NotesFloatless k notes → class_lines k (text_column p l body notes).nodes ≡ float_lines k l.top ++ (class_lines k body ++ float_lines k l.bottom)
 text_column-lines k p l body notes h =
-    let tops = floats_above places.Top p.floatsep p.textfloatsep l.top in
-    let bottoms = floats_below places.Bottom p.floatsep p.textfloatsep l.bottom in
-    lines-append k (text_nodes p l body notes) _ ∙ append-nil (class_lines k (text_nodes p l body notes))
-    ∙ lines-append k (tops ++ body ++ notes_below p notes) bottoms
-    ∙ ap (λ x. x ++ class_lines k bottoms) (lines-append k (tops ++ body) (notes_below p notes) ∙ ap (λ x. class_lines k (tops ++ body) ++ x) (notes_below-lines k p notes h) ∙ append-nil (class_lines k (tops ++ body)) ∙ lines-append k tops body)
-    ∙ append_assoc (class_lines k tops) (class_lines k body) (class_lines k bottoms)
-    ∙ ap (λ x. x ++ (class_lines k body ++ class_lines k bottoms)) (floats_above-lines k places.Top p.floatsep p.textfloatsep l.top)
-    ∙ ap (λ x. float_lines k l.top ++ (class_lines k body ++ x)) (floats_below-lines k places.Bottom p.floatsep p.textfloatsep l.bottom)
+    let texts = text_nodes p l body notes in
+    let last = made (skip (closing_glue p texts)) ∷ [] in
+    lines-front k (texts ++ last) (glue_if_any p.textbottom) (glue-lines k p.textbottom)
+    ∙ lines-front k texts last refl
+    ∙ with_below-lines k p l notes h (text_above_feet p l body notes)
+    ∙ ap (λ x. x ++ float_lines k l.bottom) (text_above-lines k p l notes h body)
+    ∙ append_assoc (float_lines k l.top) (class_lines k body) (float_lines k l.bottom)

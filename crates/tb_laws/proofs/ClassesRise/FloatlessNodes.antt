@@ -1,5 +1,6 @@
 -- The lines of a class in events, and nodes in which no float weighs.
 use Rattle.std.proofs.Common.{◌≡◌, refl, sym, ◌∙◌, ap, ℕ, ◌+◌, List, [], ◌∷◌, ◌++◌, map, Option, Some, None, append_assoc, arith}
+use Rattle.tb_node.specs.declared.RuleOf.TheVariants.{Footnotes}
 use Rattle.tb_node.specs.declared.Act.{Act}
 use Rattle.tb_node.specs.declared.Act.TheVariants as acts
 use Rattle.tb_node.specs.declared.What.TheVariants as what
@@ -47,7 +48,7 @@ floats_count = record { box = λ n. 0; float = λ n. 1; margin = λ n. 0 }
 
 nothing-matter : (n : ℕ) (m : Matter) → matter_weight nothing_weighs n m ≡ 0
 nothing-matter n (hbox (what.Text name) h d) = refl
-nothing-matter n (rule None h d) = refl
+nothing-matter n (rule Footnotes h d) = refl
 nothing-matter n m = refl
 
 nothing-leaves : (ls : List Leaf) → leaves_weight nothing_weighs ls ≡ 0

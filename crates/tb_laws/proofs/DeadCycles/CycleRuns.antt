@@ -2,6 +2,7 @@
 use Rattle.std.proofs.Common.{◌≡◌, refl, sym, subst, ℕ, zero, suc, ℤ, pos, ◌+◌, ◌≤◌, Bool, true, false, List, [], ◌∷◌, ◌++◌, map, Option, Some, None, arith}
 use Rattle.std.specs.Prelude.{pred, int_lt, int_le, if◌then◌else◌}
 use Rattle.tb_scaled.specs.Scaled.{awful_bad, min_ℤ, eject_penalty}
+use Rattle.tb_node.specs.declared.RuleOf.TheVariants.{Footnotes}
 use Rattle.tb_node.specs.declared.What.TheVariants as what
 use Rattle.tb_node.specs.declared.Act.{Act}
 use Rattle.tb_node.specs.declared.Act.TheVariants as acts
@@ -59,7 +60,7 @@ nothing = record { box = λ n. 0; float = λ n. 0; margin = λ n. 0 }
 
 leaf-nothing : (m : Matter) (l : ℕ) → kind_weight nothing l (plain m) ≡ 0
 leaf-nothing (hbox (what.Text name) h d) l = refl
-leaf-nothing (rule None h d) l = refl
+leaf-nothing (rule Footnotes h d) l = refl
 leaf-nothing m l = refl
 
 leaves-nothing : (ls : List Leaf) → leaves_weight nothing ls ≡ 0

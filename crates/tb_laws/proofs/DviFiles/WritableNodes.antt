@@ -3,9 +3,13 @@
 use Rattle.std.proofs.Common.{ℕ, ℤ, pos, ◌+ℤ◌, ◌<◌, Bool, true, false, List, [], ◌∷◌, ◌++◌, length, map, filter, take, drop, Option, Some, None, FitsSigned, IfSome, arith}
 use Rattle.std.specs.Prelude.{◌==◌, not, if◌then◌else◌, codes}
 use Rattle.std.specs.Int.{w32}
+use Rattle.std.proofs.lemmas.Int.{ints}
 use Rattle.std.specs.List.{AllByRecursion}
 use Rattle.tb_break.proofs.EachLemmas.{all-join, all-take, all-drop}
 use Rattle.tb_scaled.specs.declared.Glue.{Glue}
+use Rattle.tb_scaled.specs.Glue.{negated_glue}
+use Rattle.tb_node.specs.declared.RuleOf.TheVariants.{Footnotes, Floats}
+use Rattle.tb_node.specs.Fit.{IsExtent}
 use Rattle.tb_node.specs.declared.Act.{Act}
 use Rattle.tb_node.specs.declared.Act.TheVariants as acts
 use Rattle.tb_node.specs.declared.Float.{Float}
@@ -13,8 +17,9 @@ use Rattle.tb_node.specs.declared.Margin.{Margin}
 use Rattle.tb_node.specs.declared.Side.{Side}
 use Rattle.tb_node.specs.declared.Where.{Where}
 use Rattle.tb_node.specs.declared.Where.TheVariants as places
-use Rattle.tb_node.specs.PlainNodes.{Matter, hbox, rule, skip, kerned, pen, mark, note, whatsit, Leaf, leaf_node, Inserted, PlainKind, plain, ins, act, PlainNode, is_act_kind, is_insertion_kind, without_acts, without_insertions, on_line}
+use Rattle.tb_node.specs.PlainNodes.{Matter, hbox, rule, skip, kerned, pen, mark, note, whatsit, Leaf, leaf_node, Inserted, PlainKind, plain, ins, act, PlainNode, is_act_kind, is_insertion_kind, without_acts, without_insertions, on_line, node_shape, made}
 use Rattle.tb_param.specs.declared.Params.{Params}
+use Rattle.tb_param.specs.declared.Rule.{Rule}
 use Rattle.tb_break.specs.Best.{Breakpoint, is_stop}
 use Rattle.tb_break.specs.PageTop.{pruned_leaves, pruned_nodes}
 use Rattle.tb_insert.specs.Terms.{Terms}
@@ -25,7 +30,9 @@ use Rattle.tb_float.specs.Lists.{FloatLists}
 use Rattle.tb_margin.specs.Margin.{note_height, note_depth}
 use Rattle.tb_report.specs.Lines.{where_text, side_text}
 use Rattle.tb_text.specs.Fields.{and_count, and_text}
-use Rattle.tb_column.specs.Column.{Notes, floats_with, floats_above, floats_below, floats_after, floats_column, notes_under_rule, class_below, notes_below, text_nodes, text_column, pair_floats}
+use Rattle.tb_column.specs.Column.{Notes, is_no_glue, glue_if_any, rule_if_any, kern_if_any, foot_kern, floats_with, floats_above, floats_below, floats_after, floats_column, feet_above, class_below, notes_below, notes_among, text_above_feet, text_nodes, closing_glue, text_column, pair_floats}
+use Rattle.tb_column.specs.Ranges.{IsSizedRule, AreColumnParams}
+use Rattle.tb_column.proofs.ColumnParts.{below-has, among-have}
 use Rattle.tb_sheet.specs.Sheet.{PlainSheet, one, wide, two}
 use Rattle.tb_dvi.specs.Placement.{Spot, matter_spot}
 
@@ -99,7 +106,7 @@ leaf-nodes (l ∷ ls) h = (h.0, leaf-nodes ls h.1)
 
 leaf-pruned : (t : ℤ) (ls : List Leaf) → WritableLeaves ls → WritableLeaves (pruned_leaves t ls) → (n : ℕ) (m : Matter) → WritableMatter m → WritableLeaves (pruned_leaves t (record { line = n; matter = m } ∷ ls))
 leaf-pruned t ls h k n (hbox w a d) g = (tt, (g, h))
-leaf-pruned t ls h k n (rule name a d) g = (tt, (g, h))
+leaf-pruned t ls h k n (rule of a d) g = (tt, (g, h))
 leaf-pruned t ls h k n (mark name) g = (g, k)
 leaf-pruned t ls h k n (note name) g = (g, k)
 leaf-pruned t ls h k n whatsit g = (g, k)
@@ -111,7 +118,7 @@ leaves-pruned t (l ∷ ls) h = leaf-pruned t ls h.1 (leaves-pruned t ls h.1) l.l
 
 node-pruned : (t : ℤ) (ns : List PlainNode) → WritableNodes ns → WritableNodes (pruned_nodes t ns) → (n : ℕ) (k : PlainKind) → WritableKind k → WritableNodes (pruned_nodes t (record { line = n; kind = k } ∷ ns))
 node-pruned t ns h k n (plain (hbox w a d)) g = (tt, (g, h))
-node-pruned t ns h k n (plain (rule name a d)) g = (tt, (g, h))
+node-pruned t ns h k n (plain (rule of a d)) g = (tt, (g, h))
 node-pruned t ns h k n (plain (skip x)) g = k
 node-pruned t ns h k n (plain (kerned w)) g = k
 node-pruned t ns h k n (plain (pen p)) g = k
@@ -253,13 +260,40 @@ pub floats-with : (place : Where) (sep : Glue) (fs : List Float) → WritableFlo
 floats-with place sep [] h = tt
 floats-with place sep (f ∷ fs) h = ((h.0.0 place, h.0.1), (tt, floats-with place sep fs h.1))
 
-floats-above : (place : Where) (sep last : Glue) (fs : List Float) → WritableFloats fs → WritableNodes (floats_above place sep last fs)
-floats-above place sep last [] h = tt
-floats-above place sep last (f ∷ fs) h = nodes-join (floats_with place sep (f ∷ fs)) _ (floats-with place sep (f ∷ fs) h) (tt, (tt, tt))
+-- a rule of the parameters has bytes
+rule-fits : (h : ℤ) → IsExtent h → FitsSigned w32 (h +ℤ pos 0)
+rule-fits h k = record { sfits = omega (arith, ints, k.low, k.high) }
 
-floats-below : (place : Where) (sep first : Glue) (fs : List Float) → WritableFloats fs → WritableNodes (floats_below place sep first fs)
-floats-below place sep first [] h = tt
-floats-below place sep first (f ∷ fs) h = (tt, nodes-join (floats_with place sep (f ∷ fs)) _ (floats-with place sep (f ∷ fs) h) (tt, tt))
+foot-rule : (r : Option Rule) → IsSizedRule r → WritableNodes (rule_if_any Footnotes r)
+foot-rule None h = tt
+foot-rule (Some r) h = (tt, ((omega arith, rule-fits r.height h.1), (tt, tt)))
+
+float-rule : (r : Option Rule) → IsSizedRule r → WritableNodes (rule_if_any Floats r)
+float-rule None h = tt
+float-rule (Some r) h = (tt, ((omega arith, rule-fits r.height h.1), (tt, tt)))
+
+glue-if : (g : Glue) → WritableNodes (glue_if_any g)
+glue-if g = by_test (is_no_glue g)
+  where
+    by_test : (t : Bool) → WritableNodes (if t then [] else made (skip g) ∷ [])
+    by_test true = tt
+    by_test false = (tt, tt)
+
+kern-if : (kern : Option ℤ) → WritableNodes (kern_if_any kern)
+kern-if None = tt
+kern-if (Some w) = (tt, tt)
+
+floats-above : (place : Where) (sep : Glue) (across : Option Rule) (last : Glue) (fs : List Float) → IsSizedRule across → WritableFloats fs → WritableNodes (floats_above place sep across last fs)
+floats-above place sep across last [] r h = tt
+floats-above place sep across last (f ∷ fs) r h =
+    let gap = made (skip (negated_glue sep)) ∷ rule_if_any Floats across in
+    nodes-join (floats_with place sep (f ∷ fs) ++ gap) _ (nodes-join (floats_with place sep (f ∷ fs)) gap (floats-with place sep (f ∷ fs) h) (tt, float-rule across r)) (tt, tt)
+
+floats-below : (place : Where) (sep : Glue) (across : Option Rule) (first : Glue) (fs : List Float) → IsSizedRule across → WritableFloats fs → WritableNodes (floats_below place sep across first fs)
+floats-below place sep across first [] r h = tt
+floats-below place sep across first (f ∷ fs) r h =
+    let gap = made (skip first) ∷ rule_if_any Floats across in
+    nodes-join (gap ++ floats_with place sep (f ∷ fs)) _ (nodes-join gap (floats_with place sep (f ∷ fs)) (tt, float-rule across r) (floats-with place sep (f ∷ fs) h)) (tt, tt)
 
 floats-after : (sep : Glue) (fs : List Float) → WritableFloats fs → WritableNodes (floats_after sep fs)
 floats-after sep [] h = tt
@@ -271,32 +305,38 @@ floats-column height above between below fs h = (tt, (tt, nodes-join (floats_aft
 abbrev pub WritableNotes : List Notes → Type 0
 WritableNotes ns = AllByRecursion (λ n. WritableLeaves n.inner) ns
 
-foot-rule : WritableMatter (rule None (pos 26214) (pos 0))
-foot-rule = (omega arith, record { sfits = omega arith })
-
-class-notes : (p : Params) (n : Notes) → WritableLeaves n.inner → WritableNodes (class_below p n)
-class-notes p n h = by_class (n.class == 254)
+class-notes : (p : Params) (ranges : AreColumnParams p) (kern : Option ℤ) (n : Notes) → WritableLeaves n.inner → WritableNodes (class_below p kern n)
+class-notes p ranges kern n h = by_class (n.class == 254)
   where
-    by_class : (t : Bool) → WritableNodes (if t then notes_under_rule p n.inner else record { line = 0; kind = plain (skip n.skip) } ∷ map leaf_node n.inner)
-    by_class true = (tt, (tt, (foot-rule, (tt, leaf-nodes n.inner h))))
+    feet : WritableNodes (feet_above p kern)
+    feet = nodes-join (kern_if_any kern ++ glue_if_any p.footfill) _ (nodes-join (kern_if_any kern) (glue_if_any p.footfill) (kern-if kern) (glue-if p.footfill)) (tt, foot-rule p.footrule ranges.footrule)
+
+    by_class : (t : Bool) → WritableNodes (if t then feet_above p kern ++ map leaf_node n.inner else made (skip n.skip) ∷ map leaf_node n.inner)
+    by_class true = nodes-join (feet_above p kern) (map leaf_node n.inner) feet (leaf-nodes n.inner h)
     by_class false = (tt, leaf-nodes n.inner h)
 
-all-notes : (p : Params) (ns : List Notes) → WritableNotes ns → WritableNodes (notes_below p ns)
-all-notes p [] h = tt
-all-notes p (n ∷ ns) h = nodes-join (class_below p n) (notes_below p ns) (class-notes p n h.0) (all-notes p ns h.1)
+all-notes : (p : Params) (ranges : AreColumnParams p) (kern : Option ℤ) (ns : List Notes) → WritableNotes ns → WritableNodes (notes_below p kern ns)
+all-notes p ranges kern [] h = tt
+all-notes p ranges kern (n ∷ ns) h = nodes-join (class_below p kern n) (notes_below p kern ns) (class-notes p ranges kern n h.0) (all-notes p ranges kern ns h.1)
 
-pub text-writable : (p : Params) (l : FloatLists) (body : List PlainNode) (notes : List Notes) → WritableFloats l.top → WritableFloats l.bottom → WritableNodes body → WritableNotes notes → WritableNodes (text_column p l body notes).nodes
-text-writable p l body notes top bottom h g =
-    let above = floats_above places.Top p.floatsep p.textfloatsep l.top in
-    let below = floats_below places.Bottom p.floatsep p.textfloatsep l.bottom in
-    nodes-join (text_nodes p l body notes) _
-    (nodes-join (above ++ body ++ notes_below p notes) below
-    (nodes-join (above ++ body) (notes_below p notes)
-    (nodes-join above body (floats-above places.Top p.floatsep p.textfloatsep l.top top) h) (all-notes p notes g))
-    (floats-below places.Bottom p.floatsep p.textfloatsep l.bottom bottom)) (tt, tt)
+pub text-writable : (p : Params) → AreColumnParams p → (l : FloatLists) (body : List PlainNode) (notes : List Notes) → WritableFloats l.top → WritableFloats l.bottom → WritableNodes body → WritableNotes notes → WritableNodes (text_column p l body notes).nodes
+text-writable p ranges l body notes top bottom h g =
+    let texts = text_nodes p l body notes in
+    let tops = floats_above places.Top p.floatsep p.toprule p.textfloatsep l.top in
+    let bottoms = floats_below places.Bottom p.floatsep p.bottomrule p.textfloatsep l.bottom in
+    let some = λ (feet : Bool). among-have (λ n. WritableLeaves n.inner) feet notes g in
+    nodes-join (texts ++ made (skip (closing_glue p texts)) ∷ []) (glue_if_any p.textbottom)
+    (nodes-join texts (made (skip (closing_glue p texts)) ∷ [])
+    (below-has p l notes WritableNodes (text_above_feet p l body notes)
+    (λ ns k. nodes-join ns _ k (all-notes p ranges (foot_kern p (length l.bottom) (map node_shape ns)) (notes_among true notes) (some true)))
+    (λ ns k. nodes-join ns bottoms k (floats-below places.Bottom p.floatsep p.bottomrule p.textfloatsep l.bottom ranges.bottomrule bottom))
+    (nodes-join (glue_if_any p.texttop ++ (tops ++ body)) (notes_below p None (notes_among false notes))
+    (nodes-join (glue_if_any p.texttop) (tops ++ body) (glue-if p.texttop) (nodes-join tops body (floats-above places.Top p.floatsep p.toprule p.textfloatsep l.top ranges.toprule top) h))
+    (all-notes p ranges None (notes_among false notes) (some false)))) (tt, tt))
+    (glue-if p.textbottom)
 
-pub pair-writable : (p : Params) (l : FloatLists) → WritableFloats l.double → WritableNodes (pair_floats p l)
-pair-writable p l h = floats-above places.Double p.dblfloatsep p.dbltextfloatsep l.double h
+pub pair-writable : (p : Params) → AreColumnParams p → (l : FloatLists) → WritableFloats l.double → WritableNodes (pair_floats p l)
+pair-writable p ranges l h = floats-above places.Double p.dblfloatsep p.dblrule p.dbltextfloatsep l.double ranges.dblrule h
 
 abbrev pub WritableSheet : PlainSheet → Type 0
 WritableSheet (one c) = WritableNodes c.nodes

@@ -42,6 +42,8 @@ use Rattle.tb_report.specs.Lines.{where_text, side_text}
 use Rattle.tb_text.specs.Fields.{and_count, and_text}
 use Rattle.tb_sheet.specs.declared.Warn.{Warn}
 use Rattle.tb_sheet.specs.Sheet.{PlainSent, warned}
+use Rattle.tb_column.specs.Ranges.{AreColumnParams}
+use Rattle.tb_column.proofs.RangeLemmas.{column-params}
 use Rattle.tb_output.specs.State.{State, Work, Recorded, emptied, ask_of, first_state, void_boxes}
 use Rattle.tb_output.specs.Act.{Acted, went, full, act_on, taken_float, lists_with_taken}
 use Rattle.tb_output.specs.Output.{out}
@@ -137,41 +139,42 @@ module _ (p : Params) (height : FitsSigned w32 p.textheight) where
       by_refused true = events
       by_refused false = by_nodes (int_lt p.maxnodes (pos (held_count w.state)))
 
-  fires : (w : Reach) (q : Progress) → WritableReach w → WritableProgress q → WritableStep (fire p w q)
-  fires w q h k = by_cycles (int_lt (pos q.state.dead_cycles) p.maxdeadcycles)
-    where
-      by_cycles : (t : Bool) → WritableStep (if t then after_firing p q.events q.records (out p q.state (fired_of (ask_of p q.state) q.state.classes q.state.boxes w)) else ends q.events q.records (dead_cycles q.state.dead_cycles))
-      by_cycles true = after-firing q.events q.records (out p q.state (fired_of (ask_of p q.state) q.state.classes q.state.boxes w)) k.1 (out-writable p q.state (fired_of (ask_of p q.state) q.state.classes q.state.boxes w) k.0 (fired-writable (frozen_for (ask_of p q.state) q.state.classes q.state.boxes) q.state.boxes w k.0.1 h))
-      by_cycles false = k.1
+  module _ (ranges : AreColumnParams p) where
+    fires : (w : Reach) (q : Progress) → WritableReach w → WritableProgress q → WritableStep (fire p w q)
+    fires w q h k = by_cycles (int_lt (pos q.state.dead_cycles) p.maxdeadcycles)
+      where
+        by_cycles : (t : Bool) → WritableStep (if t then after_firing p q.events q.records (out p q.state (fired_of (ask_of p q.state) q.state.classes q.state.boxes w)) else ends q.events q.records (dead_cycles q.state.dead_cycles))
+        by_cycles true = after-firing q.events q.records (out p q.state (fired_of (ask_of p q.state) q.state.classes q.state.boxes w)) k.1 (out-writable p ranges q.state (fired_of (ask_of p q.state) q.state.classes q.state.boxes w) k.0 (fired-writable (frozen_for (ask_of p q.state) q.state.classes q.state.boxes) q.state.boxes w k.0.1 h))
+        by_cycles false = k.1
 
-  steps : (s : State) → WritableState s → WritableStep (step p s)
-  unfolding step
-  steps s h = by_fault q.fault
-    where
-      q : Progress
-      q = progress p (page_of s).reached awful_bad s
+    steps : (s : State) → WritableState s → WritableStep (step p s)
+    unfolding step
+    steps s h = by_fault q.fault
+      where
+        q : Progress
+        q = progress p (page_of s).reached awful_bad s
 
-      k : WritableProgress q
-      k = progresses (page_of s).reached awful_bad s (page-reached s h).reached h
+        k : WritableProgress q
+        k = progresses (page_of s).reached awful_bad s (page-reached s h).reached h
 
-      by_firing : (t : Bool) → WritableStep (if t then fire p (page_of s) q else ends q.events (q.records ++ emptied q.state.floats ∷ []) (done (page_of s).passed))
-      by_firing true = fires (page_of s) q (page-reached s h) k
-      by_firing false = k.1
+        by_firing : (t : Bool) → WritableStep (if t then fire p (page_of s) q else ends q.events (q.records ++ emptied q.state.floats ∷ []) (done (page_of s).passed))
+        by_firing true = fires (page_of s) q (page-reached s h) k
+        by_firing false = k.1
 
-      by_fault : (o : Option (ℕ × ℕ)) → WritableStep (after_progress p (page_of s) q o)
-      by_fault None = by_firing (page_of s).fires
-      by_fault (Some f) = k.1
+        by_fault : (o : Option (ℕ × ℕ)) → WritableStep (after_progress p (page_of s) q o)
+        by_fault None = by_firing (page_of s).fires
+        by_fault (Some f) = k.1
 
-  -- ---- a run
+    -- ---- a run
 
-  runs-by : (later : State → Run) → ((s : State) → WritableState s → WritableEvents (later s).events) → (x : Step) → WritableStep x → WritableEvents (run_by later x).events
-  runs-by later f (ends es rs e) h = h
-  runs-by later f (goes_on es rs s) h = all-join WritableEvent es (later s).events h.0 (f s h.1)
+    runs-by : (later : State → Run) → ((s : State) → WritableState s → WritableEvents (later s).events) → (x : Step) → WritableStep x → WritableEvents (run_by later x).events
+    runs-by later f (ends es rs e) h = h
+    runs-by later f (goes_on es rs s) h = all-join WritableEvent es (later s).events h.0 (f s h.1)
 
-  runs : (fuel : ℕ) (s : State) → WritableState s → WritableEvents (run_from p fuel s).events
-  unfolding run_from
-  runs zero s h = tt
-  runs (suc fuel) s h = runs-by (λ t. run_from p fuel t) (runs fuel) (step p s) (steps s h)
+    runs : (fuel : ℕ) (s : State) → WritableState s → WritableEvents (run_from p fuel s).events
+    unfolding run_from
+    runs zero s h = tt
+    runs (suc fuel) s h = runs-by (λ t. run_from p fuel t) (runs fuel) (step p s) (steps s h)
 
 -- ---- the nodes of a valid galley
 
@@ -310,4 +313,4 @@ run-writable g v height = by_nodes (int_lt g.params.maxnodes (pos (held_count s)
 
     by_nodes : (t : Bool) → WritableEvents g.params height (if t then record { events = []; records = []; end = node_limit (held_count s) } else run_from g.params (suc (firings_left g.params s)) s).events
     by_nodes true = tt
-    by_nodes false = runs g.params height (suc (firings_left g.params s)) s start
+    by_nodes false = runs g.params height (column-params g.params v.params) (suc (firings_left g.params s)) s start

@@ -23,6 +23,7 @@ use Rattle.tb_float.specs.Rooms.{column_height_of}
 use Rattle.tb_fpage.proofs.FirstLemmas.{company-all}
 use Rattle.tb_fpage.specs.Company.{chosen_floats, left_floats}
 use Rattle.tb_column.specs.Column.{Notes, PlainColumn, wide_floats_column}
+use Rattle.tb_column.specs.Ranges.{AreColumnParams}
 use Rattle.tb_sheet.specs.Sheet.{PlainSheet, one, wide, pair_sheet, PlainSent, warned, shipped}
 use Rattle.tb_area.specs.Area.{where_of}
 use Rattle.tb_output.specs.State.{State, Work, Recorded, placed, output, puts, sends, records_also, with_floats, with_notes, notes_in, footnotes}
@@ -208,80 +209,81 @@ module _ (p : Params) where
   blank-nodes true = (tt, (tt, (tt, (tt, tt))))
   blank-nodes false = (tt, (tt, tt))
 
-  -- ---- each move
+  module _ (ranges : AreColumnParams p) where
+    -- ---- each move
 
-  column-writable : {h : Hand} {a : Work} {i : Hand} {b : Work} → ColumnMove p h a i b → Writable h a → Writable i b
-  column-writable (takes_company clearing cs w e) k =
-      let c = company-all WritableFloat (single_wanted p w.state.floats clearing) w.state.floats.deferred cs e k.1.0.3.3 in
-      let l = k.1.0.3 in
-      (floats-column (column_height_of p w.state.floats) p.fptop p.fpsep p.fpbot (chosen_floats cs) c.0, has-floats (record w.state.floats { deferred = left_floats cs }) w (l.0, l.1, l.2, c.1, l.4, l.5) k.1)
-  column-writable (records_column c w) k = (k.0, records-more (output c) w k.1)
-  column-writable (ships_column c w t) k = (tt, ships (one c) w k.0 k.1)
-  column-writable (keeps_left c w t f) k = (tt, ((k.1.0.0, k.1.0.1, k.1.0.2, k.1.0.3, k.0), k.1.1, k.1.2))
-  column-writable (ships_pair c w t f) k =
-      let sheet = pair_sheet p w.state.floats (left_or c w.state.left_column) c in
-      (tt, without-double (ship p sheet w) (ships sheet w (pair-writable p w.state.floats k.1.0.3.4, left-column c w.state.left_column k.0 k.1.0.4, k.0) k.1))
-  column-writable (ends_column w) k = k
-  column-writable (ships_wide clearing cs w e) k =
-      let c = company-all WritableFloat (wide_wanted p clearing) (wide_waiting p w.state.floats) cs e (waiting p w.state.floats k.1.0.3) in
-      let l = with_wide_waiting p (left_floats cs) w.state.floats in
-      (tt, ships (wide (wide_floats_column p p.textheight (chosen_floats cs))) (with_floats l w) (floats-column p.textheight p.dblfptop p.dblfpsep p.dblfpbot (chosen_floats cs) c.0) (has-floats l w (with-waiting p (left_floats cs) w.state.floats c.1 k.1.0.3) k.1))
-  column-writable (places_double f before rest w two e i) k =
-      let g = taken-out before f rest (subst WritableFloats e (waiting p w.state.floats k.1.0.3)) in
-      (tt, goes-to places.Double f (with_wide_waiting p (before ++ rest) w.state.floats) w g.0 (with-waiting p (before ++ rest) w.state.floats g.1 k.1.0.3) k.1)
+    column-writable : {h : Hand} {a : Work} {i : Hand} {b : Work} → ColumnMove p h a i b → Writable h a → Writable i b
+    column-writable (takes_company clearing cs w e) k =
+        let c = company-all WritableFloat (single_wanted p w.state.floats clearing) w.state.floats.deferred cs e k.1.0.3.3 in
+        let l = k.1.0.3 in
+        (floats-column (column_height_of p w.state.floats) p.fptop p.fpsep p.fpbot (chosen_floats cs) c.0, has-floats (record w.state.floats { deferred = left_floats cs }) w (l.0, l.1, l.2, c.1, l.4, l.5) k.1)
+    column-writable (records_column c w) k = (k.0, records-more (output c) w k.1)
+    column-writable (ships_column c w t) k = (tt, ships (one c) w k.0 k.1)
+    column-writable (keeps_left c w t f) k = (tt, ((k.1.0.0, k.1.0.1, k.1.0.2, k.1.0.3, k.0), k.1.1, k.1.2))
+    column-writable (ships_pair c w t f) k =
+        let sheet = pair_sheet p w.state.floats (left_or c w.state.left_column) c in
+        (tt, without-double (ship p sheet w) (ships sheet w (pair-writable p ranges w.state.floats k.1.0.3.4, left-column c w.state.left_column k.0 k.1.0.4, k.0) k.1))
+    column-writable (ends_column w) k = k
+    column-writable (ships_wide clearing cs w e) k =
+        let c = company-all WritableFloat (wide_wanted p clearing) (wide_waiting p w.state.floats) cs e (waiting p w.state.floats k.1.0.3) in
+        let l = with_wide_waiting p (left_floats cs) w.state.floats in
+        (tt, ships (wide (wide_floats_column p p.textheight (chosen_floats cs))) (with_floats l w) (floats-column p.textheight p.dblfptop p.dblfpsep p.dblfpbot (chosen_floats cs) c.0) (has-floats l w (with-waiting p (left_floats cs) w.state.floats c.1 k.1.0.3) k.1))
+    column-writable (places_double f before rest w two e i) k =
+        let g = taken-out before f rest (subst WritableFloats e (waiting p w.state.floats k.1.0.3)) in
+        (tt, goes-to places.Double f (with_wide_waiting p (before ++ rest) w.state.floats) w g.0 (with-waiting p (before ++ rest) w.state.floats g.1 k.1.0.3) k.1)
 
-  page-writable : {h : Hand} {a : Work} {i : Hand} {b : Work} → PageMove p h a i b → Writable h a → Writable i b
-  page-writable (by_column m) k = column-writable m k
-  page-writable (by_fill (places_next a f before rest w c e i)) k =
-      let l = k.1.0.3 in
-      let g = taken-out before f rest (subst WritableFloats e l.3) in
-      (tt, goes-to (where_of a) f (record w.state.floats { deferred = before ++ rest }) w g.0 (l.0, l.1, l.2, g.1, l.4, l.5) k.1)
-  page-writable (takes_text body w) k =
-      let s = k.1.0 in
-      (text-writable p w.state.floats body (footnotes w.state) s.3.1 s.3.2 k.0 (notes-of w.state.classes w.state.boxes s.1), ((s.0, emptied w.state.boxes, s.2, (s.3.0, tt, tt, s.3.3, s.3.4, s.3.5), s.4), k.1.1, k.1.2))
-  page-writable (fills_text body w) k = (nodes-join body (made (skip filling_glue) ∷ []) k.0 (tt, tt), k.1)
-  page-writable (keeps_front body w) k = (tt, puts-more (cleared_front p body) w (nodes-take _ body k.0) k.1)
-  page-writable (gathers w) k =
-      let l = k.1.0.3 in
-      (tt, has-floats (deferred_again w.state.floats) w (l.0, tt, tt, floats-join (w.state.floats.top ++ w.state.floats.bottom) w.state.floats.deferred (floats-join w.state.floats.top w.state.floats.bottom l.1 l.2) l.3, l.4, l.5) k.1)
-  page-writable (gathers_wide w t f) k =
-      let l = k.1.0.3 in
-      (tt, has-floats (double_again p w.state.floats) w (with-waiting p (w.state.floats.double ++ wide_waiting p w.state.floats) (record w.state.floats { double = [] }) (floats-join w.state.floats.double (wide_waiting p w.state.floats) l.4 (waiting p w.state.floats l)) (l.0, l.1, l.2, l.3, tt, l.5)) k.1)
-  page-writable (leaves_second w t f) k = (tt, puts-more (made blank_box ∷ clear_again) w (tt, clear-nodes) k.1)
-  page-writable (clears_again w) k = (tt, puts-more clear_again w clear-nodes k.1)
+    page-writable : {h : Hand} {a : Work} {i : Hand} {b : Work} → PageMove p h a i b → Writable h a → Writable i b
+    page-writable (by_column m) k = column-writable m k
+    page-writable (by_fill (places_next a f before rest w c e i)) k =
+        let l = k.1.0.3 in
+        let g = taken-out before f rest (subst WritableFloats e l.3) in
+        (tt, goes-to (where_of a) f (record w.state.floats { deferred = before ++ rest }) w g.0 (l.0, l.1, l.2, g.1, l.4, l.5) k.1)
+    page-writable (takes_text body w) k =
+        let s = k.1.0 in
+        (text-writable p ranges w.state.floats body (footnotes w.state) s.3.1 s.3.2 k.0 (notes-of w.state.classes w.state.boxes s.1), ((s.0, emptied w.state.boxes, s.2, (s.3.0, tt, tt, s.3.3, s.3.4, s.3.5), s.4), k.1.1, k.1.2))
+    page-writable (fills_text body w) k = (nodes-join body (made (skip filling_glue) ∷ []) k.0 (tt, tt), k.1)
+    page-writable (keeps_front body w) k = (tt, puts-more (cleared_front p body) w (nodes-take _ body k.0) k.1)
+    page-writable (gathers w) k =
+        let l = k.1.0.3 in
+        (tt, has-floats (deferred_again w.state.floats) w (l.0, tt, tt, floats-join (w.state.floats.top ++ w.state.floats.bottom) w.state.floats.deferred (floats-join w.state.floats.top w.state.floats.bottom l.1 l.2) l.3, l.4, l.5) k.1)
+    page-writable (gathers_wide w t f) k =
+        let l = k.1.0.3 in
+        (tt, has-floats (double_again p w.state.floats) w (with-waiting p (w.state.floats.double ++ wide_waiting p w.state.floats) (record w.state.floats { double = [] }) (floats-join w.state.floats.double (wide_waiting p w.state.floats) l.4 (waiting p w.state.floats l)) (l.0, l.1, l.2, l.3, tt, l.5)) k.1)
+    page-writable (leaves_second w t f) k = (tt, puts-more (made blank_box ∷ clear_again) w (tt, clear-nodes) k.1)
+    page-writable (clears_again w) k = (tt, puts-more clear_again w clear-nodes k.1)
 
-  served-writable : {h : Hand} {a : Work} {i : Hand} {b : Work} → TextMove p h a i b → Writable h a → Writable i b
-  served-writable (goes_back body w) k =
-      let s = k.1.0 in
-      let ns = w.state.held_page ++ without_firing_box body in (
-        tt,
-        puts-more (ns ++ notes_nodes p (footnotes w.state)) (record w { state = record w.state { held_page = []; boxes = emptied_boxes w.state.boxes } })
-            (nodes-join ns (notes_nodes p (footnotes w.state)) (nodes-join w.state.held_page (without_firing_box body) s.2 (nodes-take _ body k.0)) (notes-back (footnotes w.state) (notes-of w.state.classes w.state.boxes s.1)))
-            ((s.0, emptied w.state.boxes, tt, s.3, s.4), k.1.1, k.1.2),
-      )
-  served-writable (places_current place f es height w c e i) k = (tt, (current-goes place f f es w e (λ h. h) k.1).1)
-  served-writable (defers_current t f es w e i) k = (tt, (current-goes places.Deferred f (deferred_float t f) es w e (with-top t f) k.1).1)
-  served-writable (takes_float f es w e) k = current-goes places.Here f f es w e (λ h. h) k.1
-  served-writable (stands_here vert f w) k = (tt, puts-more (here_nodes p vert f) w (stands vert f k.0) k.1)
-  served-writable (takes_note height m es at w e i) k =
-      let l = k.1.0.3 in
-      let g = note-taken m es w.state.floats e l in
-      (g.0, has-floats (record w.state.floats { current = drop 1 es }) w (g.1, l.1, l.2, l.3, l.4, l.5) k.1)
-  served-writable (stands_beside depth m at w) k = (tt, puts-more (note_nodes depth m at) w (tt, ((k.0.0 at.side, k.0.1 at.side), (tt, tt))) k.1)
-  served-writable (puts_penalty h w) k = (k.0, puts-more (penalty_after p.interlinepenalty w.put_back) w (penalties p.interlinepenalty _) k.1)
-  served-writable (warns h e w) k = (k.0, sends-more (warned e) w tt k.1)
+    served-writable : {h : Hand} {a : Work} {i : Hand} {b : Work} → TextMove p h a i b → Writable h a → Writable i b
+    served-writable (goes_back body w) k =
+        let s = k.1.0 in
+        let ns = w.state.held_page ++ without_firing_box body in (
+          tt,
+          puts-more (ns ++ notes_nodes p (footnotes w.state)) (record w { state = record w.state { held_page = []; boxes = emptied_boxes w.state.boxes } })
+              (nodes-join ns (notes_nodes p (footnotes w.state)) (nodes-join w.state.held_page (without_firing_box body) s.2 (nodes-take _ body k.0)) (notes-back (footnotes w.state) (notes-of w.state.classes w.state.boxes s.1)))
+              ((s.0, emptied w.state.boxes, tt, s.3, s.4), k.1.1, k.1.2),
+        )
+    served-writable (places_current place f es height w c e i) k = (tt, (current-goes place f f es w e (λ h. h) k.1).1)
+    served-writable (defers_current t f es w e i) k = (tt, (current-goes places.Deferred f (deferred_float t f) es w e (with-top t f) k.1).1)
+    served-writable (takes_float f es w e) k = current-goes places.Here f f es w e (λ h. h) k.1
+    served-writable (stands_here vert f w) k = (tt, puts-more (here_nodes p vert f) w (stands vert f k.0) k.1)
+    served-writable (takes_note height m es at w e i) k =
+        let l = k.1.0.3 in
+        let g = note-taken m es w.state.floats e l in
+        (g.0, has-floats (record w.state.floats { current = drop 1 es }) w (g.1, l.1, l.2, l.3, l.4, l.5) k.1)
+    served-writable (stands_beside depth m at w) k = (tt, puts-more (note_nodes depth m at) w (tt, ((k.0.0 at.side, k.0.1 at.side), (tt, tt))) k.1)
+    served-writable (puts_penalty h w) k = (k.0, puts-more (penalty_after p.interlinepenalty w.put_back) w (penalties p.interlinepenalty _) k.1)
+    served-writable (warns h e w) k = (k.0, sends-more (warned e) w tt k.1)
 
-  writable : {h : Hand} {a : Work} {i : Hand} {b : Work} → Move p h a i b → Writable h a → Writable i b
-  writable (by_page m) k = page-writable m k
-  writable (by_text m) k = served-writable m k
-  writable (holds_page body w) k = (tt, ((k.1.0.0, k.1.0.1, k.0, k.1.0.3, k.1.0.4), k.1.1, k.1.2))
-  writable (leaves_blank two w) k = (tt, puts-more (if two then blank_column ++ blank_column else blank_column) w (blank-nodes two) k.1)
-  writable (sets_goal g w) k = k
+    writable : {h : Hand} {a : Work} {i : Hand} {b : Work} → Move p h a i b → Writable h a → Writable i b
+    writable (by_page m) k = page-writable m k
+    writable (by_text m) k = served-writable m k
+    writable (holds_page body w) k = (tt, ((k.1.0.0, k.1.0.1, k.0, k.1.0.3, k.1.0.4), k.1.1, k.1.2))
+    writable (leaves_blank two w) k = (tt, puts-more (if two then blank_column ++ blank_column else blank_column) w (blank-nodes two) k.1)
+    writable (sets_goal g w) k = k
 
-  -- the firing of a page
-  pub out-writable : (s : State) (f : Fired) → WritableState s → WritableFired f → WritableWork (out p s f)
-  unfolding out page_work
-  out-writable s f h g =
-      let x = page_work p s f in
-      let k : WritableWork (page_work p s f) = (holds-on Writable (λ h i a b m. writable m) (page-moves p s f) (g.body, ((tt, g.boxes, h.2, h.3, h.4), tt, tt))).1 in
-      ((nodes-join (f.held ++ x.put_back) f.rest (nodes-join f.held x.put_back g.held k.1) g.rest, k.0.1, k.0.2, k.0.3, k.0.4), k.1, k.2)
+    -- the firing of a page
+    pub out-writable : (s : State) (f : Fired) → WritableState s → WritableFired f → WritableWork (out p s f)
+    unfolding out page_work
+    out-writable s f h g =
+        let x = page_work p s f in
+        let k : WritableWork (page_work p s f) = (holds-on Writable (λ h i a b m. writable m) (page-moves p s f) (g.body, ((tt, g.boxes, h.2, h.3, h.4), tt, tt))).1 in
+        ((nodes-join (f.held ++ x.put_back) f.rest (nodes-join f.held x.put_back g.held k.1) g.rest, k.0.1, k.0.2, k.0.3, k.0.4), k.1, k.2)

@@ -194,8 +194,8 @@ pair-shows p c w d t f x = record {
   goes = x.goes;
   fit = λ h. tt;
   hand = λ s. tt;
-  shows = λ r h. subst (Within (shown w ++ prints c.nodes)) (all r) (inside (prints (floats_above places.Double p.dblfloatsep p.dbltextfloatsep w.state.floats.double)) (has-left w.state.left_column (fits h)));
-  plain = λ s h. (x.plain (above-plain places.Double p.dblfloatsep p.dbltextfloatsep w.state.floats.double, left-plain s w.state.left_column h.1, s) h.0, tt);
+  shows = λ r h. subst (Within (shown w ++ prints c.nodes)) (all r) (inside (prints (floats_above places.Double p.dblfloatsep p.dblrule p.dbltextfloatsep w.state.floats.double)) (has-left w.state.left_column (fits h)));
+  plain = λ s h. (x.plain (above-plain places.Double p.dblfloatsep p.dblrule p.dbltextfloatsep w.state.floats.double, left-plain s w.state.left_column h.1, s) h.0, tt);
 }
   where
     fits : Fits w → ColumnsFit true false w.state.left_column
@@ -219,7 +219,7 @@ pair-shows p c w d t f x = record {
         let d : Within (sent_prints w.sent ++ (left ++ here)) (sent_prints w.sent ++ (tops ++ last ++ here)) = both-within (sent_prints w.sent) (sent_prints w.sent) (left ++ here) (tops ++ last ++ here) (itself (sent_prints w.sent)) b in
         subst (Within (shown w ++ here)) (sym (append-nil (sent_prints w.sent ++ (tops ++ last ++ here)))) (subst (λ l. Within l (sent_prints w.sent ++ (tops ++ last ++ here))) (sym (append_assoc (sent_prints w.sent) left here)) d)
 
-    all : d.refused ≡ false → (sent_prints w.sent ++ (prints (floats_above places.Double p.dblfloatsep p.dbltextfloatsep w.state.floats.double) ++ prints (Pages.left_or c w.state.left_column).nodes ++ prints c.nodes)) ++ [] ≡ shown (Pages.without_double d)
+    all : d.refused ≡ false → (sent_prints w.sent ++ (prints (floats_above places.Double p.dblfloatsep p.dblrule p.dbltextfloatsep w.state.floats.double) ++ prints (Pages.left_or c w.state.left_column).nodes ++ prints c.nodes)) ++ [] ≡ shown (Pages.without_double d)
     all r = sym (ap (λ l. l ++ []) (page-more w.sent d.sent (x.sends_it r).0 (pair_sheet p w.state.floats (Pages.left_or c w.state.left_column) c) (x.sends_it r).1))
 
 -- ---- each move

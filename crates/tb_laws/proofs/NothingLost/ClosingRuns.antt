@@ -4,6 +4,7 @@ use Rattle.std.proofs.Common.{◌≡◌, refl, sym, ◌∙◌, ap, subst, ℕ, s
 use Rattle.std.specs.Prelude.{ℤ, pred, ◌==◌, int_lt, int_le, if◌then◌else◌}
 use Rattle.std.specs.List.{AllByRecursion}
 use Rattle.tb_scaled.specs.Scaled.{awful_bad, eject_penalty}
+use Rattle.tb_node.specs.declared.RuleOf.TheVariants.{Item}
 use Rattle.tb_node.specs.declared.Act.TheVariants as acts
 use Rattle.tb_node.specs.declared.What.{What}
 use Rattle.tb_node.specs.declared.What.TheVariants as what
@@ -72,7 +73,7 @@ weightless-lists l q h e =
 -- nodes that weigh nothing show nothing
 kind-shows : (l : ℕ) (k : PlainKind) → kind_weight ones l k ≡ 0 → printed l k ≡ []
 kind-shows l (plain (hbox (what.Text name) h d)) e = let no : ⊥ = omega arith in absurd no
-kind-shows l (plain (rule (Some name) h d)) e = let no : ⊥ = omega arith in absurd no
+kind-shows l (plain (rule (Item name) h d)) e = let no : ⊥ = omega arith in absurd no
 kind-shows l k e = refl
 
 pub weightless-prints : (ns : List PlainNode) → nodes_weight ones ns ≡ 0 → prints ns ≡ []

@@ -1,18 +1,20 @@
 -- What columns and companies of floats weigh.
-use Rattle.std.proofs.Common.{◌≡◌, refl, ℕ, ◌+◌, Bool, true, false, List, [], ◌∷◌, ◌++◌, map, Option, Some, None, arith}
+use Rattle.std.proofs.Common.{◌≡◌, refl, ℕ, ◌+◌, Bool, true, false, not, List, [], ◌∷◌, ◌++◌, map, length, Option, Some, None, arith}
 use Rattle.std.specs.Prelude.{ℤ, ◌==◌, ◌&&◌, if◌then◌else◌}
 use Rattle.tb_scaled.specs.declared.Glue.{Glue}
 use Rattle.tb_scaled.specs.Glue.{negated_glue}
 use Rattle.tb_node.specs.declared.Float.{Float}
 use Rattle.tb_node.specs.declared.Where.{Where}
 use Rattle.tb_node.specs.declared.Where.TheVariants as places
-use Rattle.tb_node.specs.PlainNodes.{leaf_node, PlainNode, made, skip}
+use Rattle.tb_node.specs.declared.RuleOf.TheVariants.{Footnotes, Floats}
+use Rattle.tb_node.specs.PlainNodes.{leaf_node, PlainNode, node_shape, made, skip}
 use Rattle.tb_node.proofs.Weights.{Weight, leaves_weight, nodes_weight, weight-append, leaf_nodes-weight}
 use Rattle.tb_param.specs.declared.Params.{Params}
+use Rattle.tb_param.specs.declared.Rule.{Rule}
 use Rattle.tb_float.specs.Lists.{FloatLists}
 use Rattle.tb_fpage.specs.declared.Wanted.{Wanted}
 use Rattle.tb_fpage.specs.Company.{Choice, passed_over, joins, choices_from, company_of_head, is_head, is_made, company_from, company, chosen_floats, left_floats}
-use Rattle.tb_column.specs.Column.{Notes, floats_with, floats_above, floats_below, notes_under_rule, class_below, notes_below, text_nodes, closing_glue, text_column, floats_after, floats_column}
+use Rattle.tb_column.specs.Column.{Notes, is_no_glue, glue_if_any, rule_if_any, kern_if_any, is_below, foot_kern, floats_with, floats_above, floats_below, feet_above, class_below, notes_below, notes_among, text_above_feet, with_feet, with_bottoms, with_below, text_nodes, closing_glue, text_column, floats_after, floats_column}
 use Rattle.tb_laws.proofs.NothingLost.StateWeights.{floats_weight, floats-append}
 
 -- ---- columns
@@ -21,18 +23,53 @@ floats_with-weight : (v : Weight) (place : Where) (sep : Glue) (fs : List Float)
 floats_with-weight v place sep [] = refl
 floats_with-weight v place sep (f ∷ fs) = let h : nodes_weight v (floats_with place sep fs) ≡ floats_weight v fs = floats_with-weight v place sep fs in omega arith
 
-pub floats_above-weight : (v : Weight) (place : Where) (sep last : Glue) (fs : List Float) → nodes_weight v (floats_above place sep last fs) ≡ floats_weight v fs
-floats_above-weight v place sep last [] = refl
-floats_above-weight v place sep last (f ∷ fs) =
-    let h : nodes_weight v (floats_with place sep fs) ≡ floats_weight v fs = floats_with-weight v place sep fs in
-    let e : nodes_weight v (floats_above place sep last (f ∷ fs)) ≡ nodes_weight v (floats_with place sep (f ∷ fs)) + 0 = weight-append v (floats_with place sep (f ∷ fs)) _ in
+-- a rule beside floats and that above footnotes weigh nothing, nor do glue and kerns
+across-weight : (v : Weight) (r : Option Rule) → nodes_weight v (rule_if_any Floats r) ≡ 0
+across-weight v None = refl
+across-weight v (Some r) = refl
+
+foot_rule-weight : (v : Weight) (r : Option Rule) → nodes_weight v (rule_if_any Footnotes r) ≡ 0
+foot_rule-weight v None = refl
+foot_rule-weight v (Some r) = refl
+
+glue-weight : (v : Weight) (g : Glue) → nodes_weight v (glue_if_any g) ≡ 0
+glue-weight v g = by_test (is_no_glue g)
+  where
+    by_test : (t : Bool) → nodes_weight v (if t then [] else made (skip g) ∷ []) ≡ 0
+    by_test true = refl
+    by_test false = refl
+
+kern-weight : (v : Weight) (kern : Option ℤ) → nodes_weight v (kern_if_any kern) ≡ 0
+kern-weight v None = refl
+kern-weight v (Some w) = refl
+
+feet_above-weight : (v : Weight) (p : Params) (kern : Option ℤ) → nodes_weight v (feet_above p kern) ≡ 0
+feet_above-weight v p kern =
+    let a : nodes_weight v (feet_above p kern) ≡ nodes_weight v (kern_if_any kern ++ glue_if_any p.footfill) + nodes_weight v (made (skip p.skipfootins) ∷ rule_if_any Footnotes p.footrule) = weight-append v (kern_if_any kern ++ glue_if_any p.footfill) (made (skip p.skipfootins) ∷ rule_if_any Footnotes p.footrule) in
+    let b : nodes_weight v (kern_if_any kern ++ glue_if_any p.footfill) ≡ nodes_weight v (kern_if_any kern) + nodes_weight v (glue_if_any p.footfill) = weight-append v (kern_if_any kern) (glue_if_any p.footfill) in
+    let k : nodes_weight v (kern_if_any kern) ≡ 0 = kern-weight v kern in
+    let g : nodes_weight v (glue_if_any p.footfill) ≡ 0 = glue-weight v p.footfill in
+    let r : nodes_weight v (rule_if_any Footnotes p.footrule) ≡ 0 = foot_rule-weight v p.footrule in
     omega arith
 
-floats_below-weight : (v : Weight) (place : Where) (sep first : Glue) (fs : List Float) → nodes_weight v (floats_below place sep first fs) ≡ floats_weight v fs
-floats_below-weight v place sep first [] = refl
-floats_below-weight v place sep first (f ∷ fs) =
+pub floats_above-weight : (v : Weight) (place : Where) (sep : Glue) (across : Option Rule) (last : Glue) (fs : List Float) → nodes_weight v (floats_above place sep across last fs) ≡ floats_weight v fs
+floats_above-weight v place sep across last [] = refl
+floats_above-weight v place sep across last (f ∷ fs) =
+    let gap = made (skip (negated_glue sep)) ∷ rule_if_any Floats across in
     let h : nodes_weight v (floats_with place sep fs) ≡ floats_weight v fs = floats_with-weight v place sep fs in
-    let e : nodes_weight v (floats_with place sep (f ∷ fs) ++ made (skip (negated_glue sep)) ∷ []) ≡ nodes_weight v (floats_with place sep (f ∷ fs)) + 0 = weight-append v (floats_with place sep (f ∷ fs)) (made (skip (negated_glue sep)) ∷ []) in
+    let e : nodes_weight v (floats_above place sep across last (f ∷ fs)) ≡ nodes_weight v (floats_with place sep (f ∷ fs) ++ gap) + 0 = weight-append v (floats_with place sep (f ∷ fs) ++ gap) (made (skip last) ∷ []) in
+    let d : nodes_weight v (floats_with place sep (f ∷ fs) ++ gap) ≡ nodes_weight v (floats_with place sep (f ∷ fs)) + nodes_weight v gap = weight-append v (floats_with place sep (f ∷ fs)) gap in
+    let r : nodes_weight v (rule_if_any Floats across) ≡ 0 = across-weight v across in
+    omega arith
+
+floats_below-weight : (v : Weight) (place : Where) (sep : Glue) (across : Option Rule) (first : Glue) (fs : List Float) → nodes_weight v (floats_below place sep across first fs) ≡ floats_weight v fs
+floats_below-weight v place sep across first [] = refl
+floats_below-weight v place sep across first (f ∷ fs) =
+    let gap = made (skip first) ∷ rule_if_any Floats across in
+    let h : nodes_weight v (floats_with place sep fs) ≡ floats_weight v fs = floats_with-weight v place sep fs in
+    let e : nodes_weight v (floats_below place sep across first (f ∷ fs)) ≡ nodes_weight v (gap ++ floats_with place sep (f ∷ fs)) + 0 = weight-append v (gap ++ floats_with place sep (f ∷ fs)) (made (skip (negated_glue sep)) ∷ []) in
+    let d : nodes_weight v (gap ++ floats_with place sep (f ∷ fs)) ≡ nodes_weight v gap + nodes_weight v (floats_with place sep (f ∷ fs)) = weight-append v gap (floats_with place sep (f ∷ fs)) in
+    let r : nodes_weight v (rule_if_any Floats across) ≡ 0 = across-weight v across in
     omega arith
 
 -- what class boxes held
@@ -40,32 +77,84 @@ abbrev pub notes_weight : Weight → List Notes → ℕ
 notes_weight v [] = 0
 notes_weight v (n ∷ ns) = leaves_weight v n.inner + notes_weight v ns
 
-class_below-weight : (v : Weight) (p : Params) (n : Notes) → nodes_weight v (class_below p n) ≡ leaves_weight v n.inner
-class_below-weight v p n = by_class (n.class == 254)
+class_below-weight : (v : Weight) (p : Params) (kern : Option ℤ) (n : Notes) → nodes_weight v (class_below p kern n) ≡ leaves_weight v n.inner
+class_below-weight v p kern n = by_class (n.class == 254)
   where
-    by_class : (t : Bool) → nodes_weight v (if t then notes_under_rule p n.inner else made (skip n.skip) ∷ map leaf_node n.inner) ≡ leaves_weight v n.inner
-    by_class true = let h : nodes_weight v (map leaf_node n.inner) ≡ leaves_weight v n.inner = leaf_nodes-weight v n.inner in omega arith
+    by_class : (t : Bool) → nodes_weight v (if t then feet_above p kern ++ map leaf_node n.inner else made (skip n.skip) ∷ map leaf_node n.inner) ≡ leaves_weight v n.inner
+    by_class true =
+        let h : nodes_weight v (map leaf_node n.inner) ≡ leaves_weight v n.inner = leaf_nodes-weight v n.inner in
+        let a : nodes_weight v (feet_above p kern ++ map leaf_node n.inner) ≡ nodes_weight v (feet_above p kern) + nodes_weight v (map leaf_node n.inner) = weight-append v (feet_above p kern) (map leaf_node n.inner) in
+        let f : nodes_weight v (feet_above p kern) ≡ 0 = feet_above-weight v p kern in
+        omega arith
     by_class false = let h : nodes_weight v (map leaf_node n.inner) ≡ leaves_weight v n.inner = leaf_nodes-weight v n.inner in omega arith
 
-notes_below-weight : (v : Weight) (p : Params) (ns : List Notes) → nodes_weight v (notes_below p ns) ≡ notes_weight v ns
-notes_below-weight v p [] = refl
-notes_below-weight v p (n ∷ ns) =
-    let a : nodes_weight v (class_below p n ++ notes_below p ns) ≡ nodes_weight v (class_below p n) + nodes_weight v (notes_below p ns) = weight-append v (class_below p n) (notes_below p ns) in
-    let b : nodes_weight v (class_below p n) ≡ leaves_weight v n.inner = class_below-weight v p n in
-    let h : nodes_weight v (notes_below p ns) ≡ notes_weight v ns = notes_below-weight v p ns in
+notes_below-weight : (v : Weight) (p : Params) (kern : Option ℤ) (ns : List Notes) → nodes_weight v (notes_below p kern ns) ≡ notes_weight v ns
+notes_below-weight v p kern [] = refl
+notes_below-weight v p kern (n ∷ ns) =
+    let a : nodes_weight v (class_below p kern n ++ notes_below p kern ns) ≡ nodes_weight v (class_below p kern n) + nodes_weight v (notes_below p kern ns) = weight-append v (class_below p kern n) (notes_below p kern ns) in
+    let b : nodes_weight v (class_below p kern n) ≡ leaves_weight v n.inner = class_below-weight v p kern n in
+    let h : nodes_weight v (notes_below p kern ns) ≡ notes_weight v ns = notes_below-weight v p kern ns in
+    omega arith
+
+-- footnotes and the others weigh together what all weigh
+among-weight : (v : Weight) (ns : List Notes) → notes_weight v (notes_among false ns) + notes_weight v (notes_among true ns) ≡ notes_weight v ns
+among-weight v [] = refl
+among-weight v (n ∷ ns) = by_class (n.class == 254) (among-weight v ns)
+  where
+    by_class : (t : Bool) → notes_weight v (notes_among false ns) + notes_weight v (notes_among true ns) ≡ notes_weight v ns
+        → notes_weight v (if not t then n ∷ notes_among false ns else notes_among false ns) + notes_weight v (if t then n ∷ notes_among true ns else notes_among true ns) ≡ leaves_weight v n.inner + notes_weight v ns
+    by_class true h = omega arith
+    by_class false h = omega arith
+
+with_feet-weight : (v : Weight) (p : Params) (l : FloatLists) (notes : List Notes) (ns : List PlainNode) → nodes_weight v (with_feet p l notes ns) ≡ nodes_weight v ns + notes_weight v (notes_among true notes)
+with_feet-weight v p l notes ns =
+    let kern = foot_kern p (length l.bottom) (map node_shape ns) in
+    let a : nodes_weight v (with_feet p l notes ns) ≡ nodes_weight v ns + nodes_weight v (notes_below p kern (notes_among true notes)) = weight-append v ns (notes_below p kern (notes_among true notes)) in
+    let n : nodes_weight v (notes_below p kern (notes_among true notes)) ≡ notes_weight v (notes_among true notes) = notes_below-weight v p kern (notes_among true notes) in
+    omega arith
+
+with_bottoms-weight : (v : Weight) (p : Params) (l : FloatLists) (ns : List PlainNode) → nodes_weight v (with_bottoms p l ns) ≡ nodes_weight v ns + floats_weight v l.bottom
+with_bottoms-weight v p l ns =
+    let bottoms = floats_below places.Bottom p.floatsep p.bottomrule p.textfloatsep l.bottom in
+    let a : nodes_weight v (with_bottoms p l ns) ≡ nodes_weight v ns + nodes_weight v bottoms = weight-append v ns bottoms in
+    let u : nodes_weight v bottoms ≡ floats_weight v l.bottom = floats_below-weight v places.Bottom p.floatsep p.bottomrule p.textfloatsep l.bottom in
+    omega arith
+
+with_below-weight : (v : Weight) (p : Params) (l : FloatLists) (notes : List Notes) (ns : List PlainNode) → nodes_weight v (with_below p l notes ns) ≡ nodes_weight v ns + notes_weight v (notes_among true notes) + floats_weight v l.bottom
+with_below-weight v p l notes ns = by_place (is_below p.footplace)
+  where
+    by_place : (t : Bool) → nodes_weight v (if t then with_feet p l notes (with_bottoms p l ns) else with_bottoms p l (with_feet p l notes ns)) ≡ nodes_weight v ns + notes_weight v (notes_among true notes) + floats_weight v l.bottom
+    by_place true =
+        let a : nodes_weight v (with_feet p l notes (with_bottoms p l ns)) ≡ nodes_weight v (with_bottoms p l ns) + notes_weight v (notes_among true notes) = with_feet-weight v p l notes (with_bottoms p l ns) in
+        let b : nodes_weight v (with_bottoms p l ns) ≡ nodes_weight v ns + floats_weight v l.bottom = with_bottoms-weight v p l ns in
+        omega arith
+    by_place false =
+        let a : nodes_weight v (with_bottoms p l (with_feet p l notes ns)) ≡ nodes_weight v (with_feet p l notes ns) + floats_weight v l.bottom = with_bottoms-weight v p l (with_feet p l notes ns) in
+        let b : nodes_weight v (with_feet p l notes ns) ≡ nodes_weight v ns + notes_weight v (notes_among true notes) = with_feet-weight v p l notes ns in
+        omega arith
+
+text_above-weight : (v : Weight) (p : Params) (l : FloatLists) (body : List PlainNode) (notes : List Notes) → nodes_weight v (text_above_feet p l body notes) ≡ floats_weight v l.top + nodes_weight v body + notes_weight v (notes_among false notes)
+text_above-weight v p l body notes =
+    let tops = floats_above places.Top p.floatsep p.toprule p.textfloatsep l.top in
+    let others = notes_below p None (notes_among false notes) in
+    let a : nodes_weight v (text_above_feet p l body notes) ≡ nodes_weight v (glue_if_any p.texttop ++ (tops ++ body)) + nodes_weight v others = weight-append v (glue_if_any p.texttop ++ (tops ++ body)) others in
+    let b : nodes_weight v (glue_if_any p.texttop ++ (tops ++ body)) ≡ nodes_weight v (glue_if_any p.texttop) + nodes_weight v (tops ++ body) = weight-append v (glue_if_any p.texttop) (tops ++ body) in
+    let c : nodes_weight v (tops ++ body) ≡ nodes_weight v tops + nodes_weight v body = weight-append v tops body in
+    let g : nodes_weight v (glue_if_any p.texttop) ≡ 0 = glue-weight v p.texttop in
+    let t : nodes_weight v tops ≡ floats_weight v l.top = floats_above-weight v places.Top p.floatsep p.toprule p.textfloatsep l.top in
+    let n : nodes_weight v others ≡ notes_weight v (notes_among false notes) = notes_below-weight v p None (notes_among false notes) in
     omega arith
 
 pub text_column-weight : (v : Weight) (p : Params) (l : FloatLists) (body : List PlainNode) (notes : List Notes) → nodes_weight v (text_column p l body notes).nodes ≡ floats_weight v l.top + nodes_weight v body + notes_weight v notes + floats_weight v l.bottom
 text_column-weight v p l body notes =
-    let tops = floats_above places.Top p.floatsep p.textfloatsep l.top in
-    let bottoms = floats_below places.Bottom p.floatsep p.textfloatsep l.bottom in
-    let e : nodes_weight v (text_column p l body notes).nodes ≡ nodes_weight v (text_nodes p l body notes) + 0 = weight-append v (text_nodes p l body notes) (made (skip (closing_glue p (text_nodes p l body notes))) ∷ []) in
-    let a : nodes_weight v (text_nodes p l body notes) ≡ nodes_weight v (tops ++ body ++ notes_below p notes) + nodes_weight v bottoms = weight-append v (tops ++ body ++ notes_below p notes) bottoms in
-    let b : nodes_weight v (tops ++ body ++ notes_below p notes) ≡ nodes_weight v (tops ++ body) + nodes_weight v (notes_below p notes) = weight-append v (tops ++ body) (notes_below p notes) in
-    let c : nodes_weight v (tops ++ body) ≡ nodes_weight v tops + nodes_weight v body = weight-append v tops body in
-    let t : nodes_weight v tops ≡ floats_weight v l.top = floats_above-weight v places.Top p.floatsep p.textfloatsep l.top in
-    let u : nodes_weight v bottoms ≡ floats_weight v l.bottom = floats_below-weight v places.Bottom p.floatsep p.textfloatsep l.bottom in
-    let n : nodes_weight v (notes_below p notes) ≡ notes_weight v notes = notes_below-weight v p notes in
+    let texts = text_nodes p l body notes in
+    let last = made (skip (closing_glue p texts)) ∷ [] in
+    let e : nodes_weight v (text_column p l body notes).nodes ≡ nodes_weight v (texts ++ last) + nodes_weight v (glue_if_any p.textbottom) = weight-append v (texts ++ last) (glue_if_any p.textbottom) in
+    let d : nodes_weight v (texts ++ last) ≡ nodes_weight v texts + 0 = weight-append v texts last in
+    let g : nodes_weight v (glue_if_any p.textbottom) ≡ 0 = glue-weight v p.textbottom in
+    let a : nodes_weight v texts ≡ nodes_weight v (text_above_feet p l body notes) + notes_weight v (notes_among true notes) + floats_weight v l.bottom = with_below-weight v p l notes (text_above_feet p l body notes) in
+    let b : nodes_weight v (text_above_feet p l body notes) ≡ floats_weight v l.top + nodes_weight v body + notes_weight v (notes_among false notes) = text_above-weight v p l body notes in
+    let n : notes_weight v (notes_among false notes) + notes_weight v (notes_among true notes) ≡ notes_weight v notes = among-weight v notes in
     omega arith
 
 floats_after-weight : (v : Weight) (sep : Glue) (fs : List Float) → nodes_weight v (floats_after sep fs) ≡ floats_weight v fs

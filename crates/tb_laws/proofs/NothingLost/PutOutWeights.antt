@@ -75,8 +75,8 @@ pair-adds : (v : Weight) (p : Params) (c : PlainColumn) (w : Work) → w.state.f
 pair-adds v p c w f =
     let sheet = pair_sheet p w.state.floats (Pages.left_or c w.state.left_column) c in
     let x : Adds v (sheet_weight v sheet) w (Pages.ship p sheet w) = shipped-adds v p sheet w in
-    let d : nodes_weight v (floats_above places.Double p.dblfloatsep p.dbltextfloatsep w.state.floats.double) ≡ floats_weight v w.state.floats.double = floats_above-weight v places.Double p.dblfloatsep p.dbltextfloatsep w.state.floats.double in
-    gone (nodes_weight v (floats_above places.Double p.dblfloatsep p.dbltextfloatsep w.state.floats.double)) (nodes_weight v (Pages.left_or c w.state.left_column).nodes) d (Pages.ship p sheet w) (ap (λ l. floats_weight v l.double) (ship-keeps p sheet w).0) (ap (left_weight v) (ship-keeps p sheet w).1) x
+    let d : nodes_weight v (floats_above places.Double p.dblfloatsep p.dblrule p.dbltextfloatsep w.state.floats.double) ≡ floats_weight v w.state.floats.double = floats_above-weight v places.Double p.dblfloatsep p.dblrule p.dbltextfloatsep w.state.floats.double in
+    gone (nodes_weight v (floats_above places.Double p.dblfloatsep p.dblrule p.dbltextfloatsep w.state.floats.double)) (nodes_weight v (Pages.left_or c w.state.left_column).nodes) d (Pages.ship p sheet w) (ap (λ l. floats_weight v l.double) (ship-keeps p sheet w).0) (ap (left_weight v) (ship-keeps p sheet w).1) x
   where
     gone : (m n : ℕ) → m ≡ floats_weight v w.state.floats.double → (a : Work) → floats_weight v a.state.floats.double ≡ floats_weight v w.state.floats.double → left_weight v a.state.left_column ≡ left_weight v w.state.left_column → Adds v (m + nodes_weight v (Pages.left_or c w.state.left_column).nodes + nodes_weight v c.nodes) w a → Adds v (nodes_weight v c.nodes) w (Pages.without_double a)
     gone m n d a e l x = record { waits = x.waits; classes = x.classes; goes = λ r. x.goes r; by = λ r s. all s (x.by r s) }

@@ -1,5 +1,6 @@
 -- The totals of a run that is done are those of its galley.
 use Rattle.std.proofs.Common.{◌≡◌, refl, ◌∙◌, ℕ, ◌+◌, List, [], ◌∷◌, ◌++◌, length, None, arith, length-append}
+use Rattle.tb_node.specs.declared.RuleOf.TheVariants.{Footnotes}
 use Rattle.tb_node.specs.declared.What.TheVariants as what
 use Rattle.tb_node.specs.declared.Float.{Float}
 use Rattle.tb_node.specs.PlainNodes.{hbox, rule, PlainKind, plain, PlainNode}
@@ -17,12 +18,12 @@ use Rattle.tb_laws.proofs.OnceEach.ShippedOnce.{boxes-shipped, floats-shipped}
 -- a kind of node is counted if it has a line
 kind-counted : (l : ℕ) (k : PlainKind) → one_if (is_item_box k) ≡ length (box_lines_of l k)
 kind-counted l (plain (hbox (what.Text name) h d)) = refl
-kind-counted l (plain (rule None h d)) = refl
+kind-counted l (plain (rule Footnotes h d)) = refl
 kind-counted l k = refl
 
 float-counted : (l : ℕ) (k : PlainKind) → one_if (is_float_box k) ≡ length (float_lines_of l k)
 float-counted l (plain (hbox (what.Text name) h d)) = refl
-float-counted l (plain (rule None h d)) = refl
+float-counted l (plain (rule Footnotes h d)) = refl
 float-counted l k = refl
 
 pub boxes-counted : (ns : List PlainNode) → count_kinds is_item_box ns ≡ length (node_lines box_lines_of ns)

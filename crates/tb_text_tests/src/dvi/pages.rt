@@ -11,7 +11,7 @@ use crate::report::put;
 use std::test::Fail;
 use tb_column::{Column, ColumnKind};
 use tb_dvi::{DviFault, Part, Progress, page_bytes, post_bytes, pre_bytes, put_far};
-use tb_node::{Kind, Name, Node, Side, What, Where, name_of};
+use tb_node::{Kind, Name, Node, RuleOf, Side, What, Where, name_of};
 use tb_pack::pack;
 use tb_param::defaults;
 use tb_pool::{ListId, Lists};
@@ -182,7 +182,7 @@ fn every_kind(store: &mut Lists<Node>) -> Result<ListId, Fail>
         store,
         l,
         Kind::Rule {
-            name: Some(name),
+            of: RuleOf::Item(name),
             height: 6,
             depth: 1,
         },
@@ -191,7 +191,7 @@ fn every_kind(store: &mut Lists<Node>) -> Result<ListId, Fail>
         store,
         l,
         Kind::Rule {
-            name: None,
+            of: RuleOf::Footnotes,
             height: 1,
             depth: 0,
         },

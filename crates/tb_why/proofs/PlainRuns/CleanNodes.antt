@@ -5,14 +5,17 @@ use Rattle.std.specs.Prelude.{◌==◌, not, if◌then◌else◌}
 use Rattle.std.specs.List.{AllByRecursion}
 use Rattle.tb_break.proofs.EachLemmas.{all-join, all-take, all-drop}
 use Rattle.tb_scaled.specs.declared.Glue.{Glue}
+use Rattle.tb_scaled.specs.Glue.{negated_glue}
+use Rattle.tb_node.specs.declared.RuleOf.TheVariants.{Footnotes, Floats}
 use Rattle.tb_node.specs.declared.Act.{Act}
 use Rattle.tb_node.specs.declared.Act.TheVariants as acts
 use Rattle.tb_node.specs.declared.Float.{Float}
 use Rattle.tb_node.specs.declared.Margin.{Margin}
 use Rattle.tb_node.specs.declared.Where.{Where}
 use Rattle.tb_node.specs.declared.Where.TheVariants as places
-use Rattle.tb_node.specs.PlainNodes.{Matter, hbox, rule, skip, kerned, pen, mark, note, whatsit, Leaf, leaf_node, Inserted, PlainKind, plain, ins, act, PlainNode, is_act_kind, is_insertion_kind, without_acts, without_insertions, on_line}
+use Rattle.tb_node.specs.PlainNodes.{Matter, hbox, rule, skip, kerned, pen, mark, note, whatsit, Leaf, leaf_node, Inserted, PlainKind, plain, ins, act, PlainNode, is_act_kind, is_insertion_kind, without_acts, without_insertions, on_line, node_shape, made}
 use Rattle.tb_param.specs.declared.Params.{Params}
+use Rattle.tb_param.specs.declared.Rule.{Rule}
 use Rattle.tb_break.specs.Best.{Breakpoint, is_stop}
 use Rattle.tb_break.specs.PageTop.{pruned_leaves, pruned_nodes}
 use Rattle.tb_insert.specs.Terms.{Terms}
@@ -20,7 +23,8 @@ use Rattle.tb_insert.specs.Account.{Frozen, Labelled, Label, whole, split, late,
 use Rattle.tb_builder.specs.Reach.{Reached, acted, tried, Reach, also_reached, page_place, stopped_at, reach_at_place, reach_at, reach_node, reach_from}
 use Rattle.tb_builder.specs.FiredPages.{Boxed, Fired, page_break, from_break, spent_kind, with_spent_break, given_by, given_to, is_given, content_of, box_after, unless_empty, held_of, held_insertions, fired_by}
 use Rattle.tb_float.specs.Lists.{FloatLists}
-use Rattle.tb_column.specs.Column.{Notes, floats_with, floats_above, floats_below, floats_after, floats_column, notes_under_rule, class_below, notes_below, text_nodes, text_column, pair_floats}
+use Rattle.tb_column.specs.Column.{Notes, is_no_glue, glue_if_any, rule_if_any, kern_if_any, foot_kern, floats_with, floats_above, floats_below, floats_after, floats_column, feet_above, class_below, notes_below, notes_among, text_above_feet, text_nodes, closing_glue, text_column, pair_floats}
+use Rattle.tb_column.proofs.ColumnParts.{below-has, among-have}
 use Rattle.tb_sheet.specs.Sheet.{PlainSheet, one, wide, two}
 use Rattle.tb_text.specs.Lines.{IsUnended}
 use Rattle.tb_why.specs.PlainNames.{IsPlainMatter, IsPlainFloat}
@@ -83,7 +87,7 @@ leaf-nodes (l ∷ ls) h = (h.0, leaf-nodes ls h.1)
 
 leaf-pruned : (t : ℤ) (ls : List Leaf) → CleanLeaves ls → CleanLeaves (pruned_leaves t ls) → (n : ℕ) (m : Matter) → IsPlainMatter m → CleanLeaves (pruned_leaves t (record { line = n; matter = m } ∷ ls))
 leaf-pruned t ls h k n (hbox w a d) g = (tt, (g, h))
-leaf-pruned t ls h k n (rule name a d) g = (tt, (g, h))
+leaf-pruned t ls h k n (rule of a d) g = (tt, (g, h))
 leaf-pruned t ls h k n (mark name) g = (g, k)
 leaf-pruned t ls h k n (note name) g = (g, k)
 leaf-pruned t ls h k n whatsit g = (g, k)
@@ -95,7 +99,7 @@ leaves-pruned t (l ∷ ls) h = leaf-pruned t ls h.1 (leaves-pruned t ls h.1) l.l
 
 node-pruned : (t : ℤ) (ns : List PlainNode) → CleanNodes ns → CleanNodes (pruned_nodes t ns) → (n : ℕ) (k : PlainKind) → CleanKind k → CleanNodes (pruned_nodes t (record { line = n; kind = k } ∷ ns))
 node-pruned t ns h k n (plain (hbox w a d)) g = (tt, (g, h))
-node-pruned t ns h k n (plain (rule name a d)) g = (tt, (g, h))
+node-pruned t ns h k n (plain (rule of a d)) g = (tt, (g, h))
 node-pruned t ns h k n (plain (skip x)) g = k
 node-pruned t ns h k n (plain (kerned w)) g = k
 node-pruned t ns h k n (plain (pen p)) g = k
@@ -237,13 +241,36 @@ pub floats-with : (place : Where) (sep : Glue) (fs : List Float) → CleanFloats
 floats-with place sep [] h = tt
 floats-with place sep (f ∷ fs) h = (h.0, (tt, floats-with place sep fs h.1))
 
-floats-above : (place : Where) (sep last : Glue) (fs : List Float) → CleanFloats fs → CleanNodes (floats_above place sep last fs)
-floats-above place sep last [] h = tt
-floats-above place sep last (f ∷ fs) h = nodes-join (floats_with place sep (f ∷ fs)) _ (floats-with place sep (f ∷ fs) h) (tt, (tt, tt))
+foot-rule : (r : Option Rule) → CleanNodes (rule_if_any Footnotes r)
+foot-rule None = tt
+foot-rule (Some r) = (tt, (tt, (tt, tt)))
 
-floats-below : (place : Where) (sep first : Glue) (fs : List Float) → CleanFloats fs → CleanNodes (floats_below place sep first fs)
-floats-below place sep first [] h = tt
-floats-below place sep first (f ∷ fs) h = (tt, nodes-join (floats_with place sep (f ∷ fs)) _ (floats-with place sep (f ∷ fs) h) (tt, tt))
+float-rule : (r : Option Rule) → CleanNodes (rule_if_any Floats r)
+float-rule None = tt
+float-rule (Some r) = (tt, (tt, (tt, tt)))
+
+glue-if : (g : Glue) → CleanNodes (glue_if_any g)
+glue-if g = by_test (is_no_glue g)
+  where
+    by_test : (t : Bool) → CleanNodes (if t then [] else made (skip g) ∷ [])
+    by_test true = tt
+    by_test false = (tt, tt)
+
+kern-if : (kern : Option ℤ) → CleanNodes (kern_if_any kern)
+kern-if None = tt
+kern-if (Some w) = (tt, tt)
+
+floats-above : (place : Where) (sep : Glue) (across : Option Rule) (last : Glue) (fs : List Float) → CleanFloats fs → CleanNodes (floats_above place sep across last fs)
+floats-above place sep across last [] h = tt
+floats-above place sep across last (f ∷ fs) h =
+    let gap = made (skip (negated_glue sep)) ∷ rule_if_any Floats across in
+    nodes-join (floats_with place sep (f ∷ fs) ++ gap) _ (nodes-join (floats_with place sep (f ∷ fs)) gap (floats-with place sep (f ∷ fs) h) (tt, float-rule across)) (tt, tt)
+
+floats-below : (place : Where) (sep : Glue) (across : Option Rule) (first : Glue) (fs : List Float) → CleanFloats fs → CleanNodes (floats_below place sep across first fs)
+floats-below place sep across first [] h = tt
+floats-below place sep across first (f ∷ fs) h =
+    let gap = made (skip first) ∷ rule_if_any Floats across in
+    nodes-join (gap ++ floats_with place sep (f ∷ fs)) _ (nodes-join gap (floats_with place sep (f ∷ fs)) (tt, float-rule across) (floats-with place sep (f ∷ fs) h)) (tt, tt)
 
 floats-after : (sep : Glue) (fs : List Float) → CleanFloats fs → CleanNodes (floats_after sep fs)
 floats-after sep [] h = tt
@@ -255,32 +282,38 @@ floats-column height above between below fs h = (tt, (tt, nodes-join (floats_aft
 abbrev pub CleanNotes : List Notes → Type 0
 CleanNotes ns = AllByRecursion (λ n. CleanLeaves n.inner) ns
 
-foot-rule : IsPlainMatter (rule None (pos 26214) (pos 0))
-foot-rule = tt
-
-class-notes : (p : Params) (n : Notes) → CleanLeaves n.inner → CleanNodes (class_below p n)
-class-notes p n h = by_class (n.class == 254)
+class-notes : (p : Params) (kern : Option ℤ) (n : Notes) → CleanLeaves n.inner → CleanNodes (class_below p kern n)
+class-notes p kern n h = by_class (n.class == 254)
   where
-    by_class : (t : Bool) → CleanNodes (if t then notes_under_rule p n.inner else record { line = 0; kind = plain (skip n.skip) } ∷ map leaf_node n.inner)
-    by_class true = (tt, (tt, (foot-rule, (tt, leaf-nodes n.inner h))))
+    feet : CleanNodes (feet_above p kern)
+    feet = nodes-join (kern_if_any kern ++ glue_if_any p.footfill) _ (nodes-join (kern_if_any kern) (glue_if_any p.footfill) (kern-if kern) (glue-if p.footfill)) (tt, foot-rule p.footrule)
+
+    by_class : (t : Bool) → CleanNodes (if t then feet_above p kern ++ map leaf_node n.inner else made (skip n.skip) ∷ map leaf_node n.inner)
+    by_class true = nodes-join (feet_above p kern) (map leaf_node n.inner) feet (leaf-nodes n.inner h)
     by_class false = (tt, leaf-nodes n.inner h)
 
-all-notes : (p : Params) (ns : List Notes) → CleanNotes ns → CleanNodes (notes_below p ns)
-all-notes p [] h = tt
-all-notes p (n ∷ ns) h = nodes-join (class_below p n) (notes_below p ns) (class-notes p n h.0) (all-notes p ns h.1)
+all-notes : (p : Params) (kern : Option ℤ) (ns : List Notes) → CleanNotes ns → CleanNodes (notes_below p kern ns)
+all-notes p kern [] h = tt
+all-notes p kern (n ∷ ns) h = nodes-join (class_below p kern n) (notes_below p kern ns) (class-notes p kern n h.0) (all-notes p kern ns h.1)
 
 pub text-clean : (p : Params) (l : FloatLists) (body : List PlainNode) (notes : List Notes) → CleanFloats l.top → CleanFloats l.bottom → CleanNodes body → CleanNotes notes → CleanNodes (text_column p l body notes).nodes
 text-clean p l body notes top bottom h g =
-    let above = floats_above places.Top p.floatsep p.textfloatsep l.top in
-    let below = floats_below places.Bottom p.floatsep p.textfloatsep l.bottom in
-    nodes-join (text_nodes p l body notes) _
-    (nodes-join (above ++ body ++ notes_below p notes) below
-    (nodes-join (above ++ body) (notes_below p notes)
-    (nodes-join above body (floats-above places.Top p.floatsep p.textfloatsep l.top top) h) (all-notes p notes g))
-    (floats-below places.Bottom p.floatsep p.textfloatsep l.bottom bottom)) (tt, tt)
+    let texts = text_nodes p l body notes in
+    let tops = floats_above places.Top p.floatsep p.toprule p.textfloatsep l.top in
+    let bottoms = floats_below places.Bottom p.floatsep p.bottomrule p.textfloatsep l.bottom in
+    let some = λ (feet : Bool). among-have (λ n. CleanLeaves n.inner) feet notes g in
+    nodes-join (texts ++ made (skip (closing_glue p texts)) ∷ []) (glue_if_any p.textbottom)
+    (nodes-join texts (made (skip (closing_glue p texts)) ∷ [])
+    (below-has p l notes CleanNodes (text_above_feet p l body notes)
+    (λ ns k. nodes-join ns _ k (all-notes p (foot_kern p (length l.bottom) (map node_shape ns)) (notes_among true notes) (some true)))
+    (λ ns k. nodes-join ns bottoms k (floats-below places.Bottom p.floatsep p.bottomrule p.textfloatsep l.bottom bottom))
+    (nodes-join (glue_if_any p.texttop ++ (tops ++ body)) (notes_below p None (notes_among false notes))
+    (nodes-join (glue_if_any p.texttop) (tops ++ body) (glue-if p.texttop) (nodes-join tops body (floats-above places.Top p.floatsep p.toprule p.textfloatsep l.top top) h))
+    (all-notes p None (notes_among false notes) (some false)))) (tt, tt))
+    (glue-if p.textbottom)
 
 pub pair-clean : (p : Params) (l : FloatLists) → CleanFloats l.double → CleanNodes (pair_floats p l)
-pair-clean p l h = floats-above places.Double p.dblfloatsep p.dbltextfloatsep l.double h
+pair-clean p l h = floats-above places.Double p.dblfloatsep p.dblrule p.dbltextfloatsep l.double h
 
 abbrev pub CleanSheet : PlainSheet → Type 0
 CleanSheet (one c) = CleanNodes c.nodes

@@ -3,7 +3,7 @@ use Rattle.std.proofs.lemmas.Int.{to_z-of_z}
 use Rattle.tb_float.specs.Rooms.{column_height_of}
 use Rattle.tb_float.specs.declared.Part.TheVariants as parts
 use Rattle.tb_output.specs.Columns.{single_wanted}
-use Rattle.tb_output.specs.Machine.{MachineView}
+use Rattle.tb_output.specs.Machine.{MachineView, AreOutputParams}
 use Rattle.tb_output.specs.MachineFrame.{KeepsMachine}
 use Rattle.tb_output.specs.FiringParts.{column_done}
 use Rattle.tb_output.specs.FiringWork.{shows, IsCutShort}
@@ -76,3 +76,6 @@ returns c =
       err = tt;
       keeps = column-keeps _ _ _ _ _ _ _ h _ _ c.put_out.ensures.keeps;
     }
+
+pub take_floats-requires-clause-params : goal.take_floats-requires-clause-params
+take_floats-requires-clause-params c = subst (λ (m : MachineView). AreOutputParams m.params) (sym c.choose_column.ensures.rest) c.requires.params

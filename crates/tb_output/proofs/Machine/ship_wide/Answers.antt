@@ -88,3 +88,6 @@ returns c =
       err = tt;
       keeps = page-keeps _ _ _ _ _ _ _ h c.ship.new.self c.in_ok-column.ensures.column c.in_ok-ship.ensures.ok;
     }
+
+pub take_floats-requires-clause-params : goal.take_floats-requires-clause-params
+take_floats-requires-clause-params c = subst (λ (m : MachineView). AreOutputParams m.params) (sym c.choose_wide.ensures.rest) c.requires.params
