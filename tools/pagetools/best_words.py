@@ -174,14 +174,6 @@ class Story:
         numbers = sorted(ends | {page + 1 for page in ends if any(at == page + 1 for at, _ in self.columns)})
         return ranges([self.labels.after.get(page) or self.labels.before.get(page) or page for page in numbers])
 
-    def sums(self):
-        """The sums before and after."""
-        bad = [sum(it.demerits >= BAD for it in side.endings) for side in (self.before, self.after)]
-        pages = [sum(number is not None for number in names.values()) for names in (self.labels.before, self.labels.after)]
-        yield 'demerits: %d before, %d now' % (self.choice.greedy, self.choice.least)
-        yield 'columns of %d demerits or more: %d before, %d now' % ((BAD,) + tuple(bad))
-        yield 'pages: %d before, %d now' % tuple(pages)
-
     def lines(self):
         """The whole, as lines."""
         breaks = len(self.choice.breaks)
@@ -190,13 +182,21 @@ class Story:
         else:
             yield '%s put in:' % ('1 page break is' if breaks == 1 else '%d page breaks are' % breaks)
             yield from ('  ' + it for it in self.break_lines())
-            yield from self.sums()
+            yield from sums([(self.choice, self.before, self.after)], [self.labels])
         told = self.page_lines()
         if told:
             yield 'page by page:'
             yield from ('  ' + it for it in told)
         if breaks and self.other_pages():
             yield 'other lines than before: ' + self.other_pages()
+
+
+def sums(parts, labels):
+    """The sums before and after, over all parts of a document: of each its choice and its two sides."""
+    yield 'demerits: %d before, %d now' % tuple(sum(getattr(it[0], word) for it in parts) for word in ('greedy', 'least'))
+    bad = [sum(end.demerits >= BAD for it in parts for end in it[side].endings) for side in (1, 2)]
+    yield 'columns of %d demerits or more: %d before, %d now' % (BAD, *bad)
+    yield 'pages: %d before, %d now' % tuple(sum(len(getattr(it, side)) for it in labels) for side in ('before', 'after'))
 
 
 def ranges(numbers):
