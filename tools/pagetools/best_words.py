@@ -177,12 +177,12 @@ class Story:
     def lines(self):
         """The whole, as lines."""
         breaks = len(self.choice.breaks)
-        if not breaks:
-            yield 'no page break is put in: no choice of breaks has fewer than %d demerits' % self.choice.least
-        else:
+        if breaks:
             yield '%s put in:' % ('1 page break is' if breaks == 1 else '%d page breaks are' % breaks)
             yield from ('  ' + it for it in self.break_lines())
-            yield from sums([(self.choice, self.before, self.after)], [self.labels])
+        else:
+            yield 'no page break is put in: no choice of breaks has fewer demerits'
+        yield from sums([(self.choice, self.before, self.after)], [self.labels])
         told = self.page_lines()
         if told:
             yield 'page by page:'

@@ -4,6 +4,7 @@ import os
 import shutil
 import subprocess
 import sys
+import time
 
 from . import best, best_document, compare, picture, report, tries
 from .latex_document import TOOLS, Document, Refusal, say
@@ -92,7 +93,9 @@ def paginate_best(doc, options):
     with open(doc.path('.galleylog'), encoding='utf-8', errors='replace') as log:
         print(log.read(), end='')
     say('galley_pages: choosing page breaks')
+    begun = time.monotonic()
     parts = best_document.choose(path, galleys)
+    say('galley_pages: chosen in %.1f s' % (time.monotonic() - begun))
     is_stable = True
     if any(part.choice.breaks for part in parts):
         parts, is_stable = best_document.set_again(path, doc, parts)

@@ -5,7 +5,7 @@ from unittest import mock
 
 from support import STORED, Scratch, run, stored
 
-from pagetools import paginate
+from pagetools import latex_document, paginate
 
 # Stands for lualatex: the stored files of notes.tex under the name of the job, or a log with an error.
 FAKE_LATEX = '''#!/usr/bin/env python3
@@ -81,10 +81,10 @@ class Documents(Scratch):
 
     def test_names(self):
         for path, name in (('a/b.tex', 'b'), ('b.ltx', 'b'), ('b.dtx', 'b.dtx'), ('a.b.tex', 'a.b')):
-            self.assertEqual(paginate.document_name(path), name)
+            self.assertEqual(latex_document.document_name(path), name)
 
     def test_parts_in_order(self):
-        notes = paginate.Document('a [b].tex', self.folder, '')
+        notes = latex_document.Document('a [b].tex', self.folder, '')
         for name in ('a [b].galley', 'a [b].10.galley', 'a [b].2.galley', 'a [b] c.galley', 'a b.galley'):
             open(self.path(name), 'w', encoding='utf-8').close()
         self.assertEqual([os.path.basename(path) for path in notes.parts('.galley')],
