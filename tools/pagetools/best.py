@@ -56,6 +56,7 @@ class Ending:
     short: int           # what it lacks to its height, without stretch; below 0 it has too much
     stretch: tuple       # what it can stretch, by order
     chosen: bool         # whether a break was put in here
+    boxes: int           # how many boxes and rules of the text stand up to here, on all pages
 
 
 @dataclass
@@ -63,9 +64,6 @@ class Side:
     """The columns of a galley, and its report."""
     endings: list
     report: object
-
-    def by_place(self):
-        return {(it.page, it.column): it for it in self.endings}
 
 
 @dataclass
@@ -88,7 +86,7 @@ class Item:
 
 
 class Text:
-    """The items of a galley, the lines of its boxes and rules, for each two neighbours of these whether they are lines of
+    """The items of a galley, the names of its boxes and rules, for each two neighbours of these whether they are lines of
     one paragraph, and whether all pages are to have one height (`set bottom flush`)."""
 
     def __init__(self, galley):
@@ -104,12 +102,12 @@ class Text:
                 self.items.append(Item(number, words))
                 inside = words[0] == 'foot'
         self.numbers = [item.line for item in self.items]
-        self.boxes, self.within, room = [], [], []
+        self.names, self.within, room = set(), [], []
         for item in self.items:
             if item.is_line():
                 # one glue alone stands between two lines of a paragraph; between paragraphs there is parskip too
-                self.within += [room == ['glue']] * bool(self.boxes)
-                self.boxes.append(item.line)
+                self.within += [room == ['glue']] * bool(self.names)
+                self.names.add(item.words[1])
                 room = []
             elif item.words[0] not in PASSED:
                 room.append(item.words[0])
@@ -120,19 +118,24 @@ class Text:
         found = self.items[at].penalty() if self.numbers[at:at + 1] == [line] else None
         return found or 0
 
-    def lines_between(self, first, last):
-        """How many boxes and rules of the text stand between two places."""
-        return bisect_left(self.boxes, last) - bisect_left(self.boxes, first)
-
-    def splits(self, line):
-        """Which lone line of a paragraph a page leaves that ends before this line: the first one (club), the last one
+    def splits(self, boxes):
+        """Which lone line of a paragraph a page leaves that ends after so many boxes: the first one (club), the last one
         (widow), both, or '' for none."""
-        at = bisect_left(self.boxes, line) - 1          # the gap after the box with this index
+        at = boxes - 1
         if at < 0 or at >= len(self.within) or not self.within[at]:
             return ''
         is_club = at == 0 or not self.within[at - 1]
         is_widow = at + 1 >= len(self.within) or not self.within[at + 1]
         return 'both' if is_club and is_widow else 'club' if is_club else 'widow' if is_widow else ''
+
+    def in_column(self, column):
+        """How many boxes and rules of the text a column of a report has. Those of footnotes come after the rule."""
+        names = []
+        for item in column.items:
+            if item.kind == 'footrule':
+                break
+            names += [item.name] * (item.kind in ('box', 'rule'))
+        return sum(name in self.names for name in names)
 
 
 def read(text, name):
@@ -210,28 +213,34 @@ def _demerits(words, penalty):
     return left + (base + penalty ** 2 if penalty > 0 else base - min(penalty ** 2, base))
 
 
-def _columns(pages):
-    """By page the numbers of its text columns."""
-    return {page.number: [column.number for column in page.columns if column.kind == 'text'] for page in pages}
+def _columns(pages, own):
+    """By page its text columns, each with how many boxes of the text stand up to its end."""
+    found, boxes = {}, 0
+    for page in pages:
+        for column in page.columns:
+            boxes += own.in_column(column)
+            if column.kind == 'text':
+                found.setdefault(page.number, []).append((column.number, boxes))
+    return found
 
 
 def side(program, galley, breaks):
     """The columns of a galley with breaks put in (an empty list of breaks for its own)."""
     text, lines = with_breaks(galley, breaks), sorted(it.line for it in breaks)
     put = {line + k: line for k, line in enumerate(lines)}          # by line of the galley with breaks
-    own, read_report = Text(galley), report.read_lines(run(program, 'report', text).splitlines(), 'report')
-    columns, endings = _columns(read_report.pages), []
+    own, made = Text(galley), report.read_lines(run(program, 'report', text).splitlines(), 'report')
     rated, broken = _rated(run(program, 'rate', text)), _broken(run(program, 'trace', text))
     if len(rated) != len(broken):
         raise BestFault('the modes rate and trace tell of %d and %d columns' % (len(rated), len(broken)))
+    columns, endings = _columns(made.pages, own), []
     for words, place in zip(rated, broken):
         page, chosen = int(words[1]), place.line in put
         line = put[place.line] if chosen else place.line - bisect_left(sorted(put), place.line)
         penalty = own.penalty(line) if chosen else int(words[5])
-        number = (columns.get(page) or [1]).pop(0) if columns.get(page) else 1
-        endings.append(Ending(page, number, max(line, 0), words[3], penalty, int(words[7]), int(words[9]),
-                              _demerits(words, penalty), place.goal - place.total, place.stretch, chosen))
-    return Side(endings, read_report)
+        column, boxes = columns[page].pop(0)
+        endings.append(Ending(page, column, line, words[3], penalty, int(words[7]), int(words[9]), _demerits(words, penalty),
+                              place.goal - place.total, place.stretch, chosen, boxes))
+    return Side(endings, made)
 
 
 def compared(program, galley, choice):

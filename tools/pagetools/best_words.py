@@ -58,13 +58,11 @@ def points(size):
 
 
 def fill(ending, text):
-    """How full the column is."""
+    """How full a column is, said of one that is not full."""
     if ending.badness == '*':
         return '%s too full' % points(-ending.short)
-    if abs(ending.short / PT) < FULL:
-        return 'full'
     if ending.short < 0:
-        return 'full, squeezed by %s' % points(-ending.short)
+        return 'squeezed by %s' % points(-ending.short)
     if text.is_flush and badness(ending):
         return '%s short, with glue that stretches by %s' % (points(ending.short), points(ending.stretch[0]))
     return '%s short' % points(ending.short)
@@ -86,7 +84,7 @@ def faults(ending, text):
     if badness(ending) is None or badness(ending) > BAD_BADNESS:
         found.append(Fault('was ' + fill(ending, text), 'is ' + fill(ending, text), 'fill'))
     if ending.penalty >= BAD_PENALTY:
-        split = text.splits(ending.line) if ending.line else ''
+        split = text.splits(ending.boxes)
         what = 'left ' + SPLITS[split] if split else 'ended at a penalty of %d' % ending.penalty
         found.append(Fault(what, what.replace('left', 'leaves', 1).replace('ended', 'ends', 1), 'place'))
     if ending.waiting:
@@ -98,11 +96,9 @@ def faults(ending, text):
     return found
 
 
-def moved(old, new, text):
-    """`ends two lines earlier`, '' where a column ends at the same place or that is not known."""
-    if not (old and new and old.line and new.line):
-        return ''
-    lines = text.lines_between(old.line, new.line)
+def moved(old, new):
+    """`ends two lines earlier`, '' where a column ends after the same line."""
+    lines = new.boxes - old.boxes if old and new else 0
     return 'ends %s %s' % (count(abs(lines), 'line'), 'earlier' if lines < 0 else 'later') if lines else ''
 
 
@@ -129,9 +125,9 @@ class Story:
             if new is None:
                 said.append('no text column ends there')
             elif fault.mended == 'fill':
-                said.append('it is ' + fill(new, self.text))
+                said.append('it is ' + (fill(new, self.text) if abs(new.short) >= FULL * PT else 'full'))
             elif fault.mended == 'place':
-                said.append('it ' + (moved(old, new, self.text) or 'does not'))
+                said.append('it ' + (moved(old, new) or 'does not'))
             else:
                 said.append(fault.mended)
         return and_all(list(dict.fromkeys(said)))
@@ -158,7 +154,7 @@ class Story:
             new = next((end for end in self.after.endings if end.line == it.line and end.chosen), None)
             old = self.columns.get((new.page, new.column), [None])[0] if new else None
             where = '%s ends there' % self.name(new.page, new.column) if new else 'no page ends there'
-            shift = moved(old, new, self.text)
+            shift = moved(old, new)
             yield 'line %d, after %s: %s%s' % (it.line, it.after, where, ', ' + shift.replace('ends ', '', 1) if shift else '')
 
     def page_lines(self):
@@ -167,11 +163,9 @@ class Story:
 
     def other_pages(self):
         """The pages that hold other lines than before, as `3 to 34`; '' for none."""
-        changed = sorted({page for (page, _), (old, new) in self.columns.items()
-                          if (old.line if old else 0) != (new.line if new else 0) or (old is None) != (new is None)})
-        # a page whose begin moved holds other lines too
-        ends = {page for page in changed}
-        numbers = sorted(ends | {page + 1 for page in ends if any(at == page + 1 for at, _ in self.columns)})
+        ends = {page for (page, _), (old, new) in self.columns.items() if not (old and new and old.boxes == new.boxes)}
+        known = {page for page, _ in self.columns}
+        numbers = ends | {page + 1 for page in ends if page + 1 in known}      # where a page begins elsewhere
         return ranges([self.labels.after.get(page) or self.labels.before.get(page) or page for page in numbers])
 
     def lines(self):
