@@ -14,7 +14,7 @@ STRENGTHS = {'0': 0, '1': 51, '2': 151, '3': 301, '4': 10000}      # the penalti
 HEADER = ('galley', 'set', 'class')
 PASSED = ('penalty', 'pagebreak', 'nopagebreak', 'mark', 'note', 'foot', 'float', 'margin', 'suppressfloats')   # no room
 CHOICES = 16            # the status where there are too many choices
-BASES_OF_ONE = 10000    # demerits for each float that waits and each insertion that is held
+WAITING_DEMERITS = 10000    # demerits for each float that waits and each insertion that is held
 
 
 class BestFault(Exception):
@@ -206,7 +206,7 @@ def _rated(text):
 
 def _demerits(words, penalty):
     """The demerits of a rated column whose place has this penalty in place of the one that the line tells."""
-    told, left = int(words[11]), BASES_OF_ONE * (int(words[7]) + int(words[9]))
+    told, left = int(words[11]), WAITING_DEMERITS * (int(words[7]) + int(words[9]))
     if int(words[5]) or not penalty:
         return told
     base = told - left

@@ -49,8 +49,8 @@ NAME     of the mode why: a float or a marginal note; LINE is the line of its ga
 
 A refusal is told as FILE:LINE:FIELD: CAUSE, what it means and what to do, with the line and a mark under the field;
 docs/MESSAGES.md has all of them. Without --json and --points, and but for the modes best and why, what is written is the
-program's output, byte for byte. The status is the program's (docs/FORMATS.md), of several files the first that is not 0; 1 if there
-is no program, 2 after a usage error, as NAME where the galley has no such float.
+program's output, byte for byte. The status is the program's (docs/FORMATS.md), of several files the first that is not 0;
+1 if there is no program, 2 after a usage error, as NAME where the galley has no such float.
 
   galley-pages paper.galley -o paper.report
   galley-pages trace paper.galley --json

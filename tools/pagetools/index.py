@@ -217,7 +217,8 @@ def write(path, title, pages, figures, told):
     """Writes the index of so many pages, by facts and what stands beside the pages."""
     parts = {'title': escape(title), 'pages': '%d page%s' % (pages, '' if pages == 1 else 's'),
              'style': svg.style() + '\n' + stored('index.css'), 'patterns': svg.patterns(),
-             'numbers': ' '.join(figure.link(str(figure.number)) for figure in figures), 'facts': facts_text(told[0], figures, told[1]),
+             'numbers': ' '.join(figure.link(str(figure.number)) for figure in figures),
+             'facts': facts_text(told[0], figures, told[1]),
              'figures': '\n'.join(figure.text for figure in figures), 'script': stored('index.js') + '\n' + svg.STORIES}
     with open(path, 'w', encoding='utf-8') as out:
         out.write(PAGE % parts)

@@ -12,10 +12,11 @@ from .latex_document import TOOLS, Document, Refusal, say
 USAGE = """Compiles the document with lualatex and the package galleyexport, as it is; runs galley_pages on its galleys;
 tells how many pages and places are the same as LaTeX made and weighed; draws each page, with the way of each float from
 its call. All files go to the folder DIR: NAME.galley, NAME.pages, NAME.galleylog, NAME.report, NAME.trace, NAME.why,
-pictures/index.html, and LaTeX's own. With --best page breaks are chosen so that all pages together are best, LaTeX makes
-the pages with these breaks (NAME.best), and what changed is told page by page. The exit status is 0 if all agrees, 1 if anything differs, and 2 or more if no pages were made: 2 for the arguments or the document, 3 if
-lualatex or galley_pages is missing, 4 if galley_pages refused a galley. Errors that TeX reports in the document are
-counted, and change no status."""
+pictures/index.html, and LaTeX's own. With --best page breaks are chosen so that all pages together are best
+(NAME.best), LaTeX makes its pages again with them, and what changed is told page by page (NAME.changes); the pictures
+show the pages before beside those that changed. The exit status is 0 if all agrees, 1 if anything differs, and 2 or
+more if no pages were made: 2 for the arguments or the document, 3 if lualatex or galley_pages is missing, 4 if
+galley_pages refused a galley. Errors that TeX reports in the document are counted, and change no status."""
 
 PROGRAM_HELP = """Which galley_pages is run, and how long it takes to build one, is told by `tools/program --help'. The
 variable GALLEY_PAGES names another program in its place; `bench/unproved.py OUT' makes one in two minutes, without its

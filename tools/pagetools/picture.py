@@ -17,9 +17,10 @@ below a column stand its natural height, how far its glue is set, and the badnes
 told by what the galley says of them, with --trace the places that were weighed and their costs, and where and why the
 column ends. With --why a mark stands where a float is called, with a line to the float, or a tag that names its page; a
 click on mark, tag or float shows the tests that were made of it, the first that failed in words, and what would have
-passed that test. With --latex a page that differs from LaTeX's stands beside LaTeX's own, with the first difference
-marked; with --before one that holds other lines than before. At the head of a page stand its top mark and its first mark, at its foot its bottom mark, if there are any.
-Several reports, as of the parts of one document, are drawn one after another."""
+passed that test. With --latex a page that differs from LaTeX's stands beside LaTeX's own, with the first
+difference marked; with --before beside the page of the reports before. At the head of a page stand its top mark and its
+first mark, at its foot its bottom mark, if there are any. Several reports, as of the parts of one document, are drawn one
+after another."""
 
 COLUMN_GAP = 22.0
 MARGIN_ROOM = 96.0
