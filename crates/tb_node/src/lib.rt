@@ -4,6 +4,7 @@
 mod names;
 mod node_sums;
 mod roles;
+mod same;
 mod signals;
 mod sizes;
 
@@ -51,7 +52,7 @@ impl Name {
 }
 
 /// The side that a marginal note is on.
-#[derive(Clone, Copy)]
+#[derive(Clone, Copy, PartialEq, Eq)]
 pub enum Side {
     /// Left of the column.
     Left,
@@ -60,7 +61,7 @@ pub enum Side {
 }
 
 /// Where a float is on a page, or the list that it goes to.
-#[derive(Clone, Copy)]
+#[derive(Clone, Copy, PartialEq, Eq)]
 pub enum Where {
     /// In the text, where it came.
     Here,
@@ -129,7 +130,7 @@ pub struct Insertion {
 }
 
 /// Where floats can be kept out of a column.
-#[derive(Clone, Copy)]
+#[derive(Clone, Copy, PartialEq, Eq)]
 pub enum Area {
     /// Everywhere: the top, the bottom and the text.
     All,
@@ -140,7 +141,7 @@ pub enum Area {
 }
 
 /// The places that a float may go to.
-#[derive(Clone, Copy)]
+#[derive(Clone, Copy, PartialEq, Eq)]
 pub struct Places {
     /// In the text.
     pub h: bool,
