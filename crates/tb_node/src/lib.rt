@@ -10,6 +10,7 @@ mod sizes;
 
 pub use names::name_of;
 pub use node_sums::{add, add_box, add_glue, list_sums, stretch_sums};
+pub use same::same_lists;
 pub use signals::{CLEAR_PENALTY, FOOTNOTES, HOLD_PENALTY, PAR_PENALTY, VERT_PENALTY};
 pub use sizes::{list_extent, room_of};
 use std::marker::Model;

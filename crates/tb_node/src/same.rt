@@ -1,9 +1,10 @@
 //! Whether two nodes, or the parts of nodes, are the same.
 
 ghost use Rattle.std.specs.Prelude.{◌≡◌, ◌↔◌, IsTrue};
+ghost use Rattle.tb_pool.specs.Lists.{IsLive, list_at};
 
-use crate::{Act, Area, Float, Insertion, Kind, Margin, Name, Places, Side, What, Where};
-use tb_pool::ListId;
+use crate::{Act, Area, Float, Insertion, Kind, Margin, Name, Node, Places, Side, What, Where};
+use tb_pool::{ListId, Lists};
 use tb_scaled::{Glue, Order};
 
 impl Name {
@@ -228,4 +229,38 @@ fn same_names(a: &Option<Name>, b: &Option<Name>) -> bool
         (None, None) => true,
         _ => false,
     }
+}
+
+/// Whether two lists, each of a store of its own, hold the same nodes in the same order. The list of an insertion is not
+/// looked at, but for its id.
+pub fn same_lists(
+    store: &Lists<Node>,
+    list: ListId,
+    other: &Lists<Node>,
+    other_list: ListId,
+) -> bool
+    requires live { IsLive store.now list }
+    requires other_live { IsLive other.now other_list }
+    ensures { IsTrue result ↔ (list_at store.now list ≡ list_at other.now other_list) }
+{
+    if store.len(list) != other.len(other_list) {
+        return false;
+    }
+    let mut others = other.iter(other_list);
+    for node in store.iter(list) {
+        let Some(other_node) = others.next() else {
+            return false;
+        };
+        if !same_nodes(node, other_node) {
+            return false;
+        }
+    }
+    true
+}
+
+// Whether two nodes are the same, the list of an insertion aside.
+fn same_nodes(a: &Node, b: &Node) -> bool
+    ensures { IsTrue result ↔ (a.now ≡ b.now) }
+{
+    a.line == b.line && a.kind.is_same(&b.kind)
 }
