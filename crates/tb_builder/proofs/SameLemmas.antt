@@ -90,4 +90,4 @@ module _ (s t : Lists Node) (es ds : List ClassList) (k : ℕ) (x : ClassList) (
   passing_next same = record { in_step = λ e. passing.in_step (λ i. same i ∷ e i); live = passing.live.1; other_live = passing.other_live.1 }
 
 pub passing_ends : (s t : Lists Node) (es ds rest others : List ClassList) → rest ≡ [] → others ≡ [] → Passing s t es ds rest others → map (boxed_of s) es ≡ map (boxed_of t) ds
-passing_ends s t es ds rest others r o h = h.in_step (λ i. map (boxed_of s) (r i)) 
+passing_ends s t es ds rest others r o h = h.in_step (ap (map (boxed_of s)) r ∙ ap (map (boxed_of t)) (sym o))

@@ -1,0 +1,31 @@
+use Rattle.std.proofs.Common.{◌≡◌, ◌∙◌, sym, subst, refl, List, []}
+use Rattle.tb_pool.specs.Lists.{list_at}
+use Rattle.tb_node.specs.declared.Node.{Node}
+use Rattle.tb_builder.proofs.SameLemmas.{Walking, walking_begins, walking_live, walking_live_too, walking_next, walking_ends}
+use Rattle.tb_builder.proofs.same.same_waiting.Goals as goal
+
+pub loop-node-init : goal.loop-node-init
+loop-node-init c =
+    let s = c.args.store.now in
+    let t = c.args.other_store.now in
+    let ns = list_at s c.args.list in
+    let ms = list_at t c.args.other_list in
+    record {
+      can_next = tt;
+      is_finite = tt;
+      walking = subst (λ (others : List Node). Walking s t ns ms c.into_iter-node-iterator.result others) (sym c.iter-others.ensures)
+        (subst (λ (rest : List Node). Walking s t ns ms rest ms) (sym (c.into_iter-node-iterator.ensures.into_iter_gives ∙ c.iter-node-items.ensures))
+        (walking_begins s t ns ms (sym c.len.ensures ∙ c.if-len.false ∙ c.len-2.ensures) c.requires.inner c.requires.other_inner));
+    }
+
+pub same_nodes-requires-clause-live : goal.same_nodes-requires-clause-live
+same_nodes-requires-clause-live c = ?
+
+pub same_nodes-requires-clause-other_live : goal.same_nodes-requires-clause-other_live
+same_nodes-requires-clause-other_live c = ?
+
+pub loop-node-preserved : goal.loop-node-preserved
+loop-node-preserved c = ?
+
+pub returns : goal.returns
+returns c = ?
