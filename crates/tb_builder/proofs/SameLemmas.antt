@@ -1,5 +1,5 @@
 -- Two builders that hold the same, each in its store.
-use Rattle.std.proofs.Common.{◌≡◌, ◌∙◌, refl, sym, ap, subst, ℕ, suc, ◌+◌, ◌<◌, Bool, true, false, List, [], ◌∷◌, ◌++◌, length, map, drop, get_or, add-one, arith}
+use Rattle.std.proofs.Common.{◌≡◌, ◌∙◌, refl, sym, ap, subst, ℕ, suc, ◌+◌, ◌<◌, List, [], ◌∷◌, length, map, drop, get_or, add-one, arith}
 use Rattle.std.specs.Prelude.{option_to_list}
 use Rattle.std.proofs.Math.Seq.{drop-cons}
 use Rattle.tb_pool.specs.Lists.{Lists, IsLive, list_at}
@@ -7,8 +7,7 @@ use Rattle.tb_node.specs.declared.Insertion.{Insertion}
 use Rattle.tb_node.specs.declared.Kind.{Kind}
 use Rattle.tb_node.specs.declared.Kind.TheVariants as kinds
 use Rattle.tb_node.specs.declared.Node.{Node}
-use Rattle.tb_node.specs.PlainNodes.{PlainKind, plain_kind, plain_of, leaf_of, inserted_of}
-use Rattle.tb_node.proofs.StepLemmas.{InStep, walk_goes}
+use Rattle.tb_node.specs.PlainNodes.{plain_kind, plain_of, leaf_of, inserted_of}
 use Rattle.tb_builder.specs.declared.ClassList.{ClassList}
 use Rattle.tb_builder.specs.Contents.{boxed_of}
 use Rattle.tb_builder.specs.Ownership.{AllLive, inner_of, inner_ids, box_ids}
@@ -41,6 +40,10 @@ pub record Walking (s t : Lists Node) (ns ms rest others : List Node) : Type 0 w
 
 pub walking_begins : (s t : Lists Node) (ns ms : List Node) → length ns ≡ length ms → AllLive s (inner_ids ns) → AllLive t (inner_ids ms) → Walking s t ns ms ns ms
 walking_begins s t ns ms even live other_live = record { in_step = λ e. e; even = even; live = live; other_live = other_live }
+
+-- the walk at what is left
+pub walking_at : (s t : Lists Node) (ns ms rest others left others_left : List Node) → rest ≡ left → others ≡ others_left → Walking s t ns ms rest others → Walking s t ns ms left others_left
+walking_at s t ns ms rest others left others_left r o h = subst (λ (zs : List Node). Walking s t ns ms left zs) o (subst (λ (zs : List Node). Walking s t ns ms zs others) r h)
 
 module _ (s t : Lists Node) (ns ms : List Node) (n m : Node) (rest others : List Node) (h : Walking s t ns ms (n ∷ rest) (m ∷ others)) where
   pub walking_live : AllLive s (option_to_list (inner_of n.kind))

@@ -1,7 +1,7 @@
-use Rattle.std.proofs.Common.{◌≡◌, ◌∙◌, sym, subst, refl, List, []}
+use Rattle.std.proofs.Common.{◌∙◌, sym, subst, refl, List}
 use Rattle.tb_pool.specs.Lists.{list_at}
 use Rattle.tb_node.specs.declared.Node.{Node}
-use Rattle.tb_builder.proofs.SameLemmas.{Walking, walking_begins, walking_live, walking_live_too, walking_next, walking_ends}
+use Rattle.tb_builder.proofs.SameLemmas.{Walking, walking_begins, walking_at, walking_live, walking_live_too, walking_next, walking_ends}
 use Rattle.tb_builder.proofs.same.same_waiting.Goals as goal
 
 pub loop-node-init : goal.loop-node-init
@@ -14,18 +14,47 @@ loop-node-init c =
       can_next = tt;
       is_finite = tt;
       walking = subst (λ (others : List Node). Walking s t ns ms c.into_iter-node-iterator.result others) (sym c.iter-others.ensures)
-        (subst (λ (rest : List Node). Walking s t ns ms rest ms) (sym (c.into_iter-node-iterator.ensures.into_iter_gives ∙ c.iter-node-items.ensures))
-        (walking_begins s t ns ms (sym c.len.ensures ∙ c.if-len.false ∙ c.len-2.ensures) c.requires.inner c.requires.other_inner));
+          (subst (λ (rest : List Node). Walking s t ns ms rest ms) (sym (c.into_iter-node-iterator.ensures.into_iter_gives ∙ c.iter-node-items.ensures))
+          (walking_begins s t ns ms (sym c.len.ensures ∙ c.if-len.false ∙ c.len-2.ensures) c.requires.inner c.requires.other_inner));
     }
 
 pub same_nodes-requires-clause-live : goal.same_nodes-requires-clause-live
-same_nodes-requires-clause-live c = ?
+same_nodes-requires-clause-live c =
+    let s = c.args.store.now in
+    let t = c.args.other_store.now in
+    let ns = list_at s c.args.list in
+    let ms = list_at t c.args.other_list in
+    walking_live s t ns ms c.in-Some.node.now c.in-Some-next.other.now c.next.new.self c.next-in-loop-node.new.self
+    (walking_at s t ns ms _ _ _ _ c.in-Some.ensures.steps c.in-Some-next.ensures.steps c.loop-node.invariant.walking)
 
 pub same_nodes-requires-clause-other_live : goal.same_nodes-requires-clause-other_live
-same_nodes-requires-clause-other_live c = ?
+same_nodes-requires-clause-other_live c =
+    let s = c.args.store.now in
+    let t = c.args.other_store.now in
+    let ns = list_at s c.args.list in
+    let ms = list_at t c.args.other_list in
+    walking_live_too s t ns ms c.in-Some.node.now c.in-Some-next.other.now c.next.new.self c.next-in-loop-node.new.self
+    (walking_at s t ns ms _ _ _ _ c.in-Some.ensures.steps c.in-Some-next.ensures.steps c.loop-node.invariant.walking)
 
 pub loop-node-preserved : goal.loop-node-preserved
-loop-node-preserved c = ?
+loop-node-preserved c =
+    let s = c.args.store.now in
+    let t = c.args.other_store.now in
+    let ns = list_at s c.args.list in
+    let ms = list_at t c.args.other_list in
+    record {
+      can_next = tt;
+      is_finite = tt;
+      walking = walking_next s t ns ms c.in-Some.node.now c.in-Some-next.other.now c.next.new.self c.next-in-loop-node.new.self
+          (walking_at s t ns ms _ _ _ _ c.in-Some.ensures.steps c.in-Some-next.ensures.steps c.loop-node.invariant.walking)
+          (c.if-not-same_nodes.ensures refl);
+    }
 
 pub returns : goal.returns
-returns c = ?
+returns c =
+    let s = c.args.store.now in
+    let t = c.args.other_store.now in
+    let ns = list_at s c.args.list in
+    let ms = list_at t c.args.other_list in
+    λ yes. walking_ends s t ns ms c.loop-node.others
+    (subst (λ (rest : List Node). Walking s t ns ms rest c.loop-node.others) c.in-None.ensures.steps.0 c.loop-node.invariant.walking)
