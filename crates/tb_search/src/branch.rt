@@ -42,7 +42,7 @@ pub enum Filled {
 #[derive(Drop)]
 pub struct Branch<'a> {
     // Nothing is left in it.
-    routine: Routine<'a>,
+    pub(crate) routine: Routine<'a>,
     // None once the clear at the end was taken.
     ahead: Option<ItemsLeft<'a>>,
 }

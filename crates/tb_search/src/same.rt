@@ -12,9 +12,15 @@ impl Branch<'_> {
     pub fn is_same(&self, other: &Branch<'_>) -> bool
         requires mine { IsBranch self.now }
         requires others { IsBranch other.now }
+        requires classes { (shown self.now).classes ≡ (shown other.now).classes }
 
         ensures { result ≡ true → without_left (shown self.now) ≡ without_left (shown other.now) }
     {
-        false
+        let (mine, others) = (&self.routine, &other.routine);
+        mine.machine
+            .shows_same(&mine.store, &others.machine, &others.store)
+            && mine
+                .builder
+                .holds_same(&mine.store, &others.builder, &others.store)
     }
 }
