@@ -1,5 +1,5 @@
 -- Two builders that hold the same, each in its store.
-use Rattle.std.proofs.Common.{◌≡◌, ◌∙◌, refl, sym, ap, subst, ℕ, suc, ◌+◌, ◌<◌, List, [], ◌∷◌, length, map, drop, get_or, add-one, arith}
+use Rattle.std.proofs.Common.{◌≡◌, ◌∙◌, refl, sym, ap, subst, ℕ, suc, ◌+◌, ◌<◌, true, List, [], ◌∷◌, length, map, drop, get_or, add-one, arith}
 use Rattle.std.specs.Prelude.{option_to_list}
 use Rattle.std.proofs.Math.Seq.{drop-cons}
 use Rattle.tb_pool.specs.Lists.{Lists, IsLive, list_at}
@@ -7,27 +7,73 @@ use Rattle.tb_node.specs.declared.Insertion.{Insertion}
 use Rattle.tb_node.specs.declared.Kind.{Kind}
 use Rattle.tb_node.specs.declared.Kind.TheVariants as kinds
 use Rattle.tb_node.specs.declared.Node.{Node}
-use Rattle.tb_node.specs.PlainNodes.{plain_kind, plain_of, leaf_of, inserted_of}
+use Rattle.tb_node.specs.PlainNodes.{Matter, hbox, rule, skip, kerned, pen, mark, note, whatsit, plain, ins, act, matter_of, PlainKind, PlainNode, plain_kind, plain_of, Leaf, leaf_of, inserted_of}
 use Rattle.tb_builder.specs.declared.ClassList.{ClassList}
 use Rattle.tb_builder.specs.Contents.{boxed_of}
-use Rattle.tb_builder.specs.Ownership.{AllLive, inner_of, inner_ids, box_ids}
+use Rattle.tb_builder.specs.Ownership.{AllPlain, HoldPlain, is_plain, AllLive, inner_of, inner_ids, box_ids}
 use Rattle.tb_builder.proofs.Ownership.OwnedLemmas.{live-left, live-right}
 
--- a node that is no insertion is the same in all stores
-pub same_beside : (held others : ℕ → List Node) (k : Kind) → ((i : Insertion) → k ≡ kinds.Ins i → ⊥) → plain_kind held k ≡ plain_kind others k
-same_beside held others (kinds.Ins i) h = absurd (h i refl)
-same_beside held others k h = refl
+-- ---- the material of insertions
 
--- two insertions that are the same but for the ids of their lists, which hold the same nodes
-pub same_inserted : (held others : ℕ → List Node) (i j : Insertion) → i ≡ record j { list = i.list } → held i.list ≡ others j.list → inserted_of held i ≡ inserted_of others j
-same_inserted held others i j e lists = λ t. record {
-  class = (e t).class;
-  inner = map leaf_of (lists t);
-  height = (e t).height;
-  split_depth = (e t).split_depth;
-  split_top = (e t).split_top;
-  floating = (e t).floating;
-}
+-- the kind of a node that shows this matter
+abbrev matter_back : Matter → Kind
+matter_back (hbox what h d) = kinds.Hbox what h d
+matter_back (rule name h d) = kinds.Rule name h d
+matter_back (skip g) = kinds.Skip g
+matter_back (kerned w) = kinds.Kern w
+matter_back (pen p) = kinds.Pen p
+matter_back (mark name) = kinds.Mark name
+matter_back (note name) = kinds.Note name
+matter_back whatsit = kinds.Whatsit
+
+-- the node that shows this leaf
+abbrev leaf_back : Leaf → Node
+leaf_back l = record { line = l.line; kind = matter_back l.matter }
+
+matter_again : (k : Kind) → is_plain k ≡ true → matter_back (matter_of k) ≡ k
+matter_again (kinds.Ins i) h = cc
+matter_again (kinds.Act a) h = cc
+matter_again k h = refl
+
+leaves_again : (ns : List Node) → AllPlain ns → map leaf_back (map leaf_of ns) ≡ ns
+leaves_again [] h = refl
+leaves_again (n ∷ ns) h = λ i. record { line = n.line; kind = matter_again n.kind h.0 i } ∷ leaves_again ns h.1 i
+
+-- nodes that are neither insertions nor acts are the same if they show the same
+pub same_leaves : (ns ms : List Node) → AllPlain ns → AllPlain ms → map leaf_of ns ≡ map leaf_of ms → ns ≡ ms
+same_leaves ns ms p q e = sym (leaves_again ns p) ∙ ap (map leaf_back) e ∙ leaves_again ms q
+
+-- what an insertion shows, or nothing like it
+abbrev inner_shown : PlainKind → List Leaf
+inner_shown (plain m) = []
+inner_shown (ins i) = i.inner
+inner_shown (act a) = []
+
+module _ (s t : Lists Node) (n m : Node) (i j : Insertion) (n_is : n.kind ≡ kinds.Ins i) (m_is : m.kind ≡ kinds.Ins j) where
+  inserted : i ≡ record j { list = i.list } → list_at s i.list ≡ list_at t j.list → inserted_of (list_at s) i ≡ inserted_of (list_at t) j
+  inserted e lists = λ k. record {
+    class = (e k).class;
+    inner = map leaf_of (lists k);
+    height = (e k).height;
+    split_depth = (e k).split_depth;
+    split_top = (e k).split_top;
+    floating = (e k).floating;
+  }
+
+  -- two insertions show the same if they are the same but for the ids of their lists, which hold the same nodes
+  pub same_inserted : n.line ≡ m.line → i ≡ record j { list = i.list } → list_at s i.list ≡ list_at t j.list → plain_of (list_at s) n ≡ plain_of (list_at t) m
+  same_inserted line e lists = λ k. record {
+    line = line k;
+    kind = (ap (plain_kind (list_at s)) n_is ∙ ap ins (inserted e lists) ∙ sym (ap (plain_kind (list_at t)) m_is)) k;
+  }
+
+  -- the lists of two insertions that show the same hold the same nodes
+  pub same_material : HoldPlain s (option_to_list (inner_of n.kind)) → HoldPlain t (option_to_list (inner_of m.kind)) → plain_of (list_at s) n ≡ plain_of (list_at t) m → list_at s i.list ≡ list_at t j.list
+  same_material p q e =
+      same_leaves (list_at s i.list) (list_at t j.list)
+      (subst (λ (k : Kind). HoldPlain s (option_to_list (inner_of k))) n_is p).0
+      (subst (λ (k : Kind). HoldPlain t (option_to_list (inner_of k))) m_is q).0
+      (ap inner_shown (sym (ap (plain_kind (list_at s)) n_is) ∙ ap (λ (x : PlainNode). x.kind) e ∙ ap (plain_kind (list_at t)) m_is))
 
 -- ---- the nodes that wait
 

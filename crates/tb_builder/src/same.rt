@@ -1,10 +1,10 @@
 //! Whether two builders hold the same.
 
-ghost use Rattle.std.specs.Prelude.{◌≡◌, IsTrue, map, option_to_list};
+ghost use Rattle.std.specs.Prelude.{◌≡◌, ◌↔◌, IsTrue, map, option_to_list};
 ghost use Rattle.tb_pool.specs.Lists.{IsLive, list_at};
 ghost use Rattle.tb_node.specs.PlainNodes.{plain_of, plain_list};
 ghost use Rattle.tb_builder.specs.Contents.{contents_of, boxed_of};
-ghost use Rattle.tb_builder.specs.Ownership.{inner_of, inner_ids, box_ids, AllLive};
+ghost use Rattle.tb_builder.specs.Ownership.{inner_of, inner_ids, box_ids, AllLive, HoldPlain};
 ghost use Rattle.tb_builder.specs.Courses.{IsSound};
 
 use crate::{Builder, ClassList};
@@ -15,7 +15,9 @@ use tb_pool::{ListId, Lists};
 fn same_nodes(store: &Lists<Node>, node: &Node, other_store: &Lists<Node>, other: &Node) -> bool
     requires live { AllLive store.now (option_to_list (inner_of node.now.kind)) }
     requires other_live { AllLive other_store.now (option_to_list (inner_of other.now.kind)) }
-    ensures { IsTrue result → plain_of (list_at store.now) node.now ≡ plain_of (list_at other_store.now) other.now }
+    requires plain { HoldPlain store.now (option_to_list (inner_of node.now.kind)) }
+    requires other_plain { HoldPlain other_store.now (option_to_list (inner_of other.now.kind)) }
+    ensures { IsTrue result ↔ (plain_of (list_at store.now) node.now ≡ plain_of (list_at other_store.now) other.now) }
 {
     if node.line != other.line {
         return false;
