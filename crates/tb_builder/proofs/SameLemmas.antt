@@ -2,16 +2,18 @@
 use Rattle.std.proofs.Common.{◌≡◌, ◌∙◌, refl, sym, ap, subst, ℕ, suc, ◌+◌, ◌<◌, true, List, [], ◌∷◌, length, map, drop, get_or, add-one, arith}
 use Rattle.std.specs.Prelude.{option_to_list}
 use Rattle.std.proofs.Math.Seq.{drop-cons}
+use Rattle.std.proofs.lemmas.List.{length-map}
 use Rattle.tb_pool.specs.Lists.{Lists, IsLive, list_at}
 use Rattle.tb_node.specs.declared.Insertion.{Insertion}
 use Rattle.tb_node.specs.declared.Kind.{Kind}
 use Rattle.tb_node.specs.declared.Kind.TheVariants as kinds
 use Rattle.tb_node.specs.declared.Node.{Node}
 use Rattle.tb_node.specs.PlainNodes.{Matter, hbox, rule, skip, kerned, pen, mark, note, whatsit, plain, ins, act, matter_of, PlainKind, PlainNode, plain_kind, plain_of, Leaf, leaf_of, inserted_of}
+use Rattle.tb_node.proofs.StepLemmas.{InStep, walk_begins, walk_goes, walk_parts}
 use Rattle.tb_builder.specs.declared.ClassList.{ClassList}
 use Rattle.tb_builder.specs.Contents.{boxed_of}
 use Rattle.tb_builder.specs.Ownership.{AllPlain, HoldPlain, is_plain, AllLive, inner_of, inner_ids, box_ids}
-use Rattle.tb_builder.proofs.Ownership.OwnedLemmas.{live-left, live-right}
+use Rattle.tb_builder.proofs.Ownership.OwnedLemmas.{live-left, live-right, plain-left, plain-right}
 
 -- ---- the material of insertions
 
@@ -77,15 +79,29 @@ module _ (s t : Lists Node) (n m : Node) (i j : Insertion) (n_is : n.kind ≡ ki
 
 -- ---- the nodes that wait
 
--- two lists of nodes that are walked in step: they show the same if what is left of them does, and the lists of what is left are live
+-- two lists of nodes that are walked in step: they show the same exactly if what is left of them does; the lists of what is left are live, and
+-- hold neither insertions nor acts
 pub record Walking (s t : Lists Node) (ns ms rest others : List Node) : Type 0 where
-  pub in_step : map (plain_of (list_at s)) rest ≡ map (plain_of (list_at t)) others → map (plain_of (list_at s)) ns ≡ map (plain_of (list_at t)) ms
+  pub in_step : InStep (map (plain_of (list_at s)) ns) (map (plain_of (list_at t)) ms) (map (plain_of (list_at s)) rest) (map (plain_of (list_at t)) others)
   pub even : length rest ≡ length others
   pub live : AllLive s (inner_ids rest)
   pub other_live : AllLive t (inner_ids others)
+  pub plain_lists : HoldPlain s (inner_ids rest)
+  pub other_plain : HoldPlain t (inner_ids others)
 
-pub walking_begins : (s t : Lists Node) (ns ms : List Node) → length ns ≡ length ms → AllLive s (inner_ids ns) → AllLive t (inner_ids ms) → Walking s t ns ms ns ms
-walking_begins s t ns ms even live other_live = record { in_step = λ e. e; even = even; live = live; other_live = other_live }
+pub walking_begins : (s t : Lists Node) (ns ms : List Node) → length ns ≡ length ms → AllLive s (inner_ids ns) → AllLive t (inner_ids ms) → HoldPlain s (inner_ids ns) → HoldPlain t (inner_ids ms) → Walking s t ns ms ns ms
+walking_begins s t ns ms even live other_live plain_lists other_plain = record {
+  in_step = walk_begins _ _ _ _ refl refl;
+  even = even;
+  live = live;
+  other_live = other_live;
+  plain_lists = plain_lists;
+  other_plain = other_plain;
+}
+
+-- lists of nodes that show the same are as long
+pub same_length : (s t : Lists Node) (ns ms : List Node) → map (plain_of (list_at s)) ns ≡ map (plain_of (list_at t)) ms → length ns ≡ length ms
+same_length s t ns ms e = sym (length-map ns (plain_of (list_at s))) ∙ ap length e ∙ length-map ms (plain_of (list_at t))
 
 -- the walk at what is left
 pub walking_at : (s t : Lists Node) (ns ms rest others left others_left : List Node) → rest ≡ left → others ≡ others_left → Walking s t ns ms rest others → Walking s t ns ms left others_left
@@ -98,16 +114,28 @@ module _ (s t : Lists Node) (ns ms : List Node) (n m : Node) (rest others : List
   pub walking_live_too : AllLive t (option_to_list (inner_of m.kind))
   walking_live_too = live-left t (option_to_list (inner_of m.kind)) (inner_ids others) h.other_live
 
+  pub walking_plain : HoldPlain s (option_to_list (inner_of n.kind))
+  walking_plain = plain-left s (option_to_list (inner_of n.kind)) (inner_ids rest) h.plain_lists
+
+  pub walking_plain_too : HoldPlain t (option_to_list (inner_of m.kind))
+  walking_plain_too = plain-left t (option_to_list (inner_of m.kind)) (inner_ids others) h.other_plain
+
   pub walking_next : plain_of (list_at s) n ≡ plain_of (list_at t) m → Walking s t ns ms rest others
   walking_next same = record {
-    in_step = λ e. h.in_step (λ i. same i ∷ e i);
+    in_step = walk_goes _ _ _ _ _ _ _ _ refl refl same h.in_step;
     even = omega (arith, h.even);
     live = live-right s (option_to_list (inner_of n.kind)) (inner_ids rest) h.live;
     other_live = live-right t (option_to_list (inner_of m.kind)) (inner_ids others) h.other_live;
+    plain_lists = plain-right s (option_to_list (inner_of n.kind)) (inner_ids rest) h.plain_lists;
+    other_plain = plain-right t (option_to_list (inner_of m.kind)) (inner_ids others) h.other_plain;
   }
 
+  -- the lists do not show the same if these nodes do not
+  pub walking_parts : (plain_of (list_at s) n ≡ plain_of (list_at t) m → ⊥) → map (plain_of (list_at s)) ns ≡ map (plain_of (list_at t)) ms → ⊥
+  walking_parts differ = walk_parts _ _ _ _ _ _ _ _ refl refl differ h.in_step
+
 pub walking_ends : (s t : Lists Node) (ns ms others : List Node) → Walking s t ns ms [] others → map (plain_of (list_at s)) ns ≡ map (plain_of (list_at t)) ms
-walking_ends s t ns ms [] h = h.in_step refl
+walking_ends s t ns ms [] h = h.in_step.0 refl
 walking_ends s t ns ms (m ∷ others) h = let e : 0 ≡ suc (length others) = h.even in absurd (omega arith)
 
 -- ---- the class boxes

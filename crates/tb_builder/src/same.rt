@@ -44,7 +44,9 @@ fn same_waiting(
     requires other_live { IsLive other_store.now other_list }
     requires inner { AllLive store.now (inner_ids (list_at store.now list)) }
     requires other_inner { AllLive other_store.now (inner_ids (list_at other_store.now other_list)) }
-    ensures { IsTrue result → plain_list store.now list ≡ plain_list other_store.now other_list }
+    requires plain { HoldPlain store.now (inner_ids (list_at store.now list)) }
+    requires other_plain { HoldPlain other_store.now (inner_ids (list_at other_store.now other_list)) }
+    ensures { IsTrue result ↔ (plain_list store.now list ≡ plain_list other_store.now other_list) }
 {
     if store.len(list) != other_store.len(other_list) {
         return false;
