@@ -1,6 +1,7 @@
 -- Two builders that hold the same, each in its store.
-use Rattle.std.proofs.Common.{◌≡◌, ◌∙◌, refl, sym, ap, subst, ℕ, suc, ◌+◌, ◌<◌, true, List, [], ◌∷◌, length, map, drop, get_or, add-one, arith}
-use Rattle.std.specs.Prelude.{option_to_list}
+use Rattle.std.proofs.Common.{◌≡◌, ◌∙◌, refl, sym, ap, subst, ℕ, suc, ◌+◌, ◌<◌, Bool, true, false, List, [], ◌∷◌, length, map, drop, get_or, add-one, arith}
+use Rattle.std.specs.Prelude.{option_to_list, is_none, not}
+use Rattle.std.specs.Bool.{beq}
 use Rattle.std.proofs.Math.Seq.{drop-cons}
 use Rattle.std.proofs.lemmas.List.{length-map}
 use Rattle.tb_pool.specs.Lists.{Lists, IsLive, list_at}
@@ -11,8 +12,9 @@ use Rattle.tb_node.specs.declared.Node.{Node}
 use Rattle.tb_node.specs.PlainNodes.{Matter, hbox, rule, skip, kerned, pen, mark, note, whatsit, plain, ins, act, matter_of, PlainKind, PlainNode, plain_kind, plain_of, Leaf, leaf_of, inserted_of}
 use Rattle.tb_node.proofs.StepLemmas.{InStep, walk_begins, walk_goes, walk_parts}
 use Rattle.tb_builder.specs.declared.ClassList.{ClassList}
-use Rattle.tb_builder.specs.Contents.{boxed_of}
-use Rattle.tb_builder.specs.Ownership.{AllPlain, HoldPlain, is_plain, AllLive, inner_of, inner_ids, box_ids}
+use Rattle.tb_builder.specs.FiredPages.{content_of}
+use Rattle.tb_builder.specs.Contents.{leaf_list, content_by, boxed_of}
+use Rattle.tb_builder.specs.Ownership.{AllPlain, HoldPlain, VoidEmpty, is_plain, AllLive, inner_of, inner_ids, box_ids}
 use Rattle.tb_builder.proofs.Ownership.OwnedLemmas.{live-left, live-right, plain-left, plain-right}
 
 -- ---- the material of insertions
@@ -140,31 +142,83 @@ walking_ends s t ns ms (m ∷ others) h = let e : 0 ≡ suc (length others) = h.
 
 -- ---- the class boxes
 
--- two lists of boxes that are walked in step show the same if what is left of them does
+-- two boxes show the same number and content
+pub same_boxed : (s t : Lists Node) (e d : ClassList) → e.class.number ≡ d.class.number → e.void ≡ d.void → list_at s e.list ≡ list_at t d.list → boxed_of s e ≡ boxed_of t d
+same_boxed s t e d number void lists = λ i. record { number = number i; content = content_by (void i) (map leaf_of (lists i)) }
+
+-- two flags that are not found to differ
+pub same_flags : (v w : Bool) → not (beq v w) ≡ false → v ≡ w
+same_flags true true h = refl
+same_flags false false h = refl
+same_flags true false h = cc
+same_flags false true h = cc
+
+void_again : (v : Bool) (ls : List Leaf) → is_none (content_by v ls) ≡ v
+void_again true ls = refl
+void_again false ls = refl
+
+-- boxes that show the same are void together
+pub void_together : (s t : Lists Node) (e d : ClassList) → boxed_of s e ≡ boxed_of t d → e.void ≡ d.void
+void_together s t e d same = sym (void_again e.void (leaf_list s e.list)) ∙ ap (λ b. is_none b.content) same ∙ void_again d.void (leaf_list t d.list)
+
+-- the lists of boxes that show the same hold the same nodes
+pub same_content : (s t : Lists Node) (e d : ClassList) → (e.void ≡ true → list_at s e.list ≡ []) → (d.void ≡ true → list_at t d.list ≡ []) → AllPlain (list_at s e.list) → AllPlain (list_at t d.list)
+    → boxed_of s e ≡ boxed_of t d → list_at s e.list ≡ list_at t d.list
+same_content s t e d void void_too p q same = by_void e.void d.void refl refl (void_together s t e d same) (ap (λ b. b.content) same)
+  where
+    by_void : (v w : Bool) → e.void ≡ v → d.void ≡ w → v ≡ w → content_by v (leaf_list s e.list) ≡ content_by w (leaf_list t d.list) → list_at s e.list ≡ list_at t d.list
+    by_void true true ve we vw c = void ve ∙ sym (void_too we)
+    by_void false false ve we vw c = same_leaves (list_at s e.list) (list_at t d.list) p q (ap content_of c)
+    by_void true false ve we vw c = cc
+    by_void false true ve we vw c = cc
+
+-- two lists of boxes that are walked in step show the same exactly if what is left of them does
 pub record Passing (s t : Lists Node) (es ds rest others : List ClassList) : Type 0 where
-  pub in_step : map (boxed_of s) rest ≡ map (boxed_of t) others → map (boxed_of s) es ≡ map (boxed_of t) ds
+  pub in_step : InStep (map (boxed_of s) es) (map (boxed_of t) ds) (map (boxed_of s) rest) (map (boxed_of t) others)
   pub live : AllLive s (box_ids rest)
   pub other_live : AllLive t (box_ids others)
+  pub void : VoidEmpty s rest
+  pub other_void : VoidEmpty t others
+  pub plain_lists : HoldPlain s (box_ids rest)
+  pub other_plain : HoldPlain t (box_ids others)
 
-pub passing_begins : (s t : Lists Node) (es ds : List ClassList) → AllLive s (box_ids es) → AllLive t (box_ids ds) → Passing s t es ds es ds
-passing_begins s t es ds live other_live = record { in_step = λ e. e; live = live; other_live = other_live }
+pub passing_begins : (s t : Lists Node) (es ds : List ClassList) → AllLive s (box_ids es) → AllLive t (box_ids ds) → VoidEmpty s es → VoidEmpty t ds → HoldPlain s (box_ids es) → HoldPlain t (box_ids ds) → Passing s t es ds es ds
+passing_begins s t es ds live other_live void other_void plain_lists other_plain = record {
+  in_step = walk_begins _ _ _ _ refl refl;
+  live = live;
+  other_live = other_live;
+  void = void;
+  other_void = other_void;
+  plain_lists = plain_lists;
+  other_plain = other_plain;
+}
 
 module _ (s t : Lists Node) (es ds : List ClassList) (k : ℕ) (x : ClassList) (within : k < length es) (within_too : k < length ds) (h : Passing s t es ds (drop k es) (drop k ds)) where
   next_is : (cs : List ClassList) → k < length cs → drop k cs ≡ get_or cs k x ∷ drop (k + 1) cs
   next_is cs lt = drop-cons cs k x lt ∙ ap (λ j. get_or cs k x ∷ drop j cs) (sym (add-one k))
 
-  passing : Passing s t es ds (get_or es k x ∷ drop (k + 1) es) (get_or ds k x ∷ drop (k + 1) ds)
+  pub passing : Passing s t es ds (get_or es k x ∷ drop (k + 1) es) (get_or ds k x ∷ drop (k + 1) ds)
   passing = subst (λ others. Passing s t es ds (get_or es k x ∷ drop (k + 1) es) others) (next_is ds within_too)
       (subst (λ rest. Passing s t es ds rest (drop k ds)) (next_is es within) h)
 
-  pub passing_live : IsLive s (get_or es k x).list
-  passing_live = passing.live.0
-
-  pub passing_live_too : IsLive t (get_or ds k x).list
-  passing_live_too = passing.other_live.0
-
   pub passing_next : boxed_of s (get_or es k x) ≡ boxed_of t (get_or ds k x) → Passing s t es ds (drop (k + 1) es) (drop (k + 1) ds)
-  passing_next same = record { in_step = λ e. passing.in_step (λ i. same i ∷ e i); live = passing.live.1; other_live = passing.other_live.1 }
+  passing_next same = record {
+    in_step = walk_goes _ _ _ _ _ _ _ _ refl refl same passing.in_step;
+    live = passing.live.1;
+    other_live = passing.other_live.1;
+    void = passing.void.1;
+    other_void = passing.other_void.1;
+    plain_lists = passing.plain_lists.1;
+    other_plain = passing.other_plain.1;
+  }
+
+  -- the lists do not show the same if these boxes do not
+  pub passing_parts : (boxed_of s (get_or es k x) ≡ boxed_of t (get_or ds k x) → ⊥) → map (boxed_of s) es ≡ map (boxed_of t) ds → ⊥
+  passing_parts differ = walk_parts _ _ _ _ _ _ _ _ refl refl differ passing.in_step
 
 pub passing_ends : (s t : Lists Node) (es ds rest others : List ClassList) → rest ≡ [] → others ≡ [] → Passing s t es ds rest others → map (boxed_of s) es ≡ map (boxed_of t) ds
-passing_ends s t es ds rest others r o h = h.in_step (ap (map (boxed_of s)) r ∙ ap (map (boxed_of t)) (sym o))
+passing_ends s t es ds rest others r o h = h.in_step.0 (ap (map (boxed_of s)) r ∙ ap (map (boxed_of t)) (sym o))
+
+-- lists of boxes that show the same are as long
+pub same_box_count : (s t : Lists Node) (es ds : List ClassList) → map (boxed_of s) es ≡ map (boxed_of t) ds → length es ≡ length ds
+same_box_count s t es ds e = sym (length-map es (boxed_of s)) ∙ ap length e ∙ length-map ds (boxed_of t)

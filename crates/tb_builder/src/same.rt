@@ -1,10 +1,10 @@
 //! Whether two builders hold the same.
 
-ghost use Rattle.std.specs.Prelude.{◌≡◌, ◌↔◌, IsTrue, map, option_to_list};
+ghost use Rattle.std.specs.Prelude.{◌≡◌, ◌↔◌, [], true, IsTrue, map, option_to_list};
 ghost use Rattle.tb_pool.specs.Lists.{IsLive, list_at};
 ghost use Rattle.tb_node.specs.PlainNodes.{plain_of, plain_list};
 ghost use Rattle.tb_builder.specs.Contents.{contents_of, boxed_of};
-ghost use Rattle.tb_builder.specs.Ownership.{inner_of, inner_ids, box_ids, AllLive, HoldPlain};
+ghost use Rattle.tb_builder.specs.Ownership.{inner_of, inner_ids, box_ids, AllLive, AllPlain, HoldPlain, VoidEmpty};
 ghost use Rattle.tb_builder.specs.Courses.{IsSound};
 
 use crate::{Builder, ClassList};
@@ -72,11 +72,19 @@ fn same_box(
 ) -> bool
     requires live { IsLive store.now entry.now.list }
     requires other_live { IsLive other_store.now other.now.list }
-    ensures { IsTrue result → boxed_of store.now entry.now ≡ boxed_of other_store.now other.now }
+    requires void { entry.now.void ≡ true → list_at store.now entry.now.list ≡ [] }
+    requires other_void { other.now.void ≡ true → list_at other_store.now other.now.list ≡ [] }
+    requires plain { AllPlain (list_at store.now entry.now.list) }
+    requires other_plain { AllPlain (list_at other_store.now other.now.list) }
+    ensures { IsTrue result ↔ (boxed_of store.now entry.now ≡ boxed_of other_store.now other.now) }
 {
-    entry.class.number == other.class.number
-        && entry.void == other.void
-        && same_lists(store, entry.list, other_store, other.list)
+    if entry.class.number != other.class.number {
+        return false;
+    }
+    if entry.void != other.void {
+        return false;
+    }
+    same_lists(store, entry.list, other_store, other.list)
 }
 
 // Whether the class boxes of two builders, each with its store, hold the same.
@@ -88,7 +96,11 @@ fn same_boxes(
 ) -> bool
     requires live { AllLive store.now (box_ids boxes.now) }
     requires other_live { AllLive other_store.now (box_ids other.now) }
-    ensures { IsTrue result → map (boxed_of store.now) boxes.now ≡ map (boxed_of other_store.now) other.now }
+    requires void { VoidEmpty store.now boxes.now }
+    requires other_void { VoidEmpty other_store.now other.now }
+    requires plain { HoldPlain store.now (box_ids boxes.now) }
+    requires other_plain { HoldPlain other_store.now (box_ids other.now) }
+    ensures { IsTrue result ↔ (map (boxed_of store.now) boxes.now ≡ map (boxed_of other_store.now) other.now) }
 {
     if boxes.len() != other.len() {
         return false;

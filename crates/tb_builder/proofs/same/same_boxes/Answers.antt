@@ -1,5 +1,7 @@
-use Rattle.tb_builder.proofs.SameLemmas.{passing_begins}
+use Rattle.std.proofs.Common.{◌≡◌, refl, true, false, sym, ◌∙◌}
+use Rattle.tb_node.proofs.StepLemmas.{denied}
+use Rattle.tb_builder.proofs.SameLemmas.{passing_begins, passing_next, passing_parts, passing_ends, same_box_count}
 use Rattle.tb_builder.proofs.same.same_boxes.Goals as goal
 
 pub loop-k-init : goal.loop-k-init
-loop-k-init c = passing_begins c.args.store.now c.args.other_store.now c.args.boxes.now c.args.other.now c.requires.live c.requires.other_live
+loop-k-init c = passing_begins c.args.store.now c.args.other_store.now c.args.boxes.now c.args.other.now c.requires.live c.requires.other_live c.requires.void c.requires.other_void c.requires.plain c.requires.other_plain

@@ -94,7 +94,8 @@ returns c =
     let s = c.args.store.now in
     let t = c.args.other_store.now in
     let ns = list_at s c.args.list in
-    let ms = list_at t c.args.other_list in
-    (λ yes. walking_ends s t ns ms c.loop-node.others
-      (subst (λ (rest : List Node). Walking s t ns ms rest c.loop-node.others) c.in-None.ensures.steps.0 c.loop-node.invariant.walking),
-     λ e. refl)
+    let ms = list_at t c.args.other_list in (
+      λ yes. walking_ends s t ns ms c.loop-node.others
+          (subst (λ (rest : List Node). Walking s t ns ms rest c.loop-node.others) c.in-None.ensures.steps.0 c.loop-node.invariant.walking),
+      λ e. refl,
+    )
