@@ -1,10 +1,10 @@
 -- Two builders that hold the same, each in its store.
-use Rattle.std.proofs.Common.{◌≡◌, ◌∙◌, refl, sym, ap, subst, ℕ, suc, ◌+◌, ◌<◌, Bool, true, false, List, [], ◌∷◌, length, map, drop, get_or, add-one, arith}
+use Rattle.std.proofs.Common.{◌≡◌, ◌∙◌, refl, sym, ap, subst, ℕ, suc, ◌+◌, ◌<◌, Bool, true, false, List, [], ◌∷◌, ◌++◌, length, map, drop, get_or, add-one, arith}
 use Rattle.std.specs.Prelude.{option_to_list, is_none, not}
 use Rattle.std.specs.Bool.{beq}
 use Rattle.std.proofs.Math.Seq.{drop-cons}
 use Rattle.std.proofs.lemmas.List.{length-map}
-use Rattle.tb_pool.specs.Lists.{Lists, IsLive, list_at}
+use Rattle.tb_pool.specs.Lists.{Lists, list_at}
 use Rattle.tb_node.specs.declared.Insertion.{Insertion}
 use Rattle.tb_node.specs.declared.Kind.{Kind}
 use Rattle.tb_node.specs.declared.Kind.TheVariants as kinds
@@ -14,8 +14,8 @@ use Rattle.tb_node.proofs.StepLemmas.{InStep, walk_begins, walk_goes, walk_parts
 use Rattle.tb_builder.specs.declared.ClassList.{ClassList}
 use Rattle.tb_builder.specs.FiredPages.{content_of}
 use Rattle.tb_builder.specs.Contents.{leaf_list, content_by, boxed_of}
-use Rattle.tb_builder.specs.Ownership.{AllPlain, HoldPlain, VoidEmpty, is_plain, AllLive, inner_of, inner_ids, box_ids}
-use Rattle.tb_builder.proofs.Ownership.OwnedLemmas.{live-left, live-right, plain-left, plain-right}
+use Rattle.tb_builder.specs.Ownership.{AllPlain, HoldPlain, VoidEmpty, is_plain, AllLive, inner_of, inner_ids, box_ids, Ids, nodes_of, IsOwned}
+use Rattle.tb_builder.proofs.Ownership.OwnedLemmas.{live-left, live-right, plain-left, plain-right, inner-append}
 
 -- ---- the material of insertions
 
@@ -222,3 +222,15 @@ passing_ends s t es ds rest others r o h = h.in_step.0 (ap (map (boxed_of s)) r 
 -- lists of boxes that show the same are as long
 pub same_box_count : (s t : Lists Node) (es ds : List ClassList) → map (boxed_of s) es ≡ map (boxed_of t) ds → length es ≡ length ds
 same_box_count s t es ds e = sym (length-map es (boxed_of s)) ∙ ap length e ∙ length-map ds (boxed_of t)
+
+-- ---- a builder's lists
+
+pub boxes_plain : (b : Ids) (s : Lists Node) → IsOwned b s → HoldPlain s (box_ids b.boxes)
+boxes_plain b s own = plain-left s (box_ids b.boxes) (inner_ids (nodes_of b s)) own.plain_lists
+
+pub waiting_plain : (b : Ids) (s : Lists Node) → IsOwned b s → HoldPlain s (inner_ids (list_at s b.waiting))
+waiting_plain b s own =
+    plain-right s (inner_ids (list_at s b.page)) (inner_ids (list_at s b.waiting))
+    (subst (HoldPlain s) (inner-append (list_at s b.page) (list_at s b.waiting))
+    (plain-right s (inner_ids (list_at s b.held)) (inner_ids (list_at s b.page ++ list_at s b.waiting))
+    (subst (HoldPlain s) (inner-append (list_at s b.held) (list_at s b.page ++ list_at s b.waiting)) (plain-right s (box_ids b.boxes) (inner_ids (nodes_of b s)) own.plain_lists))))

@@ -126,6 +126,7 @@ impl Builder {
         requires other_sound { IsSound other.now other_store.now }
         ensures waiting { IsTrue result → (contents_of self.now store.now).waiting ≡ (contents_of other.now other_store.now).waiting }
         ensures boxes { IsTrue result → (contents_of self.now store.now).boxes ≡ (contents_of other.now other_store.now).boxes }
+        ensures exact { (contents_of self.now store.now).waiting ≡ (contents_of other.now other_store.now).waiting → (contents_of self.now store.now).boxes ≡ (contents_of other.now other_store.now).boxes → IsTrue result }
     {
         same_waiting(store, self.waiting, other_store, other.waiting)
             && same_boxes(store, &self.boxes, other_store, &other.boxes)

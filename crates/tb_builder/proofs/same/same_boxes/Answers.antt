@@ -1,6 +1,4 @@
-use Rattle.std.proofs.Common.{◌≡◌, refl, true, false, sym, ◌∙◌}
-use Rattle.tb_node.proofs.StepLemmas.{denied}
-use Rattle.tb_builder.proofs.SameLemmas.{passing_begins, passing_next, passing_parts, passing_ends, same_box_count}
+use Rattle.tb_builder.proofs.SameLemmas.{passing_begins}
 use Rattle.tb_builder.proofs.same.same_boxes.Goals as goal
 
 pub loop-k-init : goal.loop-k-init

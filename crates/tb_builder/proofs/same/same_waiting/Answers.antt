@@ -1,7 +1,6 @@
-use Rattle.std.proofs.Common.{◌≡◌, ◌∙◌, sym, subst, refl, true, false, length, map, List, ap}
+use Rattle.std.proofs.Common.{◌≡◌, ◌∙◌, sym, subst, refl, true, false, List}
 use Rattle.tb_pool.specs.Lists.{list_at}
 use Rattle.tb_node.specs.declared.Node.{Node}
-use Rattle.tb_node.specs.PlainNodes.{plain_of}
 use Rattle.tb_node.proofs.StepLemmas.{denied, none_falls_short}
 use Rattle.tb_builder.proofs.SameLemmas.{Walking, walking_begins, walking_at, walking_live, walking_live_too, walking_plain, walking_plain_too, walking_next, walking_parts, walking_ends, same_length}
 use Rattle.tb_builder.proofs.same.same_waiting.Goals as goal
