@@ -20,7 +20,7 @@ impl Machine {
     ) -> bool
         requires machine { IsMachine self.now store.now }
         requires other_machine { IsMachine other.now other_store.now }
-        ensures { IsTrue result → ShowSame store.now self.now other_store.now other.now }
+        ensures { IsTrue result ↔ ShowSame store.now self.now other_store.now other.now }
     {
         if !self.numbers_same(other) {
             return false;

@@ -1,6 +1,6 @@
 //! Whether two states of the search are the same.
 
-ghost use Rattle.std.specs.Prelude.{◌≡◌, true};
+ghost use Rattle.std.specs.Prelude.{◌≡◌, ◌↔◌, IsTrue};
 ghost use Rattle.tb_search.specs.Branches.{shown, IsBranch};
 ghost use Rattle.tb_search.specs.SameStates.{without_left};
 
@@ -14,7 +14,7 @@ impl Branch<'_> {
         requires others { IsBranch other.now }
         requires classes { (shown self.now).classes ≡ (shown other.now).classes }
 
-        ensures { result ≡ true → without_left (shown self.now) ≡ without_left (shown other.now) }
+        ensures { IsTrue result ↔ (without_left (shown self.now) ≡ without_left (shown other.now)) }
     {
         let (mine, others) = (&self.routine, &other.routine);
         mine.machine
