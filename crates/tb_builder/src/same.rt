@@ -63,7 +63,7 @@ fn same_waiting(
     true
 }
 
-// Whether a class box, each with its store, holds the same.
+// Whether two class boxes, each with its store, hold the same.
 fn same_box(
     store: &Lists<Node>,
     entry: &ClassList,
