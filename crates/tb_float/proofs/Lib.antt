@@ -18,3 +18,4 @@ pub mod KnownLemmas
 pub mod FindLemmas
 pub mod TrackLemmas
 pub mod PlaceLemmas
+pub mod SameLemmas

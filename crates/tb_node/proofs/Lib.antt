@@ -1,4 +1,5 @@
 mod Rows
+pub mod StepLemmas
 pub mod AddLemmas
 pub mod NameBytes
 pub mod NameMade

@@ -4,11 +4,13 @@
 mod names;
 mod node_sums;
 mod roles;
+mod same;
 mod signals;
 mod sizes;
 
 pub use names::name_of;
 pub use node_sums::{add, add_box, add_glue, list_sums, stretch_sums};
+pub use same::same_lists;
 pub use signals::{CLEAR_PENALTY, FOOTNOTES, HOLD_PENALTY, PAR_PENALTY, VERT_PENALTY};
 pub use sizes::{list_extent, room_of};
 use std::marker::Model;
@@ -51,7 +53,7 @@ impl Name {
 }
 
 /// The side that a marginal note is on.
-#[derive(Clone, Copy)]
+#[derive(Clone, Copy, PartialEq, Eq)]
 pub enum Side {
     /// Left of the column.
     Left,
@@ -60,7 +62,7 @@ pub enum Side {
 }
 
 /// Where a float is on a page, or the list that it goes to.
-#[derive(Clone, Copy)]
+#[derive(Clone, Copy, PartialEq, Eq)]
 pub enum Where {
     /// In the text, where it came.
     Here,
@@ -140,7 +142,7 @@ pub struct Insertion {
 }
 
 /// Where floats can be kept out of a column.
-#[derive(Clone, Copy)]
+#[derive(Clone, Copy, PartialEq, Eq)]
 pub enum Area {
     /// Everywhere: the top, the bottom and the text.
     All,
@@ -151,7 +153,7 @@ pub enum Area {
 }
 
 /// The places that a float may go to.
-#[derive(Clone, Copy)]
+#[derive(Clone, Copy, PartialEq, Eq)]
 pub struct Places {
     /// In the text.
     pub h: bool,

@@ -1,1 +1,4 @@
 pub mod Branches
+pub mod FilledBranches
+pub mod SameStates
+pub mod Starts

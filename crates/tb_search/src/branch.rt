@@ -1,5 +1,6 @@
 //! A state of the search, with its moves.
 
+ghost use Rattle.std.specs.List.{AllByRecursion};
 ghost use Rattle.std.specs.Prelude.{◌≡◌, ◌<◌, ◌++◌, true, false, IfOk, OnOk};
 ghost use Rattle.tb_builder.specs.Reach.{holds_box};
 ghost use Rattle.tb_galley.specs.GalleyNodes.{expanded};
@@ -8,20 +9,40 @@ ghost use Rattle.tb_items.specs.GalleyNodes.{AreGalleyNodes};
 ghost use Rattle.tb_items.specs.WaitingNodes.{AreItems};
 ghost use Rattle.tb_steps.specs.Run.{held_count};
 ghost use Rattle.tb_steps.specs.Runnable.{AreRunnable, AreRunClasses};
+ghost use Rattle.tb_rate.specs.Places.{IsMildPlace};
 ghost use Rattle.tb_best.specs.ItemsAhead.{empty_start};
+ghost use Rattle.tb_search.specs.FilledBranches.{FillsTo};
 ghost use Rattle.tb_search.specs.Branches.{shown, nodes_ahead, next_of, break_before, IsBranch, HasTaken};
 
 use crate::moves::{hand_cut, hand_next, holds_box};
 use std::alloc::{AllocError, Global};
 use tb_galley::Galley;
-use tb_items::{ItemsLeft, all_items};
-use tb_run::Routine;
+use tb_items::{Happening, ItemsLeft, all_items};
+use tb_param::Params;
+use tb_rate::{PlacePenalty, insertions_first, last_champion, rate};
+use tb_run::{Ending, Filled as PageFilled, Routine};
+
+/// What becomes of the page of a state when it is filled.
+#[derive(Clone, Copy)]
+pub enum Filled {
+    /// It fired and was served, and the state is that after it.
+    Fired {
+        /// The demerits of the step.
+        demerits: i128,
+    },
+    /// No page fires: a run would end well here, and items may be taken.
+    Quiet,
+    /// A run ends here in another way, and so it does whatever is taken before the page fires.
+    Refused,
+    /// More than 4194304 nodes are held after the page.
+    TooMany,
+}
 
 /// A state of the search: a run in which the nodes wait that were taken and are on no page, and the items that are ahead.
 #[derive(Drop)]
 pub struct Branch<'a> {
     // Nothing is left in it.
-    routine: Routine<'a>,
+    pub(crate) routine: Routine<'a>,
     // None once the clear at the end was taken.
     ahead: Option<ItemsLeft<'a>>,
 }
@@ -85,5 +106,68 @@ impl<'a> Branch<'a> {
         ensures { result ≡ holds_box (shown self.now).waiting }
     {
         holds_box(&self.routine.store, self.routine.builder.waiting())
+    }
+
+    /// A copy, from which the search goes on as if there were no other. It fails only if memory runs out.
+    pub fn copy(&self, alloc: Global) -> Result<Self, AllocError>
+        requires { IsBranch self.now }
+
+        ensures branch { IfOk result IsBranch }
+        ensures state { IfOk result (λ c. shown c ≡ shown self.now) }
+        ensures ahead { IfOk result (λ c. c.ahead ≡ self.now.ahead) }
+        ensures params { IfOk result (λ c. c.routine.machine.params ≡ self.now.routine.machine.params) }
+    {
+        let routine = self.routine.copy(alloc)?;
+        Ok(Branch {
+            routine,
+            ahead: self.ahead,
+        })
+    }
+
+    /// Fills the page of what waits and serves it if it fires. `params` are the galley's, `places` the penalties at its places.
+    ///
+    /// If it does not fire, the search goes on from a copy that was made before. It fails only if memory runs out.
+    pub fn fill(
+        &mut self,
+        alloc: Global,
+        params: &Params,
+        places: &[PlacePenalty],
+    ) -> Result<Filled, AllocError>
+        requires branch { IsBranch self.old }
+        requires params { self.old.routine.machine.params ≡ params.now }
+        requires mild { AllByRecursion IsMildPlace places.now }
+
+        ensures { IfOk result (λ f. FillsTo params.now places.now self.old f self.new) }
+    {
+        let mut happened = Vec::new(alloc);
+        let page = match self.routine.fill(true, &mut happened)? {
+            PageFilled::Fires(page) => page,
+            PageFilled::Ends(Ending::Done) => return Ok(Filled::Quiet),
+            PageFilled::Ends(_) => return Ok(Filled::Refused),
+        };
+        match self.routine.serve_unlimited(page, &mut happened)? {
+            None => {}
+            Some(Ending::NodeLimit { .. }) => return Ok(Filled::TooMany),
+            Some(_) => return Ok(Filled::Refused),
+        }
+        Ok(Filled::Fired {
+            demerits: page_demerits(&self.routine, params, places, &happened),
+        })
+    }
+}
+
+// The demerits of the page that a routine served last, by what happened.
+fn page_demerits(
+    routine: &Routine<'_>,
+    params: &Params,
+    places: &[PlacePenalty],
+    happened: &[Happening],
+) -> i128 {
+    let held = insertions_first(&routine.store, routine.builder.waiting(), &routine.left);
+    let waiting = routine.machine.floats_waiting();
+    // The number of the page is not among the demerits.
+    match rate(params, places, 0, last_champion(happened), waiting, held) {
+        Some(rating) => rating.demerits,
+        None => 0,
     }
 }

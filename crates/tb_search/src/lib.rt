@@ -4,5 +4,9 @@
 
 mod branch;
 mod moves;
+mod same;
+mod search;
+mod table;
 
-pub use crate::branch::Branch;
+pub use crate::branch::{Branch, Filled};
+pub use crate::search::{BestFault, BestPlan, best_breaks};

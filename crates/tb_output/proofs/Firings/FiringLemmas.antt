@@ -195,7 +195,7 @@ leaf-plain (kinds.Ins i) s = absurd s
 leaf-plain (kinds.Act a) s = absurd s
 leaf-plain k s = refl
 
-leaves-plain : (ns : List Node) → AreLeaves ns → AllPlain ns
+pub leaves-plain : (ns : List Node) → AreLeaves ns → AllPlain ns
 leaves-plain [] h = tt
 leaves-plain (n ∷ ns) h = (leaf-plain n.kind h.0, leaves-plain ns h.1)
 
