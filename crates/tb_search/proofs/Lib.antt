@@ -3,3 +3,7 @@ pub mod ServedLemmas
 pub mod StartLemmas
 pub mod TakenLemmas
 pub mod BoxLemmas
+pub mod RatingLemmas
+pub mod QuietLemmas
+pub mod FiredLemmas
+pub mod FilledLemmas

@@ -1,17 +1,22 @@
 //! A state of the search, with its moves.
 
 ghost use Rattle.std.specs.List.{AllByRecursion};
-ghost use Rattle.std.specs.Prelude.{◌≡◌, ◌<◌, ◌++◌, true, false, IfOk, OnOk};
+ghost use Rattle.std.specs.Prelude.{◌≡◌, ◌<◌, ◌++◌, pos, ◌≤ℤ◌, true, false, IfOk, IfSome, OnOk};
 ghost use Rattle.tb_builder.specs.Reach.{holds_box};
 ghost use Rattle.tb_galley.specs.GalleyNodes.{expanded};
 ghost use Rattle.tb_items.specs.Classes.{classes_of};
 ghost use Rattle.tb_items.specs.GalleyNodes.{AreGalleyNodes};
 ghost use Rattle.tb_items.specs.WaitingNodes.{AreItems};
+ghost use Rattle.tb_items.specs.Happenings.{events_of};
+ghost use Rattle.tb_run.specs.Routine.{state_of, IsReady};
 ghost use Rattle.tb_steps.specs.Run.{held_count};
 ghost use Rattle.tb_steps.specs.Runnable.{AreRunnable, AreRunClasses};
 ghost use Rattle.tb_rate.specs.Places.{IsMildPlace};
+ghost use Rattle.tb_rate.specs.Rating.{rating, IsTried};
+ghost use Rattle.tb_rate.specs.RatedRun.{demerits_if, floats_waiting, insertions_first};
+ghost use Rattle.tb_rate.specs.Tries.{last_champion};
 ghost use Rattle.tb_best.specs.ItemsAhead.{empty_start};
-ghost use Rattle.tb_search.specs.FilledBranches.{FillsTo};
+ghost use Rattle.tb_search.specs.FilledBranches.{unfired, unserved, FillsTo};
 ghost use Rattle.tb_search.specs.Branches.{shown, nodes_ahead, next_of, break_before, IsBranch, HasTaken};
 
 use crate::moves::{hand_cut, hand_next, holds_box};
@@ -32,6 +37,9 @@ pub enum Filled {
     },
     /// No page fires: a run would end well here, and items may be taken.
     Quiet,
+    /// A run ends here since the pool of floats is full, and items may be taken: glue behind a kern makes that a place, at which
+    /// a page may fire before the float or note that finds no room.
+    Full,
     /// A run ends here in another way, and so it does whatever is taken before the page fires.
     Refused,
     /// More than 4194304 nodes are held after the page.
@@ -142,17 +150,34 @@ impl<'a> Branch<'a> {
         let mut happened = Vec::new(alloc);
         let page = match self.routine.fill(true, &mut happened)? {
             PageFilled::Fires(page) => page,
-            PageFilled::Ends(Ending::Done) => return Ok(Filled::Quiet),
-            PageFilled::Ends(_) => return Ok(Filled::Refused),
+            PageFilled::Ends(ending) => return Ok(unfired(ending)),
         };
-        match self.routine.serve_unlimited(page, &mut happened)? {
-            None => {}
-            Some(Ending::NodeLimit { .. }) => return Ok(Filled::TooMany),
-            Some(_) => return Ok(Filled::Refused),
+        if let Some(ending) = self.routine.serve_unlimited(page, &mut happened)? {
+            return Ok(unserved(ending));
         }
         Ok(Filled::Fired {
             demerits: page_demerits(&self.routine, params, places, &happened),
         })
+    }
+}
+
+// What becomes of a page if the run ends so before one fires.
+fn unfired(ending: Ending) -> Filled
+    ensures { result ≡ unfired ending }
+{
+    match ending {
+        Ending::Done => Filled::Quiet,
+        _ => Filled::Full,
+    }
+}
+
+// What becomes of a page if the run ends so with its firing.
+fn unserved(ending: Ending) -> Filled
+    ensures { result ≡ unserved ending }
+{
+    match ending {
+        Ending::NodeLimit { .. } => Filled::TooMany,
+        _ => Filled::Refused,
     }
 }
 
@@ -162,7 +187,15 @@ fn page_demerits(
     params: &Params,
     places: &[PlacePenalty],
     happened: &[Happening],
-) -> i128 {
+) -> i128
+    requires ready { IsReady routine.now }
+    requires tried { IfSome (last_champion (events_of routine.now.store happened.now)) IsTried }
+    requires mild { AllByRecursion IsMildPlace places.now }
+
+    ensures value { result ≡ demerits_if (rating params.now places.now 0 (last_champion (events_of routine.now.store happened.now)) (floats_waiting (state_of routine.now).floats) (insertions_first (state_of routine.now).waiting)) }
+    ensures low { pos 0 ≤ℤ result }
+    ensures high { result ≤ℤ pos 352689971456 }
+{
     let held = insertions_first(&routine.store, routine.builder.waiting(), &routine.left);
     let waiting = routine.machine.floats_waiting();
     // The number of the page is not among the demerits.
