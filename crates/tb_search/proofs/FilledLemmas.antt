@@ -1,15 +1,16 @@
 -- What becomes of the page of a state of the search.
-use Rattle.std.proofs.Common.{◌≡◌, refl, sym, subst, ◌∙◌, ap, true, ◌≤◌, pos, List, ◌++◌, Some, append_assoc, arith}
+use Rattle.std.proofs.Common.{◌≡◌, ◌≢◌, Bool, false, refl, sym, subst, ◌∙◌, ap, true, ◌≤◌, pos, List, ◌++◌, Some, append_assoc, arith}
 use Rattle.std.specs.Prelude.{ℤ, ◌≤ℤ◌, All}
 use Rattle.std.specs.List.{AllByRecursion}
 use Rattle.std.proofs.lemmas.List.Elements.{All-append, All-from_recursion, recursion_from_All}
 use Rattle.tb_break.proofs.EachLemmas.{all-front, all-back, all-map}
 use Rattle.tb_pool.specs.Lists.{list_at}
 use Rattle.tb_node.specs.Fit.{IsSizedPlain}
-use Rattle.tb_node.specs.PlainNodes.{PlainNode}
+use Rattle.tb_node.specs.PlainNodes.{PlainNode, without_acts}
 use Rattle.tb_param.specs.declared.Params.{Params}
 use Rattle.tb_builder.specs.declared.Page.{Page}
 use Rattle.tb_builder.specs.FiredPages.{Fired}
+use Rattle.tb_builder.specs.Contributions.{ends_in_kern}
 use Rattle.tb_float.specs.Ranges.{IsWithin}
 use Rattle.tb_output.specs.State.{State, Work}
 use Rattle.tb_output.specs.Output.{out}
@@ -39,8 +40,8 @@ use Rattle.tb_best.proofs.FiredMore.{fired_with}
 use Rattle.tb_best.proofs.StepMore.{work_with}
 use Rattle.tb_search.specs.declared.branch.Branch.{Branch}
 use Rattle.tb_search.specs.Branches.{shown, nodes_ahead, IsBranch}
-use Rattle.tb_search.specs.FilledBranches.{HasFired, HasTooMany, IsQuiet, IsFull, IsRefused, unfired, unserved, FillsTo}
-use Rattle.tb_search.proofs.QuietLemmas.{is-quiet, is-full}
+use Rattle.tb_search.specs.FilledBranches.{HasFired, HasTooMany, IsQuiet, IsFull, IsRefused, stopped, unfired, unserved, FillsTo}
+use Rattle.tb_search.proofs.QuietLemmas.{is-quiet, is-full, is-refused}
 use Rattle.tb_search.proofs.FiredLemmas.{events_now, records_now, refused-so, goes-step, events-are}
 use Rattle.tb_search.proofs.RatingLemmas.{page-any}
 
@@ -165,11 +166,15 @@ module _ (b : Branch) (h : IsBranch b) (q : Routine) (page : Page) (hs : List Ha
 -- ---- it did not
 
 module _ (p : Params) (places : List PlacePenalty) (b : Branch) (same : b.routine.machine.params ≡ p) (c : Branch) (q : Routine) (hs : List Happening) where
-  pub unfired-so : (e : Ending) → IsFilledLast true b.routine e q hs → FillsTo p places b (unfired e) c
-  unfired-so endings.Done h = subst (λ x. IsQuiet x (shown b)) same (is-quiet b.routine q endings.Done hs h refl)
-  unfired-so (endings.PoolFull line live) h = subst (λ x. IsFull x (shown b)) same (is-full b.routine q (endings.PoolFull line live) hs h (λ e. cc))
-  unfired-so (endings.Fault f) h = subst (λ x. IsFull x (shown b)) same (is-full b.routine q (endings.Fault f) hs h (λ e. cc))
-  unfired-so (endings.NodeLimit n) h = subst (λ x. IsFull x (shown b)) same (is-full b.routine q (endings.NodeLimit n) hs h (λ e. cc))
+  stopped-by : (e : Ending) → e ≢ endings.Done → IsFilledLast true b.routine e q hs → (kern : Bool) → ends_in_kern (without_acts (shown b).waiting) ≡ kern → FillsTo p places b (stopped kern) c
+  stopped-by e other h true is = subst (λ x. IsFull x (shown b)) same (is-full b.routine q e hs h other is)
+  stopped-by e other h false is = subst (λ x. IsRefused x (shown b)) same (is-refused b.routine q e hs h other is)
+
+  pub unfired-so : (e : Ending) → IsFilledLast true b.routine e q hs → (kern : Bool) → kern ≡ ends_in_kern (without_acts (shown b).waiting) → FillsTo p places b (unfired e kern) c
+  unfired-so endings.Done h kern is = subst (λ x. IsQuiet x (shown b)) same (is-quiet b.routine q endings.Done hs h refl)
+  unfired-so (endings.PoolFull line live) h kern is = stopped-by (endings.PoolFull line live) (λ e. cc) h kern (sym is)
+  unfired-so (endings.Fault f) h kern is = stopped-by (endings.Fault f) (λ e. cc) h kern (sym is)
+  unfired-so (endings.NodeLimit n) h kern is = stopped-by (endings.NodeLimit n) (λ e. cc) h kern (sym is)
 
   module _ (page : Page) (f : IsFiring true b.routine page q hs) (d : Routine) where
     pub unserved-so : (e : Ending) → ServesUnlimited page q (Some e) d → FillsTo p places b (unserved e) c

@@ -29,7 +29,7 @@ use Rattle.tb_rate.specs.Tries.{last_champion}
 use Rattle.tb_rate.proofs.TriedLemmas.{AreTried, step-tried, last-tried}
 use Rattle.tb_best.specs.PlanDemerits.{reach_in, unlimited_firing, unlimited_fire, unlimited_progress, unlimited_step}
 use Rattle.tb_search.specs.FilledBranches.{IsRefusal, IsRefused}
-use Rattle.tb_search.proofs.QuietLemmas.{dead-end, limit-end}
+use Rattle.tb_search.proofs.EndLemmas.{dead-end, limit-end}
 
 then-step : (t : Bool) (x y : Step) → t ≡ true → (if t then x else y) ≡ x
 then-step true x y e = refl

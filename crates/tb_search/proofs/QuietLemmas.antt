@@ -1,14 +1,13 @@
 -- A page that was filled and does not fire, and what becomes of it with more nodes behind.
-use Rattle.std.proofs.Common.{◌≡◌, ◌≢◌, refl, sym, subst, ◌∙◌, ap, inl, ℕ, Bool, true, false, List, [], ◌∷◌, ◌++◌, Option, None, Some, true≢false}
+use Rattle.std.proofs.Common.{◌≡◌, ◌≢◌, refl, sym, subst, ◌∙◌, ap, inl, inr, ◌⊎◌, ℕ, Bool, true, false, List, [], ◌∷◌, ◌++◌, Option, None, Some, true≢false}
 use Rattle.std.specs.Prelude.{if◌then◌else◌}
-use Rattle.tb_node.specs.PlainNodes.{PlainNode}
+use Rattle.tb_node.specs.PlainNodes.{PlainNode, without_acts}
 use Rattle.tb_param.specs.declared.Params.{Params}
 use Rattle.tb_output.specs.declared.RunFault.{RunFault}
 use Rattle.tb_output.specs.declared.RunFault.TheVariants as faults
-use Rattle.tb_output.specs.State.{State, Recorded, emptied}
+use Rattle.tb_output.specs.State.{State, emptied}
 use Rattle.tb_items.specs.declared.happenings.Happening.{Happening}
-use Rattle.tb_items.specs.RunEvents.{RunEvent}
-use Rattle.tb_steps.specs.Run.{End, done, pool_full, dead_cycles, page_limit, node_limit, Progress, Step, ends, goes_on, fire, after_progress, step}
+use Rattle.tb_steps.specs.Run.{done, pool_full, Progress, Step, ends, goes_on, fire, after_progress, step}
 use Rattle.tb_run.specs.declared.routine.Routine.{Routine}
 use Rattle.tb_run.specs.declared.routine.Ending.{Ending}
 use Rattle.tb_run.specs.declared.routine.Ending.TheVariants as endings
@@ -17,26 +16,10 @@ use Rattle.tb_run.specs.FilledPages.{progress_in, IsFilledLast}
 use Rattle.tb_best.specs.PlanDemerits.{reach_in, unlimited_fire, unlimited_progress, unlimited_step}
 use Rattle.tb_best.specs.ItemsAhead.{state_with}
 use Rattle.tb_best.proofs.StepMore.{step_with, step-more}
+use Rattle.tb_builder.specs.Contributions.{ends_in_kern}
 use Rattle.tb_search.specs.FilledBranches.{IsRefusal, IsQuiet, IsFull, IsRefused}
-
--- ---- ends
-
--- the end of a run is a good one
-abbrev IsWell : End → Type 0
-IsWell (done left) = Unit {0}
-IsWell (pool_full line live) = ⊥
-IsWell (dead_cycles n) = ⊥
-IsWell (page_limit n) = ⊥
-IsWell (node_limit n) = ⊥
-
-pub full-end : (es : List RunEvent) (rs : List Recorded) (line live : ℕ) → IsRefusal (ends es rs (pool_full line live))
-full-end es rs line live left e = subst IsWell (sym e) tt
-
-pub dead-end : (es : List RunEvent) (rs : List Recorded) (n : ℕ) → IsRefusal (ends es rs (dead_cycles n))
-dead-end es rs n left e = subst IsWell (sym e) tt
-
-pub limit-end : (es : List RunEvent) (rs : List Recorded) (n : ℕ) → IsRefusal (ends es rs (page_limit n))
-limit-end es rs n left e = subst IsWell (sym e) tt
+use Rattle.tb_search.proofs.EndLemmas.{IsWell, full-end}
+use Rattle.tb_search.proofs.FullPools.{full-on}
 
 -- ---- more nodes behind
 
@@ -116,10 +99,30 @@ module _ (r q : Routine) (e : Ending) (hs : List Happening) (h : IsFilledLast tr
   no-end (endings.Fault f) left other k = no-fault f left k
   no-end (endings.NodeLimit n) left other k = subst IsWell k tt
 
-  -- it ended otherwise
-  pub is-full : e ≢ endings.Done → IsFull p s
-  is-full other = by so_far.fault refl
-    where
-      by : (o : Option (ℕ × ℕ)) → so_far.fault ≡ o → IsFull p s
-      by None none = absurd (no-end e (reach_in p s).passed other (subst (EndsAs q (Some e)) (over-step none) h.ended))
-      by (Some x) some = record { step = subst IsRefusal (sym (full-unlimited x some)) (full-end so_far.events so_far.records x.0 x.1) }
+  module _ (other : e ≢ endings.Done) where
+    -- it ended at a full pool
+    found-full : (x : ℕ × ℕ) → so_far.fault ≡ Some x → IsRefusal (unlimited_step p s)
+    found-full x some = subst IsRefusal (sym (full-unlimited x some)) (full-end so_far.events so_far.records x.0 x.1)
+
+    not-over : so_far.fault ≡ None → ⊥
+    not-over none = no-end e (reach_in p s).passed other (subst (EndsAs q (Some e)) (over-step none) h.ended)
+
+    -- behind a kern more may come
+    pub is-full : ends_in_kern (without_acts s.waiting) ≡ true → IsFull p s
+    is-full kern = by so_far.fault refl
+      where
+        by : (o : Option (ℕ × ℕ)) → so_far.fault ≡ o → IsFull p s
+        by None none = absurd (not-over none)
+        by (Some x) some = record { step = found-full x some; kern = kern }
+
+    -- else it is so whatever comes behind
+    pub is-refused : ends_in_kern (without_acts s.waiting) ≡ false → IsRefused p s
+    is-refused last = by so_far.fault refl
+      where
+        by : (o : Option (ℕ × ℕ)) → so_far.fault ≡ o → IsRefused p s
+        by None none = absurd (not-over none)
+        by (Some x) some = record { step = found-full x some; later = by_firing (reach_in p s).fires refl }
+          where
+            by_firing : (t : Bool) → (reach_in p s).fires ≡ t → ((reach_in p s).fires ≡ true) ⊎ ((more : List PlainNode) → IsRefusal (unlimited_step p (state_with more s)))
+            by_firing true fires = inl fires
+            by_firing false quiet = inr (λ more. full-on p x s more last quiet some)

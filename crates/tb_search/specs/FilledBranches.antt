@@ -1,6 +1,7 @@
 -- A page that is filled and served in a state of the search, against the definition of a step.
-use Rattle.std.specs.Prelude.{◌≡◌, ◌≢◌, ◌⊎◌, ◌<◌, ℤ, pos, ◌≤ℤ◌, true, false, List}
-use Rattle.tb_node.specs.PlainNodes.{PlainNode}
+use Rattle.std.specs.Prelude.{◌≡◌, ◌≢◌, ◌⊎◌, ◌<◌, ℤ, pos, ◌≤ℤ◌, Bool, true, false, List, if◌then◌else◌}
+use Rattle.tb_node.specs.PlainNodes.{PlainNode, without_acts}
+use Rattle.tb_builder.specs.Contributions.{ends_in_kern}
 use Rattle.tb_param.specs.declared.Params.{Params}
 use Rattle.tb_output.specs.State.{State, Recorded}
 use Rattle.tb_items.specs.RunEvents.{RunEvent}
@@ -25,9 +26,10 @@ pub record IsRefused (p : Params) (s : State) : Type 0 where
   pub step : IsRefusal (unlimited_step p s)
   pub later : ((reach_in p s).fires ≡ true) ⊎ ((more : List PlainNode) → IsRefusal (unlimited_step p (state_with more s)))
 
--- from the state no run goes on or ends well; with more nodes behind a page may fire before the pool is full
+-- from the state no run goes on or ends well, and what waits ends in a kern but for acts; with glue behind, a page may fire there before the pool is full
 pub record IsFull (p : Params) (s : State) : Type 0 where
   pub step : IsRefusal (unlimited_step p s)
+  pub kern : ends_in_kern (without_acts s.waiting) ≡ true
 
 -- no page fires in the state, and a run ends well there
 pub record IsQuiet (p : Params) (s : State) : Type 0 where
@@ -58,10 +60,14 @@ pub record HasFired (p : Params) (places : List PlacePenalty) (d : ℤ) (b c : B
   pub ahead : c.ahead ≡ b.ahead
   pub params : c.routine.machine.params ≡ b.routine.machine.params
 
+-- what becomes of a page before whose firing the run does not end well, by whether what waited ends in a kern
+abbrev pub stopped : Bool → Filled
+stopped kern = if kern then filled.Full else filled.Refused
+
 -- what becomes of a page if the run ends so before one fires
-abbrev pub unfired : Ending → Filled
-unfired endings.Done = filled.Quiet
-unfired _ = filled.Full
+abbrev pub unfired : Ending → Bool → Filled
+unfired endings.Done kern = filled.Quiet
+unfired _ kern = stopped kern
 
 -- what becomes of a page if the run ends so with its firing
 abbrev pub unserved : Ending → Filled

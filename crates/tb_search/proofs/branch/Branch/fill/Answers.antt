@@ -23,7 +23,7 @@ returns-in-Ends c =
     let now : Branch = record { routine = q; ahead = b.ahead } in
     let last : IsFilledLast true b.routine c.in-Ends.ending q hs = subst (λ o. Fills true b.routine o q hs) c.in-Ends.is c.in_ok-page.ensures in
     subst (λ o. FillsTo c.args.params.now c.args.places.now b o now) (sym c.unfired.ensures)
-    (unfired-so c.args.params.now c.args.places.now b c.requires.params now q hs c.in-Ends.ending last)
+    (unfired-so c.args.params.now c.args.places.now b c.requires.params now q hs c.in-Ends.ending last c.ends_in_kern-kern.result c.ends_in_kern-kern.ensures)
 
 pub returns-in-Some : goal.returns-in-Some
 returns-in-Some c =
