@@ -161,6 +161,7 @@ module _ (b : Branch) (h : IsBranch b) (q : Routine) (page : Page) (hs : List Ha
           branch = fired-branch;
           ahead = refl;
           params = params ∙ f.filled.params;
+          classes = classes ∙ f.classes;
         }
 
 -- ---- it did not

@@ -59,6 +59,7 @@ pub record HasFired (p : Params) (places : List PlacePenalty) (d : ℤ) (b c : B
   pub branch : IsBranch c
   pub ahead : c.ahead ≡ b.ahead
   pub params : c.routine.machine.params ≡ b.routine.machine.params
+  pub classes : (shown c).classes ≡ (shown b).classes
 
 -- what becomes of a page before whose firing the run does not end well, by whether what waited ends in a kern
 abbrev pub stopped : Bool → Filled
