@@ -6,11 +6,11 @@ use Rattle.std.proofs.lemmas.List.Elements.{All-append, All-from_recursion, recu
 use Rattle.tb_break.proofs.EachLemmas.{all-front, all-back, all-map}
 use Rattle.tb_pool.specs.Lists.{list_at}
 use Rattle.tb_node.specs.Fit.{IsSizedPlain}
-use Rattle.tb_node.specs.PlainNodes.{PlainNode, without_acts}
+use Rattle.tb_node.specs.PlainNodes.{PlainNode}
 use Rattle.tb_param.specs.declared.Params.{Params}
 use Rattle.tb_builder.specs.declared.Page.{Page}
 use Rattle.tb_builder.specs.FiredPages.{Fired}
-use Rattle.tb_builder.specs.Contributions.{ends_in_kern}
+use Rattle.tb_items.specs.ItemsLeft.{kern_last}
 use Rattle.tb_float.specs.Ranges.{IsWithin}
 use Rattle.tb_output.specs.State.{State, Work}
 use Rattle.tb_output.specs.Output.{out}
@@ -167,11 +167,11 @@ module _ (b : Branch) (h : IsBranch b) (q : Routine) (page : Page) (hs : List Ha
 -- ---- it did not
 
 module _ (p : Params) (places : List PlacePenalty) (b : Branch) (same : b.routine.machine.params ≡ p) (c : Branch) (q : Routine) (hs : List Happening) where
-  stopped-by : (e : Ending) → e ≢ endings.Done → IsFilledLast true b.routine e q hs → (kern : Bool) → ends_in_kern (without_acts (shown b).waiting) ≡ kern → FillsTo p places b (stopped kern) c
+  stopped-by : (e : Ending) → e ≢ endings.Done → IsFilledLast true b.routine e q hs → (kern : Bool) → kern_last false (shown b).waiting ≡ kern → FillsTo p places b (stopped kern) c
   stopped-by e other h true is = subst (λ x. IsFull x (shown b)) same (is-full b.routine q e hs h other is)
   stopped-by e other h false is = subst (λ x. IsRefused x (shown b)) same (is-refused b.routine q e hs h other is)
 
-  pub unfired-so : (e : Ending) → IsFilledLast true b.routine e q hs → (kern : Bool) → kern ≡ ends_in_kern (without_acts (shown b).waiting) → FillsTo p places b (unfired e kern) c
+  pub unfired-so : (e : Ending) → IsFilledLast true b.routine e q hs → (kern : Bool) → kern ≡ kern_last false (shown b).waiting → FillsTo p places b (unfired e kern) c
   unfired-so endings.Done h kern is = subst (λ x. IsQuiet x (shown b)) same (is-quiet b.routine q endings.Done hs h refl)
   unfired-so (endings.PoolFull line live) h kern is = stopped-by (endings.PoolFull line live) (λ e. cc) h kern (sym is)
   unfired-so (endings.Fault f) h kern is = stopped-by (endings.Fault f) (λ e. cc) h kern (sym is)

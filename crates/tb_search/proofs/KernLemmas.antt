@@ -1,18 +1,13 @@
 -- Whether what waits ends in a kern, acts behind it aside.
 use Rattle.std.proofs.Common.{◌≡◌, refl, ◌∙◌, ℕ, Bool, List, [], ◌∷◌, map}
-use Rattle.tb_break.specs.Places.{last_or}
 use Rattle.tb_node.specs.declared.Kind.{Kind}
 use Rattle.tb_node.specs.declared.Kind.TheVariants as kinds
 use Rattle.tb_node.specs.declared.Node.{Node}
-use Rattle.tb_node.specs.PlainNodes.{PlainNode, plain_of, node_shape, without_acts}
-use Rattle.tb_builder.specs.Contributions.{is_kern}
+use Rattle.tb_node.specs.PlainNodes.{PlainNode, plain_of}
+use Rattle.tb_items.specs.ItemsLeft.{kern_last}
 use Rattle.tb_search.specs.Branches.{kern_after}
 
--- whether these nodes end in a kern, or this if there is none but acts
-abbrev pub kern_last : Bool → List PlainNode → Bool
-kern_last k ns = last_or k (map (λ n. is_kern (node_shape n)) (without_acts ns))
-
--- the same of nodes of a store, one after another
+-- whether nodes of a store end in a kern, one after another, or this if there are acts alone
 abbrev pub kern_among : Bool → List Node → Bool
 kern_among k [] = k
 kern_among k (n ∷ ns) = kern_among (kern_after k n.kind) ns

@@ -1,7 +1,7 @@
 -- A page that was filled and does not fire, and what becomes of it with more nodes behind.
 use Rattle.std.proofs.Common.{◌≡◌, ◌≢◌, refl, sym, subst, ◌∙◌, ap, inl, inr, ◌⊎◌, ℕ, Bool, true, false, List, [], ◌∷◌, ◌++◌, Option, None, Some, true≢false}
 use Rattle.std.specs.Prelude.{if◌then◌else◌}
-use Rattle.tb_node.specs.PlainNodes.{PlainNode, without_acts}
+use Rattle.tb_node.specs.PlainNodes.{PlainNode}
 use Rattle.tb_param.specs.declared.Params.{Params}
 use Rattle.tb_output.specs.declared.RunFault.{RunFault}
 use Rattle.tb_output.specs.declared.RunFault.TheVariants as faults
@@ -16,7 +16,7 @@ use Rattle.tb_run.specs.FilledPages.{progress_in, IsFilledLast}
 use Rattle.tb_best.specs.PlanDemerits.{reach_in, unlimited_fire, unlimited_progress, unlimited_step}
 use Rattle.tb_best.specs.ItemsAhead.{state_with}
 use Rattle.tb_best.proofs.StepMore.{step_with, step-more}
-use Rattle.tb_builder.specs.Contributions.{ends_in_kern}
+use Rattle.tb_items.specs.ItemsLeft.{kern_last}
 use Rattle.tb_search.specs.FilledBranches.{IsRefusal, IsQuiet, IsFull, IsRefused}
 use Rattle.tb_search.proofs.EndLemmas.{IsWell, full-end}
 use Rattle.tb_search.proofs.FullPools.{full-on}
@@ -108,7 +108,7 @@ module _ (r q : Routine) (e : Ending) (hs : List Happening) (h : IsFilledLast tr
     not-over none = no-end e (reach_in p s).passed other (subst (EndsAs q (Some e)) (over-step none) h.ended)
 
     -- behind a kern more may come
-    pub is-full : ends_in_kern (without_acts s.waiting) ≡ true → IsFull p s
+    pub is-full : kern_last false s.waiting ≡ true → IsFull p s
     is-full kern = by so_far.fault refl
       where
         by : (o : Option (ℕ × ℕ)) → so_far.fault ≡ o → IsFull p s
@@ -116,7 +116,7 @@ module _ (r q : Routine) (e : Ending) (hs : List Happening) (h : IsFilledLast tr
         by (Some x) some = record { step = found-full x some; kern = kern }
 
     -- else it is so whatever comes behind
-    pub is-refused : ends_in_kern (without_acts s.waiting) ≡ false → IsRefused p s
+    pub is-refused : kern_last false s.waiting ≡ false → IsRefused p s
     is-refused last = by so_far.fault refl
       where
         by : (o : Option (ℕ × ℕ)) → so_far.fault ≡ o → IsRefused p s

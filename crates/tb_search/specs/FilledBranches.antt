@@ -1,7 +1,7 @@
 -- A page that is filled and served in a state of the search, against the definition of a step.
 use Rattle.std.specs.Prelude.{◌≡◌, ◌≢◌, ◌⊎◌, ◌<◌, ℤ, pos, ◌≤ℤ◌, Bool, true, false, List, if◌then◌else◌}
-use Rattle.tb_node.specs.PlainNodes.{PlainNode, without_acts}
-use Rattle.tb_builder.specs.Contributions.{ends_in_kern}
+use Rattle.tb_node.specs.PlainNodes.{PlainNode}
+use Rattle.tb_items.specs.ItemsLeft.{kern_last}
 use Rattle.tb_param.specs.declared.Params.{Params}
 use Rattle.tb_output.specs.State.{State, Recorded}
 use Rattle.tb_items.specs.RunEvents.{RunEvent}
@@ -29,7 +29,7 @@ pub record IsRefused (p : Params) (s : State) : Type 0 where
 -- from the state no run goes on or ends well, and what waits ends in a kern but for acts; with glue behind, a page may fire there before the pool is full
 pub record IsFull (p : Params) (s : State) : Type 0 where
   pub step : IsRefusal (unlimited_step p s)
-  pub kern : ends_in_kern (without_acts s.waiting) ≡ true
+  pub kern : kern_last false s.waiting ≡ true
 
 -- no page fires in the state, and a run ends well there
 pub record IsQuiet (p : Params) (s : State) : Type 0 where

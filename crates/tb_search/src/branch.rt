@@ -2,13 +2,12 @@
 
 ghost use Rattle.std.specs.List.{AllByRecursion};
 ghost use Rattle.std.specs.Prelude.{◌≡◌, ◌<◌, ◌++◌, pos, ◌≤ℤ◌, true, false, IfOk, IfSome, OnOk};
-ghost use Rattle.tb_node.specs.PlainNodes.{without_acts};
-ghost use Rattle.tb_builder.specs.Contributions.{ends_in_kern};
 ghost use Rattle.tb_builder.specs.Reach.{holds_box};
 ghost use Rattle.tb_galley.specs.GalleyNodes.{expanded};
 ghost use Rattle.tb_items.specs.Classes.{classes_of};
 ghost use Rattle.tb_items.specs.GalleyNodes.{AreGalleyNodes};
 ghost use Rattle.tb_items.specs.WaitingNodes.{AreItems};
+ghost use Rattle.tb_items.specs.ItemsLeft.{kern_last};
 ghost use Rattle.tb_items.specs.Happenings.{events_of};
 ghost use Rattle.tb_run.specs.Routine.{state_of, IsReady};
 ghost use Rattle.tb_steps.specs.Run.{held_count};
@@ -121,7 +120,7 @@ impl<'a> Branch<'a> {
     // Whether what waits ends in a kern, acts behind it aside.
     fn ends_in_kern(&self) -> bool
         requires { IsBranch self.now }
-        ensures { result ≡ ends_in_kern (without_acts (shown self.now).waiting) }
+        ensures { result ≡ kern_last false (shown self.now).waiting }
     {
         ends_in_kern(&self.routine.store, self.routine.builder.waiting())
     }
