@@ -72,8 +72,9 @@ impl Routine<'_> {
         None
     }
 
-    // Serves a page; the nodes that are held then are not tested.
-    fn serve_all(&mut self, page: Page) -> Result<Option<Ending>, AllocError>
+    /// The machine serves a page that fired, and what it puts back waits; the nodes that are held then are not tested. What is
+    /// sent is with the machine.
+    pub(crate) fn serve_all(&mut self, page: Page) -> Result<Option<Ending>, AllocError>
         requires whole { IsConsistent self.old }
         requires page { CanFire self.old.machine self.old.builder self.old.store page }
         requires room { fired_room self.old.builder ≡ size_of (shapes self.old.store page.body) }
