@@ -14,15 +14,7 @@ kern_among k (n ∷ ns) = kern_among (kern_after k n.kind) ns
 
 kern-step : (held : ℕ → List Node) (l : ℕ) (k : Bool) (x : Kind) (ns : List PlainNode) → kern_last (kern_after k x) ns ≡ kern_last k (plain_of held (record { line = l; kind = x }) ∷ ns)
 kern-step held l k (kinds.Hbox what h d) ns = refl
-kern-step held l k (kinds.Rule name h d) ns = refl
-kern-step held l k (kinds.Skip g) ns = refl
-kern-step held l k (kinds.Kern w) ns = refl
-kern-step held l k (kinds.Pen p) ns = refl
-kern-step held l k (kinds.Mark name) ns = refl
-kern-step held l k (kinds.Note name) ns = refl
-kern-step held l k kinds.Whatsit ns = refl
-kern-step held l k (kinds.Ins i) ns = refl
-kern-step held l k (kinds.Act a) ns = refl
+kern-step held l k x ns = refl
 
 -- the list as the definitions see it
 pub kern-shown : (held : ℕ → List Node) (k : Bool) (ns : List Node) → kern_among k ns ≡ kern_last k (map (plain_of held) ns)
