@@ -457,19 +457,11 @@ impl<'a> Routine<'a> {
         requires ends { (before : List PlainNode) → IsOpen self.old.left (before ++ (built_in self.old).waiting) }
         ensures { IfOk result (λ o. Serves page self.old o self.new) }
     {
-        let room = self.builder.fired_room();
-        let turn = self
-            .machine
-            .fire_measured(&mut self.store, &mut self.builder, page, room);
-        match turn {
-            Ok(turn) => {
-                self.put_back(turn.put_back);
-                self.most += ADDED_NODES;
-                Ok(self.node_limit())
-            }
-            Err(RunFault::Memory) => Err(AllocError),
-            Err(fault) => Ok(Some(Ending::Fault(fault))),
+        let ending = self.serve_all(page)?;
+        if ending.is_some() {
+            return Ok(ending);
         }
+        Ok(self.node_limit())
     }
 
     // Puts the nodes of a list back before what waits, and closes the list.

@@ -94,14 +94,6 @@ module _ (r : Routine) (page : Page) (whole : IsConsistent r) (can : CanFire r.m
     }
     fault-of faults.Memory other h = absurd (other refl)
 
-    pub refused-serves : (e : RunFault) → e ≢ faults.Memory → IfNone r.machine.fault (IsRefusal e r.machine now r.builder d r.store new short) → Serves page r (Some (endings.Fault e)) at_fault
-    refused-serves e other h = record {
-      served = fault-of e other (subst (λ o. IfNone o (IsRefusal e r.machine now r.builder d r.store new short)) whole.fault h);
-      ended = sound-ended at_fault keeps.builder keeps.machine;
-      params = keeps.params;
-      classes = keeps.classes;
-    }
-
     pub refused-serves_all : (e : RunFault) → e ≢ faults.Memory → IfNone r.machine.fault (IsRefusal e r.machine now r.builder d r.store new short) → ServesAll page r (Some (endings.Fault e)) at_fault
     refused-serves_all e other h = record {
       served = fault-of e other (subst (λ o. IfNone o (IsRefusal e r.machine now r.builder d r.store new short)) whole.fault h);
@@ -192,7 +184,7 @@ module _ (r : Routine) (page : Page) (whole : IsConsistent r) (can : CanFire r.m
           let e = ap held_count after-state in
           omega (arith, a, b, e)
 
-      pub after-bounded : IsBounded 8388608 (record q { most = q.most + 300 })
+      after-bounded : IsBounded 8388608 (record q { most = q.most + 300 })
       after-bounded = record { held = let a = after-held in omega (arith, a, most); few = let a = bounded.few in omega (arith, a, most) }
 
       after-ends : IsOpen q.left (built_in q).waiting
@@ -227,19 +219,40 @@ module _ (r : Routine) (page : Page) (whole : IsConsistent r) (can : CanFire r.m
         classes = ap (λ (v : MachineView). v.classes) machine ∙ keeps.classes;
       }
 
-      -- the nodes were counted, if that was to be done
-      module _ (o : Option Ending) (end : Routine) (over : o ≡ over_limit q.machine.params (held_count (state_of q))) (same : end ≡ record q { most = end.most }) (end_bounded : IsBounded 8388608 end) (within : IfNone o (pos end.most ≤ℤ q.machine.params.maxnodes)) where
-        serves-by : (k : ℕ) → IsBounded 8388608 (of_most k) → (t : Bool) → int_lt q.machine.params.maxnodes (pos (held_count (state_of q))) ≡ t → (x : Option Ending) → x ≡ (if t then Some (endings.NodeLimit (held_count (state_of q))) else None) → IfNone x (pos k ≤ℤ q.machine.params.maxnodes)
-            → ServesTo page r x (of_most k)
-        serves-by k few true e None is n = cc
-        serves-by k few true e (Some x) is n = subst (λ (z : Option Ending). ServesTo page r z (of_most k)) (sym is) (served-on k few, record { test = e; count = refl })
-        serves-by k few false e None is n = (served-on k few, record { test = e; within = n })
-        serves-by k few false e (Some x) is n = cc
+-- ---- the nodes are counted, if that is to be done
 
-        pub serves : Serves page r o end
-        serves = record {
-          served = subst (ServesTo page r o) (sym same) (serves-by end.most (subst (IsBounded 8388608) same end_bounded) (int_lt q.machine.params.maxnodes (pos (held_count (state_of q)))) refl o over within);
-          ended = subst IsEnded (sym same) (sound-ended (of_most end.most) q_whole.builder q_whole.machine);
-          params = ap (λ (x : Routine). x.machine.params) same ∙ ap (λ (v : MachineView). v.params) machine ∙ keeps.params;
-          classes = ap (λ (x : Routine). x.machine.classes) same ∙ ap (λ (v : MachineView). v.classes) machine ∙ keeps.classes;
-        }
+module _ (page : Page) (r d : Routine) where
+  counted-on : (m : Routine) → m ≡ record d { most = m.most } → IsServedOn page r d → IsBounded 8388608 m → IsServedOn page r m
+  counted-on m same h few = subst (IsServedOn page r) (sym same) (record {
+    alive = h.alive;
+    done = h.done;
+    state = h.state;
+    sent = h.sent;
+    whole = record { builder = h.whole.builder; machine = h.whole.machine; fault = h.whole.fault; apart = h.whole.apart; items = h.whole.items };
+    between = h.between;
+    served = h.served;
+    bounded = subst (IsBounded 8388608) same few;
+    ends = h.ends;
+  })
+
+  -- it goes on, or ends at the limit
+  module _ (h : ServesAll page r None d) (o : Option Ending) (m : Routine) (over : o ≡ over_limit d.machine.params (held_count (state_of d))) (same : m ≡ record d { most = m.most }) (few : IsBounded 8388608 m) (within : IfNone o (pos m.most ≤ℤ d.machine.params.maxnodes)) where
+    on : IsServedOn page r m
+    on = counted-on m same h.served.0 few
+
+    test-is : int_lt m.machine.params.maxnodes (pos (held_count (state_of m))) ≡ int_lt d.machine.params.maxnodes (pos (held_count (state_of d)))
+    test-is = ap (λ (x : Routine). int_lt x.machine.params.maxnodes (pos (held_count (state_of x)))) same
+
+    serves-by : (t : Bool) → int_lt d.machine.params.maxnodes (pos (held_count (state_of d))) ≡ t → (x : Option Ending) → x ≡ (if t then Some (endings.NodeLimit (held_count (state_of d))) else None) → IfNone x (pos m.most ≤ℤ d.machine.params.maxnodes) → ServesTo page r x m
+    serves-by true e None is n = cc
+    serves-by true e (Some x) is n = subst (λ (z : Option Ending). ServesTo page r z m) (sym is) (on, record { test = test-is ∙ e; count = sym (ap (λ (x : Routine). held_count (state_of x)) same) })
+    serves-by false e None is n = (on, record { test = test-is ∙ e; within = subst (λ (x : Routine). pos m.most ≤ℤ x.machine.params.maxnodes) (sym same) n })
+    serves-by false e (Some x) is n = cc
+
+    pub counted-serves : Serves page r o m
+    counted-serves = record {
+      served = serves-by (int_lt d.machine.params.maxnodes (pos (held_count (state_of d)))) refl o over within;
+      ended = subst IsEnded (sym same) (record { machine = h.ended.machine; page = h.ended.page });
+      params = ap (λ (x : Routine). x.machine.params) same ∙ h.params;
+      classes = ap (λ (x : Routine). x.machine.classes) same ∙ h.classes;
+    }

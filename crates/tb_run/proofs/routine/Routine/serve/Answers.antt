@@ -1,16 +1,12 @@
-use Rattle.std.proofs.Common.{rules}
-use Rattle.tb_run.proofs.Turns.ServingLemmas.{refused-serves, after-bounded, serves}
+use Rattle.std.proofs.Common.{sym, subst, ◌∙◌, None}
+use Rattle.tb_run.specs.RoutinePages.{ServesAll}
+use Rattle.tb_run.proofs.Turns.ServingLemmas.{counted-serves}
+use Rattle.tb_run.proofs.Turns.UnlimitedLemmas.{none-ended}
 use Rattle.tb_run.proofs.routine.Routine.serve.Goals as goal
 
-pub node_limit-requires-clause-bounded : goal.node_limit-requires-clause-bounded
-node_limit-requires-clause-bounded c =
-    after-bounded c.args.self.now c.args.page c.requires.whole c.requires.page c.requires.bounded c.requires.params c.requires.classes c.requires.served c.requires.ends c.fire_measured-turn.new.self c.fire_measured-turn.new.b c.fire_measured-turn.new.store c.in-Ok.turn c.in-Ok.ensures.turn c.in-Ok.ensures.contents c.in-Ok.ensures.put_back c.in-Ok.ensures.goes_on c.in-Ok.ensures.keeps c.put_back.new.self c.put_back.ensures.whole c.put_back.ensures.contents c.put_back.ensures.machine c.put_back.ensures.most c.put_back.ensures.left c.put_back.ensures.state c.put_back.ensures.events
-
-pub returns-in-Ok : goal.returns-in-Ok
-returns-in-Ok c =
-    serves c.args.self.now c.args.page c.requires.whole c.requires.page c.requires.bounded c.requires.params c.requires.classes c.requires.served c.requires.ends c.fire_measured-turn.new.self c.fire_measured-turn.new.b c.fire_measured-turn.new.store c.in-Ok.turn c.in-Ok.ensures.turn c.in-Ok.ensures.contents c.in-Ok.ensures.put_back c.in-Ok.ensures.goes_on c.in-Ok.ensures.keeps c.put_back.new.self c.put_back.ensures.whole c.put_back.ensures.contents c.put_back.ensures.machine c.put_back.ensures.most c.put_back.ensures.left c.put_back.ensures.state c.put_back.ensures.events
-    c.node_limit.result c.node_limit.new.self c.node_limit.ensures.limit c.node_limit.ensures.same c.node_limit.ensures.bounded c.node_limit.ensures.within
-
-pub returns-in-Err : goal.returns-in-Err
-returns-in-Err c =
-    refused-serves c.args.self.now c.args.page c.requires.whole c.requires.page c.requires.bounded c.requires.params c.requires.classes c.requires.served c.requires.ends c.fire_measured-turn.new.self c.fire_measured-turn.new.b c.fire_measured-turn.new.store c.in-Err.ensures.keeps c.in-Err.fault (search rules) c.in-Err.ensures.refused
+pub returns : goal.returns
+returns c =
+    let none = none-ended c.in_ok-ending.ending (sym c.is_some.ensures ∙ c.if-is_some.false) in
+    let d = c.serve_all.new.self in
+    let goes : ServesAll c.args.page c.args.self.now None d = subst (λ o. ServesAll c.args.page c.args.self.now o d) none c.in_ok-ending.ensures in
+    counted-serves c.args.page c.args.self.now d goes c.node_limit.result c.node_limit.new.self c.node_limit.ensures.limit c.node_limit.ensures.same c.node_limit.ensures.bounded c.node_limit.ensures.within
