@@ -3,7 +3,9 @@
 ghost use Rattle.std.specs.Prelude.{◌≡◌, ◌↔◌, IsTrue};
 ghost use Rattle.tb_pool.specs.Lists.{IsLive, list_at};
 
-use crate::{Act, Area, Float, Insertion, Kind, Margin, Name, Node, Places, Side, What, Where};
+use crate::{
+    Act, Area, Float, Insertion, Kind, Margin, Name, Node, Places, RuleOf, Side, What, Where,
+};
 use tb_pool::{ListId, Lists};
 use tb_scaled::{Glue, Order};
 
@@ -149,19 +151,13 @@ impl Kind {
                 },
             ) => *height == *other_height && *depth == *other_depth && what.is_same(other_what),
             (
+                Kind::Rule { of, height, depth },
                 Kind::Rule {
-                    name,
-                    height,
-                    depth,
-                },
-                Kind::Rule {
-                    name: other_name,
+                    of: other_of,
                     height: other_height,
                     depth: other_depth,
                 },
-            ) => {
-                *height == *other_height && *depth == *other_depth && same_names(name, other_name)
-            }
+            ) => *height == *other_height && *depth == *other_depth && of.is_same(other_of),
             (Kind::Skip(a), Kind::Skip(b)) => same_glue(a, b),
             (Kind::Kern(a), Kind::Kern(b)) => *a == *b,
             (Kind::Pen(a), Kind::Pen(b)) => *a == *b,
@@ -220,14 +216,17 @@ fn same_ids(a: ListId, b: ListId) -> bool
     a == b
 }
 
-// Whether there is the same name, or none.
-fn same_names(a: &Option<Name>, b: &Option<Name>) -> bool
-    ensures { IsTrue result ↔ (a.now ≡ b.now) }
-{
-    match (a, b) {
-        (Some(a), Some(b)) => a.is_same(b),
-        (None, None) => true,
-        _ => false,
+impl RuleOf {
+    /// Whether two rules are the same item's, or both the output routine's in the same place.
+    pub fn is_same(&self, other: &RuleOf) -> bool
+        ensures { IsTrue result ↔ (self.now ≡ other.now) }
+    {
+        match (self, other) {
+            (RuleOf::Item(a), RuleOf::Item(b)) => a.is_same(b),
+            (RuleOf::Footnotes, RuleOf::Footnotes) => true,
+            (RuleOf::Floats, RuleOf::Floats) => true,
+            _ => false,
+        }
     }
 }
 
