@@ -1,4 +1,6 @@
 pub mod Branches
 pub mod FilledBranches
 pub mod SameStates
+pub mod AheadInCode
+pub mod Moves
 pub mod Starts
