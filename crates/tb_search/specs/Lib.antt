@@ -2,5 +2,6 @@ pub mod Branches
 pub mod FilledBranches
 pub mod SameStates
 pub mod AheadInCode
-pub mod Moves
+pub mod Searched
 pub mod Starts
+pub mod Continues
