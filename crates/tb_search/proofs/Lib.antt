@@ -3,3 +3,4 @@ pub mod ServedLemmas
 pub mod StartLemmas
 pub mod TakenLemmas
 pub mod BoxLemmas
+pub mod OrderLemmas
