@@ -3,4 +3,5 @@ pub mod ServedLemmas
 pub mod StartLemmas
 pub mod TakenLemmas
 pub mod BoxLemmas
+pub mod OrderLemmas
 pub mod SearchedLemmas

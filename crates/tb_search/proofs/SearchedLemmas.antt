@@ -20,17 +20,21 @@ use Rattle.tb_best.proofs.ClosedLemmas.{step-low}
 use Rattle.tb_best.proofs.BestLemmas.{closed-best}
 use Rattle.tb_search.specs.FilledBranches.{IsRefusal, IsRefused}
 use Rattle.tb_search.specs.Searched.{IsSearched, over, waits, stuck, fills, takes, ended, KnowsMore}
-use Rattle.tb_search.proofs.OrderLemmas.{no-better-than, no-better-after, no-better-cut, no-better-over}
+use Rattle.tb_search.proofs.OrderLemmas.{no-better-through, no-better-after, no-better-with}
 
 pub as-good-itself : (g : Galley) (t : State) → IsAsGood g t t
 as-good-itself g t fuel behind d h = (d, h, omega (arith, ints))
 
 -- ---- a state that was reached in a way that is no better
 
+no-better-over : (bound d e : ℤ) (bs cs : List ℕ) → bound <ℤ d → IsNoBetter d bs e cs → bound <ℤ e
+no-better-over bound d e bs cs h (inl k) = grind (arith, ints, h, k)
+no-better-over bound d e bs cs h (inr k) = let i = k.0 in grind (arith, ints, h, i)
+
 module _ (g : Galley) (bound total : ℤ) (best : List ℕ) (waiting : List Row) where
   rows-worse : (rows : List Row) (s : State) (cs : List Ahead) (d e : ℤ) (breaks others : List ℕ) → rows_know rows s cs d breaks → IsNoBetter d breaks e others → rows_know rows s cs e others
   rows-worse [] s cs d e breaks others h k = h
-  rows-worse (r ∷ rs) s cs d e breaks others (inl h) k = inl (h.0, h.1, no-better-than r.demerits d e r.breaks breaks others h.2 k)
+  rows-worse (r ∷ rs) s cs d e breaks others (inl h) k = inl (h.0, h.1, no-better-through r.demerits d e r.breaks breaks others h.2 k)
   rows-worse (r ∷ rs) s cs d e breaks others (inr h) k = inr (rows-worse rs s cs d e breaks others h k)
 
   pub searched-worse : (s : State) (cs : List Ahead) (d : ℤ) (breaks : List ℕ) → IsSearched g bound total best waiting s cs d breaks → (e : ℤ) (others : List ℕ) → IsNoBetter d breaks e others → IsSearched g bound total best waiting s cs e others
@@ -39,12 +43,12 @@ module _ (g : Galley) (bound total : ℤ) (best : List ℕ) (waiting : List Row)
   searched-worse _ _ _ _ (stuck s cs d breaks h) e others k = stuck s cs e others h
   searched-worse _ _ _ _ (fills s t u cs d breaks es rs fires is good h) e others k =
       fills s t u cs e others es rs fires is good
-      (searched-worse u cs (with_page g d s es rs t) breaks h (with_page g e s es rs t) others (no-better-after (step_demerits g.params (place_penalties g.items) s (goes_on es rs t)) d e breaks others k))
+      (searched-worse u cs (with_page g d s es rs t) breaks h (with_page g e s es rs t) others (no-better-after d e (step_demerits g.params (place_penalties g.items) s (goes_on es rs t)) breaks others k))
   searched-worse _ _ _ _ (takes s c cs d breaks quiet cut h) e others k =
       takes s c cs e others quiet
-      (λ place box. searched-worse (state_with (forced c ∷ c.nodes) s) cs (d +ℤ pos 1000) (c.number ∷ breaks) (cut place box) (e +ℤ pos 1000) (c.number ∷ others) (no-better-cut d e c.number breaks others k))
+      (λ place box. searched-worse (state_with (forced c ∷ c.nodes) s) cs (d +ℤ pos 1000) (c.number ∷ breaks) (cut place box) (e +ℤ pos 1000) (c.number ∷ others) (no-better-with (d +ℤ pos 1000) (e +ℤ pos 1000) c.number breaks others (no-better-after d e (pos 1000) breaks others k)))
       (searched-worse (state_with c.nodes s) cs d breaks h e others k)
-  searched-worse _ _ _ _ (ended s d breaks quiet h) e others k = ended s e others quiet (λ es rs left is. no-better-than total d e best breaks others (h es rs left is) k)
+  searched-worse _ _ _ _ (ended s d breaks quiet h) e others k = ended s e others quiet (λ es rs left is. no-better-through total d e best breaks others (h es rs left is) k)
 
 -- ---- later tables
 
@@ -60,7 +64,7 @@ module _ (g : Galley) (bound total after : ℤ) (best later : List ℕ) (better 
       takes s c cs d breaks quiet
       (λ place box. searched-later (state_with (forced c ∷ c.nodes) s) cs (d +ℤ pos 1000) (c.number ∷ breaks) (cut place box))
       (searched-later (state_with c.nodes s) cs d breaks h)
-  searched-later _ _ _ _ (ended s d breaks quiet h) = ended s d breaks quiet (λ es rs left is. no-better-than after total d later best breaks better (h es rs left is))
+  searched-later _ _ _ _ (ended s d breaks quiet h) = ended s d breaks quiet (λ es rs left is. no-better-through after total d later best breaks better (h es rs left is))
 
 -- ---- a refused state
 

@@ -1,8 +1,10 @@
 -- The states from which the search goes on, as rows of a table.
 use Rattle.std.specs.Prelude.{◌≡◌, ◌⊎◌, false, ℕ, suc, ◌+◌, ◌<◌, ◌≤◌, ℤ, pos, ◌≤ℤ◌, Some, List, [], ◌∷◌, ◌++◌, map, length, reverse}
 use Rattle.std.specs.List.{AllByRecursion}
+use Rattle.std.specs.declared.alloc.Global.{Global}
 use Rattle.std.specs.declared.vec.Vec.{Vec}
 use Rattle.tb_galley.specs.declared.Galley.{Galley}
+use Rattle.tb_items.specs.Classes.{classes_of}
 use Rattle.tb_plans.specs.Plans.{IsPlan}
 use Rattle.tb_rate.specs.Places.{place_penalties}
 use Rattle.tb_best.specs.ItemsAhead.{all_ahead}
@@ -33,6 +35,7 @@ pub record IsStart (g : Galley) (bound : ℤ) (left : ℕ) (x : Start) : Type 0 
   pub branch : IsBranch x.branch
   pub params : x.branch.routine.machine.params ≡ g.params
   pub ahead : HasAhead g x.branch.ahead (items_ahead g left)
+  pub classes : (shown x.branch).classes ≡ classes_of g
   pub some : 0 < left
   pub quiet : ((reach_in g.params (shown x.branch)).fires ≡ false) ⊎ IsRefused g.params (shown x.branch)
   pub reached : Reaches g (shown x.branch) (items_ahead g left) x.way.demerits (reverse x.way.breaks.items)

@@ -1,6 +1,9 @@
 //! The states from which the search goes on, each with the best way to it.
 
-ghost use Rattle.std.specs.Prelude.{◌≡◌, OnOk};
+ghost use Rattle.std.specs.Prelude.{◌≡◌, true, false, replicate, reverse, IfOk, OnOk};
+ghost use Rattle.tb_lines.specs.LeastSolution.{is_greater};
+ghost use Rattle.tb_best.specs.ClosedTables.{IsNoBetter};
+ghost use Rattle.tb_search.specs.Ways.{marked, with_last};
 
 use crate::Branch;
 use crate::search::BestFault;
@@ -49,14 +52,13 @@ pub(crate) struct Table<'a> {
 const MOST_STATES: u64 = 1_000_000;
 
 // Which of so many numbers are in a list.
-fn flags(alloc: Global, count: usize, numbers: &[u32]) -> Result<Vec<bool>, AllocError> {
-    let mut flags = Vec::with_capacity(alloc, count)?;
-    for _ in 0..count {
-        flags.push(false)?;
-    }
+fn flags(alloc: Global, count: usize, numbers: &[u32]) -> Result<Vec<bool>, AllocError>
+    ensures { IfOk result (λ v. v.items ≡ marked (replicate count false) numbers.now) }
+{
+    let mut flags = vec![in alloc; false; count]?;
     for number in numbers {
         let k = *number as usize;
-        if k < count {
+        if k < flags.len() {
             flags[k] = true;
         }
     }
@@ -68,7 +70,9 @@ pub(crate) fn breaks_with(
     alloc: Global,
     breaks: &[u32],
     more: Option<u32>,
-) -> Result<Vec<u32>, AllocError> {
+) -> Result<Vec<u32>, AllocError>
+    ensures { IfOk result (λ v. v.items ≡ with_last breaks.now more) }
+{
     let mut copy = Vec::new(alloc);
     for number in breaks {
         copy.push(*number)?;
@@ -81,7 +85,9 @@ pub(crate) fn breaks_with(
 
 // Whether some breaks, read from the last, are lexicographically greater than others; if one begins the other, the longer is
 // greater.
-fn is_greater(a: &[u32], b: &[u32]) -> bool {
+fn is_greater(a: &[u32], b: &[u32]) -> bool
+    ensures { result ≡ is_greater (reverse a.now) (reverse b.now) }
+{
     let mut k = 0;
     while k < a.len() && k < b.len() {
         let x = a[a.len() - 1 - k];
@@ -96,7 +102,10 @@ fn is_greater(a: &[u32], b: &[u32]) -> bool {
 
 impl Way {
     /// Whether this way is better than another: it has fewer demerits, or as many and greater breaks, read from the last.
-    pub(crate) fn is_better(&self, other: &Way) -> bool {
+    pub(crate) fn is_better(&self, other: &Way) -> bool
+        ensures better { result ≡ true → IsNoBetter self.now.demerits (reverse self.now.breaks.items) other.now.demerits (reverse other.now.breaks.items) }
+        ensures worse { result ≡ false → IsNoBetter other.now.demerits (reverse other.now.breaks.items) self.now.demerits (reverse self.now.breaks.items) }
+    {
         self.demerits < other.demerits
             || (self.demerits == other.demerits
                 && is_greater(self.breaks.as_slice(), other.breaks.as_slice()))
