@@ -23,6 +23,10 @@ pub record IsRefused (p : Params) (s : State) : Type 0 where
   pub step : IsRefusal (unlimited_step p s)
   pub later : ((reach_in p s).fires ≡ true) ⊎ ((more : List PlainNode) → IsRefusal (unlimited_step p (state_with more s)))
 
+-- from the state no run goes on or ends well; with more nodes behind a page may fire before the pool is full
+pub record IsFull (p : Params) (s : State) : Type 0 where
+  pub step : IsRefusal (unlimited_step p s)
+
 -- no page fires in the state, and a run ends well there
 pub record IsQuiet (p : Params) (s : State) : Type 0 where
   pub events : List RunEvent
@@ -49,6 +53,7 @@ pub record HasFired (p : Params) (places : List PlacePenalty) (d : ℤ) (b c : B
   pub low : pos 0 ≤ℤ d
   pub high : d ≤ℤ pos 352689971456
   pub branch : IsBranch c
+  pub classes : (shown c).classes ≡ (shown b).classes
   pub ahead : c.ahead ≡ b.ahead
   pub params : c.routine.machine.params ≡ b.routine.machine.params
 
@@ -56,5 +61,6 @@ pub record HasFired (p : Params) (places : List PlacePenalty) (d : ℤ) (b c : B
 abbrev pub FillsTo : Params → List PlacePenalty → Branch → Filled → Branch → Type 0
 FillsTo p places b (filled.Fired d) c = HasFired p places d b c
 FillsTo p places b filled.Quiet c = IsQuiet p (shown b)
+FillsTo p places b filled.Full c = IsFull p (shown b)
 FillsTo p places b filled.Refused c = IsRefused p (shown b)
 FillsTo p places b filled.TooMany c = HasTooMany p (shown b)

@@ -32,6 +32,9 @@ pub enum Filled {
     },
     /// No page fires: a run would end well here, and items may be taken.
     Quiet,
+    /// A run ends here since the pool of floats is full, and items may be taken: glue behind a kern makes that a place, at which
+    /// a page may fire before the float or note that finds no room.
+    Full,
     /// A run ends here in another way, and so it does whatever is taken before the page fires.
     Refused,
     /// More than 4194304 nodes are held after the page.
