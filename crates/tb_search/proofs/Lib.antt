@@ -4,3 +4,5 @@ pub mod StartLemmas
 pub mod TakenLemmas
 pub mod BoxLemmas
 pub mod OrderLemmas
+pub mod AheadLemmas
+pub mod PlaceFlags
