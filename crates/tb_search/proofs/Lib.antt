@@ -6,3 +6,4 @@ pub mod BoxLemmas
 pub mod OrderLemmas
 pub mod AheadLemmas
 pub mod PlaceFlags
+pub mod SearchedLemmas

@@ -3,5 +3,6 @@ pub mod FilledBranches
 pub mod SameStates
 pub mod Ways
 pub mod AheadInCode
-pub mod Moves
+pub mod Searched
 pub mod Starts
+pub mod Continues
