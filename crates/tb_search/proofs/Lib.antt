@@ -4,4 +4,6 @@ pub mod StartLemmas
 pub mod TakenLemmas
 pub mod BoxLemmas
 pub mod OrderLemmas
+pub mod AheadLemmas
+pub mod PlaceFlags
 pub mod SearchedLemmas

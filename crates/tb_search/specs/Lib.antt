@@ -6,3 +6,4 @@ pub mod AheadInCode
 pub mod Searched
 pub mod Starts
 pub mod Continues
+pub mod KeptStarts

@@ -1,8 +1,15 @@
 //! The states from which the search goes on, each with the best way to it.
 
-ghost use Rattle.std.specs.Prelude.{◌≡◌, true, false, replicate, reverse, IfOk, OnOk};
+ghost use Rattle.std.specs.List.{AllByRecursion};
+ghost use Rattle.std.specs.Prelude.{◌≡◌, ◌<◌, ◌+◌, pos, ◌≤ℤ◌, [], true, false, length, replicate, reverse, Option, IfOk, IfSome, OnOk};
+ghost use Rattle.tb_galley.specs.Valid.{IsValid};
 ghost use Rattle.tb_lines.specs.LeastSolution.{is_greater};
-ghost use Rattle.tb_best.specs.ClosedTables.{IsNoBetter};
+ghost use Rattle.tb_best.specs.ItemsAhead.{all_ahead};
+ghost use Rattle.tb_best.specs.PlanDemerits.{plan_demerits};
+ghost use Rattle.tb_search.specs.Branches.{shown, IsBranch};
+ghost use Rattle.tb_search.specs.Continues.{Continues};
+ghost use Rattle.tb_search.specs.KeptStarts.{HasRow, HasRowAsGood, IsBetterOf, IsNoWorseWay, IsSameAt};
+ghost use Rattle.tb_search.specs.Starts.{rows_of, IsRated, IsStart, IsTable};
 ghost use Rattle.tb_search.specs.Ways.{marked, with_last};
 
 use crate::Branch;
@@ -103,26 +110,57 @@ fn is_greater(a: &[u32], b: &[u32]) -> bool
 impl Way {
     /// Whether this way is better than another: it has fewer demerits, or as many and greater breaks, read from the last.
     pub(crate) fn is_better(&self, other: &Way) -> bool
-        ensures better { result ≡ true → IsNoBetter self.now.demerits (reverse self.now.breaks.items) other.now.demerits (reverse other.now.breaks.items) }
-        ensures worse { result ≡ false → IsNoBetter other.now.demerits (reverse other.now.breaks.items) self.now.demerits (reverse self.now.breaks.items) }
+        ensures better { result ≡ true → IsNoWorseWay self.now other.now }
+        ensures worse { result ≡ false → IsNoWorseWay other.now self.now }
     {
         self.demerits < other.demerits
             || (self.demerits == other.demerits
                 && is_greater(self.breaks.as_slice(), other.breaks.as_slice()))
     }
+
+    // Another way is taken in place of this one if it is better.
+    fn offer(&mut self, way: Way)
+        ensures { IsBetterOf self.old way self.new }
+    {
+        if way.is_better(self) {
+            *self = way;
+        }
+    }
+}
+
+// The place of a state that is the same as this one but for the left column.
+fn place_of(starts: &[Start<'_>], branch: &Branch<'_>) -> Option<usize>
+    requires starts { AllByRecursion (λ x. IsBranch x.branch) starts.now }
+    requires classes { AllByRecursion (λ x. (shown x.branch).classes ≡ (shown branch.now).classes) starts.now }
+    requires branch { IsBranch branch.now }
+    ensures { IfSome result (λ k. IsSameAt starts.now k (shown branch.now)) }
+{
+    for (k, start) in starts.iter().enumerate() {
+        if start.branch.is_same(branch) {
+            return Some(k);
+        }
+    }
+    None
 }
 
 impl<'a> Table<'a> {
-    /// No state is kept. `greedy` are the demerits of the galley without breaks put in.
-    pub(crate) fn new(alloc: Global, galley: &'a Galley, greedy: i128) -> Result<Self, AllocError> {
+    /// No state is kept. `greedy` are the demerits of the galley without breaks put in. It fails only if memory runs out.
+    pub(crate) fn new(alloc: Global, galley: &'a Galley, greedy: i128) -> Result<Self, AllocError>
+        requires valid { IsValid galley.now }
+        requires greedy { plan_demerits galley.now [] ≡ Option.Some greedy }
+        requires range { greedy ≤ℤ pos 1000000000000000000000000000 }
+
+        ensures table { IfOk result IsTable }
+        ensures galley { IfOk result (λ t. t.galley.now ≡ galley.now) }
+        ensures bound { IfOk result (λ t. t.bound ≡ greedy) }
+        ensures none { IfOk result (λ t. rows_of t ≡ []) }
+        ensures levels { IfOk result (λ t. length t.starts.items ≡ length (all_ahead galley.now) + 1) }
+    {
         let penalties = place_penalties(alloc, galley.items.as_slice())?;
         let places = tb_plans::places(alloc, galley)?;
         let count = galley.items.len() + 1;
         let is_place = flags(alloc, count, places.as_slice())?;
-        let mut starts = Vec::with_capacity(alloc, count + 1)?;
-        for _ in 0..count + 1 {
-            starts.push(Vec::new(alloc))?;
-        }
+        let starts = no_starts(alloc, count + 1)?;
         Ok(Table {
             galley,
             penalties,
@@ -137,36 +175,75 @@ impl<'a> Table<'a> {
         })
     }
 
-    /// Keeps a state that has so many items ahead, or a better way to one that is kept.
+    /// Keeps a state that has so many items ahead, or a better way to one that is kept. It fails if too many states are kept,
+    /// or if memory runs out.
     pub(crate) fn keep(
         &mut self,
         left: usize,
         branch: Branch<'a>,
         way: Way,
-    ) -> Result<(), BestFault> {
-        let starts = &mut self.starts[left];
-        for start in starts.as_mut_slice() {
-            if start.branch.is_same(&branch) {
-                if way.is_better(&start.way) {
-                    start.way = way;
-                }
-                return Ok(());
+    ) -> Result<(), BestFault>
+        requires table { IsTable self.old }
+        requires left { left < length self.old.starts.items }
+        requires start { IsStart self.old.galley.now self.old.bound left (record { branch = branch; way = way }) }
+
+        ensures table { OnOk result (IsTable self.new) }
+        ensures continues { OnOk result (Continues self.old self.new) }
+        ensures known { OnOk result (HasRowAsGood self.new left (shown branch.entry) way) }
+        ensures first { rows_of self.old ≡ [] → OnOk result (HasRow self.new left (shown branch.entry) way) }
+    {
+        match place_of(self.starts[left].as_slice(), &branch) {
+            Some(k) => {
+                self.starts[left][k].way.offer(way);
+                Ok(())
             }
+            None => self.add(left, Start { branch, way }),
         }
+    }
+
+    // Keeps one more state.
+    fn add(&mut self, left: usize, start: Start<'a>) -> Result<(), BestFault>
+        requires table { IsTable self.old }
+        requires left { left < length self.old.starts.items }
+        requires start { IsStart self.old.galley.now self.old.bound left start }
+
+        ensures table { OnOk result (IsTable self.new) }
+        ensures continues { OnOk result (Continues self.old self.new) }
+        ensures known { OnOk result (HasRow self.new left (shown start.entry.branch) start.entry.way) }
+    {
         if self.count >= MOST_STATES {
             return Err(BestFault::Choices);
         }
         self.count += 1;
-        starts
-            .push(Start { branch, way })
+        self.starts[left]
+            .push(start)
             .map_err(AllocError::from)?;
         Ok(())
     }
 
     /// A way that came to the end of a run: it is the best one from now on if it is better.
-    pub(crate) fn end(&mut self, way: Way) {
-        if way.is_better(&self.best) {
-            self.best = way;
-        }
+    pub(crate) fn end(&mut self, way: Way)
+        requires table { IsTable self.old }
+        requires rated { IsRated self.old.galley.now way }
+        requires bounded { way.demerits ≤ℤ self.old.bound }
+
+        ensures table { IsTable self.new }
+        ensures continues { Continues self.old self.new }
+        ensures starts { self.new.starts ≡ self.old.starts }
+        ensures best { IsNoWorseWay self.new.best way }
+    {
+        self.best.offer(way);
     }
+}
+
+// So many lists without a state.
+fn no_starts<'a>(alloc: Global, count: usize) -> Result<Vec<Vec<Start<'a>>>, AllocError>
+    ensures count { IfOk result (λ v. length v.items ≡ count) }
+    ensures empty { IfOk result (λ v. AllByRecursion (λ l. l.items ≡ []) v.items) }
+{
+    let mut starts = Vec::with_capacity(alloc, count)?;
+    for _ in 0..count {
+        starts.push(Vec::new(alloc))?;
+    }
+    Ok(starts)
 }
