@@ -73,7 +73,7 @@ impl<'a> Table<'a> {
     // The state in which a run begins waits.
     fn begin(&mut self, alloc: Global, galley: &'a Galley) -> Result<(), BestFault>
         requires table { IsTable self.old }
-        requires galley { self.old.galley ≡ galley }
+        requires galley { self.old.galley.now ≡ galley.now }
         requires valid { IsValid galley.now }
         requires levels { length self.old.starts.items ≡ length (all_ahead galley.now) + 1 }
         requires none { rows_of self.old ≡ [] }
