@@ -7,3 +7,4 @@ pub mod OrderLemmas
 pub mod AheadLemmas
 pub mod PlaceFlags
 pub mod SearchedLemmas
+pub mod LaterLemmas
