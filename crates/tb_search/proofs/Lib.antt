@@ -8,3 +8,4 @@ pub mod AheadLemmas
 pub mod PlaceFlags
 pub mod SearchedLemmas
 pub mod LaterLemmas
+pub mod ReachedWays
