@@ -9,3 +9,4 @@ pub mod PlaceFlags
 pub mod SearchedLemmas
 pub mod LaterLemmas
 pub mod ReachedWays
+pub mod SearchSteps
