@@ -78,7 +78,8 @@ progress-turns : (p : Params) (s : State) (w : Reach) (q : Progress) (o : Option
 progress-turns p s w q None h k = either-turns p s w.fires (unlimited_fire p w q) (ends q.events (q.records ++ emptied q.state.floats ∷ []) (done w.passed)) (fire-turns p s w q h k) tt
 progress-turns p s w q (Some f) h k = tt
 
-step-turns : (p : Params) (s : State) → 1 ≤ s.page → Turns p s (unlimited_step p s)
+-- a step that goes on lowers what is left of the firings
+pub step-turns : (p : Params) (s : State) → 1 ≤ s.page → Turns p s (unlimited_step p s)
 unfolding unlimited_step
 step-turns p s h =
     let w = reach_in p s in

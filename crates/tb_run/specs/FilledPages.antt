@@ -102,13 +102,14 @@ pub record CanServe (page : Page) (q : Routine) : Type 0 where
   pub bounded : IsBoundedPage page q
   pub ends : (before : List PlainNode) → IsOpen q.left (before ++ (built_in q).waiting)
 
--- the page fires in the state after its acts, and can be served; no more marginal notes have no place then, and those that were placed reach no further
+-- the page fires in the state after its acts, which has the same classes, and can be served; no more marginal notes have no place then, and those that were placed reach no further
 pub record IsFiring (wanted : Bool) (r : Routine) (page : Page) (q : Routine) (hs : List Happening) : Type 0 where
   pub filled : IsFilled wanted r q hs
   pub fires : IsPageOf page r q
   pub can : CanServe page q
   pub notes : notes_left ((fired_whole q page).held ++ (fired_whole q page).rest) (state_of q) ≤ notes_left (state_of r).waiting (state_of r)
   pub bottom : (state_of q).note_bottom ≡ (state_of r).note_bottom
+  pub classes : (state_of q).classes ≡ (state_of r).classes
 
 -- the run ends before a page fires
 pub record IsFilledLast (wanted : Bool) (r : Routine) (e : Ending) (q : Routine) (hs : List Happening) : Type 0 where

@@ -1,15 +1,18 @@
 -- A page that is served whatever `maxnodes` is.
-use Rattle.std.specs.Prelude.{◌≡◌, ◌<◌, pos, ◌<ℤ◌, ◌≤ℤ◌, true, false, Option, Some, None}
+use Rattle.std.specs.Prelude.{◌≡◌, ◌<◌, pos, ◌<ℤ◌, ◌≤ℤ◌, true, false, List, ◌++◌, Option, Some, None}
 use Rattle.tb_builder.specs.declared.Page.{Page}
 use Rattle.tb_output.specs.declared.RunFault.{RunFault}
 use Rattle.tb_output.specs.declared.RunFault.TheVariants as faults
+use Rattle.tb_sheet.specs.declared.Sent.{Sent}
 use Rattle.tb_output.specs.Output.{out}
+use Rattle.tb_output.specs.Machine.{events_shown}
+use Rattle.tb_items.specs.declared.happenings.Happening.{Happening}
 use Rattle.tb_run.specs.declared.routine.Routine.{Routine}
 use Rattle.tb_run.specs.declared.routine.Ending.{Ending}
 use Rattle.tb_run.specs.declared.routine.Ending.TheVariants as endings
 use Rattle.tb_steps.specs.Run.{held_count}
 use Rattle.tb_run.specs.Routine.{state_of}
-use Rattle.tb_run.specs.FilledPages.{fired_whole}
+use Rattle.tb_run.specs.FilledPages.{sent_happenings, fired_whole}
 
 -- the firing was allowed and went through: the routine shows the state after it, and as much is left as before
 pub record HasGoneOn (page : Page) (r q : Routine) : Type 0 where
@@ -17,6 +20,12 @@ pub record HasGoneOn (page : Page) (r q : Routine) : Type 0 where
   pub done : (out r.machine.params (state_of r) (fired_whole r page)).refused ≡ false
   pub state : state_of q ≡ (out r.machine.params (state_of r) (fired_whole r page)).state
   pub left : q.left ≡ r.left
+
+-- what the firing sent came to what had happened
+pub record HasSent (page : Page) (r q : Routine) (before after : List Happening) : Type 0 where
+  pub sent : List Sent
+  pub grown : after ≡ before ++ sent_happenings sent
+  pub shown : events_shown q.store sent ≡ (out r.machine.params (state_of r) (fired_whole r page)).sent
 
 -- the ending is that at the nodes which a routine holds, and these are more than 4194304
 pub record IsOverMost (e : Ending) (r : Routine) : Type 0 where

@@ -13,7 +13,7 @@ ghost use Rattle.tb_run.specs.ServedStates.{IsServedPage};
 ghost use Rattle.tb_run.specs.Routine.{built_in, state_of, IsConsistent, IsBounded, IsReady, AreHappened};
 ghost use Rattle.tb_run.specs.FilledPages.{fired_whole, IsBoundedPage, CanServe};
 ghost use Rattle.tb_run.specs.RoutinePages.{ServesAll};
-ghost use Rattle.tb_run.specs.UnlimitedPages.{IsOverMost, ServesUnlimited};
+ghost use Rattle.tb_run.specs.UnlimitedPages.{HasSent, IsOverMost, ServesUnlimited};
 
 use crate::routine::ADDED_NODES;
 use crate::{Ending, Routine};
@@ -39,7 +39,9 @@ impl Routine<'_> {
         ensures served { IfOk result (λ o. ServesUnlimited page self.old o self.new) }
         ensures ready { IfOk result (λ o. IfNone o (IsReady self.new)) }
         ensures params { OnOk result (self.new.machine.params ≡ self.old.machine.params) }
+        ensures classes { OnOk result (self.new.machine.classes ≡ self.old.machine.classes) }
         ensures lists { IfOk result (λ o. IfNone o (AreHappened self.new happened.new.items)) }
+        ensures sent { IfOk result (λ o. IfNone o (HasSent page self.old self.new happened.old.items happened.new.items)) }
     {
         let ending = self.serve_all(page)?;
         self.hand_over(happened)?;

@@ -9,3 +9,13 @@ pub mod PlaceFlags
 pub mod SearchedLemmas
 pub mod LaterLemmas
 pub mod KeepLemmas
+pub mod ReachedWays
+pub mod SearchSteps
+pub mod RatingLemmas
+pub mod KernLemmas
+pub mod EndLemmas
+pub mod FullPools
+pub mod QuietLemmas
+pub mod FiredLemmas
+pub mod FilledLemmas
+pub mod FuelLemmas

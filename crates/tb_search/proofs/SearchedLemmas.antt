@@ -85,7 +85,7 @@ refused-with p s ns quiet h = by h.later
 refused-goes-on : (X : Type 0) (x : Step) (es : List RunEvent) (rs : List Recorded) (t : State) → IsRefusal x → x ≡ goes_on es rs t → X
 refused-goes-on X x es rs t h e = absurd (subst IsRefusal e h)
 
-refused-ends : (X : Type 0) (x : Step) (es : List RunEvent) (rs : List Recorded) (left : List PlainNode) → IsRefusal x → x ≡ ends es rs (done left) → X
+pub refused-ends : (X : Type 0) (x : Step) (es : List RunEvent) (rs : List Recorded) (left : List PlainNode) → IsRefusal x → x ≡ ends es rs (done left) → X
 refused-ends X x es rs left h e = absurd (subst IsRefusal e h left refl)
 
 -- ---- a search to its end

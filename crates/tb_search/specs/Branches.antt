@@ -1,5 +1,7 @@
 -- A state of the search for the best pages in code: a routine in which nothing is left, and the items that are still ahead.
-use Rattle.std.specs.Prelude.{◌≡◌, ◌≤◌, pos, neg_ℤ, List, [], ◌∷◌, ◌++◌, Option, Some, None}
+use Rattle.std.specs.Prelude.{◌≡◌, ◌≤◌, pos, neg_ℤ, Bool, true, false, List, [], ◌∷◌, ◌++◌, Option, Some, None}
+use Rattle.tb_node.specs.declared.Kind.{Kind}
+use Rattle.tb_node.specs.declared.Kind.TheVariants as kinds
 use Rattle.tb_node.specs.PlainNodes.{pen, plain, PlainNode}
 use Rattle.tb_builder.specs.Contents.{node_count}
 use Rattle.tb_output.specs.State.{State}
@@ -75,3 +77,11 @@ pub record HasTaken (ns : List PlainNode) (b c : Branch) : Type 0 where
   pub state : shown c ≡ state_with ns (shown b)
   pub ahead : IsPast b.ahead c.ahead
   pub params : c.routine.machine.params ≡ b.routine.machine.params
+
+-- ---- a kern behind which nothing waits but acts
+
+-- whether nodes end in a kern with this one behind them, if they did before; acts are of no account
+abbrev pub kern_after : Bool → Kind → Bool
+kern_after k (kinds.Act a) = k
+kern_after k (kinds.Kern w) = true
+kern_after k _ = false

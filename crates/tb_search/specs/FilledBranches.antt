@@ -1,10 +1,13 @@
 -- A page that is filled and served in a state of the search, against the definition of a step.
-use Rattle.std.specs.Prelude.{◌≡◌, ◌≢◌, ◌⊎◌, ◌<◌, ℤ, pos, ◌≤ℤ◌, true, false, List}
-use Rattle.tb_node.specs.PlainNodes.{PlainNode}
+use Rattle.std.specs.Prelude.{◌≡◌, ◌≢◌, ◌⊎◌, ◌<◌, ℤ, pos, ◌≤ℤ◌, Bool, true, false, List, if◌then◌else◌}
+use Rattle.tb_node.specs.PlainNodes.{PlainNode, without_acts}
+use Rattle.tb_builder.specs.Contributions.{ends_in_kern}
 use Rattle.tb_param.specs.declared.Params.{Params}
 use Rattle.tb_output.specs.State.{State, Recorded}
 use Rattle.tb_items.specs.RunEvents.{RunEvent}
 use Rattle.tb_steps.specs.Run.{done, Step, ends, goes_on, held_count}
+use Rattle.tb_run.specs.declared.routine.Ending.{Ending}
+use Rattle.tb_run.specs.declared.routine.Ending.TheVariants as endings
 use Rattle.tb_rate.specs.declared.PlacePenalty.{PlacePenalty}
 use Rattle.tb_best.specs.PlanDemerits.{reach_in, unlimited_step, step_demerits}
 use Rattle.tb_best.specs.ItemsAhead.{state_with}
@@ -23,9 +26,10 @@ pub record IsRefused (p : Params) (s : State) : Type 0 where
   pub step : IsRefusal (unlimited_step p s)
   pub later : ((reach_in p s).fires ≡ true) ⊎ ((more : List PlainNode) → IsRefusal (unlimited_step p (state_with more s)))
 
--- from the state no run goes on or ends well; with more nodes behind a page may fire before the pool is full
+-- from the state no run goes on or ends well, and what waits ends in a kern but for acts; with glue behind, a page may fire there before the pool is full
 pub record IsFull (p : Params) (s : State) : Type 0 where
   pub step : IsRefusal (unlimited_step p s)
+  pub kern : ends_in_kern (without_acts s.waiting) ≡ true
 
 -- no page fires in the state, and a run ends well there
 pub record IsQuiet (p : Params) (s : State) : Type 0 where
@@ -53,9 +57,23 @@ pub record HasFired (p : Params) (places : List PlacePenalty) (d : ℤ) (b c : B
   pub low : pos 0 ≤ℤ d
   pub high : d ≤ℤ pos 352689971456
   pub branch : IsBranch c
-  pub classes : (shown c).classes ≡ (shown b).classes
   pub ahead : c.ahead ≡ b.ahead
   pub params : c.routine.machine.params ≡ b.routine.machine.params
+  pub classes : (shown c).classes ≡ (shown b).classes
+
+-- what becomes of a page before whose firing the run does not end well, by whether what waited ends in a kern
+abbrev pub stopped : Bool → Filled
+stopped kern = if kern then filled.Full else filled.Refused
+
+-- what becomes of a page if the run ends so before one fires
+abbrev pub unfired : Ending → Bool → Filled
+unfired endings.Done kern = filled.Quiet
+unfired _ kern = stopped kern
+
+-- what becomes of a page if the run ends so with its firing
+abbrev pub unserved : Ending → Filled
+unserved (endings.NodeLimit n) = filled.TooMany
+unserved _ = filled.Refused
 
 -- what becomes of the page of a branch
 abbrev pub FillsTo : Params → List PlacePenalty → Branch → Filled → Branch → Type 0

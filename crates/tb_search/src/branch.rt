@@ -1,20 +1,27 @@
 //! A state of the search, with its moves.
 
 ghost use Rattle.std.specs.List.{AllByRecursion};
-ghost use Rattle.std.specs.Prelude.{◌≡◌, ◌<◌, ◌++◌, true, false, IfOk, OnOk};
+ghost use Rattle.std.specs.Prelude.{◌≡◌, ◌<◌, ◌++◌, pos, ◌≤ℤ◌, true, false, IfOk, IfSome, OnOk};
+ghost use Rattle.tb_node.specs.PlainNodes.{without_acts};
+ghost use Rattle.tb_builder.specs.Contributions.{ends_in_kern};
 ghost use Rattle.tb_builder.specs.Reach.{holds_box};
 ghost use Rattle.tb_galley.specs.GalleyNodes.{expanded};
 ghost use Rattle.tb_items.specs.Classes.{classes_of};
 ghost use Rattle.tb_items.specs.GalleyNodes.{AreGalleyNodes};
 ghost use Rattle.tb_items.specs.WaitingNodes.{AreItems};
+ghost use Rattle.tb_items.specs.Happenings.{events_of};
+ghost use Rattle.tb_run.specs.Routine.{state_of, IsReady};
 ghost use Rattle.tb_steps.specs.Run.{held_count};
 ghost use Rattle.tb_steps.specs.Runnable.{AreRunnable, AreRunClasses};
 ghost use Rattle.tb_rate.specs.Places.{IsMildPlace};
+ghost use Rattle.tb_rate.specs.Rating.{rating, IsTried};
+ghost use Rattle.tb_rate.specs.RatedRun.{demerits_if, floats_waiting, insertions_first};
+ghost use Rattle.tb_rate.specs.Tries.{last_champion};
 ghost use Rattle.tb_best.specs.ItemsAhead.{empty_start};
-ghost use Rattle.tb_search.specs.FilledBranches.{FillsTo};
+ghost use Rattle.tb_search.specs.FilledBranches.{stopped, unfired, unserved, FillsTo};
 ghost use Rattle.tb_search.specs.Branches.{shown, nodes_ahead, next_of, break_before, IsBranch, HasTaken};
 
-use crate::moves::{hand_cut, hand_next, holds_box};
+use crate::moves::{ends_in_kern, hand_cut, hand_next, holds_box};
 use std::alloc::{AllocError, Global};
 use tb_galley::Galley;
 use tb_items::{Happening, ItemsLeft, all_items};
@@ -32,8 +39,8 @@ pub enum Filled {
     },
     /// No page fires: a run would end well here, and items may be taken.
     Quiet,
-    /// A run ends here since the pool of floats is full, and items may be taken: glue behind a kern makes that a place, at which
-    /// a page may fire before the float or note that finds no room.
+    /// A run ends here since the pool of floats is full, and what waits ends in a kern but for acts: items may be taken, since
+    /// glue behind the kern makes it a place, at which the page may fire before the float or note that finds no room.
     Full,
     /// A run ends here in another way, and so it does whatever is taken before the page fires.
     Refused,
@@ -111,6 +118,14 @@ impl<'a> Branch<'a> {
         holds_box(&self.routine.store, self.routine.builder.waiting())
     }
 
+    // Whether what waits ends in a kern, acts behind it aside.
+    fn ends_in_kern(&self) -> bool
+        requires { IsBranch self.now }
+        ensures { result ≡ ends_in_kern (without_acts (shown self.now).waiting) }
+    {
+        ends_in_kern(&self.routine.store, self.routine.builder.waiting())
+    }
+
     /// A copy, from which the search goes on as if there were no other. It fails only if memory runs out.
     pub fn copy(&self, alloc: Global) -> Result<Self, AllocError>
         requires { IsBranch self.now }
@@ -142,20 +157,45 @@ impl<'a> Branch<'a> {
 
         ensures { IfOk result (λ f. FillsTo params.now places.now self.old f self.new) }
     {
+        let kern = self.ends_in_kern();
         let mut happened = Vec::new(alloc);
         let page = match self.routine.fill(true, &mut happened)? {
             PageFilled::Fires(page) => page,
-            PageFilled::Ends(Ending::Done) => return Ok(Filled::Quiet),
-            PageFilled::Ends(_) => return Ok(Filled::Refused),
+            PageFilled::Ends(ending) => return Ok(unfired(ending, kern)),
         };
-        match self.routine.serve_unlimited(page, &mut happened)? {
-            None => {}
-            Some(Ending::NodeLimit { .. }) => return Ok(Filled::TooMany),
-            Some(_) => return Ok(Filled::Refused),
+        if let Some(ending) = self.routine.serve_unlimited(page, &mut happened)? {
+            return Ok(unserved(ending));
         }
         Ok(Filled::Fired {
             demerits: page_demerits(&self.routine, params, places, &happened),
         })
+    }
+}
+
+// What becomes of a page if the run ends so before one fires, and what waited ends in a kern or does not.
+fn unfired(ending: Ending, kern: bool) -> Filled
+    ensures { result ≡ unfired ending kern }
+{
+    match ending {
+        Ending::Done => Filled::Quiet,
+        _ => stopped(kern),
+    }
+}
+
+// The same if the run does not end well.
+fn stopped(kern: bool) -> Filled
+    ensures { result ≡ stopped kern }
+{
+    if kern { Filled::Full } else { Filled::Refused }
+}
+
+// What becomes of a page if the run ends so with its firing.
+fn unserved(ending: Ending) -> Filled
+    ensures { result ≡ unserved ending }
+{
+    match ending {
+        Ending::NodeLimit { .. } => Filled::TooMany,
+        _ => Filled::Refused,
     }
 }
 
@@ -165,7 +205,15 @@ fn page_demerits(
     params: &Params,
     places: &[PlacePenalty],
     happened: &[Happening],
-) -> i128 {
+) -> i128
+    requires ready { IsReady routine.now }
+    requires tried { IfSome (last_champion (events_of routine.now.store happened.now)) IsTried }
+    requires mild { AllByRecursion IsMildPlace places.now }
+
+    ensures value { result ≡ demerits_if (rating params.now places.now 0 (last_champion (events_of routine.now.store happened.now)) (floats_waiting (state_of routine.now).floats) (insertions_first (state_of routine.now).waiting)) }
+    ensures low { pos 0 ≤ℤ result }
+    ensures high { result ≤ℤ pos 352689971456 }
+{
     let held = insertions_first(&routine.store, routine.builder.waiting(), &routine.left);
     let waiting = routine.machine.floats_waiting();
     // The number of the page is not among the demerits.

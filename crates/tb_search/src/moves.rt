@@ -2,14 +2,15 @@
 
 ghost use Rattle.std.specs.Prelude.{◌≡◌, ◌≤◌, [], None, IfOk};
 ghost use Rattle.tb_pool.specs.Lists.{IsLive};
-ghost use Rattle.tb_node.specs.PlainNodes.{plain_list, shape_of};
+ghost use Rattle.tb_node.specs.PlainNodes.{plain_list, shape_of, without_acts};
 ghost use Rattle.tb_builder.specs.Reach.{holds_box};
 ghost use Rattle.tb_node.specs.Shape.{is_box};
 ghost use Rattle.tb_builder.specs.Contents.{node_count};
+ghost use Rattle.tb_builder.specs.Contributions.{ends_in_kern};
 ghost use Rattle.tb_items.specs.ItemsLeft.{next_nodes};
 ghost use Rattle.tb_items.specs.WaitingNodes.{AreItems};
 ghost use Rattle.tb_run.specs.Routine.{state_of, IsReady};
-ghost use Rattle.tb_search.specs.Branches.{first_break, HasHanded};
+ghost use Rattle.tb_search.specs.Branches.{first_break, kern_after, HasHanded};
 
 use std::alloc::AllocError;
 use tb_items::{ItemsLeft, put};
@@ -78,4 +79,27 @@ fn is_box(node: &Node) -> bool
     ensures { result ≡ is_box (shape_of node.now) }
 {
     matches!(&node.kind, Kind::Hbox { .. } | Kind::Rule { .. })
+}
+
+/// Whether a list ends in a kern, acts behind it aside.
+pub(crate) fn ends_in_kern(store: &Lists<Node>, list: ListId) -> bool
+    requires { IsLive store.now list }
+    ensures { result ≡ ends_in_kern (without_acts (plain_list store.now list)) }
+{
+    let mut kern = false;
+    for node in store.iter(list) {
+        kern = kern_after(kern, node);
+    }
+    kern
+}
+
+// Whether nodes end in a kern with this one behind them, if they did before.
+fn kern_after(kern: bool, node: &Node) -> bool
+    ensures { result ≡ kern_after kern node.now.kind }
+{
+    match &node.kind {
+        Kind::Act(_) => kern,
+        Kind::Kern(_) => true,
+        _ => false,
+    }
 }

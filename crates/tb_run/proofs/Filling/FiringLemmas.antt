@@ -231,4 +231,5 @@ module _ (wanted : Bool) (r q d : Routine) (hs : List Happening) (ready : IsRead
         };
         notes = notes-now;
         bottom = ap (λ (t : State). t.note_bottom) t-now ∙ h.coming.keeps.bottom;
+        classes = classes-now;
       }

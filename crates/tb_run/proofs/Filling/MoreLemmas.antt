@@ -1,5 +1,5 @@
 -- A call of the builder, with the items that are left behind what waits.
-use Rattle.std.proofs.Common.{◌≡◌, ◌≢◌, refl, sym, subst, ◌∙◌, ap, Bool, true, false, List, [], ◌∷◌, ◌++◌, Option, Some, None, append-nil, append_assoc}
+use Rattle.std.proofs.Common.{◌≡◌, ◌≢◌, refl, sym, subst, ap, Bool, true, false, List, [], ◌++◌, Option, Some, None}
 use Rattle.tb_node.specs.PlainNodes.{PlainNode}
 use Rattle.tb_builder.specs.declared.Ask.{Ask}
 use Rattle.tb_builder.specs.declared.Event.{Event}
@@ -7,9 +7,9 @@ use Rattle.tb_builder.specs.declared.Event.TheVariants as events
 use Rattle.tb_builder.specs.declared.Page.{Page}
 use Rattle.tb_builder.specs.declared.Try.{Try}
 use Rattle.tb_node.specs.declared.Act.{Act}
-use Rattle.tb_builder.specs.Contents.{Contents, laid}
+use Rattle.tb_builder.specs.Contents.{Contents}
 use Rattle.tb_builder.specs.PageCalls.{IsNext}
-use Rattle.tb_builder.specs.PageEvents.{NextFits, NextIs, FiresWith}
+use Rattle.tb_builder.specs.PageEvents.{NextIs, FiresWith}
 use Rattle.tb_builder.specs.PageProgress.{IsNextOfPage}
 use Rattle.tb_builder.proofs.Events.PagingLemmas.{paging_next}
 use Rattle.tb_items.specs.declared.items_left.ItemsLeft.{ItemsLeft}

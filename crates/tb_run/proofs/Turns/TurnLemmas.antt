@@ -300,7 +300,7 @@ module _ (p : Params) (es : List RunEvent) (rs : List Recorded) (s : State) (f :
   events-by-alive false = sym (append-nil es)
 
   -- the events of a firing after others
-  firing-events : step_events (firing_step p es rs s f) ≡ es ++ map sent (sent_by p s f)
+  pub firing-events : step_events (firing_step p es rs s f) ≡ es ++ map sent (sent_by p s f)
   firing-events = events-by-alive (int_lt (pos s.dead_cycles) p.maxdeadcycles)
 
 module _ (wanted : Bool) (r q : Routine) (page : Page) (hs : List Happening) (h : IsFiring wanted r page q hs) where
@@ -314,7 +314,7 @@ module _ (wanted : Bool) (r q : Routine) (page : Page) (hs : List Happening) (h 
   done-so-far = progress_in start-params start-state
 
   -- the step is the firing of the page
-  step-is : step start-params start-state ≡ firing_step q.machine.params done-so-far.events done-so-far.records (state_of q) (fired_whole q page)
+  pub step-is : step start-params start-state ≡ firing_step q.machine.params done-so-far.events done-so-far.records (state_of q) (fired_whole q page)
   unfolding step
   step-is =
       ap (after_progress start-params (reach_in start-params start-state) done-so-far) h.fires.none

@@ -1,15 +1,18 @@
 -- A page that was served whatever `maxnodes` is: the next one can be made.
-use Rattle.std.proofs.Common.{◌≡◌, refl, sym, subst, false, List, [], ◌++◌, Option, None, Some}
+use Rattle.std.proofs.Common.{◌≡◌, refl, sym, subst, ◌∙◌, ap, false, List, [], ◌++◌, Option, None, Some}
 use Rattle.std.specs.Prelude.{is_some, IfNone}
 use Rattle.tb_builder.specs.declared.Page.{Page}
+use Rattle.tb_output.specs.Output.{out}
+use Rattle.tb_output.specs.Machine.{events_shown}
 use Rattle.tb_items.specs.declared.happenings.Happening.{Happening}
 use Rattle.tb_items.specs.Happenings.{happened_lists}
 use Rattle.tb_run.specs.declared.routine.Routine.{Routine}
 use Rattle.tb_run.specs.declared.routine.Ending.{Ending}
 use Rattle.tb_steps.specs.Runnable.{AreRunnable, AreRunClasses}
-use Rattle.tb_run.specs.Routine.{with_events, IsConsistent, IsBounded, IsReady, AreHappened}
-use Rattle.tb_run.specs.FilledPages.{sent_happenings, CanServe}
+use Rattle.tb_run.specs.Routine.{state_of, with_events, IsConsistent, IsBounded, IsReady, AreHappened}
+use Rattle.tb_run.specs.FilledPages.{sent_happenings, fired_whole, CanServe}
 use Rattle.tb_run.specs.RoutinePages.{ServesAll}
+use Rattle.tb_run.specs.UnlimitedPages.{HasSent}
 use Rattle.tb_run.proofs.Filling.FillingLemmas.{taken-whole}
 use Rattle.tb_run.proofs.Turns.TurnLemmas.{happened-on}
 
@@ -47,6 +50,17 @@ module _ (q d : Routine) (page : Page) (o : Option Ending) (can : CanServe page 
     all-lists hs new quiet handed =
         let h = happened-on d hs new quiet handed k.ended goes.served.0.whole in
         subst (λ (x : Routine). AreHappened x new) (sym same) (record { pages = h.pages; distinct = h.distinct; machine = h.machine; builder = h.builder })
+
+    -- what the firing sent
+    pub all-sent : (hs new : List Happening) → new ≡ hs ++ sent_happenings d.machine.events → HasSent page q m hs new
+    all-sent hs new handed = record {
+      sent = d.machine.events;
+      grown = handed;
+      shown =
+          ap (λ (x : Routine). events_shown x.store d.machine.events) same
+          ∙ goes.served.0.sent
+          ∙ ap (λ es. events_shown q.store es ++ (out q.machine.params (state_of q) (fired_whole q page)).sent) can.taken;
+    }
 
 -- for each way to go on
 pub none-with : (o : Option Ending) (P Q : Type 0) → IfNone o P → (P → Q) → IfNone o Q

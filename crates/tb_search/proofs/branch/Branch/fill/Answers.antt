@@ -1,0 +1,69 @@
+use Rattle.std.proofs.Common.{sym, subst, ◌∙◌, ap, true, FitsSigned, rules}
+use Rattle.std.specs.Prelude.{IfNone, IfSome}
+use Rattle.std.specs.Int.{w128}
+use Rattle.std.proofs.lemmas.Int.{to_z-of_z}
+use Rattle.tb_items.specs.Happenings.{events_of}
+use Rattle.tb_run.specs.Routine.{state_of, IsReady}
+use Rattle.tb_run.specs.FilledPages.{IsFiring, IsFilledLast, Fills}
+use Rattle.tb_run.specs.UnlimitedPages.{HasGoneOn, HasSent, ServesUnlimited}
+use Rattle.tb_rate.specs.Rating.{rating, IsTried}
+use Rattle.tb_rate.specs.RatedRun.{demerits_if, floats_waiting, insertions_first}
+use Rattle.tb_rate.specs.Tries.{last_champion}
+use Rattle.tb_search.specs.declared.branch.Branch.{Branch}
+use Rattle.tb_search.specs.FilledBranches.{FillsTo}
+use Rattle.tb_search.proofs.FiredLemmas.{broke-tried}
+use Rattle.tb_search.proofs.FilledLemmas.{has-fired, unfired-so, unserved-so}
+use Rattle.tb_search.proofs.branch.Branch.fill.Goals as goal
+
+pub returns-in-Ends : goal.returns-in-Ends
+returns-in-Ends c =
+    let b = c.args.self.now in
+    let q = c.fill.new.self in
+    let hs = c.fill.new.happened.items in
+    let now : Branch = record { routine = q; ahead = b.ahead } in
+    let last : IsFilledLast true b.routine c.in-Ends.ending q hs = subst (λ o. Fills true b.routine o q hs) c.in-Ends.is c.in_ok-page.ensures in
+    subst (λ o. FillsTo c.args.params.now c.args.places.now b o now) (sym c.unfired.ensures)
+    (unfired-so c.args.params.now c.args.places.now b c.requires.params now q hs c.in-Ends.ending last c.ends_in_kern-kern.result c.ends_in_kern-kern.ensures)
+
+pub returns-in-Some : goal.returns-in-Some
+returns-in-Some c =
+    let b = c.args.self.now in
+    let q = c.fill.new.self in
+    let hs = c.fill.new.happened.items in
+    let d = c.serve_unlimited.new.self in
+    let page = c.in-Fires.page in
+    let now : Branch = record { routine = d; ahead = b.ahead } in
+    let firing : IsFiring true b.routine page q hs = subst (λ o. Fills true b.routine o q hs) c.in-Fires.is c.in_ok-page.ensures in
+    subst (λ o. FillsTo c.args.params.now c.args.places.now b o now) (sym c.unserved.ensures)
+    (unserved-so c.args.params.now c.args.places.now b c.requires.params now q hs page firing d c.in-Some.ending
+    (subst (λ o. ServesUnlimited page q o d) c.in-Some.is c.in_ok-ending.ensures.served))
+
+pub page_demerits-requires-clause-tried : goal.page_demerits-requires-clause-tried
+page_demerits-requires-clause-tried c =
+    let b = c.args.self.now in
+    let q = c.fill.new.self in
+    let hs = c.fill.new.happened.items in
+    let d = c.serve_unlimited.new.self in
+    let new = c.serve_unlimited.new.happened.items in
+    let page = c.in-Fires.page in
+    let firing : IsFiring true b.routine page q hs = subst (λ o. Fills true b.routine o q hs) c.in-Fires.is c.in_ok-page.ensures in
+    let goes : HasGoneOn page q d = subst (λ o. ServesUnlimited page q o d) c.in_default.is c.in_ok-ending.ensures.served in
+    let sent : HasSent page q d hs new = subst (λ o. IfNone o (HasSent page q d hs new)) c.in_default.is c.in_ok-ending.ensures.sent in
+    subst (λ xs. IfSome (last_champion (events_of d.store xs)) IsTried) (sym c.deref.ensures.value) (broke-tried b.routine q page hs firing d goes new sent)
+
+pub returns : goal.returns
+returns c =
+    let b = c.args.self.now in
+    let q = c.fill.new.self in
+    let hs = c.fill.new.happened.items in
+    let d = c.serve_unlimited.new.self in
+    let new = c.serve_unlimited.new.happened.items in
+    let page = c.in-Fires.page in
+    let firing : IsFiring true b.routine page q hs = subst (λ o. Fills true b.routine o q hs) c.in-Fires.is c.in_ok-page.ensures in
+    let goes : HasGoneOn page q d = subst (λ o. ServesUnlimited page q o d) c.in_default.is c.in_ok-ending.ensures.served in
+    let sent : HasSent page q d hs new = subst (λ o. IfNone o (HasSent page q d hs new)) c.in_default.is c.in_ok-ending.ensures.sent in
+    let ready : IsReady d = subst (λ o. IfNone o (IsReady d)) c.in_default.is c.in_ok-ending.ensures.ready in
+    let value = c.page_demerits.ensures.value ∙ ap (λ xs. demerits_if (rating c.args.params.now c.args.places.now 0 (last_champion (events_of d.store xs)) (floats_waiting (state_of d).floats) (insertions_first (state_of d).waiting))) c.deref.ensures.value in
+    let fits : FitsSigned w128 c.page_demerits.result = search rules in
+    simp to_z-of_z
+    (has-fired b c.requires.branch q page hs firing d goes ready c.in_ok-ending.ensures.classes c.args.places.now c.args.params.now c.requires.params c.in_ok-ending.ensures.params new sent c.page_demerits.result value c.page_demerits.ensures.low c.page_demerits.ensures.high)
