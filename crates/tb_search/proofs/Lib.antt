@@ -18,3 +18,5 @@ pub mod QuietLemmas
 pub mod FiredLemmas
 pub mod FilledLemmas
 pub mod FuelLemmas
+pub mod SettleLemmas
+pub mod ExpandLemmas
