@@ -20,3 +20,4 @@ pub mod FilledLemmas
 pub mod FuelLemmas
 pub mod SettleLemmas
 pub mod ExpandLemmas
+pub mod LevelLemmas
