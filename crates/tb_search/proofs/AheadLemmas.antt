@@ -95,14 +95,19 @@ module _ (g : Galley) (l : ItemsLeft) (b : Before) (m : ℕ) (galley : l.galley.
     where
       same : c ≡ item_ahead g.params l.two b m n ns
       same = cc
+
       behind : cs ≡ ahead_from g.params (last_ahead g) (two_after l.two n.kind) (before_after g.params l.two b n.kind) (suc m) ns
       behind = cc
+
       both : n ∷ ns ≡ past.0 ∷ r.items.now
       both = sym is ∙ past.1.items
+
       items-are : r.items.now ≡ ns
       items-are = cc
+
       kind-is : past.0 ≡ n
       kind-is = cc
+
       two-is : r.two ≡ two_after l.two n.kind
       two-is = past.1.two ∙ ap (λ (x : Item). two_after l.two x.kind) kind-is
 

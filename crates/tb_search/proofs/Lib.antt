@@ -8,6 +8,7 @@ pub mod AheadLemmas
 pub mod PlaceFlags
 pub mod SearchedLemmas
 pub mod LaterLemmas
+pub mod KeepLemmas
 pub mod ReachedWays
 pub mod SearchSteps
 pub mod RatingLemmas

@@ -1,6 +1,6 @@
 -- The order of ways.
-use Rattle.std.proofs.Common.{◌≡◌, refl, sym, ap, subst, ◌∙◌, ◌≢◌, ℕ, suc, ◌+◌, ◌<◌, ◌≤◌, ◌-◌, ◌==◌, Bool, true, false, true≢false, List, [], ◌∷◌, length, get_or, drop, ◌⊎◌, inl, inr, add-one, arith}
-use Rattle.std.specs.Prelude.{ℤ, ◌+ℤ◌, ◌<ℤ◌, nat_lt, reverse, ◌&&◌, ◌||◌}
+use Rattle.std.proofs.Common.{◌≡◌, refl, sym, ap, ◌∙◌, ◌≢◌, ℕ, suc, ◌+◌, ◌<◌, ◌≤◌, ◌-◌, ◌==◌, Bool, true, false, true≢false, List, [], ◌∷◌, length, get_or, drop, ◌⊎◌, inl, inr, add-one, arith}
+use Rattle.std.specs.Prelude.{ℤ, ◌+ℤ◌, nat_lt, reverse, ◌&&◌, ◌||◌}
 use Rattle.std.proofs.lemmas.Bool.Decides.{nat_tests}
 use Rattle.std.proofs.lemmas.Int.{ints}
 use Rattle.std.proofs.lemmas.List.{length-reverse, get_or-reverse, length-drop}

@@ -1,9 +1,13 @@
--- The places of a galley as flags.
-use Rattle.std.proofs.Common.{◌≡◌, refl, sym, ap, ◌∙◌, ℕ, suc, ◌+◌, Bool, true, false, List, [], ◌∷◌, ◌++◌, map, length, append_assoc, length-append, add-one, arith}
-use Rattle.std.specs.Prelude.{replicate}
+-- The places of a galley as flags, and how many items it has.
+use Rattle.std.proofs.Common.{◌≡◌, refl, sym, ap, ◌∙◌, ℕ, suc, ◌+◌, ◌≤◌, Bool, true, false, List, [], ◌∷◌, ◌++◌, map, length, append_assoc, length-append, add-one, arith}
+use Rattle.std.specs.Prelude.{replicate, nat_le, IsTrue}
+use Rattle.std.proofs.lemmas.Bool.Decides.{nat_tests}
 use Rattle.std.proofs.Math.Seq.{set-append_seam}
 use Rattle.tb_param.specs.declared.Params.{Params}
 use Rattle.tb_galley.specs.declared.Item.{Item}
+use Rattle.tb_galley.specs.declared.ItemKind.{ItemKind}
+use Rattle.tb_galley.specs.declared.ItemKind.TheVariants as items
+use Rattle.tb_galley.specs.Valid.{IsValid, weight, weight_of}
 use Rattle.tb_galley.specs.declared.Galley.{Galley}
 use Rattle.tb_galley.specs.GalleyNodes.{two_after}
 use Rattle.tb_plans.specs.declared.walk.Before.{Before}
@@ -37,3 +41,20 @@ module _ (p : Params) (last : Ahead) (clear : last.is_place ≡ false) where
 pub flags-are : (g : Galley) → marked (replicate (length g.items + 1) false) (places_of g) ≡ map (λ (c : Ahead). c.is_place) (all_ahead g)
 unfolding places_of all_ahead
 flags-are g = ap (λ n. marked (replicate n false) (places_from g.params false befores.Nothing 0 g.items)) (add-one (length g.items)) ∙ flags-from g.params (last_ahead g) refl [] false befores.Nothing 0 g.items refl
+
+-- ---- how many items a galley has
+
+items-weigh : (ns : List Item) → length ns ≤ weight ns
+items-weigh [] = omega arith
+items-weigh (n ∷ ns) = let more : length ns ≤ weight ns = items-weigh ns in let one : 1 ≤ weight_of n.kind = heavy n.kind in omega arith
+  where
+    heavy : (k : ItemKind) → 1 ≤ weight_of k
+    heavy (items.Foot class ls) = omega arith
+    heavy k = omega arith
+
+-- a valid galley has at most 100000
+pub few-items : (g : Galley) → IsValid g → length g.items ≤ 100000
+few-items g v = let most : weight g.items ≤ 100000 = below (weight g.items) v.count in let all : length g.items ≤ weight g.items = items-weigh g.items in omega arith
+  where
+    below : (n : ℕ) → IsTrue (nat_le n 100000) → n ≤ 100000
+    below n h = grind (arith, nat_tests, h)

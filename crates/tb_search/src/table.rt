@@ -1,7 +1,7 @@
 //! The states from which the search goes on, each with the best way to it.
 
 ghost use Rattle.std.specs.List.{AllByRecursion};
-ghost use Rattle.std.specs.Prelude.{◌≡◌, ◌<◌, ◌+◌, pos, ◌≤ℤ◌, [], true, false, length, replicate, reverse, Option, IfOk, IfSome, OnOk};
+ghost use Rattle.std.specs.Prelude.{◌≡◌, ◌<◌, ◌+◌, pos, ◌≤ℤ◌, [], ◌∷◌, ◌++◌, true, false, length, replicate, reverse, Option, IfOk, IfSome, OnOk};
 ghost use Rattle.tb_galley.specs.Valid.{IsValid};
 ghost use Rattle.tb_lines.specs.LeastSolution.{is_greater};
 ghost use Rattle.tb_best.specs.ItemsAhead.{all_ahead};
@@ -143,6 +143,15 @@ fn place_of(starts: &[Start<'_>], branch: &Branch<'_>) -> Option<usize>
     None
 }
 
+fn push_start<'a>(starts: &mut Vec<Start<'a>>, start: Start<'a>) -> Result<(), BestFault>
+    ensures { OnOk result (starts.new.items ≡ starts.old.items ++ start.entry ∷ []) }
+{
+    match starts.push(start) {
+        Ok(()) => Ok(()),
+        Err(refused) => Err(AllocError::from(refused).into()),
+    }
+}
+
 impl<'a> Table<'a> {
     /// No state is kept. `greedy` are the demerits of the galley without breaks put in. It fails only if memory runs out.
     pub(crate) fn new(alloc: Global, galley: &'a Galley, greedy: i128) -> Result<Self, AllocError>
@@ -215,10 +224,7 @@ impl<'a> Table<'a> {
             return Err(BestFault::Choices);
         }
         self.count += 1;
-        self.starts[left]
-            .push(start)
-            .map_err(AllocError::from)?;
-        Ok(())
+        push_start(&mut self.starts[left], start)
     }
 
     /// A way that came to the end of a run: it is the best one from now on if it is better.

@@ -1,4 +1,4 @@
-use Rattle.std.proofs.Common.{◌≡◌, sym, ◌∙◌, ◌⊎◌, inl, inr, arith}
+use Rattle.std.proofs.Common.{sym, ◌∙◌, inl, inr, arith}
 use Rattle.tb_search.proofs.OrderLemmas.{other-decides, same-passed, longer-decides}
 use Rattle.tb_search.proofs.table.is_greater.Goals as goal
 use Rattle.tb_search.proofs.table.is_greater.Goals.{then-loop-k-test+else-k-b, else-loop-k-test}

@@ -1,4 +1,4 @@
-use Rattle.std.proofs.Common.{◌≡◌, sym, ap, ◌∙◌, true, inr, arith}
+use Rattle.std.proofs.Common.{◌≡◌, sym, ◌∙◌, true, inr, arith}
 use Rattle.std.specs.Prelude.{reverse}
 use Rattle.std.proofs.lemmas.Int.{ints}
 use Rattle.tb_lines.specs.LeastSolution.{is_greater}
@@ -10,5 +10,5 @@ returns-then-self-other-2-clause-better c = λ h.
     let a = c.as_slice.ensures.value in
     let b = c.as_slice-then-self-other-2.ensures.value in
     let greater : is_greater (reverse c.args.self.now.breaks.items) (reverse c.args.other.now.breaks.items) ≡ true =
-        (λ i. is_greater (reverse (sym a i)) (reverse (sym b i))) ∙ sym c.is_greater.ensures ∙ h in
+    (λ i. is_greater (reverse (sym a i)) (reverse (sym b i))) ∙ sym c.is_greater.ensures ∙ h in
     inr (omega (arith, ints), not-both (reverse c.args.self.now.breaks.items) (reverse c.args.other.now.breaks.items) greater)
