@@ -19,3 +19,6 @@ pub mod QuietLemmas
 pub mod FiredLemmas
 pub mod FilledLemmas
 pub mod FuelLemmas
+pub mod SettleLemmas
+pub mod ExpandLemmas
+pub mod LevelLemmas

@@ -1,6 +1,7 @@
 -- One part of the search: what it shows of the state from which it goes on.
 use Rattle.std.proofs.Common.{◌≡◌, refl, sym, ◌∙◌, ap, subst, ◌⊎◌, inl, inr, ℕ, suc, ◌<◌, ◌≤◌, ℤ, Bool, true, false, List, [], ◌∷◌, ◌++◌, length, arith}
-use Rattle.std.specs.Prelude.{pos, ◌+ℤ◌, ◌≤ℤ◌, ◌<ℤ◌, reverse}
+use Rattle.std.proofs.Common.{Result, Ok, Err}
+use Rattle.std.specs.Prelude.{pos, ◌+ℤ◌, ◌≤ℤ◌, ◌<ℤ◌, reverse, OnOk}
 use Rattle.std.proofs.lemmas.Int.{ints}
 use Rattle.tb_node.specs.PlainNodes.{PlainNode}
 use Rattle.tb_param.specs.declared.Params.{Params}
@@ -110,3 +111,10 @@ full-may g s h = by (reach_in g.params s).fires refl
     by : (b : Bool) → (reach_in g.params s).fires ≡ b → MayTake g s
     by true e = inr (fired-refused g.params s e h.step)
     by false e = inl e
+
+-- ---- results
+
+-- of a result what two facts of it show
+pub if-both : {X E : Type 0} (r : Result X E) (P Q R : Type 0) → OnOk r P → OnOk r Q → (P → Q → R) → OnOk r R
+if-both (Ok x) P Q R p q f = f p q
+if-both (Err e) P Q R p q f = tt

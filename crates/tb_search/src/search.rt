@@ -79,9 +79,9 @@ impl<'a> Table<'a> {
         requires none { rows_of self.old ≡ [] }
         requires low { pos 0 ≤ℤ self.old.bound }
 
-        ensures table { IfOk result (λ _. IsTable self.new) }
-        ensures later { IfOk result (λ _. IsLater self.old self.new) }
-        ensures begun { IfOk result (λ _. rows_know (rows_of self.new) (empty_start galley.now) (all_ahead galley.now) (pos 0) []) }
+        ensures table { OnOk result (IsTable self.new) }
+        ensures later { OnOk result (IsLater self.old self.new) }
+        ensures begun { OnOk result (rows_know (rows_of self.new) (empty_start galley.now) (all_ahead galley.now) (pos 0) []) }
     {
         let first = Branch::start(alloc, galley)?;
         let way = Way {
@@ -95,9 +95,9 @@ impl<'a> Table<'a> {
     fn search(&mut self, alloc: Global) -> Result<(), BestFault>
         requires { IsTable self.old }
 
-        ensures table { IfOk result (λ _. IsTable self.new) }
-        ensures none { IfOk result (λ _. rows_of self.new ≡ []) }
-        ensures searched { IfOk result (λ _. HasSearched [] self.old self.new) }
+        ensures table { OnOk result (IsTable self.new) }
+        ensures none { OnOk result (rows_of self.new ≡ []) }
+        ensures searched { OnOk result (HasSearched [] self.old self.new) }
     {
         'levels: while let Some(starts) = self.starts.pop() {
             let left = self.starts.len();
@@ -117,9 +117,9 @@ impl<'a> Table<'a> {
         requires level { left ≤ length self.old.starts.items }
         requires starts { AllByRecursion (IsStart self.old.galley.now self.old.bound left) starts.items }
 
-        ensures table { IfOk result (λ _. IsTable self.new) }
-        ensures levels { IfOk result (λ _. length self.new.starts.items ≡ length self.old.starts.items) }
-        ensures searched { IfOk result (λ _. HasSearched (map (row_of self.old.galley.now left) starts.entry.items) self.old self.new) }
+        ensures table { OnOk result (IsTable self.new) }
+        ensures levels { OnOk result (length self.new.starts.items ≡ length self.old.starts.items) }
+        ensures searched { OnOk result (HasSearched (map (row_of self.old.galley.now left) starts.entry.items) self.old self.new) }
     {
         let mut starts = starts;
         'starts: while let Some(start) = starts.pop() {
@@ -134,9 +134,9 @@ impl<'a> Table<'a> {
         requires level { left ≤ length self.old.starts.items }
         requires start { IsStart self.old.galley.now self.old.bound left start }
 
-        ensures table { IfOk result (λ _. IsTable self.new) }
-        ensures levels { IfOk result (λ _. length self.new.starts.items ≡ length self.old.starts.items) }
-        ensures searched { IfOk result (λ _. HasSearched (row_of self.old.galley.now left start.entry ∷ []) self.old self.new) }
+        ensures table { OnOk result (IsTable self.new) }
+        ensures levels { OnOk result (length self.new.starts.items ≡ length self.old.starts.items) }
+        ensures searched { OnOk result (HasSearched (row_of self.old.galley.now left start.entry ∷ []) self.old self.new) }
     {
         let Start { mut branch, way } = start;
         let mut left = left;
@@ -183,9 +183,9 @@ impl<'a> Table<'a> {
         requires reached { IsReached self.old.galley.now left (record { branch = branch.now; way = way.now }) }
         requires high { way.now.demerits ≤ℤ self.old.bound }
 
-        ensures table { IfOk result (λ _. IsTable self.new) }
-        ensures continues { IfOk result (λ _. Continues self.old self.new) }
-        ensures searched { IfOk result (λ _. IsCutSearched self.new (shown branch.now) (items_ahead self.old.galley.now left) way.now.demerits (reverse way.now.breaks.items)) }
+        ensures table { OnOk result (IsTable self.new) }
+        ensures continues { OnOk result (Continues self.old self.new) }
+        ensures searched { OnOk result (IsCutSearched self.new (shown branch.now) (items_ahead self.old.galley.now left) way.now.demerits (reverse way.now.breaks.items)) }
     {
         let number = self.is_place.len() - left;
         if !self.is_place[number] || way.demerits + 1000 > self.bound || !branch.holds_box() {
@@ -212,9 +212,9 @@ impl<'a> Table<'a> {
         requires reached { IsReached self.old.galley.now left (record { branch = branch.now; way = way.now }) }
         requires high { way.now.demerits +ℤ pos 1000 ≤ℤ self.old.bound }
 
-        ensures table { IfOk result (λ _. IsTable self.new) }
-        ensures continues { IfOk result (λ _. Continues self.old self.new) }
-        ensures searched { IfOk result (λ _. IsCutSearched self.new (shown branch.now) (items_ahead self.old.galley.now left) way.now.demerits (reverse way.now.breaks.items)) }
+        ensures table { OnOk result (IsTable self.new) }
+        ensures continues { OnOk result (Continues self.old self.new) }
+        ensures searched { OnOk result (IsCutSearched self.new (shown branch.now) (items_ahead self.old.galley.now left) way.now.demerits (reverse way.now.breaks.items)) }
     {
         let mut page = branch.copy(alloc)?;
         if !page.cut()? {
@@ -248,9 +248,9 @@ impl<'a> Table<'a> {
         requires reached { IsReached self.old.galley.now left (record { branch = branch; way = way }) }
         requires high { way.demerits ≤ℤ (self.old.bound +ℤ pos 1000000000000) }
 
-        ensures table { IfOk result (λ _. IsTable self.new) }
-        ensures continues { IfOk result (λ _. Continues self.old self.new) }
-        ensures searched { IfOk result (λ _. IsSearchedAsGoodBy self.new (shown branch.entry) (items_ahead self.old.galley.now left) way.demerits (reverse way.breaks.items)) }
+        ensures table { OnOk result (IsTable self.new) }
+        ensures continues { OnOk result (Continues self.old self.new) }
+        ensures searched { OnOk result (IsSearchedAsGoodBy self.new (shown branch.entry) (items_ahead self.old.galley.now left) way.demerits (reverse way.breaks.items)) }
     {
         let mut branch = branch;
         let mut way = way;
@@ -283,9 +283,9 @@ impl<'a> Table<'a> {
         requires quiet { IsQuiet self.old.galley.now.params (shown branch) }
         requires high { way.demerits ≤ℤ self.old.bound }
 
-        ensures table { IfOk result (λ _. IsTable self.new) }
-        ensures continues { IfOk result (λ _. Continues self.old self.new) }
-        ensures searched { IfOk result (λ _. IsSearchedAsGoodBy self.new (shown branch.entry) (items_ahead self.old.galley.now left) way.demerits (reverse way.breaks.items)) }
+        ensures table { OnOk result (IsTable self.new) }
+        ensures continues { OnOk result (Continues self.old self.new) }
+        ensures searched { OnOk result (IsSearchedAsGoodBy self.new (shown branch.entry) (items_ahead self.old.galley.now left) way.demerits (reverse way.breaks.items)) }
     {
         if left > 0 {
             return self.keep(left, branch, way);

@@ -1,27 +1,29 @@
-use Rattle.std.proofs.Common.{rules, ◌≡◌, ◌+◌, ◌<◌, ◌≤◌, pos, ◌+ℤ◌, ◌≤ℤ◌, true, false, [], ◌∷◌, map, length, reverse, get_or, Some, IfOk, OnOk, ℕ, ◌-◌, ◌*◌, ◌/◌, ◌%◌, Bool, nat_eq, nat_lt, List, ◌++◌, slice_set, bit_and, bit_or, Fits, w8, w32, w64, Bor, MutBor}
-use Rattle.std.specs.List.{AllByRecursion}
-use Rattle.tb_galley.specs.Valid.{IsValid}
-use Rattle.tb_builder.specs.Reach.{holds_box}
-use Rattle.tb_rate.specs.Places.{place_penalties}
-use Rattle.tb_best.specs.PlanDemerits.{plan_demerits}
-use Rattle.tb_best.specs.BestPlan.{IsBest}
-use Rattle.tb_best.specs.ItemsAhead.{all_ahead, empty_start}
-use Rattle.tb_best.specs.ClosedTables.{rows_know}
-use Rattle.tb_search.specs.Branches.{shown, IsBranch}
-use Rattle.tb_search.specs.FilledBranches.{FillsTo, IsQuiet}
+use Rattle.std.proofs.Common.{◌≡◌, ℕ, sym, subst, ◌≤◌, reverse, arith}
+use Rattle.std.proofs.lemmas.Int.{ints}
+use Rattle.tb_search.specs.Branches.{shown}
 use Rattle.tb_search.specs.AheadInCode.{items_ahead}
-use Rattle.tb_search.specs.Starts.{row_of, rows_of, IsReached, IsStart, IsTable}
-use Rattle.tb_search.specs.Continues.{IsLater, Continues, HasSearched, IsSearchedAsGoodBy, IsCutSearched}
+use Rattle.tb_search.specs.Starts.{IsReached}
+use Rattle.tb_search.specs.Continues.{IsSearchedBy}
+use Rattle.tb_search.proofs.ReachedWays.{end-rated}
+use Rattle.tb_search.proofs.SearchSteps.{as-searched, kept-searched, end-searched, if-both}
 use Rattle.tb_search.proofs.table.Table.arrive.Goals as goal
 
--- src/search.rt:291:13
 pub returns-then-left-gt0-clause-searched : goal.returns-then-left-gt0-clause-searched
-returns-then-left-gt0-clause-searched c = ?
+returns-then-left-gt0-clause-searched c =
+    if-both c.keep.result _ _ _ c.keep.ensures.continues c.keep.ensures.known
+    (λ on known. kept-searched c.args.self.now c.keep.new.self on.later c.args.left (shown c.args.branch) c.args.way known)
 
--- src/search.rt:293:9
 pub end-requires-clause-rated : goal.end-requires-clause-rated
-end-requires-clause-rated c = ?
+end-requires-clause-rated c =
+    let none : c.args.left ≡ 0 = let e = c.if-left-gt0.false in omega (arith, e) in
+    let x = record { branch = c.args.branch; way = c.args.way } in
+    end-rated c.args.self.now.galley.now x (subst (λ n. IsReached c.args.self.now.galley.now n x) none c.requires.reached) c.requires.quiet
 
--- src/search.rt:279:5
 pub returns-clause-searched : goal.returns-clause-searched
-returns-clause-searched c = ?
+returns-clause-searched c =
+    let none : c.args.left ≡ 0 = let e = c.if-left-gt0.false in omega (arith, e) in
+    let s = shown c.args.branch in
+    let w = c.args.way in
+    as-searched c.end.new.self s (items_ahead c.args.self.now.galley.now c.args.left) w.demerits (reverse w.breaks.items)
+    (subst (λ n. IsSearchedBy c.end.new.self s (items_ahead c.args.self.now.galley.now n) w.demerits (reverse w.breaks.items)) (sym none)
+    (end-searched c.args.self.now c.end.new.self c.end.ensures.continues.later s w c.requires.quiet c.end.ensures.best))

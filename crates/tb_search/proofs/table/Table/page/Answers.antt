@@ -1,19 +1,12 @@
-use Rattle.std.proofs.Common.{rules, ◌≡◌, ◌+◌, ◌<◌, ◌≤◌, pos, ◌+ℤ◌, ◌≤ℤ◌, true, false, [], ◌∷◌, map, length, reverse, get_or, Some, IfOk, OnOk, ℕ, ◌-◌, ◌*◌, ◌/◌, ◌%◌, Bool, nat_eq, nat_lt, List, ◌++◌, slice_set, bit_and, bit_or, Fits, w8, w32, w64, Bor, MutBor}
-use Rattle.std.specs.List.{AllByRecursion}
-use Rattle.tb_galley.specs.Valid.{IsValid}
-use Rattle.tb_builder.specs.Reach.{holds_box}
+use Rattle.std.proofs.Common.{subst, ◌∙◌}
 use Rattle.tb_rate.specs.Places.{place_penalties}
-use Rattle.tb_best.specs.PlanDemerits.{plan_demerits}
-use Rattle.tb_best.specs.BestPlan.{IsBest}
-use Rattle.tb_best.specs.ItemsAhead.{all_ahead, empty_start}
-use Rattle.tb_best.specs.ClosedTables.{rows_know}
-use Rattle.tb_search.specs.Branches.{shown, IsBranch}
-use Rattle.tb_search.specs.FilledBranches.{FillsTo, IsQuiet}
-use Rattle.tb_search.specs.AheadInCode.{items_ahead}
-use Rattle.tb_search.specs.Starts.{row_of, rows_of, IsReached, IsStart, IsTable}
-use Rattle.tb_search.specs.Continues.{IsLater, Continues, HasSearched, IsSearchedAsGoodBy, IsCutSearched}
+use Rattle.tb_search.specs.FilledBranches.{FillsTo}
+use Rattle.tb_search.proofs.ReachedWays.{fills-copy}
 use Rattle.tb_search.proofs.table.Table.page.Goals as goal
 
--- src/search.rt:298:5
 pub returns : goal.returns
-returns c = ?
+returns c =
+    let p = c.args.self.now.galley.now.params in
+    let copy = c.in_ok-page.ensures in
+    fills-copy p (place_penalties c.args.self.now.galley.now.items) c.args.branch.now c.in_ok-page.page c.fill.new.self c.in_ok-filled.filled copy.state copy.ahead copy.params
+    (subst (λ ps. FillsTo p ps c.in_ok-page.page c.in_ok-filled.filled c.fill.new.self) (c.as_slice.ensures.value ∙ c.requires.table.penalties) c.in_ok-filled.ensures)
