@@ -1,6 +1,6 @@
 //! The items of a galley whose nodes do not wait yet.
 
-ghost use Rattle.std.specs.Prelude.{◌≡◌, ◌≤◌, ◌<◌, true, length, take, IfOk};
+ghost use Rattle.std.specs.Prelude.{◌≡◌, ◌≤◌, ◌<◌, true, false, length, take, IfOk};
 ghost use Rattle.tb_node.specs.PlainNodes.{on_line};
 ghost use Rattle.tb_builder.specs.Contents.{contents_of, node_count};
 ghost use Rattle.tb_galley.specs.GalleyNodes.{item_kinds, expanded};
@@ -31,6 +31,8 @@ const BATCH: usize = 256;
 pub fn all_items(galley: &Galley) -> ItemsLeft<'_>
     ensures nodes { nodes_of result ≡ expanded galley.now }
     ensures items { result.items.now ≡ galley.now.items }
+    ensures galley { result.galley.now ≡ galley.now }
+    ensures columns { result.two ≡ false }
 {
     ItemsLeft {
         galley,

@@ -3,6 +3,14 @@ pub mod ServedLemmas
 pub mod StartLemmas
 pub mod TakenLemmas
 pub mod BoxLemmas
+pub mod OrderLemmas
+pub mod AheadLemmas
+pub mod PlaceFlags
+pub mod SearchedLemmas
+pub mod LaterLemmas
+pub mod KeepLemmas
+pub mod ReachedWays
+pub mod SearchSteps
 pub mod RatingLemmas
 pub mod KernLemmas
 pub mod EndLemmas
@@ -11,3 +19,6 @@ pub mod QuietLemmas
 pub mod FiredLemmas
 pub mod FilledLemmas
 pub mod FuelLemmas
+pub mod SettleLemmas
+pub mod ExpandLemmas
+pub mod LevelLemmas

@@ -1,6 +1,19 @@
 //! The search: from each state between two pages all pages are made that may come next.
 
-ghost use Rattle.std.specs.Prelude.{◌≡◌, OnOk};
+ghost use Rattle.std.specs.List.{AllByRecursion};
+ghost use Rattle.std.specs.Prelude.{◌≡◌, ◌+◌, ◌<◌, ◌≤◌, pos, ◌+ℤ◌, ◌≤ℤ◌, true, false, [], ◌∷◌, map, length, reverse, get_or, Some, IfOk, OnOk};
+ghost use Rattle.tb_galley.specs.Valid.{IsValid};
+ghost use Rattle.tb_builder.specs.Reach.{holds_box};
+ghost use Rattle.tb_rate.specs.Places.{place_penalties};
+ghost use Rattle.tb_best.specs.PlanDemerits.{plan_demerits};
+ghost use Rattle.tb_best.specs.BestPlan.{IsBest};
+ghost use Rattle.tb_best.specs.ItemsAhead.{all_ahead, empty_start};
+ghost use Rattle.tb_best.specs.ClosedTables.{rows_know};
+ghost use Rattle.tb_search.specs.Branches.{shown, IsBranch};
+ghost use Rattle.tb_search.specs.FilledBranches.{FillsTo, IsQuiet};
+ghost use Rattle.tb_search.specs.AheadInCode.{items_ahead};
+ghost use Rattle.tb_search.specs.Starts.{row_of, rows_of, IsReached, IsStart, IsTable};
+ghost use Rattle.tb_search.specs.Continues.{IsLater, Continues, HasSearched, IsSearchedAsGoodBy, IsCutSearched};
 
 use crate::table::{Start, Table, Way, breaks_with};
 use crate::{Branch, Filled};
@@ -8,6 +21,7 @@ use std::alloc::{AllocError, Global};
 use tb_galley::Galley;
 
 /// The best plan of a galley.
+#[derive(Drop)]
 pub struct BestPlan {
     /// The numbers of the items before which a break is put in, in their order.
     pub places: Vec<u32>,
@@ -36,19 +50,19 @@ impl From<AllocError> for BestFault {
 
 /// The best plan of a galley: of all ways to put page breaks in at its places the one of least demerits, and of several the
 /// one whose breaks, read from the last, are the greatest. `greedy` are the demerits of the galley without breaks put in.
-pub fn best_breaks(alloc: Global, galley: &Galley, greedy: i128) -> Result<BestPlan, BestFault> {
+///
+/// It fails if the search comes to too many states or to one that holds too many nodes, or if memory runs out.
+pub fn best_breaks(alloc: Global, galley: &Galley, greedy: i128) -> Result<BestPlan, BestFault>
+    requires valid { IsValid galley.now }
+    requires sum { plan_demerits galley.now [] ≡ Some greedy }
+    requires low { pos 0 ≤ℤ greedy }
+    requires high { greedy ≤ℤ pos 1000000000000000000000000000 }
+
+    ensures best { IfOk result (λ b. IsBest galley.now b.places.items b.demerits) }
+{
     let mut table = Table::new(alloc, galley, greedy)?;
-    let first = Branch::start(alloc, galley)?;
-    let way = Way {
-        breaks: Vec::new(alloc),
-        demerits: 0,
-    };
-    let left = galley.items.len() + 1;
-    table.settle(alloc, left, first, way)?;
-    'levels: while let Some(starts) = table.starts.pop() {
-        let left = table.starts.len();
-        table.expand_all(alloc, left, starts)?;
-    }
+    table.begin(alloc, galley)?;
+    table.search(alloc)?;
     Ok(BestPlan {
         places: table.best.breaks,
         demerits: table.best.demerits,
@@ -56,21 +70,74 @@ pub fn best_breaks(alloc: Global, galley: &Galley, greedy: i128) -> Result<BestP
 }
 
 impl<'a> Table<'a> {
+    // The state in which a run begins waits.
+    fn begin(&mut self, alloc: Global, galley: &'a Galley) -> Result<(), BestFault>
+        requires table { IsTable self.old }
+        requires galley { self.old.galley.now ≡ galley.now }
+        requires valid { IsValid galley.now }
+        requires levels { length self.old.starts.items ≡ length (all_ahead galley.now) + 1 }
+        requires none { rows_of self.old ≡ [] }
+        requires low { pos 0 ≤ℤ self.old.bound }
+
+        ensures table { OnOk result (IsTable self.new) }
+        ensures later { OnOk result (IsLater self.old self.new) }
+        ensures begun { OnOk result (rows_know (rows_of self.new) (empty_start galley.now) (all_ahead galley.now) (pos 0) []) }
+    {
+        let first = Branch::start(alloc, galley)?;
+        let way = Way {
+            breaks: Vec::new(alloc),
+            demerits: 0,
+        };
+        self.keep(galley.items.len() + 1, first, way)
+    }
+
+    // Goes on from all states that wait, first from those with the most items ahead, until none waits.
+    fn search(&mut self, alloc: Global) -> Result<(), BestFault>
+        requires { IsTable self.old }
+
+        ensures table { OnOk result (IsTable self.new) }
+        ensures none { OnOk result (rows_of self.new ≡ []) }
+        ensures searched { OnOk result (HasSearched [] self.old self.new) }
+    {
+        'levels: while let Some(starts) = self.starts.pop() {
+            let left = self.starts.len();
+            self.expand_all(alloc, left, starts)?;
+        }
+        Ok(())
+    }
+
     // The pages that may come next after each of these states, which have so many items ahead.
     fn expand_all(
         &mut self,
         alloc: Global,
         left: usize,
         starts: Vec<Start<'a>>,
-    ) -> Result<(), BestFault> {
-        for start in starts {
+    ) -> Result<(), BestFault>
+        requires table { IsTable self.old }
+        requires level { left ≤ length self.old.starts.items }
+        requires starts { AllByRecursion (IsStart self.old.galley.now self.old.bound left) starts.items }
+
+        ensures table { OnOk result (IsTable self.new) }
+        ensures levels { OnOk result (length self.new.starts.items ≡ length self.old.starts.items) }
+        ensures searched { OnOk result (HasSearched (map (row_of self.old.galley.now left) starts.entry.items) self.old self.new) }
+    {
+        let mut starts = starts;
+        'starts: while let Some(start) = starts.pop() {
             self.expand(alloc, left, start)?;
         }
         Ok(())
     }
 
     // All pages that may come next after a state: items are taken while no page fires, and at each place a break is put in.
-    fn expand(&mut self, alloc: Global, left: usize, start: Start<'a>) -> Result<(), BestFault> {
+    fn expand(&mut self, alloc: Global, left: usize, start: Start<'a>) -> Result<(), BestFault>
+        requires table { IsTable self.old }
+        requires level { left ≤ length self.old.starts.items }
+        requires start { IsStart self.old.galley.now self.old.bound left start }
+
+        ensures table { OnOk result (IsTable self.new) }
+        ensures levels { OnOk result (length self.new.starts.items ≡ length self.old.starts.items) }
+        ensures searched { OnOk result (HasSearched (row_of self.old.galley.now left start.entry ∷ []) self.old self.new) }
+    {
         let Start { mut branch, way } = start;
         let mut left = left;
         'items: while left > 0 {
@@ -79,8 +146,8 @@ impl<'a> Table<'a> {
                 return Err(BestFault::Choices);
             }
             left -= 1;
-            let mut page = branch.copy(alloc)?;
-            match page.fill(alloc, &self.galley.params, self.penalties.as_slice())? {
+            let (filled, page) = self.page(alloc, &branch)?;
+            match filled {
                 Filled::Fired { demerits } => {
                     let way = Way {
                         breaks: way.breaks,
@@ -88,12 +155,17 @@ impl<'a> Table<'a> {
                     };
                     return self.settle(alloc, left, page, way);
                 }
-                Filled::Quiet => {}
+                Filled::Quiet => {
+                    if left == 0 {
+                        self.end(way);
+                        return Ok(());
+                    }
+                }
+                Filled::Full => {}
                 Filled::Refused => return Ok(()),
                 Filled::TooMany => return Err(BestFault::Choices),
             }
         }
-        self.end(way);
         Ok(())
     }
 
@@ -104,55 +176,134 @@ impl<'a> Table<'a> {
         left: usize,
         branch: &Branch<'a>,
         way: &Way,
-    ) -> Result<(), BestFault> {
+    ) -> Result<(), BestFault>
+        requires table { IsTable self.old }
+        requires some { 0 < left }
+        requires level { left ≤ length self.old.starts.items }
+        requires reached { IsReached self.old.galley.now left (record { branch = branch.now; way = way.now }) }
+        requires high { way.now.demerits ≤ℤ self.old.bound }
+
+        ensures table { OnOk result (IsTable self.new) }
+        ensures continues { OnOk result (Continues self.old self.new) }
+        ensures searched { OnOk result (IsCutSearched self.new (shown branch.now) (items_ahead self.old.galley.now left) way.now.demerits (reverse way.now.breaks.items)) }
+    {
         let number = self.is_place.len() - left;
         if !self.is_place[number] || way.demerits + 1000 > self.bound || !branch.holds_box() {
             return Ok(());
         }
+        self.put_break(alloc, left, branch, way, number)
+    }
+
+    // The page into which a break is put before the next item, which has this number.
+    fn put_break(
+        &mut self,
+        alloc: Global,
+        left: usize,
+        branch: &Branch<'a>,
+        way: &Way,
+        number: usize,
+    ) -> Result<(), BestFault>
+        requires table { IsTable self.old }
+        requires some { 0 < left }
+        requires level { left ≤ length self.old.starts.items }
+        requires number { number + left ≡ length (all_ahead self.old.galley.now) }
+        requires place { get_or self.old.is_place.items number false ≡ true }
+        requires boxed { holds_box (shown branch.now).waiting ≡ true }
+        requires reached { IsReached self.old.galley.now left (record { branch = branch.now; way = way.now }) }
+        requires high { way.now.demerits +ℤ pos 1000 ≤ℤ self.old.bound }
+
+        ensures table { OnOk result (IsTable self.new) }
+        ensures continues { OnOk result (Continues self.old self.new) }
+        ensures searched { OnOk result (IsCutSearched self.new (shown branch.now) (items_ahead self.old.galley.now left) way.now.demerits (reverse way.now.breaks.items)) }
+    {
         let mut page = branch.copy(alloc)?;
         if !page.cut()? {
             return Err(BestFault::Choices);
         }
-        let way = Way {
-            breaks: breaks_with(alloc, way.breaks.as_slice(), Some(number as u32))?,
-            demerits: way.demerits + 1000,
-        };
+        let breaks = breaks_with(alloc, way.breaks.as_slice(), Some(number as u32))?;
         match page.fill(alloc, &self.galley.params, self.penalties.as_slice())? {
             Filled::Fired { demerits } => {
                 let way = Way {
-                    breaks: way.breaks,
-                    demerits: way.demerits + demerits,
+                    breaks,
+                    demerits: way.demerits + 1000 + demerits,
                 };
                 self.settle(alloc, left - 1, page, way)
             }
-            Filled::Quiet | Filled::Refused => Ok(()),
+            Filled::Quiet | Filled::Full | Filled::Refused => Ok(()),
             Filled::TooMany => Err(BestFault::Choices),
         }
     }
 
-    // Pages are filled while they fire without a further item; then the state is kept, unless it has more demerits than the
-    // bound.
+    // Pages are filled while they fire without a further item; then the state is kept, or the run ends if nothing is ahead. A
+    // state with more demerits than the bound is not gone on.
     fn settle(
         &mut self,
         alloc: Global,
         left: usize,
         branch: Branch<'a>,
         way: Way,
-    ) -> Result<(), BestFault> {
+    ) -> Result<(), BestFault>
+        requires table { IsTable self.old }
+        requires level { left < length self.old.starts.items }
+        requires reached { IsReached self.old.galley.now left (record { branch = branch; way = way }) }
+        requires high { way.demerits ≤ℤ (self.old.bound +ℤ pos 1000000000000) }
+
+        ensures table { OnOk result (IsTable self.new) }
+        ensures continues { OnOk result (Continues self.old self.new) }
+        ensures searched { OnOk result (IsSearchedAsGoodBy self.new (shown branch.entry) (items_ahead self.old.galley.now left) way.demerits (reverse way.breaks.items)) }
+    {
         let mut branch = branch;
         let mut way = way;
         'fires: while way.demerits <= self.bound {
-            let mut page = branch.copy(alloc)?;
-            match page.fill(alloc, &self.galley.params, self.penalties.as_slice())? {
+            let (filled, page) = self.page(alloc, &branch)?;
+            match filled {
                 Filled::Fired { demerits } => {
                     branch = page;
                     way.demerits += demerits;
                 }
-                Filled::Quiet => return self.keep(left, branch, way),
+                Filled::Quiet => return self.arrive(left, branch, way),
+                Filled::Full => {
+                    if left > 0 {
+                        return self.keep(left, branch, way);
+                    }
+                    return Ok(());
+                }
                 Filled::Refused => return Ok(()),
                 Filled::TooMany => return Err(BestFault::Choices),
             }
         }
         Ok(())
+    }
+
+    // A state in which no page fires is kept, or the run ends if nothing is ahead.
+    fn arrive(&mut self, left: usize, branch: Branch<'a>, way: Way) -> Result<(), BestFault>
+        requires table { IsTable self.old }
+        requires level { left < length self.old.starts.items }
+        requires reached { IsReached self.old.galley.now left (record { branch = branch; way = way }) }
+        requires quiet { IsQuiet self.old.galley.now.params (shown branch) }
+        requires high { way.demerits ≤ℤ self.old.bound }
+
+        ensures table { OnOk result (IsTable self.new) }
+        ensures continues { OnOk result (Continues self.old self.new) }
+        ensures searched { OnOk result (IsSearchedAsGoodBy self.new (shown branch.entry) (items_ahead self.old.galley.now left) way.demerits (reverse way.breaks.items)) }
+    {
+        if left > 0 {
+            return self.keep(left, branch, way);
+        }
+        self.end(way);
+        Ok(())
+    }
+
+    // A copy of a state, with its page filled.
+    fn page(&self, alloc: Global, branch: &Branch<'a>) -> Result<(Filled, Branch<'a>), BestFault>
+        requires table { IsTable self.now }
+        requires branch { IsBranch branch.now }
+        requires params { branch.now.routine.machine.params ≡ self.now.galley.now.params }
+
+        ensures { IfOk result (λ x. FillsTo self.now.galley.now.params (place_penalties self.now.galley.now.items) branch.now x.0 x.1) }
+    {
+        let mut page = branch.copy(alloc)?;
+        let filled = page.fill(alloc, &self.galley.params, self.penalties.as_slice())?;
+        Ok((filled, page))
     }
 }

@@ -1,6 +1,16 @@
 //! The states from which the search goes on, each with the best way to it.
 
-ghost use Rattle.std.specs.Prelude.{◌≡◌, OnOk};
+ghost use Rattle.std.specs.List.{AllByRecursion};
+ghost use Rattle.std.specs.Prelude.{◌≡◌, ◌<◌, ◌+◌, pos, ◌≤ℤ◌, [], ◌∷◌, ◌++◌, true, false, length, replicate, reverse, Option, IfOk, IfSome, OnOk};
+ghost use Rattle.tb_galley.specs.Valid.{IsValid};
+ghost use Rattle.tb_lines.specs.LeastSolution.{is_greater};
+ghost use Rattle.tb_best.specs.ItemsAhead.{all_ahead};
+ghost use Rattle.tb_best.specs.PlanDemerits.{plan_demerits};
+ghost use Rattle.tb_search.specs.Branches.{shown, IsBranch};
+ghost use Rattle.tb_search.specs.Continues.{Continues};
+ghost use Rattle.tb_search.specs.KeptStarts.{HasRow, HasRowAsGood, IsBetterOf, IsNoWorseWay, IsSameAt};
+ghost use Rattle.tb_search.specs.Starts.{rows_of, IsRated, IsStart, IsTable};
+ghost use Rattle.tb_search.specs.Ways.{marked, with_last};
 
 use crate::Branch;
 use crate::search::BestFault;
@@ -9,6 +19,7 @@ use tb_galley::Galley;
 use tb_rate::{PlacePenalty, place_penalties};
 
 /// A way that the search went: the breaks that were put in, and the demerits so far.
+#[derive(Drop)]
 pub(crate) struct Way {
     /// The numbers of the items before which a break was put in, in their order.
     pub(crate) breaks: Vec<u32>,
@@ -17,6 +28,7 @@ pub(crate) struct Way {
 }
 
 /// A state between two pages in which no page fires, with the best way to it.
+#[derive(Drop)]
 pub(crate) struct Start<'a> {
     /// The state.
     pub(crate) branch: Branch<'a>,
@@ -25,6 +37,7 @@ pub(crate) struct Start<'a> {
 }
 
 /// The states from which the search goes on, and what it knows of the galley.
+#[derive(Drop)]
 pub(crate) struct Table<'a> {
     /// The galley.
     pub(crate) galley: &'a Galley,
@@ -46,14 +59,13 @@ pub(crate) struct Table<'a> {
 const MOST_STATES: u64 = 1_000_000;
 
 // Which of so many numbers are in a list.
-fn flags(alloc: Global, count: usize, numbers: &[u32]) -> Result<Vec<bool>, AllocError> {
-    let mut flags = Vec::with_capacity_in(count, alloc)?;
-    for _ in 0..count {
-        flags.push(false)?;
-    }
+fn flags(alloc: Global, count: usize, numbers: &[u32]) -> Result<Vec<bool>, AllocError>
+    ensures { IfOk result (λ v. v.items ≡ marked (replicate count false) numbers.now) }
+{
+    let mut flags = vec![in alloc; false; count]?;
     for number in numbers {
         let k = *number as usize;
-        if k < count {
+        if k < flags.len() {
             flags[k] = true;
         }
     }
@@ -65,7 +77,9 @@ pub(crate) fn breaks_with(
     alloc: Global,
     breaks: &[u32],
     more: Option<u32>,
-) -> Result<Vec<u32>, AllocError> {
+) -> Result<Vec<u32>, AllocError>
+    ensures { IfOk result (λ v. v.items ≡ with_last breaks.now more) }
+{
     let mut copy = Vec::new(alloc);
     for number in breaks {
         copy.push(*number)?;
@@ -78,7 +92,9 @@ pub(crate) fn breaks_with(
 
 // Whether some breaks, read from the last, are lexicographically greater than others; if one begins the other, the longer is
 // greater.
-fn is_greater(a: &[u32], b: &[u32]) -> bool {
+fn is_greater(a: &[u32], b: &[u32]) -> bool
+    ensures { result ≡ is_greater (reverse a.now) (reverse b.now) }
+{
     let mut k = 0;
     while k < a.len() && k < b.len() {
         let x = a[a.len() - 1 - k];
@@ -93,24 +109,67 @@ fn is_greater(a: &[u32], b: &[u32]) -> bool {
 
 impl Way {
     /// Whether this way is better than another: it has fewer demerits, or as many and greater breaks, read from the last.
-    pub(crate) fn is_better(&self, other: &Way) -> bool {
+    pub(crate) fn is_better(&self, other: &Way) -> bool
+        ensures better { result ≡ true → IsNoWorseWay self.now other.now }
+        ensures worse { result ≡ false → IsNoWorseWay other.now self.now }
+    {
         self.demerits < other.demerits
             || (self.demerits == other.demerits
                 && is_greater(self.breaks.as_slice(), other.breaks.as_slice()))
     }
+
+    // Another way is taken in place of this one if it is better.
+    fn offer(&mut self, way: Way)
+        ensures { IsBetterOf self.old way self.new }
+    {
+        if way.is_better(self) {
+            *self = way;
+        }
+    }
+}
+
+// The place of a state that is the same as this one but for the left column.
+fn place_of(starts: &[Start<'_>], branch: &Branch<'_>) -> Option<usize>
+    requires starts { AllByRecursion (λ x. IsBranch x.branch) starts.now }
+    requires classes { AllByRecursion (λ x. (shown x.branch).classes ≡ (shown branch.now).classes) starts.now }
+    requires branch { IsBranch branch.now }
+    ensures { IfSome result (λ k. IsSameAt starts.now k (shown branch.now)) }
+{
+    for (k, start) in starts.iter().enumerate() {
+        if start.branch.is_same(branch) {
+            return Some(k);
+        }
+    }
+    None
+}
+
+fn push_start<'a>(starts: &mut Vec<Start<'a>>, start: Start<'a>) -> Result<(), BestFault>
+    ensures { OnOk result (starts.new.items ≡ starts.old.items ++ start.entry ∷ []) }
+{
+    match starts.push(start) {
+        Ok(()) => Ok(()),
+        Err(refused) => Err(AllocError::from(refused).into()),
+    }
 }
 
 impl<'a> Table<'a> {
-    /// No state is kept. `greedy` are the demerits of the galley without breaks put in.
-    pub(crate) fn new(alloc: Global, galley: &'a Galley, greedy: i128) -> Result<Self, AllocError> {
+    /// No state is kept. `greedy` are the demerits of the galley without breaks put in. It fails only if memory runs out.
+    pub(crate) fn new(alloc: Global, galley: &'a Galley, greedy: i128) -> Result<Self, AllocError>
+        requires valid { IsValid galley.now }
+        requires greedy { plan_demerits galley.now [] ≡ Option.Some greedy }
+        requires range { greedy ≤ℤ pos 1000000000000000000000000000 }
+
+        ensures table { IfOk result IsTable }
+        ensures galley { IfOk result (λ t. t.galley.now ≡ galley.now) }
+        ensures bound { IfOk result (λ t. t.bound ≡ greedy) }
+        ensures none { IfOk result (λ t. rows_of t ≡ []) }
+        ensures levels { IfOk result (λ t. length t.starts.items ≡ length (all_ahead galley.now) + 1) }
+    {
         let penalties = place_penalties(alloc, galley.items.as_slice())?;
         let places = tb_plans::places(alloc, galley)?;
         let count = galley.items.len() + 1;
         let is_place = flags(alloc, count, places.as_slice())?;
-        let mut starts = Vec::with_capacity_in(count + 1, alloc)?;
-        for _ in 0..count + 1 {
-            starts.push(Vec::new(alloc))?;
-        }
+        let starts = no_starts(alloc, count + 1)?;
         Ok(Table {
             galley,
             penalties,
@@ -125,34 +184,72 @@ impl<'a> Table<'a> {
         })
     }
 
-    /// Keeps a state that has so many items ahead, or a better way to one that is kept.
+    /// Keeps a state that has so many items ahead, or a better way to one that is kept. It fails if too many states are kept,
+    /// or if memory runs out.
     pub(crate) fn keep(
         &mut self,
         left: usize,
         branch: Branch<'a>,
         way: Way,
-    ) -> Result<(), BestFault> {
-        let starts = &mut self.starts[left];
-        for start in starts.as_mut_slice() {
-            if start.branch.is_same(&branch) {
-                if way.is_better(&start.way) {
-                    start.way = way;
-                }
-                return Ok(());
+    ) -> Result<(), BestFault>
+        requires table { IsTable self.old }
+        requires left { left < length self.old.starts.items }
+        requires start { IsStart self.old.galley.now self.old.bound left (record { branch = branch; way = way }) }
+
+        ensures table { OnOk result (IsTable self.new) }
+        ensures continues { OnOk result (Continues self.old self.new) }
+        ensures known { OnOk result (HasRowAsGood self.new left (shown branch.entry) way) }
+        ensures first { rows_of self.old ≡ [] → OnOk result (HasRow self.new left (shown branch.entry) way) }
+    {
+        match place_of(self.starts[left].as_slice(), &branch) {
+            Some(k) => {
+                self.starts[left][k].way.offer(way);
+                Ok(())
             }
+            None => self.add(left, Start { branch, way }),
         }
+    }
+
+    // Keeps one more state.
+    fn add(&mut self, left: usize, start: Start<'a>) -> Result<(), BestFault>
+        requires table { IsTable self.old }
+        requires left { left < length self.old.starts.items }
+        requires start { IsStart self.old.galley.now self.old.bound left start }
+
+        ensures table { OnOk result (IsTable self.new) }
+        ensures continues { OnOk result (Continues self.old self.new) }
+        ensures known { OnOk result (HasRow self.new left (shown start.entry.branch) start.entry.way) }
+    {
         if self.count >= MOST_STATES {
             return Err(BestFault::Choices);
         }
         self.count += 1;
-        starts.push(Start { branch, way })?;
-        Ok(())
+        push_start(&mut self.starts[left], start)
     }
 
     /// A way that came to the end of a run: it is the best one from now on if it is better.
-    pub(crate) fn end(&mut self, way: Way) {
-        if way.is_better(&self.best) {
-            self.best = way;
-        }
+    pub(crate) fn end(&mut self, way: Way)
+        requires table { IsTable self.old }
+        requires rated { IsRated self.old.galley.now way }
+        requires bounded { way.demerits ≤ℤ self.old.bound }
+
+        ensures table { IsTable self.new }
+        ensures continues { Continues self.old self.new }
+        ensures starts { self.new.starts ≡ self.old.starts }
+        ensures best { IsNoWorseWay self.new.best way }
+    {
+        self.best.offer(way);
     }
+}
+
+// So many lists without a state.
+fn no_starts<'a>(alloc: Global, count: usize) -> Result<Vec<Vec<Start<'a>>>, AllocError>
+    ensures count { IfOk result (λ v. length v.items ≡ count) }
+    ensures empty { IfOk result (λ v. AllByRecursion (λ l. l.items ≡ []) v.items) }
+{
+    let mut starts = Vec::with_capacity(alloc, count)?;
+    for _ in 0..count {
+        starts.push(Vec::new(alloc))?;
+    }
+    Ok(starts)
 }

@@ -1,0 +1,79 @@
+-- Items are taken one after the other from a state while no page fires.
+use Rattle.std.proofs.Common.{◌≡◌, refl, sym, ◌∙◌, ap, subst, ◌⊎◌, inl, inr, ℕ, suc, ◌<◌, ◌≤◌, ℤ, List, [], ◌∷◌, ◌++◌, length, arith}
+use Rattle.std.specs.Prelude.{pos, ◌+ℤ◌, ◌≤ℤ◌, ◌<ℤ◌, reverse}
+use Rattle.tb_galley.specs.declared.Galley.{Galley}
+use Rattle.tb_rate.specs.Places.{place_penalties}
+use Rattle.tb_best.specs.PlanDemerits.{unlimited_step}
+use Rattle.tb_best.specs.ItemsAhead.{all_ahead}
+use Rattle.tb_search.specs.declared.branch.Branch.{Branch}
+use Rattle.tb_search.specs.declared.table.Start.{Start}
+use Rattle.tb_search.specs.declared.table.Table.{Table}
+use Rattle.tb_search.specs.Branches.{shown, next_of, IsBranch, HasTaken}
+use Rattle.tb_search.specs.FilledBranches.{HasFired, IsRefused, IsRefusal, IsQuiet}
+use Rattle.tb_search.specs.AheadInCode.{items_ahead}
+use Rattle.tb_search.specs.Starts.{row_of, IsReached, MayTake}
+use Rattle.tb_search.specs.KeptStarts.{IsNoWorseWay}
+use Rattle.tb_search.specs.Continues.{IsSearchedBy, IsSearchedAsGoodBy, IsLater, Continues, HasSearched, IsCutSearched}
+use Rattle.tb_search.proofs.LaterLemmas.{later-itself, later-through, searched-itself, continues-searched, searched-through, one-searched}
+use Rattle.tb_search.proofs.ReachedWays.{reached-taken, shown-taken}
+use Rattle.tb_search.proofs.SearchSteps.{refused-searched, end-searched, no-end-searched, fired-searched, taken-searched}
+
+-- this state of a table with so many items ahead is searched
+abbrev pub IsSearchedFrom : Galley → ℕ → Start → Table → Type 0
+IsSearchedFrom g left x u = IsSearchedBy u (shown x.branch) (items_ahead g left) x.way.demerits (reverse x.way.breaks.items)
+
+-- items were taken from the first state to the second, and the table went on from the first to the second: if the second state is searched later, so is the first
+pub record IsTakenOn (t : Table) (left : ℕ) (x : Start) (u : Table) (behind : ℕ) (y : Start) : Type 0 where
+  pub searched : HasSearched [] t u
+  pub levels : length u.starts.items ≡ length t.starts.items
+  pub reached : IsReached u.galley.now behind y
+  pub below : behind ≤ left
+  pub high : y.way.demerits ≤ℤ u.bound
+  pub back : (v : Table) → HasSearched [] u v → IsSearchedFrom u.galley.now behind y v → IsSearchedFrom t.galley.now left x v
+
+pub none-taken : (t : Table) (left : ℕ) (x : Start) → IsReached t.galley.now left x → x.way.demerits ≤ℤ t.bound → IsTakenOn t left x t left x
+none-taken t left x h k = record { searched = searched-itself t; levels = refl; reached = h; below = omega arith; high = k; back = λ v on s. s }
+
+-- one more is taken, after the ways with a break before it were searched
+pub one-taken : (t : Table) (left : ℕ) (x : Start) (u v : Table) (behind : ℕ) (y : Start) (c : Branch) → suc behind ≤ length (all_ahead u.galley.now) → IsTakenOn t left x u (suc behind) y → MayTake u.galley.now (shown y.branch) → Continues u v
+    → IsCutSearched v (shown y.branch) (items_ahead u.galley.now (suc behind)) y.way.demerits (reverse y.way.breaks.items) → HasTaken (next_of y.branch.ahead) y.branch c → IsBranch c → IsTakenOn t left x v behind (record { branch = c; way = y.way })
+one-taken t left x u v behind y c some h may on cut taken is = record {
+  searched = searched-through [] t u v h.searched (continues-searched u v on);
+  levels = on.levels ∙ h.levels;
+  reached = subst (λ a. IsReached a.now behind (record { branch = c; way = y.way })) (sym on.later.galley) (reached-taken u.galley.now behind y c some h.reached taken is);
+  below = let k = h.below in omega (arith, k);
+  high = subst (λ b. y.way.demerits ≤ℤ b) (sym on.later.bound) h.high;
+  back = λ w later s.
+      h.back w (searched-through [] u v w (continues-searched u v on) later)
+      (taken-searched u w (later-through u v w on.later later.later) v behind (shown y.branch) y.way.demerits (reverse y.way.breaks.items) some may later cut
+      (subst (λ s. IsSearchedBy w s (items_ahead u.galley.now behind) y.way.demerits (reverse y.way.breaks.items)) (shown-taken u.galley.now behind y c some h.reached taken)
+      (subst (λ a. IsSearchedBy w (shown c) (items_ahead a.now behind) y.way.demerits (reverse y.way.breaks.items)) on.later.galley s)));
+}
+
+module _ (t : Table) (left : ℕ) (x : Start) (u : Table) (behind : ℕ) (y : Start) (h : IsTakenOn t left x u behind y) where
+  -- the last of these states is searched
+  pub taken-done : (v : Table) → HasSearched [] u v → IsSearchedFrom u.galley.now behind y v → HasSearched (row_of t.galley.now left x ∷ []) t v
+  taken-done v on s = one-searched t v (row_of t.galley.now left x) (searched-through [] t u v h.searched on) (h.back v on s)
+
+  -- its page fired, and the state after it is searched
+  pub taken-fired : (c : Branch) (d : ℤ) (v : Table) → HasFired u.galley.now.params (place_penalties u.galley.now.items) d y.branch c → Continues u v
+      → IsSearchedAsGoodBy v (shown c) (items_ahead u.galley.now behind) (y.way.demerits +ℤ d) (reverse y.way.breaks.items) → HasSearched (row_of t.galley.now left x ∷ []) t v
+  taken-fired c d v k on s =
+      taken-done v (continues-searched u v on)
+      (fired-searched u v on.later y.branch c (items_ahead u.galley.now behind) d y.way.demerits (reverse y.way.breaks.items) k s)
+
+  -- no run goes on from it
+  pub taken-refused : IsRefused u.galley.now.params (shown y.branch) → HasSearched (row_of t.galley.now left x ∷ []) t u
+  taken-refused k = taken-done u (searched-itself u) (refused-searched u u (later-itself u) (shown y.branch) (items_ahead u.galley.now behind) y.way.demerits (reverse y.way.breaks.items) k)
+
+  -- nothing is ahead, and the run ends well
+  pub taken-ended : (v : Table) → behind ≡ 0 → IsQuiet u.galley.now.params (shown y.branch) → Continues u v → IsNoWorseWay v.best y.way → HasSearched (row_of t.galley.now left x ∷ []) t v
+  taken-ended v none quiet on best =
+      taken-done v (continues-searched u v on)
+      (subst (λ n. IsSearchedFrom u.galley.now n y v) (sym none) (end-searched u v on.later (shown y.branch) y.way quiet best))
+
+  -- nothing is ahead, and the run does not end well
+  pub taken-left : behind ≡ 0 → MayTake u.galley.now (shown y.branch) → IsRefusal (unlimited_step u.galley.now.params (shown y.branch)) → HasSearched (row_of t.galley.now left x ∷ []) t u
+  taken-left none may k =
+      taken-done u (searched-itself u)
+      (subst (λ n. IsSearchedFrom u.galley.now n y u) (sym none) (no-end-searched u u (later-itself u) (shown y.branch) y.way.demerits (reverse y.way.breaks.items) may k))

@@ -1,0 +1,12 @@
+use Rattle.std.proofs.Common.{subst, ◌∙◌}
+use Rattle.tb_rate.specs.Places.{place_penalties}
+use Rattle.tb_search.specs.FilledBranches.{FillsTo}
+use Rattle.tb_search.proofs.ReachedWays.{fills-copy}
+use Rattle.tb_search.proofs.table.Table.page.Goals as goal
+
+pub returns : goal.returns
+returns c =
+    let p = c.args.self.now.galley.now.params in
+    let copy = c.in_ok-page.ensures in
+    fills-copy p (place_penalties c.args.self.now.galley.now.items) c.args.branch.now c.in_ok-page.page c.fill.new.self c.in_ok-filled.filled copy.state copy.ahead copy.params
+    (subst (λ ps. FillsTo p ps c.in_ok-page.page c.in_ok-filled.filled c.fill.new.self) (c.as_slice.ensures.value ∙ c.requires.table.penalties) c.in_ok-filled.ensures)
