@@ -50,6 +50,12 @@ def words(name):
     return name, ''
 
 
+def draw_float_rule(drawing, item, x, y, width):
+    """A rule beside floats."""
+    middle = y + item.height / PT / 2
+    drawing.line(x, middle, x + width, middle, 'floatrule', width=0.9)
+
+
 def draw_float(drawing, item, x, y, width):
     """A float, hatched in the colour of its class, with its name and area."""
     height = item.height / PT
@@ -135,10 +141,11 @@ class ColumnDrawing:
         top = self.y + item.top / PT
         if item.kind == 'float':
             draw_float(self.drawing, item, self.box_x, top, self.width - 13)
-        elif item.kind in ('footrule', 'floatrule'):
+        elif item.kind == 'footrule':
             middle = top + item.height / PT / 2
-            end = self.box_x + self.box_width * (0.4 if item.kind == 'footrule' else 1)
-            self.drawing.line(self.box_x, middle, end, middle, 'footrule', width=0.9)
+            self.drawing.line(self.box_x, middle, self.box_x + self.box_width * 0.4, middle, 'footrule', width=0.9)
+        elif item.kind == 'floatrule':
+            draw_float_rule(self.drawing, item, self.box_x, top, self.box_width)
         elif item.kind == 'rule':
             self.drawing.rect(self.box_x, top, self.box_width, max((item.height + item.depth) / PT, 0.4), 'rule',
                               'rule ' + item.name)

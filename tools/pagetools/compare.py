@@ -54,7 +54,7 @@ def sizes(item):
 
 def contents(page):
     """The items of a page in order, each with its column, and the kinds of its columns."""
-    out = [('page', page.kind)] + [(0,) + key(item) for item in page.wide]
+    out = [('page', page.kind)] + [(0,) + key(item) for item in page.wide if item.kind not in APART]
     for column in page.columns:
         out.append((column.number, column.kind + ' column'))
         out += [(column.number,) + key(item) for item in column.items if item.kind not in APART]

@@ -7,7 +7,7 @@ from dataclasses import dataclass
 from . import calls, compare, document, index, marks, places, report, stories, tries, why
 from . import galley as galleys
 from .calls import page_file
-from .column import LANE, PT, Around, ColumnDrawing, cut, draw_float, mark_first, words
+from .column import LANE, PT, Around, ColumnDrawing, cut, draw_float, draw_float_rule, mark_first, words
 from .svg import Drawing
 
 USAGE = """Draws the pages of a report. Frames are columns; boxes stand with their baseline and words; a spring is the
@@ -56,7 +56,8 @@ class PageDrawing:
             told = '; '.join(index.warning_text(warning) for warning in page.warnings[:3])
             drawing.text(left, 32, 'warning: ' + told, 6.5, 'warning')
         for item in page.wide:
-            draw_float(drawing, item, left, TOP + item.top / PT, self.width)
+            draw = draw_float_rule if item.kind == 'floatrule' else draw_float
+            draw(drawing, item, left, TOP + item.top / PT, self.width)
             if item is marked:
                 mark_first(drawing, left - 3, TOP + item.top / PT - 2, self.width + 6, item.height / PT + 4)
         self._marks(drawing)

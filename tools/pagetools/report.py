@@ -6,6 +6,9 @@ from dataclasses import dataclass, field
 from fractions import Fraction
 
 
+RULES = ('footrule', 'floatrule')       # those that the output routine puts: above footnotes and beside floats
+
+
 class ReportFault(Exception):
     """A file that is no report, with the line that is none of a report's."""
 
@@ -68,7 +71,7 @@ class Page:
     number: int
     kind: str            # one, two or wide
     at: int = 0          # of a pair: how far its columns stand below the page's top
-    wide: list = field(default_factory=list)        # floats over both columns
+    wide: list = field(default_factory=list)        # floats over both columns, and the rule below them
     columns: list = field(default_factory=list)
     warnings: list = field(default_factory=list)    # lines without `warn`, that stand before the page
     tries: list = field(default_factory=list)       # those that stand before the page
@@ -116,7 +119,7 @@ def _item(kind, words):
         return Item(kind, words[0], int(words[3]), int(words[4]), 0, words[2], int(words[1]))
     if kind == 'margin':
         return Item(kind, words[0], int(words[3]), int(words[4]), int(words[5]), words[1], int(words[2]))
-    if kind in ('footrule', 'floatrule'):
+    if kind in RULES:
         return Item(kind, '', int(words[0]), int(words[1]), int(words[2]))
     if kind in ('mark', 'note'):
         return Item(kind, words[0], int(words[1]))
@@ -151,7 +154,7 @@ class _Reader:
             self.report.warnings.append(' '.join(words))
         elif word == 'end':
             self.report.end = ' '.join(['end'] + words)
-        elif word in ('box', 'rule', 'footrule', 'floatrule', 'mark', 'note', 'float', 'margin'):
+        elif word in ('box', 'rule', 'mark', 'note', 'float', 'margin', *RULES):
             page = pages[-1]
             (page.columns[-1].items if page.columns else page.wide).append(_item(word, words))
         elif word == 'left':
@@ -221,7 +224,7 @@ def _column_data(column):
 
 def _item_data(item):
     out = {'kind': item.kind}
-    if item.kind not in ('footrule', 'floatrule'):
+    if item.kind not in RULES:
         out['name'] = item.name
     if item.kind == 'float':
         out['class'] = item.number

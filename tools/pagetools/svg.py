@@ -15,6 +15,7 @@ STYLE = [
     ('baseline', 'stroke:#d5dee8;stroke-width:.4', 'stroke:#3e4852'),
     ('feet', 'fill:#f5f1e4', 'fill:#2b2a22'),
     ('footrule', 'stroke:#111', 'stroke:#e6e6e6'),
+    ('floatrule', 'stroke:#111', 'stroke:#e6e6e6'),
     ('title', 'fill:#222;font-weight:bold', 'fill:#e8ebee'),
     ('words', 'fill:#1f2d3d', 'fill:#dbe2ea'),
     ('quiet', 'fill:#66727f', 'fill:#98a3af'),

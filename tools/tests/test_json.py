@@ -25,6 +25,7 @@ column 1 floats height 30 natural 20 set shrink 10/5 overfull 5
 float a 2 page 0 50
 page 2 two at 12
 float c 1 wide 0 12
+floatrule 12 5 0
 column 1 text height 40 natural 20 set stretch fil 20/65536
 rule r 0 10 0
 footrule 10 26214 0

@@ -6,7 +6,7 @@ import subprocess
 import unittest
 import xml.etree.ElementTree as xml
 
-from support import Scratch, document, run, stored
+from support import TOP, Scratch, document, run, stored
 
 from pagetools import column, galley, index, picture, places, reasons, report
 
@@ -116,6 +116,10 @@ class Pictures(Scratch):
             self.assertEqual(len(self.shapes(name, 'frame')), len(page.columns))
             self.assertEqual(len(self.shapes(name, 'footrule')), kinds.count('footrule'))
         self.assertIn('moved down by 19.10pt', ' '.join(self.shapes('page003.svg', 'margin')))
+
+    def test_rules_beside_floats(self):
+        self.draw(os.path.join(TOP, 'examples', 'rules.report'))
+        self.assertEqual([len(self.shapes('page00%d.svg' % number, 'floatrule')) for number in (1, 2)], [2, 0])
 
     def test_where_pages_end(self):
         self.draw(stored('notes.report'), '--galley', stored('notes.galley'), '--trace', stored('notes.trace'))

@@ -1,18 +1,18 @@
 //! Reads the fields of a line.
-ghost use Rattle.std.specs.Prelude.{◌≡◌, ◌<◌, ◌≤◌, ◌+◌, [], map, ◌≤ℤ◌, true, IfOk, nat_abs, not, ◌==◌, codes, false, Option, Some, None, if◌then◌else◌, IsTrue, bytes_eq, ◌∷◌};
+ghost use Rattle.std.specs.Prelude.{◌≡◌, ◌<◌, ◌≤◌, ◌+◌, [], map, ◌≤ℤ◌, true, IfOk, nat_abs, not, ◌==◌, codes, false, Option, Some, None, if◌then◌else◌, IsTrue};
 ghost use Rattle.std.specs.List.{list_all, list_any};
 ghost use Rattle.tb_galley.specs.Faults.{is_printable};
 ghost use Rattle.tb_galley.specs.Fields.{text_cause, are_places, is_place_byte, is_foot_class, class_slot};
-ghost use Rattle.tb_galley.specs.Words.{number_in, version_named};
+ghost use Rattle.tb_galley.specs.Words.{number_in};
 ghost use Rattle.tb_galley.specs.Grammar.{has_byte, places_at};
-ghost use Rattle.tb_galley.specs.FieldReader.{left_of, Gives, GivesBy, next_left, end_left, field_read, dimension_left, stretch_left, least_left, range_left, stretch_part, shrink_part, glue_left, next_is_by, is_end, fraction_left, choice_left, version_left, rule_left, drawn_left, places_left, sized_left, name_left};
+ghost use Rattle.tb_galley.specs.FieldReader.{left_of, Gives, GivesBy, next_left, end_left, field_read, dimension_left, stretch_left, least_left, range_left, stretch_part, shrink_part, glue_left, next_is_by, is_end, fraction_left, choice_left, version_left, places_left, sized_left, name_left};
 ghost use Rattle.tb_text.specs.Lines.{begins_with};
 
 use crate::fields::{At, Fields};
-use crate::glue_words::{after_minus, after_none, after_plus};
+use crate::glue_words::{after_minus, after_plus};
+use crate::words::version_of;
 use crate::{Cause, ClassLine};
 use tb_node::{FOOTNOTES, Name, Places, name_of};
-use tb_param::Rule;
 use tb_scaled::{Glue, Order};
 use tb_text::{TextFault, dimension, fraction, integer, split_amount, split_field, stretch};
 
@@ -324,35 +324,6 @@ impl<'a> Fields<'a> {
         })
     }
 
-    /// A rule: `none`, or the kern above it, its height, which is not below 0, and the kern below it, all in scaled points.
-    #[tactic(auto, unfolding(crate::specs::FieldReader::rule_left))]
-    pub fn rule(&mut self) -> Result<Option<Rule>, At>
-        ensures { Gives result (left_of self.new) (rule_left (left_of self.old)) }
-    {
-        match after_none(self.rest) {
-            Some(rest) => {
-                self.rest = rest;
-                self.number += 1;
-                Ok(None)
-            }
-            None => self.drawn_rule(),
-        }
-    }
-
-    #[tactic(auto, unfolding(crate::specs::FieldReader::drawn_left))]
-    fn drawn_rule(&mut self) -> Result<Option<Rule>, At>
-        ensures { Gives result (left_of self.new) (drawn_left (left_of self.old)) }
-    {
-        let above = self.dimension()?;
-        let height = self.dimension_from(0, Cause::Parameter)?;
-        let below = self.dimension()?;
-        Ok(Some(Rule {
-            above,
-            height,
-            below,
-        }))
-    }
-
     /// The next field as a fraction from 0 to 1, in 65536ths.
     #[tactic(auto, unfolding(crate::specs::FieldReader::fraction_left))]
     pub fn fraction(&mut self) -> Result<i64, At>
@@ -469,21 +440,6 @@ fn cause_in(field: &[u8], cause: Cause) -> Cause
         cause
     } else {
         Cause::NotAscii
-    }
-}
-
-// The version that a field says, if it says one.
-fn version_of(field: &[u8]) -> Option<u8>
-    ensures { result ≡ if list_any (λ w. bytes_eq w field.now) (codes "1" ∷ codes "2" ∷ codes "3" ∷ []) then Some (version_named field.now) else None }
-{
-    if field == b"3".as_slice() {
-        Some(3)
-    } else if field == b"2".as_slice() {
-        Some(2)
-    } else if field == b"1".as_slice() {
-        Some(1)
-    } else {
-        None
     }
 }
 

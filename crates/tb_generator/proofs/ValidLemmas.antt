@@ -10,16 +10,21 @@ use Rattle.tb_node.specs.Names.{is_between}
 use Rattle.tb_param.specs.Defaults.{default_params, points, glue_points}
 use Rattle.tb_param.specs.Ranges.{are_params}
 use Rattle.tb_param.specs.Table.{row_of}
+use Rattle.tb_param.specs.declared.fields.Field.TheVariants as fields
 use Rattle.tb_galley.specs.declared.Item.{Item}
 use Rattle.tb_galley.specs.declared.ItemKind.{ItemKind}
 use Rattle.tb_galley.specs.declared.ItemKind.TheVariants as items
-use Rattle.tb_galley.specs.Valid.{is_item, is_size, weight_of, weight, lines_of_item, named_lines, rise_from, has_known_class, fits_version, IsValid}
+use Rattle.tb_galley.specs.Valid.{is_item, is_size, weight_of, weight, lines_of_item, named_lines, rise_from, has_known_class, OthersDefault, IsValid}
 use Rattle.tb_generator.specs.GeneratedGalleys.{next_seed, made_box, made_foot, made_float, made_by, made_item, made_items, made_params, generated, tbp, htp}
 use Rattle.tb_generator.proofs.NameLemmas.{named}
 
-version_fits : fits_version 1 [] made_params ≡ true
+-- the parameters that version 1 does not have have their defaults
+others_default : OthersDefault 1 made_params
 unfolding made_params default_params
-version_fits = refl
+others_default fields.Bottom lacks = cc
+others_default fields.Pool lacks = cc
+others_default fields.Maxdeadcycles lacks = cc
+others_default field lacks = refl
 
 params_valid : are_params made_params ≡ true
 unfolding are_params made_params default_params row_of
@@ -120,7 +125,8 @@ items_rise (suc m) k s j few low =
 pub generated_valid : (n : ℕ) → n ≤ 40000 → IsValid (generated n)
 generated_valid n few = record {
   params = params_valid;
-  version = version_fits;
+  others = others_default;
+  version = refl;
   classes = refl;
   items = items_good n 1 n (omega arith);
   feet = feet_known n 1 n (omega arith);

@@ -67,6 +67,7 @@ all-broken f holds k (n ∷ ns) (b ∷ bs) = by (all-broken f holds (suc k) ns b
 plans-are-valid : (g : Galley) (plan : List ℕ) → IsValid g → FewItems g plan → IsValid (with_breaks g plan)
 plans-are-valid g plan v few = record {
   params = v.params;
+  others = v.others;
   version = v.version;
   classes = v.classes;
   items = subst IsTrue (sym (all-broken (λ n. is_item n.line n.kind) (λ n. refl) 0 g.items plan)) v.items;
