@@ -42,7 +42,7 @@ CAUSES = {
     'Items': '{items}',
     'MissingField': 'a field is missing. {form}',
     'ExtraField': 'this field is one too many. {form}; a comment needs a line of its own',
-    'UnknownParameter': 'no parameter has this name. docs/FORMATS.md has all names',
+    'UnknownParameter': 'no parameter of this version has this name. docs/FORMATS.md has all names',
     'WrongForm': 'the value of this parameter is written otherwise. docs/FORMATS.md has the form of each',
     'BadNumber': 'this is no number. Write digits, as 12 or 7.5pt',
     'BadUnit': 'no such unit may be here. Write sizes as 7.5pt, or as whole scaled points (65536 are 1pt)',

@@ -1,9 +1,9 @@
 -- Laws of whole runs.
-use Rattle.std.specs.Prelude.{◌≡◌, ◌<ℤ◌, ℕ, ℤ, pos, ◌+◌, ◌+ℤ◌, ◌==◌, nat_lt, Bool, true, false, not, ◌||◌, ◌&&◌, IsTrue, List, [], ◌∷◌, ◌++◌, length, map, filter, Some, IsPermutation, if◌then◌else◌}
+use Rattle.std.specs.Prelude.{◌≡◌, ◌<ℤ◌, ℕ, ℤ, pos, ◌+◌, ◌+ℤ◌, ◌==◌, nat_lt, Bool, true, false, not, ◌||◌, ◌&&◌, IsTrue, List, [], ◌∷◌, ◌++◌, length, map, filter, IsPermutation, if◌then◌else◌}
 use Rattle.std.specs.List.{list_any, AllByRecursion}
 use Rattle.std.specs.Bool.{beq}
 use Rattle.tb_scaled.specs.Scaled.{fraction_of}
-use Rattle.tb_node.specs.declared.RuleOf.TheVariants.{Item}
+use Rattle.tb_node.specs.declared.RuleOf.TheVariants as rules
 use Rattle.tb_node.specs.declared.What.TheVariants as what
 use Rattle.tb_node.specs.declared.Where.{Where}
 use Rattle.tb_node.specs.declared.Where.TheVariants as places
@@ -102,7 +102,7 @@ shipped_nodes (sent (shipped page sheet) ∷ es) = sheet_nodes sheet ++ shipped_
 -- the line of a node if it is a box or rule of the galley
 abbrev pub box_lines_of : ℕ → PlainKind → List ℕ
 box_lines_of n (plain (hbox (what.Text name) h d)) = n ∷ []
-box_lines_of n (plain (rule (Item name) h d)) = n ∷ []
+box_lines_of n (plain (rule (rules.Item name) h d)) = n ∷ []
 box_lines_of n _ = []
 
 -- the line of the float whose box a node is, if it is one

@@ -1,6 +1,6 @@
 -- Nodes that have bytes in a DVI file: the label of each is short, and the height of its rule has four bytes. The page
 -- builder and the columns only move nodes of the galley, and make nodes that have bytes.
-use Rattle.std.proofs.Common.{ℕ, ℤ, pos, ◌+ℤ◌, ◌<◌, Bool, true, false, List, [], ◌∷◌, ◌++◌, length, map, filter, take, drop, Option, Some, None, FitsSigned, IfSome, arith}
+use Rattle.std.proofs.Common.{ℕ, ℤ, pos, negsuc, ◌≤ℤ◌, ◌+ℤ◌, ◌<◌, Bool, true, false, List, [], ◌∷◌, ◌++◌, length, map, filter, take, drop, Option, Some, None, FitsSigned, IfSome, arith}
 use Rattle.std.specs.Prelude.{◌==◌, not, if◌then◌else◌, codes}
 use Rattle.std.specs.Int.{w32}
 use Rattle.std.proofs.lemmas.Int.{ints}
@@ -262,7 +262,8 @@ floats-with place sep (f ∷ fs) h = ((h.0.0 place, h.0.1), (tt, floats-with pla
 
 -- a rule of the parameters has bytes
 rule-fits : (h : ℤ) → IsExtent h → FitsSigned w32 (h +ℤ pos 0)
-rule-fits h k = record { sfits = omega (arith, ints, k.low, k.high) }
+rule-fits (pos h) k = let high : pos h ≤ℤ pos 1073741823 = k.high in record { sfits = grind (arith, ints, high) }
+rule-fits (negsuc h) k = let low : pos 0 ≤ℤ negsuc h = k.low in let no : ⊥ = omega (arith, ints, low) in absurd no
 
 foot-rule : (r : Option Rule) → IsSizedRule r → WritableNodes (rule_if_any Footnotes r)
 foot-rule None h = tt

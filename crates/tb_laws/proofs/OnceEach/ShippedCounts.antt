@@ -1,10 +1,10 @@
 -- What is shipped and what a galley has, measured by lines: a measure of lists of lines that adds up gives a weight, by
 -- which nodes without insertions and acts weigh what the lines of their boxes, floats or notes measure.
-use Rattle.std.proofs.Common.{◌≡◌, refl, sym, ◌∙◌, ap, ℕ, ◌+◌, List, [], ◌∷◌, ◌++◌, Some, None, arith}
+use Rattle.std.proofs.Common.{◌≡◌, refl, sym, ◌∙◌, ap, ℕ, ◌+◌, List, [], ◌∷◌, ◌++◌, arith}
 use Rattle.std.specs.Prelude.{◌==◌, IsTrue}
 use Rattle.std.specs.List.{list_all}
 use Rattle.std.proofs.lemmas.Bool.{and_parts}
-use Rattle.tb_node.specs.declared.RuleOf.TheVariants.{Item, Footnotes}
+use Rattle.tb_node.specs.declared.RuleOf.TheVariants as rules
 use Rattle.tb_node.specs.declared.What.TheVariants as what
 use Rattle.tb_node.specs.PlainNodes.{hbox, rule, PlainKind, plain, ins, act, PlainNode}
 use Rattle.tb_node.proofs.Weights.{Weight, kind_weight, nodes_weight, weight-append}
@@ -57,7 +57,7 @@ events-plain (sent (shipped page sheet) ∷ es) h = plain-both (sheet_nodes shee
 
 kind-lines : (l : ℕ) (k : PlainKind) → printed l k ≡ box_lines_of l k
 kind-lines l (plain (hbox (what.Text name) h d)) = refl
-kind-lines l (plain (rule Footnotes h d)) = refl
+kind-lines l (plain (rule rules.Footnotes h d)) = refl
 kind-lines l k = refl
 
 pub box-lines : (ns : List PlainNode) → prints ns ≡ node_lines box_lines_of ns
@@ -100,21 +100,21 @@ module _ (m : Measure) where
 
   box-measure : (l : ℕ) (k : PlainKind) → IsPlain k → kind_weight of_boxes l k ≡ m.of (box_lines_of l k)
   box-measure l (plain (hbox (what.Text name) h d)) q = refl
-  box-measure l (plain (rule (Item name) h d)) q = refl
+  box-measure l (plain (rule (rules.Item name) h d)) q = refl
   box-measure l (ins i) q = absurd q
   box-measure l (act a) q = absurd q
   box-measure l k q = sym m.nothing
 
   float-measure : (l : ℕ) (k : PlainKind) → IsPlain k → kind_weight of_floats l k ≡ m.of (float_lines_of l k)
   float-measure l (plain (hbox (what.Float name class place item) h d)) q = refl
-  float-measure l (plain (rule Footnotes h d)) q = sym m.nothing
+  float-measure l (plain (rule rules.Footnotes h d)) q = sym m.nothing
   float-measure l (ins i) q = absurd q
   float-measure l (act a) q = absurd q
   float-measure l k q = sym m.nothing
 
   note-measure : (l : ℕ) (k : PlainKind) → IsPlain k → kind_weight of_notes l k ≡ m.of (note_lines_of l k)
   note-measure l (plain (hbox (what.Margin name side shift height depth item) h d)) q = refl
-  note-measure l (plain (rule Footnotes h d)) q = sym m.nothing
+  note-measure l (plain (rule rules.Footnotes h d)) q = sym m.nothing
   note-measure l (ins i) q = absurd q
   note-measure l (act a) q = absurd q
   note-measure l k q = sym m.nothing
