@@ -176,7 +176,8 @@ def run(program, mode, galley, name=''):
                          stderr=subprocess.PIPE, check=False)
     if ran.returncode:
         said = ran.stderr.decode('latin-1').strip().removeprefix('galley_pages: ')
-        raise BestFault('%s: %s' % (name or os.path.basename(program), said or 'status %d' % ran.returncode), ran.returncode)
+        ended = 'it ended with status %d' % ran.returncode if ran.returncode > 0 else 'signal %d ended it' % -ran.returncode
+        raise BestFault('%s: %s' % (name or os.path.basename(program), said or ended), ran.returncode)
     return ran.stdout.decode('latin-1')
 
 

@@ -7,7 +7,7 @@ from .best import Text
 PT = 65536.0
 BAD = 20000             # demerits of a bad column: those of a badness of 131, or of a place whose penalty is 141
 BAD_BADNESS = 131
-BAD_PENALTY = 100
+BAD_PENALTY = 100       # of a place that hinders a break; so much below 0 invites one
 FULL = 0.05             # points that a full column may lack
 
 COUNTS = {1: 'one', 2: 'two', 3: 'three', 4: 'four', 5: 'five', 6: 'six'}
@@ -82,7 +82,10 @@ def faults(ending, text):
         return []
     found = []
     if badness(ending) is None or badness(ending) > BAD_BADNESS:
-        found.append(Fault('was ' + fill(ending, text), 'is ' + fill(ending, text), 'fill'))
+        what = fill(ending, text)
+        if ending.penalty <= -BAD_PENALTY:
+            what += ', where a penalty of %d invites a break' % ending.penalty
+        found.append(Fault('was ' + what, 'is ' + what, 'fill'))
     if ending.penalty >= BAD_PENALTY:
         split = text.splits(ending.boxes)
         what = 'left ' + SPLITS[split] if split else 'ended at a penalty of %d' % ending.penalty

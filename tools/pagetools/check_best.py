@@ -5,6 +5,7 @@ from .check_rows import PAGES
 
 HEADER = ('Document', 'Pages', 'Demerits before', 'now', 'Breaks put in', 'Columns of 20000 or more before', 'now',
           'Pages that LaTeX made as chosen', 'Seconds to choose')
+PAGES_COLUMN, SAME_COLUMN, SECONDS_COLUMN = 1, 7, 8
 
 DEMERITS = re.compile(r'^demerits: (\d+) before, (\d+) now$', re.M)
 COLUMNS = re.compile(r'^columns of \d+ demerits or more: (\d+) before, (\d+) now$', re.M)
@@ -34,8 +35,9 @@ def total(rows):
     cells = ['all']
     for column in range(1, len(HEADER)):
         parts = [[float(n) for n in re.split(' of | to ', it[column])] for it in rows]
-        sums = [sum(part[0] for part in parts)] + [sum(part[-1] for part in parts)] * (column in (1, 7))
-        cells.append((' to ' if column == 1 else ' of ').join('%.*f' % (column == 8, it) for it in sums))
+        sums = [sum(part[0] for part in parts)] + [sum(part[-1] for part in parts)] * (column in (PAGES_COLUMN, SAME_COLUMN))
+        words = ['%.*f' % (column == SECONDS_COLUMN, it) for it in sums]
+        cells.append(pair(tuple(words)) if column == PAGES_COLUMN else ' of '.join(words))
     return tuple(cells)
 
 

@@ -85,6 +85,8 @@ class Words(unittest.TestCase):
         self.assertEqual(self.said(ending(9), ending(8, badness='*', short=-3 * pt)), ['new: page 1 is 3.0pt too full'])
         self.assertEqual(self.said(short, ending(8, held=1)), ['page 1 was 44.0pt short; now it splits one footnote'])
         self.assertEqual(self.said(ending(9), ending(8)), [])
+        self.assertEqual(self.said(ending(9), ending(8, badness='800', short=24 * pt, penalty=-300)),
+                         ['new: page 1 is 24.0pt short, where a penalty of -300 invites a break'])
 
     def test_the_whole(self):
         own = story(self.TEXT, [ending(3)], [ending(2, line=5, chosen=True)], [best.Break(5, 1, 'b')])
