@@ -22,3 +22,4 @@ pub mod FuelLemmas
 pub mod SettleLemmas
 pub mod ExpandLemmas
 pub mod LevelLemmas
+pub mod SumLemmas
