@@ -23,3 +23,4 @@ pub mod SettleLemmas
 pub mod ExpandLemmas
 pub mod LevelLemmas
 pub mod SumLemmas
+pub mod BeginLemmas

@@ -17,7 +17,8 @@ ghost use Rattle.tb_rate.specs.Places.{IsMildPlace};
 ghost use Rattle.tb_rate.specs.Rating.{rating, IsTried};
 ghost use Rattle.tb_rate.specs.RatedRun.{demerits_if, floats_waiting, insertions_first};
 ghost use Rattle.tb_rate.specs.Tries.{last_champion};
-ghost use Rattle.tb_best.specs.ItemsAhead.{empty_start};
+ghost use Rattle.tb_best.specs.ItemsAhead.{all_ahead, empty_start};
+ghost use Rattle.tb_search.specs.AheadInCode.{HasAhead};
 ghost use Rattle.tb_search.specs.FilledBranches.{stopped, unfired, unserved, FillsTo};
 ghost use Rattle.tb_search.specs.Branches.{shown, nodes_ahead, next_of, break_before, IsBranch, HasTaken};
 
@@ -67,6 +68,7 @@ impl<'a> Branch<'a> {
 
         ensures state { IfOk result (λ b. shown b ≡ empty_start galley.now) }
         ensures ahead { IfOk result (λ b. nodes_ahead b ≡ expanded galley.now) }
+        ensures items { IfOk result (λ b. HasAhead galley.now b.ahead (all_ahead galley.now)) }
         ensures params { IfOk result (λ b. b.routine.machine.params ≡ galley.now.params) }
         ensures branch { IfOk result IsBranch }
     {

@@ -188,7 +188,13 @@ impl<'a> Table<'a> {
         ensures searched { OnOk result (IsCutSearched self.new (shown branch.now) (items_ahead self.old.galley.now left) way.now.demerits (reverse way.now.breaks.items)) }
     {
         let number = self.is_place.len() - left;
-        if !self.is_place[number] || way.demerits + 1000 > self.bound || !branch.holds_box() {
+        if !self.is_place[number] {
+            return Ok(());
+        }
+        if way.demerits + 1000 > self.bound {
+            return Ok(());
+        }
+        if !branch.holds_box() {
             return Ok(());
         }
         self.put_break(alloc, left, branch, way, number)
