@@ -24,3 +24,4 @@ pub mod ExpandLemmas
 pub mod LevelLemmas
 pub mod SumLemmas
 pub mod BeginLemmas
+pub mod CutLemmas
