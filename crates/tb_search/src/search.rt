@@ -220,7 +220,7 @@ impl<'a> Table<'a> {
         requires place { get_or self.old.is_place.items number false ≡ true }
         requires boxed { holds_box (shown branch.now).waiting ≡ true }
         requires reached { IsReached self.old.galley.now left (record { branch = branch.now; way = way.now }) }
-        requires high { way.now.demerits +ℤ pos 1000 ≤ℤ self.old.bound }
+        requires high { (way.now.demerits +ℤ pos 1000) ≤ℤ self.old.bound }
 
         ensures table { OnOk result (IsTable self.new) }
         ensures continues { OnOk result (Continues self.old self.new) }
