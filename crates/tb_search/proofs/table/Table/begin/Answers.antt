@@ -1,6 +1,6 @@
 use Rattle.std.proofs.Common.{◌≡◌, refl, sym, ap, subst, ◌∙◌, ◌+◌, ◌≤◌, length, [], arith}
 use Rattle.std.proofs.lemmas.Int.{ints}
-use Rattle.std.proofs.lemmas.Result.{on_ok_weaker}
+use Rattle.std.specs.Borrow.{Bor}
 use Rattle.std.specs.Prelude.{pos, reverse}
 use Rattle.tb_galley.specs.declared.Galley.{Galley}
 use Rattle.tb_items.proofs.GalleyItems.{galley-items}
@@ -12,10 +12,10 @@ use Rattle.tb_best.specs.ClosedTables.{rows_know}
 use Rattle.tb_search.specs.declared.table.Way.{Way}
 use Rattle.tb_search.specs.Branches.{shown}
 use Rattle.tb_search.specs.AheadInCode.{items_ahead}
-use Rattle.tb_search.specs.KeptStarts.{HasRow}
 use Rattle.tb_search.specs.Starts.{rows_of, IsStart}
 use Rattle.tb_search.proofs.AheadLemmas.{all-counted}
 use Rattle.tb_search.proofs.PlaceFlags.{few-items}
+use Rattle.tb_search.proofs.SearchSteps.{if-both}
 use Rattle.tb_search.proofs.BeginLemmas.{first-start, first-known}
 use Rattle.tb_search.proofs.table.Table.begin.Goals as goal
 use Rattle.tb_search.proofs.table.Table.begin.Goals.{After-len}
@@ -56,8 +56,7 @@ keep-requires-clause-start c =
 pub returns-clause-begun : goal.returns-clause-begun
 returns-clause-begun c =
     let w : Way = record { breaks = c.new.result; demerits = pos 0 } in
-    on_ok_weaker c.keep.result
-    (λ (h : HasRow c.keep.new.self (c.len.result + 1) (shown c.in_ok-first.first) w).
+    if-both c.keep.result _ _ _ c.keep.ensures.continues (c.keep.ensures.first c.requires.none)
+    (λ on h.
       first-known c.args.galley.now (c.len.result + 1) c.in_ok-first.first w c.in_ok-first.ensures.state (all-items (goal.at.returns-clause-begun c).After-len) c.new.ensures.items refl (rows_of c.keep.new.self)
-      (subst (λ (g : Galley). rows_know (rows_of c.keep.new.self) (shown c.in_ok-first.first) (items_ahead g (c.len.result + 1)) w.demerits (reverse w.breaks.items)) (?) h))
-    (c.keep.ensures.first c.requires.none)
+      (subst (λ (g : Galley). rows_know (rows_of c.keep.new.self) (shown c.in_ok-first.first) (items_ahead g (c.len.result + 1)) w.demerits (reverse w.breaks.items)) (ap (λ (x : Bor Galley). x.now) on.later.galley ∙ c.requires.galley) h))

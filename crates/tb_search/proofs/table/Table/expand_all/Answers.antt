@@ -1,7 +1,8 @@
-use Rattle.std.proofs.Common.{◌≡◌, refl, sym, ap, subst, ◌∙◌, [], ◌∷◌, ◌++◌, List, map}
+use Rattle.std.proofs.Common.{◌≡◌, refl, sym, ap, subst, ◌∙◌, [], ◌∷◌, ◌++◌, List, map, length, ◌≤◌}
 use Rattle.std.specs.List.{AllByRecursion}
 use Rattle.tb_galley.specs.declared.Galley.{Galley}
 use Rattle.std.specs.Borrow.{Bor}
+use Rattle.tb_best.specs.ItemsAhead.{all_ahead}
 use Rattle.tb_search.specs.declared.table.Start.{Start}
 use Rattle.tb_search.specs.Starts.{row_of, IsStart}
 use Rattle.tb_search.specs.Continues.{HasSearched}
@@ -42,3 +43,6 @@ starts-preserved c =
           (subst (λ (xs : List Start). IsSearchedTo t.galley.now c.args.left (map (row_of t.galley.now c.args.left) c.args.starts.items) xs t u) c.in-Some.ensures.items c.starts.invariant.searched)
           (subst (λ (x : Bor Galley). HasSearched (row_of x.now c.args.left c.in-Some.start ∷ []) u v) galley c.in_ok-expand.ensures.searched);
     }
+
+pub expand-requires-clause-inside : goal.expand-requires-clause-inside
+expand-requires-clause-inside c = subst (λ (x : Bor Galley). c.args.left ≤ length (all_ahead x.now)) (sym c.starts.invariant.searched.later.galley) c.requires.inside
