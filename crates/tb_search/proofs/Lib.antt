@@ -22,3 +22,6 @@ pub mod FuelLemmas
 pub mod SettleLemmas
 pub mod ExpandLemmas
 pub mod LevelLemmas
+pub mod SumLemmas
+pub mod BeginLemmas
+pub mod CutLemmas

@@ -8,14 +8,14 @@ use Rattle.tb_search.specs.declared.branch.Branch.{Branch}
 use Rattle.tb_search.specs.declared.table.Start.{Start}
 use Rattle.tb_search.specs.declared.table.Table.{Table}
 use Rattle.tb_search.specs.Branches.{shown}
-use Rattle.tb_search.specs.FilledBranches.{HasFired, IsRefused}
+use Rattle.tb_search.specs.FilledBranches.{HasFired, IsFull, IsRefused}
 use Rattle.tb_search.specs.AheadInCode.{items_ahead}
 use Rattle.tb_search.specs.Starts.{IsReached}
 use Rattle.tb_search.specs.KeptStarts.{HasRowAsGood}
 use Rattle.tb_search.specs.Continues.{IsSearchedBy, IsSearchedAsGoodBy, IsLater, Continues}
 use Rattle.tb_search.proofs.LaterLemmas.{later-itself}
 use Rattle.tb_search.proofs.ReachedWays.{reached-fired}
-use Rattle.tb_search.proofs.SearchSteps.{as-searched, over-searched, refused-searched, kept-searched, fired-searched}
+use Rattle.tb_search.proofs.SearchSteps.{as-searched, over-searched, refused-searched, fired-searched, no-end-searched, full-may}
 
 -- this state of a table with so many items ahead is searched
 abbrev pub IsStartSearched : Galley → ℕ → Start → Table → Type 0
@@ -54,3 +54,11 @@ filled-refused t left x y h k =
     h.back t (later-itself t)
     (as-searched t (shown y.branch) (items_ahead t.galley.now left) y.way.demerits (reverse y.way.breaks.items)
     (refused-searched t t (later-itself t) (shown y.branch) (items_ahead t.galley.now left) y.way.demerits (reverse y.way.breaks.items) k))
+
+-- nothing is ahead, and no run ends well
+pub filled-full : (t : Table) (left : ℕ) (x y : Start) → IsFilledOn t left x y → left ≡ 0 → IsFull t.galley.now.params (shown y.branch) → IsStartSearched t.galley.now left x t
+filled-full t left x y h none full =
+    h.back t (later-itself t)
+    (as-searched t (shown y.branch) (items_ahead t.galley.now left) y.way.demerits (reverse y.way.breaks.items)
+    (subst (λ n. IsSearchedBy t (shown y.branch) (items_ahead t.galley.now n) y.way.demerits (reverse y.way.breaks.items)) (sym none)
+    (no-end-searched t t (later-itself t) (shown y.branch) y.way.demerits (reverse y.way.breaks.items) (full-may t.galley.now (shown y.branch) full) full.step)))

@@ -115,6 +115,7 @@ impl<'a> Table<'a> {
     ) -> Result<(), BestFault>
         requires table { IsTable self.old }
         requires level { left ≤ length self.old.starts.items }
+        requires inside { left ≤ length (all_ahead self.old.galley.now) }
         requires starts { AllByRecursion (IsStart self.old.galley.now self.old.bound left) starts.items }
 
         ensures table { OnOk result (IsTable self.new) }
@@ -132,6 +133,7 @@ impl<'a> Table<'a> {
     fn expand(&mut self, alloc: Global, left: usize, start: Start<'a>) -> Result<(), BestFault>
         requires table { IsTable self.old }
         requires level { left ≤ length self.old.starts.items }
+        requires inside { left ≤ length (all_ahead self.old.galley.now) }
         requires start { IsStart self.old.galley.now self.old.bound left start }
 
         ensures table { OnOk result (IsTable self.new) }
@@ -180,6 +182,7 @@ impl<'a> Table<'a> {
         requires table { IsTable self.old }
         requires some { 0 < left }
         requires level { left ≤ length self.old.starts.items }
+        requires inside { left ≤ length (all_ahead self.old.galley.now) }
         requires reached { IsReached self.old.galley.now left (record { branch = branch.now; way = way.now }) }
         requires high { way.now.demerits ≤ℤ self.old.bound }
 
@@ -188,7 +191,13 @@ impl<'a> Table<'a> {
         ensures searched { OnOk result (IsCutSearched self.new (shown branch.now) (items_ahead self.old.galley.now left) way.now.demerits (reverse way.now.breaks.items)) }
     {
         let number = self.is_place.len() - left;
-        if !self.is_place[number] || way.demerits + 1000 > self.bound || !branch.holds_box() {
+        if !self.is_place[number] {
+            return Ok(());
+        }
+        if way.demerits + 1000 > self.bound {
+            return Ok(());
+        }
+        if !branch.holds_box() {
             return Ok(());
         }
         self.put_break(alloc, left, branch, way, number)
@@ -206,11 +215,12 @@ impl<'a> Table<'a> {
         requires table { IsTable self.old }
         requires some { 0 < left }
         requires level { left ≤ length self.old.starts.items }
+        requires inside { left ≤ length (all_ahead self.old.galley.now) }
         requires number { number + left ≡ length (all_ahead self.old.galley.now) }
         requires place { get_or self.old.is_place.items number false ≡ true }
         requires boxed { holds_box (shown branch.now).waiting ≡ true }
         requires reached { IsReached self.old.galley.now left (record { branch = branch.now; way = way.now }) }
-        requires high { way.now.demerits +ℤ pos 1000 ≤ℤ self.old.bound }
+        requires high { (way.now.demerits +ℤ pos 1000) ≤ℤ self.old.bound }
 
         ensures table { OnOk result (IsTable self.new) }
         ensures continues { OnOk result (Continues self.old self.new) }

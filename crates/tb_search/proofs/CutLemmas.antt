@@ -1,0 +1,93 @@
+-- A break is put in before the next item.
+use Rattle.std.proofs.Common.{◌≡◌, refl, sym, ◌∙◌, ap, subst, ℕ, suc, ◌+◌, ◌-◌, ◌<◌, ◌≤◌, ℤ, Bool, true, false, List, [], ◌∷◌, ◌++◌, map, length, get_or, arith}
+use Rattle.std.specs.Prelude.{pos, ◌+ℤ◌, ◌≤ℤ◌, ◌<ℤ◌, reverse}
+use Rattle.std.proofs.lemmas.Int.{ints}
+use Rattle.tb_node.specs.PlainNodes.{PlainNode}
+use Rattle.tb_galley.specs.declared.Galley.{Galley}
+use Rattle.tb_builder.specs.Reach.{holds_box}
+use Rattle.tb_output.specs.State.{State}
+use Rattle.tb_rate.specs.Places.{place_penalties}
+use Rattle.tb_best.specs.PlanDemerits.{reach_in, unlimited_step}
+use Rattle.tb_best.specs.ItemsAhead.{Ahead, all_ahead, forced, state_with}
+use Rattle.tb_best.proofs.CutPages.{cut-fires}
+use Rattle.tb_search.specs.declared.branch.Branch.{Branch}
+use Rattle.tb_search.specs.declared.table.Start.{Start}
+use Rattle.tb_search.specs.declared.table.Table.{Table}
+use Rattle.tb_search.specs.Branches.{shown, next_of, break_before, IsPast, IsBranch, HasTaken}
+use Rattle.tb_search.specs.FilledBranches.{IsRefusal, IsRefused, IsQuiet, HasFired}
+use Rattle.tb_search.specs.AheadInCode.{items_ahead}
+use Rattle.tb_search.specs.Searched.{over}
+use Rattle.tb_search.specs.Starts.{IsReached, IsTable}
+use Rattle.tb_search.specs.Continues.{IsSearchedBy, IsSearchedAsGoodBy, IsLater, IsCutSearched}
+use Rattle.tb_search.proofs.AheadLemmas.{next_ahead, flag-of-next}
+use Rattle.tb_search.proofs.LaterLemmas.{later-itself}
+use Rattle.tb_search.proofs.ReachedWays.{shown-cut}
+use Rattle.tb_search.proofs.SearchSteps.{refused-searched, fired-searched, cut-searched, cut-quiet, fired-refused}
+
+-- what was taken from a copy was taken from the first
+pub taken-copy : (b c e : Branch) → shown c ≡ shown b → c.ahead ≡ b.ahead → c.routine.machine.params ≡ b.routine.machine.params → HasTaken (break_before c.ahead ++ next_of c.ahead) c e → HasTaken (break_before b.ahead ++ next_of b.ahead) b e
+taken-copy b c e state ahead params h = record {
+  state = h.state ∙ (λ i. state_with (break_before (ahead i) ++ next_of (ahead i)) (state i));
+  ahead = subst (λ o. IsPast o e.ahead) ahead h.ahead;
+  params = h.params ∙ params;
+}
+
+-- the flag of the next item
+pub next-flag : (t : Table) (number k : ℕ) → IsTable t → number + suc k ≡ length (all_ahead t.galley.now) → get_or t.is_place.items number false ≡ (next_ahead t.galley.now k).is_place
+next-flag t number k h e =
+    let n : number ≡ length (all_ahead t.galley.now) - suc k = omega (arith, e) in
+    ap (λ xs. get_or xs number false) h.places
+    ∙ ap (λ m. get_or (map (λ (c : Ahead). c.is_place) (all_ahead t.galley.now)) m false) n
+    ∙ flag-of-next t.galley.now k (omega (arith, e))
+
+module _ (t : Table) (k : ℕ) (x : Start) (some : suc k ≤ length (all_ahead t.galley.now)) where
+  abbrev c : Ahead
+  c = next_ahead t.galley.now k
+
+  abbrev s : State
+  s = shown x.branch
+
+  abbrev cut_state : State
+  cut_state = state_with (forced c ∷ c.nodes) s
+
+  -- no break may be put in there
+  pub not-place : (u : Table) → c.is_place ≡ false → IsCutSearched u s (items_ahead t.galley.now (suc k)) x.way.demerits (reverse x.way.breaks.items)
+  not-place u is-not = cut-searched u t.galley.now k s x.way.demerits (reverse x.way.breaks.items) some (λ place box. let false-is : ⊥ = grind (arith, is-not, place) in absurd false-is)
+
+  -- it has no box
+  pub no-box : (u : Table) → holds_box s.waiting ≡ false → IsCutSearched u s (items_ahead t.galley.now (suc k)) x.way.demerits (reverse x.way.breaks.items)
+  no-box u is-not = cut-searched u t.galley.now k s x.way.demerits (reverse x.way.breaks.items) some (λ place box. let false-is : ⊥ = grind (arith, is-not, box) in absurd false-is)
+
+  -- the break costs too much
+  pub cut-over : t.bound <ℤ (x.way.demerits +ℤ pos 1000) → IsCutSearched t s (items_ahead t.galley.now (suc k)) x.way.demerits (reverse x.way.breaks.items)
+  cut-over h = cut-searched t t.galley.now k s x.way.demerits (reverse x.way.breaks.items) some (λ place box. over cut_state (items_ahead t.galley.now k) (x.way.demerits +ℤ pos 1000) (c.number ∷ reverse x.way.breaks.items) h)
+
+  module _ (reached : IsReached t.galley.now (suc k) x) (place : c.is_place ≡ true) (page : Branch) (taken : HasTaken (break_before x.branch.ahead ++ next_of x.branch.ahead) x.branch page) where
+    shown-is : shown page ≡ cut_state
+    shown-is = shown-cut t.galley.now k x page some reached place taken
+
+    -- the page fired, and the state after it is searched
+    pub cut-fired : (u : Table) (after : Branch) (a : ℤ) → IsLater t u → HasFired t.galley.now.params (place_penalties t.galley.now.items) a page after
+        → IsSearchedAsGoodBy u (shown after) (items_ahead t.galley.now k) ((x.way.demerits +ℤ pos 1000) +ℤ a) (c.number ∷ reverse x.way.breaks.items)
+        → IsCutSearched u s (items_ahead t.galley.now (suc k)) x.way.demerits (reverse x.way.breaks.items)
+    cut-fired u after a later fired h =
+        cut-searched u t.galley.now k s x.way.demerits (reverse x.way.breaks.items) some
+        (λ _ box.
+            subst (λ z. IsSearchedBy u z (items_ahead t.galley.now k) (x.way.demerits +ℤ pos 1000) (c.number ∷ reverse x.way.breaks.items)) shown-is
+            (fired-searched t u later page after (items_ahead t.galley.now k) a (x.way.demerits +ℤ pos 1000) (c.number ∷ reverse x.way.breaks.items) fired h))
+
+    -- no run goes on after the break
+    pub cut-refused : IsRefusal (unlimited_step t.galley.now.params (shown page)) → IsCutSearched t s (items_ahead t.galley.now (suc k)) x.way.demerits (reverse x.way.breaks.items)
+    cut-refused h =
+        cut-searched t t.galley.now k s x.way.demerits (reverse x.way.breaks.items) some
+        (λ _ box.
+            refused-searched t t (later-itself t) cut_state (items_ahead t.galley.now k) (x.way.demerits +ℤ pos 1000) (c.number ∷ reverse x.way.breaks.items)
+            (fired-refused t.galley.now.params cut_state (cut-fires t.galley.now.params s c box) (subst (λ z. IsRefusal (unlimited_step t.galley.now.params z)) shown-is h)))
+
+    -- a page fires where a break is put in
+    pub cut-not-quiet : IsQuiet t.galley.now.params (shown page) → IsCutSearched t s (items_ahead t.galley.now (suc k)) x.way.demerits (reverse x.way.breaks.items)
+    cut-not-quiet h =
+        cut-searched t t.galley.now k s x.way.demerits (reverse x.way.breaks.items) some
+        (λ _ box.
+            cut-quiet (IsSearchedBy t cut_state (items_ahead t.galley.now k) (x.way.demerits +ℤ pos 1000) (c.number ∷ reverse x.way.breaks.items)) t.galley.now.params s c box
+            (subst (λ z. (reach_in t.galley.now.params z).fires ≡ false) shown-is h.quiet))

@@ -1,0 +1,53 @@
+-- Sums of demerits fit, and tests of them.
+use Rattle.std.proofs.Common.{◌≡◌, refl, sym, ◌∙◌, ap, subst, ℤ, true, false, FitsSigned, to_z, of_z, arith}
+use Rattle.std.specs.Prelude.{pos, ◌+ℤ◌, ◌≤ℤ◌, ◌<ℤ◌, int_le}
+use Rattle.std.specs.Int.{w128}
+use Rattle.std.proofs.lemmas.Int.{ints, to_z-of_z}
+
+-- demerits within this range fit
+pub demerits-fit : (a : ℤ) → pos 0 ≤ℤ a → a ≤ℤ pos 2000000000000000000000000000 → FitsSigned w128 a
+demerits-fit a h k = omega (arith, ints, h, k)
+
+-- the value of a number that fits
+abbrev pub held : ℤ → ℤ
+held a = to_z w128 (of_z w128 a)
+
+module _ (a b : ℤ) (low : pos 0 ≤ℤ a) (high : a ≤ℤ (b +ℤ pos 1000000000000)) (range : b ≤ℤ pos 1000000000000000000000000000) where
+  pub fits-so-far : FitsSigned w128 a
+  fits-so-far = omega (arith, ints, low, high, range)
+
+  pub bound-fits : FitsSigned w128 b
+  bound-fits = omega (arith, ints, low, high, range)
+
+  both-held : int_le a b ≡ int_le (held a) (held b)
+  both-held = λ i. int_le (sym (to_z-of_z w128 a fits-so-far) i) (sym (to_z-of_z w128 b bound-fits) i)
+
+  pub within-bound : int_le (held a) (held b) ≡ true → a ≤ℤ b
+  within-bound e = let t = both-held ∙ e in grind (arith, ints, t)
+
+  pub above-bound : int_le (held a) (held b) ≡ false → b <ℤ a
+  above-bound e = let t = both-held ∙ e in grind (arith, ints, t)
+
+module _ (a d : ℤ) (low : pos 0 ≤ℤ a) (high : a ≤ℤ pos 1000000000000000000000000000) (more : pos 0 ≤ℤ d) (few : d ≤ℤ pos 1000000000000) where
+  fits-first : FitsSigned w128 a
+  fits-first = omega (arith, ints, low, high)
+
+  fits-second : FitsSigned w128 d
+  fits-second = omega (arith, ints, more, few)
+
+  fits-both : FitsSigned w128 (a +ℤ d)
+  fits-both = omega (arith, ints, low, high, more, few)
+
+  pub sum-fits : FitsSigned w128 (held a +ℤ held d)
+  sum-fits = subst (FitsSigned w128) (λ i. sym (to_z-of_z w128 a fits-first) i +ℤ sym (to_z-of_z w128 d fits-second) i) fits-both
+
+  pub sum-is : held (held a +ℤ held d) ≡ (a +ℤ d)
+  sum-is = to_z-of_z w128 (held a +ℤ held d) sum-fits ∙ (λ i. to_z-of_z w128 a fits-first i +ℤ to_z-of_z w128 d fits-second i)
+
+-- within the bound, and so within the range
+pub within-range : (a b c : ℤ) → a ≤ℤ b → b ≤ℤ c → a ≤ℤ c
+within-range a b c h k = omega (arith, ints, h, k)
+
+-- demerits of a page are less than this
+pub page-few : (d : ℤ) → d ≤ℤ pos 352689971456 → d ≤ℤ pos 1000000000000
+page-few d h = omega (arith, ints, h)
