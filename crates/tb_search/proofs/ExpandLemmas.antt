@@ -1,5 +1,5 @@
 -- Items are taken one after the other from a state while no page fires.
-use Rattle.std.proofs.Common.{◌≡◌, refl, sym, ◌∙◌, ap, subst, ◌⊎◌, inl, inr, ℕ, suc, ◌<◌, ◌≤◌, ℤ, List, [], ◌∷◌, ◌++◌, length, arith}
+use Rattle.std.proofs.Common.{◌≡◌, refl, sym, ◌∙◌, ap, subst, ◌⊎◌, inl, inr, ℕ, suc, ◌-◌, ◌<◌, ◌≤◌, ℤ, List, [], ◌∷◌, ◌++◌, length, arith}
 use Rattle.std.specs.Prelude.{pos, ◌+ℤ◌, ◌≤ℤ◌, ◌<ℤ◌, reverse}
 use Rattle.tb_galley.specs.declared.Galley.{Galley}
 use Rattle.tb_rate.specs.Places.{place_penalties}
@@ -49,6 +49,26 @@ one-taken t left x u v behind y c some h may on cut taken is = record {
       (subst (λ s. IsSearchedBy w s (items_ahead u.galley.now behind) y.way.demerits (reverse y.way.breaks.items)) (shown-taken u.galley.now behind y c some h.reached taken)
       (subst (λ a. IsSearchedBy w (shown c) (items_ahead a.now behind) y.way.demerits (reverse y.way.breaks.items)) on.later.galley s)));
 }
+
+-- a state has no more items ahead than its galley
+pub inside-now : (t : Table) (left : ℕ) (x : Start) (u : Table) (behind : ℕ) (y : Start) → IsTakenOn t left x u behind y → left ≤ length (all_ahead t.galley.now) → behind ≤ length (all_ahead u.galley.now)
+inside-now t left x u behind y h inside =
+    let k = h.below in
+    let i = subst (λ a. left ≤ length (all_ahead a.now)) (sym h.searched.later.galley) inside in
+    omega (arith, k, i)
+
+-- the level of a state is one of those of the table
+pub level-now : (t : Table) (left : ℕ) (x : Start) (u : Table) (behind : ℕ) (y : Start) → IsTakenOn t left x u behind y → left ≤ length t.starts.items → behind ≤ length u.starts.items
+level-now t left x u behind y h level = let k = h.below in let e = h.levels in omega (arith, k, e, level)
+
+-- the same as in `one-taken`, if something is ahead
+pub next-taken-on : (t : Table) (left : ℕ) (x : Start) (u v : Table) (behind : ℕ) (y : Start) (c : Branch) → left ≤ length (all_ahead t.galley.now) → 0 < behind → IsTakenOn t left x u behind y → MayTake u.galley.now (shown y.branch) → Continues u v
+    → IsCutSearched v (shown y.branch) (items_ahead u.galley.now behind) y.way.demerits (reverse y.way.breaks.items) → HasTaken (next_of y.branch.ahead) y.branch c → IsBranch c → IsTakenOn t left x v (behind - 1) (record { branch = c; way = y.way })
+next-taken-on t left x u v behind y c inside some h may on cut taken is =
+    let e : behind ≡ suc (behind - 1) = omega (arith, some) in
+    let i = inside-now t left x u behind y h inside in
+    one-taken t left x u v (behind - 1) y c (omega (arith, some, i)) (subst (λ n. IsTakenOn t left x u n y) e h) may on
+    (subst (λ n. IsCutSearched v (shown y.branch) (items_ahead u.galley.now n) y.way.demerits (reverse y.way.breaks.items)) e cut) taken is
 
 module _ (t : Table) (left : ℕ) (x : Start) (u : Table) (behind : ℕ) (y : Start) (h : IsTakenOn t left x u behind y) where
   -- the last of these states is searched
