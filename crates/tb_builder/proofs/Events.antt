@@ -4,5 +4,6 @@ pub mod NextLemmas
 pub mod PagingLemmas
 pub mod PassedLemmas
 pub mod WalkLemmas
+pub mod StillLemmas
 pub mod SoFarLemmas
 pub mod WholeLemmas

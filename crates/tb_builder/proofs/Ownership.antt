@@ -2,6 +2,7 @@
 pub mod SizeLemmas
 pub mod StoreMoves
 pub mod StoreSized
+pub mod ClassPlaceLemmas
 pub mod OwnedLemmas
 pub mod RelistLemmas
 pub mod SpareLemmas

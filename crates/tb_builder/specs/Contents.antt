@@ -51,8 +51,8 @@ boxed_of store e = record { number = e.class.number; content = content_by e.void
 -- what a builder holds in the store
 abbrev pub contents_of : Builder → Lists Node → Contents
 contents_of b store = record {
-  classes = map (λ e. e.class) b.boxes.items;
-  boxes = map (boxed_of store) b.boxes.items;
+  classes = map (λ e. e.class) b.boxes;
+  boxes = map (boxed_of store) b.boxes;
   page = plain_list store b.page;
   waiting = plain_list store b.waiting;
   held = plain_list store b.held;

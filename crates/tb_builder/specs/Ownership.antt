@@ -54,7 +54,7 @@ pub record Ids : Type 0 where
 
 -- the lists of a builder
 abbrev pub ids_of : Builder → Ids
-ids_of b = record { page = b.page; waiting = b.waiting; held = b.held; rest = b.rest; boxes = b.boxes.items }
+ids_of b = record { page = b.page; waiting = b.waiting; held = b.held; rest = b.rest; boxes = b.boxes }
 
 -- the nodes of the builder's lists
 abbrev pub nodes_of : Ids → Lists Node → List Node

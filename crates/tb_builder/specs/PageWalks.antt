@@ -1,5 +1,5 @@
 -- Waiting nodes go on a page together: the lists once the first k went, and what calls of `next` then come to.
-use Rattle.std.specs.Prelude.{◌≡◌, ℕ, ◌++◌, take, drop}
+use Rattle.std.specs.Prelude.{◌≡◌, ℕ, ◌+◌, Bool, true, false, List, [], ◌∷◌, ◌++◌, take, drop, if◌then◌else◌}
 use Rattle.std.specs.FinMap.{insert}
 use Rattle.tb_pool.specs.Lists.{Lists, list_at, with_list}
 use Rattle.tb_node.specs.declared.Node.{Node}
@@ -43,3 +43,15 @@ seen_of (kinds.Note name) = seen.Still
 seen_of kinds.Whatsit = seen.Still
 seen_of (kinds.Ins i) = seen.Other
 seen_of (kinds.Act a) = seen.Other
+
+-- a node of this kind is a mark, a note or a whatsit
+abbrev pub is_still : Kind → Bool
+is_still (kinds.Mark name) = true
+is_still (kinds.Note name) = true
+is_still kinds.Whatsit = true
+is_still _ = false
+
+-- how many marks, notes and whatsits a list begins with
+abbrev pub still_count : List Node → ℕ
+still_count [] = 0
+still_count (n ∷ ns) = if is_still n.kind then still_count ns + 1 else 0

@@ -20,20 +20,20 @@ use tb_pool::{ListId, Lists};
 impl Builder {
     // The index of a class among the classes.
     pub(crate) fn place_of(&self, number: u8) -> Option<usize>
-        ensures { result ≡ position (λ e. e.class.number == number) self.now.boxes.items }
+        ensures { result ≡ position (λ e. e.class.number == number) self.now.boxes }
     {
-        self.boxes.iter().position(|e| e.class.number == number)
+        self.boxes.find(number)
     }
 
     // The class of this number, with the list of its box.
     pub(crate) fn class_list(&self, number: u8) -> ClassList
-        requires { has_class (map (λ e. e.class) self.now.boxes.items) number ≡ true }
-        ensures { IsClassList self.now.boxes.items number result }
+        requires { has_class (map (λ e. e.class) self.now.boxes) number ≡ true }
+        ensures { IsClassList self.now.boxes number result }
     {
         let Some(k) = self.place_of(number) else {
             unreachable!();
         };
-        self.boxes[k]
+        self.boxes.entry(k)
     }
 
     /// Whether the box of this class, one of the builder's, was given nothing since the start or since its last
@@ -73,8 +73,8 @@ impl Builder {
         let Some(k) = self.place_of(class) else {
             unreachable!();
         };
-        let list = self.boxes[k].list;
-        self.boxes[k].void = true;
-        store.append(into, list);
+        let found = self.boxes.entry(k);
+        self.boxes.set_void(k, true);
+        store.append(into, found.list);
     }
 }

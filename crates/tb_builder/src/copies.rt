@@ -18,7 +18,7 @@ impl Builder {
         ensures sound { IfOk result (λ copy. (s : StoreOf NodeOf) → IsSound self.now s → IsSound copy s) }
     {
         Ok(Builder {
-            boxes: self.boxes.to_vec(alloc)?,
+            boxes: self.boxes.copy(alloc)?,
             page: self.page,
             waiting: self.waiting,
             held: self.held,

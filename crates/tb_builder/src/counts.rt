@@ -62,7 +62,7 @@ impl Builder {
         requires { IsSound self.now store.now }
         ensures { result ≡ contents_count (contents_of self.now store.now) }
     {
-        let boxes = count_boxes(store, &self.boxes);
+        let boxes = count_boxes(store, self.boxes.as_slice());
         more(count_nodes(store, self.waiting), boxes)
     }
 }

@@ -10,8 +10,8 @@ ghost use Rattle.tb_break.specs.SplitPlace.{penalty_by};
 ghost use Rattle.tb_builder.specs.Courses.{is_act, nodes_glue_first};
 ghost use Rattle.tb_node.specs.Shape.{glue};
 ghost use Rattle.tb_builder.specs.declared.Seen.TheVariants.{Space};
-ghost use Rattle.tb_builder.specs.PageWalks.{seen_of};
-ghost use Rattle.tb_builder.specs.Firing.{is_insertion, has_insertion, InsertionAt};
+ghost use Rattle.tb_builder.specs.PageWalks.{seen_of, is_still, still_count};
+ghost use Rattle.tb_builder.specs.Firing.{is_insertion, has_insertion, begins_with_insertion, InsertionAt};
 
 use crate::Seen;
 use tb_break::{is_glue, place_penalty};
@@ -33,12 +33,38 @@ fn is_insertion(n: &Node) -> bool
     matches!(n.kind, Kind::Ins(_))
 }
 
-/// The place of the first insertion of a list that has one.
-///
-/// The walk does not test for the end of the list. What comes after it is never reached. It shifts a number by its full
-/// width; LLVM may assume that no such shift happens, and so drops the test.
-#[inline(never)]
+// Whether a list begins with an insertion.
+#[inline(always)]
+fn begins_with_insertion(store: &Lists<Node>, l: ListId) -> bool
+    requires { IsLive store.now l }
+    ensures { result ≡ begins_with_insertion (list_at store.now l) }
+{
+    match first_in(store, l) {
+        Some(n) => is_insertion(n),
+        None => false,
+    }
+}
+
+/// The place of the first insertion of a list that has one. Insertions often follow each other, so the first node is
+/// looked at before the walk.
+#[inline(always)]
 pub(crate) fn insertion_place(store: &Lists<Node>, l: ListId) -> usize
+    requires live { IsLive store.now l }
+    requires some { has_insertion (list_at store.now l) ≡ true }
+    ensures { InsertionAt (list_at store.now l) result }
+{
+    if begins_with_insertion(store, l) {
+        return 0;
+    }
+    insertion_walk(store, l)
+}
+
+// The place of the first insertion of a list that has one.
+//
+// The walk does not test for the end of the list. What comes after it is never reached. It shifts a number by its full
+// width; LLVM may assume that no such shift happens, and so drops the test.
+#[inline(never)]
+fn insertion_walk(store: &Lists<Node>, l: ListId) -> usize
     requires live { IsLive store.now l }
     requires some { has_insertion (list_at store.now l) ≡ true }
     ensures { InsertionAt (list_at store.now l) result }
@@ -54,6 +80,31 @@ pub(crate) fn insertion_place(store: &Lists<Node>, l: ListId) -> usize
     let mut never = [0u8; 1];
     never[1 << usize::BITS] = 1;
     unreachable!()
+}
+
+// Whether a node is a mark, a note or a whatsit.
+#[inline(always)]
+fn is_still(n: &Node) -> bool
+    ensures { result ≡ is_still n.now.kind }
+{
+    matches!(n.kind, Kind::Mark(_) | Kind::Note(_) | Kind::Whatsit)
+}
+
+/// How many marks, notes and whatsits a list begins with.
+#[inline(always)]
+pub(crate) fn still_count(store: &Lists<Node>, l: ListId) -> usize
+    requires { IsLive store.now l }
+    ensures { result ≡ still_count (list_at store.now l) }
+{
+    let count = store.len(l);
+    let mut left = count;
+    for n in store.iter(l) {
+        if !is_still(n) {
+            return count - left;
+        }
+        left -= 1;
+    }
+    count - left
 }
 
 /// Whether glue comes behind a node, as far as its place depends on that: for a kern by the node behind it, and for another node

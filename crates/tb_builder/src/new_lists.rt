@@ -8,6 +8,7 @@ ghost use Rattle.tb_builder.specs.Ownership.{ids_of, owned, Lacks, ClassesFit};
 ghost use Rattle.tb_builder.specs.Courses.{IsSound};
 ghost use Rattle.tb_builder.specs.NewLists.{VoidBoxes};
 
+use crate::class_lists::ClassLists;
 use crate::courses::{no_try, started};
 use crate::{Builder, ClassList};
 use std::alloc::{AllocError, Global};
@@ -20,11 +21,11 @@ fn void_boxes(
     alloc: Global,
     store: &mut Lists<Node>,
     classes: &[Class],
-) -> Result<Vec<ClassList>, AllocError>
-    ensures boxes { IfOk result (λ v. VoidBoxes store.old store.new classes.now v.items) }
+) -> Result<ClassLists, AllocError>
+    ensures boxes { IfOk result (λ v. VoidBoxes store.old store.new classes.now v) }
     ensures others { (q : ℕ) → IsLive store.old q → get store.new.lists q ≡ get store.old.lists q }
 {
-    let mut boxes = Vec::with_capacity(alloc, classes.len())?;
+    let mut boxes = ClassLists::with_capacity(alloc, classes.len())?;
     for class in classes {
         let list = store.add_list()?;
         boxes.push(ClassList {

@@ -101,7 +101,9 @@ impl Builder {
         }
     }
 
-    // The first waiting nodes go on a page that is laid out, all at once, as far as the walk goes.
+    // The first waiting nodes go on the page, all at once: on a page that is laid out as far as the walk goes, and on
+    // another the marks, notes and whatsits.
+    #[inline(always)]
     fn pass_nodes(&mut self, store: &mut Lists<Node>, ask: &Ask)
         requires sound { IsSound self.old store.old }
         requires fits { NextFits (contents_of self.old store.old) ask.now }
@@ -109,9 +111,27 @@ impl Builder {
         ensures stopped { self.old.stopped ≡ true → self.new.stopped ≡ true }
         ensures few { length (contents_of self.new store.new).waiting ≤ length (contents_of self.old store.old).waiting }
     {
-        if !self.opened || self.stopped {
+        if self.stopped {
             return;
         }
+        if self.opened {
+            self.pass_laid_out(store, ask);
+        } else if !self.course.lasting {
+            // Most of them come first, from a page that was put back; one behind other nodes takes a turn of its own.
+            self.pass_still(store);
+        }
+    }
+
+    // The first waiting nodes go on a page that is laid out, all at once, as far as the walk goes.
+    #[inline(never)]
+    fn pass_laid_out(&mut self, store: &mut Lists<Node>, ask: &Ask)
+        requires sound { IsSound self.old store.old }
+        requires on { self.old.stopped ≡ false }
+        requires opened { self.old.opened ≡ true }
+        requires fits { NextFits (contents_of self.old store.old) ask.now }
+        ensures leads { LeadsOn self.old store.old ask.now self.new store.new }
+        ensures few { length (contents_of self.new store.new).waiting ≤ length (contents_of self.old store.old).waiting }
+    {
         let passed = self.walk(store, ask);
         if passed == 0 {
             return;

@@ -1,6 +1,6 @@
 //! A page begins: its first box or rule comes after the top glue, and its goal and depth limit are frozen.
 
-ghost use Rattle.std.specs.Prelude.{◌≡◌, ◌<◌, List, [], ◌∷◌, ◌++◌, false, Some, None, IsSome, slice_get};
+ghost use Rattle.std.specs.Prelude.{◌≡◌, ◌<◌, ◌≤◌, List, [], ◌∷◌, ◌++◌, false, Some, None, IsSome, slice_get, length};
 ghost use Rattle.tb_pool.specs.Lists.{list_at};
 ghost use Rattle.tb_node.specs.declared.Node.{Node as NodeOf};
 ghost use Rattle.tb_node.specs.PlainNodes.{plain_of, PlainNode};
@@ -13,11 +13,13 @@ ghost use Rattle.tb_builder.specs.LegalPlaces.{page_shapes};
 ghost use Rattle.tb_builder.specs.Contents.{contents_of};
 ghost use Rattle.tb_builder.specs.Courses.{IsSound, IsCourseOf, AllLoose, kept_frozen, frozen_with};
 ghost use Rattle.tb_builder.specs.PageEvents.{AskFits, NextFits};
-ghost use Rattle.tb_builder.specs.PageWalks.{seen_of};
+ghost use Rattle.tb_builder.specs.PageWalks.{seen_of, LeadsOn};
 ghost use Rattle.tb_builder.specs.declared.Seen.TheVariants.{Space};
+ghost use Rattle.tb_builder.specs.declared.Ask.{Ask as AskOf};
 ghost use Rattle.tb_builder.specs.PageTurns.{TopWaits, with_top, ChangesPage, Shifted, StepIs, StartsPage, PutFits, event_of, TurnIs};
 
-use crate::front_nodes::{first_in, glue_in};
+use crate::front_nodes::{first_in, glue_in, still_count};
+use crate::fronts::move_front;
 use crate::{Ask, Builder};
 use tb_break::{is_box, top_node};
 use tb_node::Node;
@@ -54,6 +56,24 @@ impl Builder {
         self.put(store);
         self.opened = true;
         tried
+    }
+
+    // On a page without a box, the first waiting nodes go on the page, all at once, as long as they are marks, notes or
+    // whatsits.
+    #[inline(always)]
+    pub(crate) fn pass_still(&mut self, store: &mut Lists<Node>)
+        requires sound { IsSound self.old store.old }
+        requires on { self.old.stopped ≡ false }
+        requires closed { self.old.opened ≡ false }
+        ensures leads { (ask : AskOf) → NextFits (contents_of self.old store.old) ask → LeadsOn self.old store.old ask self.new store.new }
+        ensures few { length (contents_of self.new store.new).waiting ≤ length (contents_of self.old store.old).waiting }
+    {
+        let passed = still_count(store, self.waiting);
+        if passed == 0 {
+            return;
+        }
+        self.course.lasting = true;
+        move_front(store, self.page, self.waiting, self.rest, passed);
     }
 
     // The top glue goes on the page as if it waited first: the place before it is legal only after a mark, a note or a

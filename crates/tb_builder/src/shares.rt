@@ -69,16 +69,17 @@ impl Course {
 impl Builder {
     // Marks the box of a class as not void, and returns its list.
     fn open_box(&mut self, number: u8) -> ListId
-        requires { has_class (map (λ e. e.class) self.old.boxes.items) number ≡ true }
-        ensures boxes { self.new.boxes.items ≡ opened number self.old.boxes.items }
-        ensures list { result ≡ box_list number self.old.boxes.items }
+        requires { has_class (map (λ e. e.class) self.old.boxes) number ≡ true }
+        ensures boxes { self.new.boxes ≡ opened number self.old.boxes }
+        ensures list { result ≡ box_list number self.old.boxes }
         ensures others { self.new ≡ record self.old { boxes = self.new.boxes } }
     {
         let Some(k) = self.place_of(number) else {
             unreachable!();
         };
-        self.boxes[k].void = false;
-        self.boxes[k].list
+        let found = self.boxes.entry(k);
+        self.boxes.set_void(k, false);
+        found.list
     }
 
     // All nodes of the insertion at the front of the page go to the box of its class.
@@ -137,6 +138,17 @@ impl Builder {
         pass_on(store, self.page, self.held, held);
     }
 
+    // The insertion at the front of the page is held as it is.
+    fn hold_whole(&self, store: &mut Lists<Node>, n: &Node, i: &Insertion)
+        requires own { IsOwned (ids_of self.now) store.old }
+        requires first { slice_get (list_at store.old self.now.page) 0 ≡ Some n.now }
+        requires insertion { insertion_of_kind n.now.kind ≡ Some i.now }
+        ensures drops { LeavesPage self.now store.old self.now store.new n.now (plain_of (list_at store.old) n.now ∷ []) }
+        ensures spare { store.new.spare ≡ store.old.spare }
+    {
+        store.move_first(self.page, self.held);
+    }
+
     // What is left of the insertion at the front of the page is held, unless it is empty.
     fn keep_rest(&self, store: &mut Lists<Node>, n: &Node, i: &Insertion)
         requires own { IsOwned (ids_of self.now) store.old }
@@ -176,7 +188,7 @@ impl Builder {
                 self.give_part(store, n, i, place);
                 self.keep_rest(store, n, i);
             }
-            Share::Nothing => self.hold(store, n, i, *n),
+            Share::Nothing => self.hold_whole(store, n, i),
         }
     }
 
@@ -193,6 +205,9 @@ impl Builder {
         ensures page { list_at store.new self.now.page ≡ drop place (list_at store.old self.now.page) }
         ensures spare { store.new.spare ≡ store.old.spare }
     {
+        if place == 0 {
+            return;
+        }
         move_front(store, body, self.page, self.rest, place);
     }
 

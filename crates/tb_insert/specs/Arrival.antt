@@ -1,5 +1,5 @@
 -- What the arrival of an insertion changes (TeX: The Program §1008 to §1010).
-use Rattle.std.specs.Prelude.{◌≡◌, ℕ, ℤ, pos, ◌≤ℤ◌, ◌+ℤ◌, ◌-ℤ◌, ◌||◌, true, Some, List, map, if◌then◌else◌}
+use Rattle.std.specs.Prelude.{◌≡◌, ℕ, ℤ, pos, ◌≤ℤ◌, ◌+ℤ◌, ◌-ℤ◌, ◌||◌, true, Some, List, map, if◌then◌else◌, slice_set, slice_index_or}
 use Rattle.tb_pool.specs.Lists.{Lists, IsLive, list_at}
 use Rattle.tb_node.specs.declared.Node.{Node}
 use Rattle.tb_node.specs.declared.Insertion.{Insertion}
@@ -15,7 +15,7 @@ use Rattle.tb_insert.specs.declared.Entry.{Entry}
 use Rattle.tb_insert.specs.declared.Account.{Account}
 use Rattle.tb_insert.specs.Terms.{sums_with}
 use Rattle.tb_insert.specs.Account.{Frozen, Label, whole, split, late, scaled_by, taken_by, penalty_of, is_split, class_height, labelled, terms_after}
-use Rattle.tb_insert.specs.AccountEntries.{numbered, entry_of, met_goal, met_scan, met_height, label_by, is_let_in, last_at, or_else, cut_there, split_before_end}
+use Rattle.tb_insert.specs.AccountEntries.{numbered, blank_entry, entry_of, met_goal, met_scan, met_height, label_by, is_let_in, last_at, or_else, cut_there, split_before_end}
 
 -- the label that the code found
 abbrev pub label_part : Part → Label
@@ -84,3 +84,16 @@ pub record Arrived (a b : Account) (s t : Scanned) (e f : Entry) (i : Inserted) 
   pub last : f.last ≡ (if is_let_in (label_here a s e i class size) then Some index else e.last)
   pub marked : f.marked ≡ last_at a.mark e.last e.marked
   pub cut : f.cut ≡ or_else e.cut (cut_there index (split_before_end (label_here a s e i class size) i))
+
+-- the entry of a class after a late insertion
+abbrev pub late_entry : Account → Entry → Entry
+late_entry a e = record e { marked = last_at a.mark e.last e.marked }
+
+-- the account after a late insertion of a class that is on the page, with this penalty and at this place
+abbrev pub with_late : Account → ℕ → ℤ → ℕ → Account
+with_late a class floating index = record a {
+  on_page = slice_set a.on_page class true;
+  penalties = a.penalties +ℤ floating;
+  newest = Some index;
+  entries = slice_set a.entries class (late_entry a (slice_index_or a.entries class blank_entry));
+}

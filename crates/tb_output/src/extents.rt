@@ -1,6 +1,6 @@
 //! The extent of a text whose room is known.
 
-ghost use Rattle.std.specs.Prelude.{◌≡◌, ◌≤◌, All, length, IfSome};
+ghost use Rattle.std.specs.Prelude.{◌≡◌, ◌≤◌, true, All, length, IfSome};
 ghost use Rattle.std.specs.List.{slice_get};
 ghost use Rattle.tb_pool.specs.Lists.{IsLive, list_at};
 ghost use Rattle.tb_node.specs.Fit.{IsSizedNode, shapes};
@@ -13,15 +13,34 @@ use tb_pool::{ListId, Lists};
 // How many nodes at the end of a text are looked at for its depth; if none of them has one, the whole text is walked.
 const NEAR: usize = 8;
 
-/// The extent of a text of this room, as `list_extent` returns it.
-pub(crate) fn text_extent(store: &Lists<Node>, text: ListId, room: i64) -> Extent
+/// What was told of a text on its way back.
+#[derive(Clone, Copy)]
+pub(crate) struct Told {
+    /// Its height plus its depth, in sp.
+    pub room: i64,
+    /// Its depth in sp, if `has_depth`.
+    pub depth: i64,
+    /// Whether its depth was told.
+    pub has_depth: bool,
+}
+
+/// The extent of a text of which this was told, as `list_extent` returns it.
+pub(crate) fn text_extent(store: &Lists<Node>, text: ListId, told: &Told) -> Extent
     requires live { IsLive store.now text }
     requires sized { All IsSizedNode (list_at store.now text) }
     requires few { length (list_at store.now text) ≤ 8388608 }
-    requires room { room ≡ size_of (shapes store.now text) }
+    requires room { told.now.room ≡ size_of (shapes store.now text) }
+    requires depth { told.now.has_depth ≡ true → told.now.depth ≡ last_depth (shapes store.now text) }
     ensures room { result.room ≡ size_of (shapes store.now text) }
     ensures depth { result.depth ≡ last_depth (shapes store.now text) }
 {
+    let room = told.room;
+    if told.has_depth {
+        return Extent {
+            room,
+            depth: told.depth,
+        };
+    }
     match near_depth(store, text) {
         Some(depth) => Extent { room, depth },
         None => list_extent(store, text),

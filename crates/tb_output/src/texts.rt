@@ -1,6 +1,6 @@
 //! Floats and marginal notes met in the text.
 
-ghost use Rattle.std.specs.Prelude.{◌≡◌, ◌≢◌, ◌≤◌, ◌+◌, ◌-◌, ◌-ℤ◌, ◌+ℤ◌, ◌∷◌, [], ◌++◌, All, length, ◌*◌, IfOk, IfErr, OnOk, OnErr};
+ghost use Rattle.std.specs.Prelude.{◌≡◌, ◌≢◌, ◌≤◌, ◌+◌, ◌-◌, ◌-ℤ◌, ◌+ℤ◌, ◌∷◌, [], ◌++◌, true, All, length, ◌*◌, IfOk, IfErr, OnOk, OnErr};
 ghost use Rattle.std.specs.List.{AllByRecursion};
 ghost use Rattle.tb_scaled.specs.Amount.{IsAmount};
 ghost use Rattle.tb_pool.specs.Lists.{IsLive, list_at};
@@ -22,7 +22,7 @@ ghost use Rattle.tb_output.specs.Notes.{AreKnownNotes};
 ghost use Rattle.tb_output.specs.FiringParts.{IsTextSize, HasTextBack};
 
 use crate::back_list::shorten;
-use crate::extents::text_extent;
+use crate::extents::{Told, text_extent};
 use crate::{Machine, RunFault};
 use std::alloc::AllocError;
 use tb_column::{NoteBox, push_made};
@@ -86,14 +86,15 @@ impl Machine {
         ensures err { OnErr result (Does (shows_page back notes.now self.now store.old) (IsCutShort RunFault.Memory self.now store.new) (list_back self.now.params (plain_list store.old self.now.held_page ++ without_firing_box (plain_list store.old body)))) }
         ensures keeps { KeepsBack back (body ∷ note_lists notes.now) self.now self.now store.old store.new }
     {
-        let room = self.text_back(store, body, back);
-        let size = text_size(store, back, room, notes);
+        let told = self.text_back(store, body, back);
+        let size = text_size(store, back, &told, notes);
         insertions_back(store, &self.params, notes, back)?;
         Ok(size)
     }
 
-    // The held page and the page go back, without the box and the glue at the end of the page; returns their room.
-    fn text_back(&self, store: &mut Lists<Node>, body: ListId, back: ListId) -> i64
+    // The held page and the page go back, without the box and the glue at the end of the page; returns what was told of
+    // them.
+    fn text_back(&self, store: &mut Lists<Node>, body: ListId, back: ListId) -> Told
         requires held { IsPageList store.old self.now.held_page }
         requires held_room { IsRoomOf (list_at store.old self.now.held_page) self.now.held_room }
         requires body { IsPageList store.old body }
@@ -102,25 +103,33 @@ impl Machine {
         requires back_apart { back ≢ self.now.held_page }
         requires body_apart { back ≢ body }
         ensures lists { HasTextBack back self.now.held_page body store.old store.new }
-        ensures room { list_at store.old back ≡ [] → result ≡ size_of (shapes store.new back) }
+        ensures room { list_at store.old back ≡ [] → result.room ≡ size_of (shapes store.new back) }
+        ensures depth { list_at store.old back ≡ [] → result.has_depth ≡ true → result.depth ≡ last_depth (shapes store.new back) }
     {
         let count = store.len(body);
         shorten(store, body, if count < 2 { 0 } else { count - 2 });
-        let room = self.text_room(store, body);
+        let told = self.told(store, body);
         store.append(back, self.held_page);
         store.append(back, body);
         store.close(body);
-        room
+        told
     }
 
-    // The height plus the depth of the held page with these nodes behind it.
-    fn text_room(&self, store: &Lists<Node>, body: ListId) -> i64
+    // The room of the held page with these nodes behind it; and the depth, if no page is held.
+    fn told(&self, store: &Lists<Node>, body: ListId) -> Told
         requires held { IsPageList store.now self.now.held_page }
         requires held_room { IsRoomOf (list_at store.now self.now.held_page) self.now.held_room }
         requires body { IsPageList store.now body }
-        ensures { result ≡ size_of (shapes store.now self.now.held_page) +ℤ size_of (shapes store.now body) }
+        ensures room { result.room ≡ size_of (shapes store.now self.now.held_page) +ℤ size_of (shapes store.now body) }
+        ensures none_held { result.has_depth ≡ true → list_at store.now self.now.held_page ≡ [] }
+        ensures depth { result.depth ≡ last_depth (shapes store.now body) }
     {
-        sum_of(self.held_height(store), list_height(store, body))
+        let extent = list_extent(store, body);
+        Told {
+            room: sum_of(self.held_height(store), extent.room),
+            depth: extent.depth,
+            has_depth: store.len(self.held_page) == 0,
+        }
     }
 
     // The height plus the depth of the held page, which was noted when it fired.
@@ -137,12 +146,13 @@ impl Machine {
     }
 }
 
-// The size of a text of this room with these insertions.
-fn text_size(store: &Lists<Node>, text: ListId, room: i64, notes: &[NoteBox]) -> TextSize
+// The size of a text, of which this was told, with these insertions.
+fn text_size(store: &Lists<Node>, text: ListId, told: &Told, notes: &[NoteBox]) -> TextSize
     requires live { IsLive store.now text }
     requires sized { All IsSizedNode (list_at store.now text) }
     requires few { length (list_at store.now text) ≤ 8388608 }
-    requires room { room ≡ size_of (shapes store.now text) }
+    requires room { told.now.room ≡ size_of (shapes store.now text) }
+    requires depth { told.now.has_depth ≡ true → told.now.depth ≡ last_depth (shapes store.now text) }
     requires notes { AllByRecursion (IsNote store.now) notes.now }
     requires rising { AreRisingFrom 0 notes.now }
     requires few_notes { note_count store.now notes.now ≤ 8388608 }
@@ -153,7 +163,7 @@ fn text_size(store: &Lists<Node>, text: ListId, room: i64, notes: &[NoteBox]) ->
     ensures small_page { IsAmount result.page }
     ensures extent { IsExtent result.depth }
 {
-    let extent = text_extent(store, text, room);
+    let extent = text_extent(store, text, told);
     TextSize {
         height: difference(extent.room, extent.depth),
         depth: extent.depth,

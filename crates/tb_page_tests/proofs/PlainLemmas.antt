@@ -199,7 +199,7 @@ module _ (b d : Builder) (s t : Lists Node) (ask : Ask) (page : Page) (f : IsFil
     matter = fired-matter (frozen_of c ask).limit (terms_after (frozen_of c ask)) (labelled (frozen_of c ask) (take (page_break (reach_whole c ask)).place (reach_whole c ask).passed)) c.boxes (c.page ++ c.waiting)
 
     counted : fired_count (fired_page c ask) ≤ 4194305
-    counted = let a = stopped-fewer c ask f.sized stop f.sized.classes_fit (boxes_of s b.boxes.items) in let k = f.few in omega (arith, a, k)
+    counted = let a = stopped-fewer c ask f.sized stop f.sized.classes_fit (boxes_of s b.boxes) in let k = f.few in omega (arith, a, k)
 
     body_count : length (list_at t page.body) ≤ node_count (fired_page c ask).body
     body_count = let a = list-length t page.body in let e = ap node_count h.page.body in omega (arith, a, e)

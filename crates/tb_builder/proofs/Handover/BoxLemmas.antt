@@ -191,14 +191,14 @@ module _ (s t : Lists Node) (into l : ℕ) (w : Wrote s t into l (list_at s into
 -- ---- a box is taken
 
 -- a list that is not the builder's is not that of the box
-pub box_apart : (b : Builder) (s : Lists Node) (q number : ℕ) (e : ClassList) → IsClassList b.boxes.items number e → Lacks q (owned (ids_of b) s) → q ≢ e.list
+pub box_apart : (b : Builder) (s : Lists Node) (q number : ℕ) (e : ClassList) → IsClassList b.boxes number e → Lacks q (owned (ids_of b) s) → q ≢ e.list
 box_apart b s q number e h apart =
-    subst (λ (x : ClassList). q ≢ x.list) h.is (lacks_at q b.boxes.items h.place e h.first.within (lacks-left q (box_ids b.boxes.items) (inner_ids (nodes_of (ids_of b) s)) apart.1.1.1.1))
+    subst (λ (x : ClassList). q ≢ x.list) h.is (lacks_at q b.boxes h.place e h.first.within (lacks-left q (box_ids b.boxes) (inner_ids (nodes_of (ids_of b) s)) apart.1.1.1.1))
 
-module _ (b : Builder) (s t : Lists Node) (into number : ℕ) (e : ClassList) (sound : IsSound b s) (none : NoPage (contents_of b s)) (h : IsClassList b.boxes.items number e)
+module _ (b : Builder) (s t : Lists Node) (into number : ℕ) (e : ClassList) (sound : IsSound b s) (none : NoPage (contents_of b s)) (h : IsClassList b.boxes number e)
     (apart : Lacks into (owned (ids_of b) s)) (joined : t.lists ≡ insert (with_list s into (list_at s into ++ list_at s e.list)) e.list []) where
   abbrev es : List ClassList
-  es = b.boxes.items
+  es = b.boxes
 
   abbrev own : IsOwned (ids_of b) s
   own = sound.own

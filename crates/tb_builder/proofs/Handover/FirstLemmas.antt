@@ -174,8 +174,8 @@ page_goes (Some f) false k c ns no_kern going h =
 module _ (b : Builder) (s t : Lists Node) (l : ℕ) (sound : IsSound b s) (j : ListJoins (ids_of b) s l) (w : Before s t l b.waiting) where
   pub first_contents : contents_of b t ≡ record (contents_of b s) { waiting = plain_list s l ++ (contents_of b s).waiting }
   first_contents = λ i. record {
-    classes = map (λ x. x.class) b.boxes.items;
-    boxes = boxes_same s t b.boxes.items (first_boxes (ids_of b) s t l sound.own j w) i;
+    classes = map (λ x. x.class) b.boxes;
+    boxes = boxes_same s t b.boxes (first_boxes (ids_of b) s t l sound.own j w) i;
     page = first_page (ids_of b) s t l sound.own j w i;
     waiting = first_waiting (ids_of b) s t l sound.own j w i;
     held = first_held (ids_of b) s t l sound.own j w i;

@@ -64,7 +64,7 @@ none_in_front s a b c first second third none none_too =
 
 -- ---- what is put back
 
-no_nodes : {X Y : Type 0} (f : X → Y) (xs : List X) → map f xs ≡ [] → xs ≡ []
+pub no_nodes : {X Y : Type 0} (f : X → Y) (xs : List X) → map f xs ≡ [] → xs ≡ []
 no_nodes f [] e = refl
 no_nodes f (x ∷ xs) e = cc
 
@@ -177,8 +177,8 @@ module _ (b : Builder) (s t : Lists Node) (l : ℕ) (sound : IsSound b s) (j : L
 
   pub put_contents : contents_of b t ≡ record (contents_of b s) { waiting = (contents_of b s).held ++ (plain_list s l ++ (contents_of b s).waiting); held = [] }
   put_contents = λ i. record {
-    classes = map (λ x. x.class) b.boxes.items;
-    boxes = boxes_same s t b.boxes.items (back_boxes (ids_of b) s t l sound.own j no_page w) i;
+    classes = map (λ x. x.class) b.boxes;
+    boxes = boxes_same s t b.boxes (back_boxes (ids_of b) s t l sound.own j no_page w) i;
     page = back_page (ids_of b) s t l sound.own j no_page w i;
     waiting = back_waiting (ids_of b) s t l sound.own j no_page w i;
     held = back_held (ids_of b) s t l sound.own j no_page w i;

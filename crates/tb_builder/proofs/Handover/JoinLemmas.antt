@@ -170,8 +170,8 @@ module _ (b : Ids) (s t : Lists Node) (n : Node) (own : IsOwned b s) (j : NodesJ
 module _ (b : Builder) (s t : Lists Node) (n : Node) (sound : IsSound b s) (j : NodesJoin (ids_of b) s (n ∷ [])) (e : t.lists ≡ with_list s b.waiting (list_at s b.waiting ++ n ∷ [])) where
   pub contributed : contents_of b t ≡ record (contents_of b s) { waiting = (contents_of b s).waiting ++ plain_of (list_at s) n ∷ [] }
   contributed = λ i. record {
-    classes = map (λ x. x.class) b.boxes.items;
-    boxes = boxes_same s t b.boxes.items (grown_boxes (ids_of b) s t n sound.own j e) i;
+    classes = map (λ x. x.class) b.boxes;
+    boxes = boxes_same s t b.boxes (grown_boxes (ids_of b) s t n sound.own j e) i;
     page = grown_page (ids_of b) s t n sound.own j e i;
     waiting = grown_waiting (ids_of b) s t n sound.own j e i;
     held = grown_held (ids_of b) s t n sound.own j e i;

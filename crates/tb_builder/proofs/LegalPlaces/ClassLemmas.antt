@@ -26,6 +26,10 @@ first_at es number k d e =
     let h = position-Some (λ e. e.class.number == number) es k d e in
     record { within = h.0; there = h.1; before = h.2 }
 
+pub found_within : (es : List ClassList) (number k : ℕ) → position (λ e. e.class.number == number) es ≡ Some k → k < length es
+found_within [] number k h = cc
+found_within (e ∷ es) number k h = (first_at (e ∷ es) number k e h).within
+
 pub behind_first : (e : ClassList) (es : List ClassList) (number k : ℕ) (d : ClassList) → IsFirst (e ∷ es) number (suc k) d → IsFirst es number k d
 behind_first e es number k d h = record { within = let w : suc k < length (e ∷ es) = h.within in omega arith; there = h.there; before = λ j lt. h.before (suc j) (omega arith) }
 

@@ -31,11 +31,11 @@ module _ (b : Builder) (s t : Lists Node) (sound : IsSound b s) (same : AllSame 
   abbrev inner : List ℕ
   inner = inner_ids (nodes_of (ids_of b) s)
 
-  same_boxes : AllSame s t (box_ids b.boxes.items)
-  same_boxes = same-left s t (box_ids b.boxes.items) inner same.1.1.1.1
+  same_boxes : AllSame s t (box_ids b.boxes)
+  same_boxes = same-left s t (box_ids b.boxes) inner same.1.1.1.1
 
   same_inner : AllSame s t inner
-  same_inner = same-right s t (box_ids b.boxes.items) inner same.1.1.1.1
+  same_inner = same-right s t (box_ids b.boxes) inner same.1.1.1.1
 
   parts_same : AllSame s t (inner_ids (list_at s b.held) ++ inner_ids (list_at s b.page ++ list_at s b.waiting))
   parts_same = subst (AllSame s t) (inner-append (list_at s b.held) (list_at s b.page ++ list_at s b.waiting)) same_inner
@@ -52,9 +52,9 @@ module _ (b : Builder) (s t : Lists Node) (sound : IsSound b s) (same : AllSame 
     page_live = ap is_some same.0 ∙ own.live.0;
     waiting_live = ap is_some same.1.0 ∙ own.live.1.0;
     beside = (same.1.1.1.0, same_boxes);
-    inner_live = live_same s t inner same_inner (live-right s (box_ids b.boxes.items) inner own.live.1.1.1.1);
+    inner_live = live_same s t inner same_inner (live-right s (box_ids b.boxes) inner own.live.1.1.1.1);
     inner_differ = own.differ;
-    inner_plain = plain_same s t inner same_inner (plain-right s (box_ids b.boxes.items) inner own.plain_lists);
+    inner_plain = plain_same s t inner same_inner (plain-right s (box_ids b.boxes) inner own.plain_lists);
     all_known = own.known;
   }
 
@@ -66,8 +66,8 @@ module _ (b : Builder) (s t : Lists Node) (sound : IsSound b s) (same : AllSame 
 
   pub frame_contents : contents_of b t ≡ contents_of b s
   frame_contents = λ i. record {
-    classes = map (λ x. x.class) b.boxes.items;
-    boxes = boxes_same s t b.boxes.items same_boxes i;
+    classes = map (λ x. x.class) b.boxes;
+    boxes = boxes_same s t b.boxes same_boxes i;
     page = list_frame b.page same.0 (same-left s t (inner_ids (list_at s b.page)) (inner_ids (list_at s b.waiting)) two_same) i;
     waiting = list_frame b.waiting same.1.0 (same-right s t (inner_ids (list_at s b.page)) (inner_ids (list_at s b.waiting)) two_same) i;
     held = list_frame b.held same.1.1.0 (same-left s t (inner_ids (list_at s b.held)) (inner_ids (list_at s b.page ++ list_at s b.waiting)) parts_same) i;

@@ -118,7 +118,7 @@ boxes_void : (t : Lists Node) (es : List ClassList) → AllVoid es → map (boxe
 boxes_void t [] h = refl
 boxes_void t (e ∷ es) h = λ i. record { number = e.class.number; content = content_by (h.0 i) (leaf_list t e.list) } ∷ boxes_void t es h.1 i
 
-module _ (s t : Lists Node) (b : Builder) (cs : List Class) (o : Opened s t (own_ids (ids_of b))) (classes : map (λ e. e.class) b.boxes.items ≡ cs) (void : AllVoid b.boxes.items) (fit : ClassesFit cs)
+module _ (s t : Lists Node) (b : Builder) (cs : List Class) (o : Opened s t (own_ids (ids_of b))) (classes : map (λ e. e.class) b.boxes ≡ cs) (void : AllVoid b.boxes) (fit : ClassesFit cs)
     (frozen : b.frozen ≡ None) (stopped : b.stopped ≡ false) where
   no_nodes : nodes_of (ids_of b) t ≡ []
   no_nodes = λ i. o.empty.1.1.0 i ++ (o.empty.0 i ++ o.empty.1.0 i)
@@ -134,17 +134,17 @@ module _ (s t : Lists Node) (b : Builder) (cs : List Class) (o : Opened s t (own
     live = subst (AllLive t) (sym new_owned) o.live;
     differ = subst AllDiffer (sym new_owned) o.differ;
     between = o.empty.1.1.1.0;
-    void_empty = empty_void t b.boxes.items o.empty.1.1.1.1;
-    plain_lists = subst (HoldPlain t) (sym (no_more (box_ids b.boxes.items))) (empty_plain t (box_ids b.boxes.items) o.empty.1.1.1.1);
+    void_empty = empty_void t b.boxes o.empty.1.1.1.1;
+    plain_lists = subst (HoldPlain t) (sym (no_more (box_ids b.boxes))) (empty_plain t (box_ids b.boxes) o.empty.1.1.1.1);
     classes = subst ClassesFit (sym classes) fit;
-    known = subst (AllKnown (map (λ e. e.class) b.boxes.items)) (sym no_nodes) tt;
+    known = subst (AllKnown (map (λ e. e.class) b.boxes)) (sym no_nodes) tt;
   }
 
   pub new_contents : contents_of b t ≡ nothing_yet cs
   new_contents =
       (λ i. record {
-        classes = map (λ e. e.class) b.boxes.items;
-        boxes = boxes_void t b.boxes.items void i;
+        classes = map (λ e. e.class) b.boxes;
+        boxes = boxes_void t b.boxes void i;
         page = nothing_plain (o.empty.0 i);
         waiting = nothing_plain (o.empty.1.0 i);
         held = nothing_plain (o.empty.1.1.0 i);

@@ -1,5 +1,5 @@
 -- The box of a class is given something.
-use Rattle.std.proofs.Common.{◌≡◌, ◌≢◌, refl, sym, subst, ◌∙◌, ap, ℕ, zero, suc, ◌<◌, Bool, true, false, List, [], ◌∷◌, ◌++◌, map, Some, get_or, arith, get_or-set_same}
+use Rattle.std.proofs.Common.{◌≡◌, ◌≢◌, refl, sym, subst, ◌∙◌, ap, ℕ, zero, suc, ◌<◌, Bool, true, false, List, [], ◌∷◌, ◌++◌, map, Some, get_or, arith}
 use Rattle.std.specs.Prelude.{◌==◌, ◌||◌, slice_set, if◌then◌else◌}
 use Rattle.std.specs.FinMap.{get}
 use Rattle.std.proofs.lemmas.Bool.{true≢false}
@@ -27,17 +27,11 @@ opened_at (x ∷ es) number (suc k) e h is =
     ap (λ ys. x ∷ ys) (opened_at es number k e (behind_first x es number k e h) is)
     ∙ sym (ap (λ t. if t then record x { void = false } ∷ es else x ∷ opened number es) (h.before 0 (omega arith)))
 
-list_first : (es : List ClassList) (number k : ℕ) (e : ClassList) → IsFirst es number k e → (get_or es k e).list ≡ box_list number es
+-- its list
+pub list_first : (es : List ClassList) (number k : ℕ) (e : ClassList) → IsFirst es number k e → (get_or es k e).list ≡ box_list number es
 list_first [] number k e h = let w : k < 0 = h.within in absurd (omega arith)
 list_first (x ∷ es) number zero e h = sym (ap (λ t. if t then x.list else box_list number es) h.there)
 list_first (x ∷ es) number (suc k) e h = list_first es number k e (behind_first x es number k e h) ∙ sym (ap (λ t. if t then x.list else box_list number es) (h.before 0 (omega arith)))
-
--- its list, read after it was written
-pub list_opened : (es : List ClassList) (number k : ℕ) (e r : ClassList) → IsFirst es number k e → e ≡ get_or es k e → r ≡ get_or (slice_set es k (record e { void = false })) k r → r.list ≡ box_list number es
-list_opened es number k e r h is read =
-    ap (λ (x : ClassList). x.list) (read ∙ get_or-set_same es k (record e { void = false }) r h.within)
-    ∙ ap (λ (x : ClassList). x.list) is
-    ∙ list_first es number k e h
 
 -- ---- what stays
 

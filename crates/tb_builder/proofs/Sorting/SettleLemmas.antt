@@ -28,14 +28,14 @@ use Rattle.tb_builder.proofs.Turns.FillLemmas.{behind_is}
 
 module _ (b d : Builder) (s t : Lists Node) (n : Node) (ns : List Node) (i : Insertion) (own : IsOwned (ids_of b) s) (first : list_at s b.page ≡ n ∷ ns) (is : insertion_of_kind n.kind ≡ Some i) where
   -- nodes went to the box
-  pub gives_of : (gave kept : List Node) → d ≡ record b { boxes = d.boxes } → d.boxes.items ≡ opened i.class b.boxes.items
-      → t.lists ≡ insert (with_list s (box_list i.class b.boxes.items) (list_at s (box_list i.class b.boxes.items) ++ gave)) i.list kept → AllPlain gave → AllPlain kept → GivesToBox b s d t n i gave kept
+  pub gives_of : (gave kept : List Node) → d ≡ record b { boxes = d.boxes } → d.boxes ≡ opened i.class b.boxes
+      → t.lists ≡ insert (with_list s (box_list i.class b.boxes) (list_at s (box_list i.class b.boxes) ++ gave)) i.list kept → AllPlain gave → AllPlain kept → GivesToBox b s d t n i gave kept
   gives_of gave kept same items e p q = record {
     sorts = record {
       own = subst (λ j. IsOwned j t) (sym ids) (given_own (ids_of b) s n ns i own first is t gave kept e p q);
       frame = record { others = λ x h. given_others (ids_of b) s n ns i own first is t gave kept e p q x h; apart = λ x h. subst (λ j. Lacks x (owned j t)) (sym ids) (given_keeps (ids_of b) s n ns i own first is t gave kept e p q x h) };
       builder = same;
-      classes = ap (λ (j : Ids). classes_of j) ids ∙ opened-classes i.class b.boxes.items;
+      classes = ap (λ (j : Ids). classes_of j) ids ∙ opened-classes i.class b.boxes;
       waiting = ap (λ (j : Ids). plain_list t j.waiting) ids ∙ given_waiting (ids_of b) s n ns i own first is t gave kept e p q;
     };
     page = given_page (ids_of b) s n ns i own first is t gave kept e p q;
@@ -45,7 +45,7 @@ module _ (b d : Builder) (s t : Lists Node) (n : Node) (ns : List Node) (i : Ins
     left = given_left (ids_of b) s n ns i own first is t gave kept e p q;
   }
     where
-      ids : ids_of d ≡ record (ids_of b) { boxes = opened i.class b.boxes.items }
+      ids : ids_of d ≡ record (ids_of b) { boxes = opened i.class b.boxes }
       ids = ap ids_of same ∙ ap (λ es. record (ids_of b) { boxes = es }) items
 
 -- the insertion went, or is held: the builder itself stays

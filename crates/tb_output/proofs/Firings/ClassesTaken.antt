@@ -232,7 +232,7 @@ all-taken classes k notes b now store new whole rising known sized few h = recor
     taken = subst (λ cs. BoxesTaken cs notes b now store new) (take_all k classes whole) h.taken
 
     boxes : AreBoxesOf classes (contents_of b store).boxes
-    boxes = subst (λ cs. AreBoxesOf cs (contents_of b store).boxes) known (boxes_of store b.boxes.items)
+    boxes = subst (λ cs. AreBoxesOf cs (contents_of b store).boxes) known (boxes_of store b.boxes)
 
     from : AllByRecursion (FromBox classes) (notes_shown new notes)
     from = subst (AllByRecursion (FromBox classes)) (sym taken.shown) (from-in classes 0 classes (contents_of b store).boxes (known-own classes) rising sized)

@@ -47,7 +47,7 @@ module _ (b : Builder) (store new : Lists Node) (sound : IsSound b store) (same 
 
 pub void-taken : (c : Class) (b : Builder) (store : Lists Node) → IsSound b store → box_content (contents_of b store).boxes c.number ≡ None → BoxesTaken (c ∷ []) [] b b store store
 void-taken c b store sound none = record {
-  contents = λ i. record (contents_of b store) { boxes = sym (void-same (contents_of b store).classes (contents_of b store).boxes c.number sound.own.classes (boxes_of store b.boxes.items) none) i };
+  contents = λ i. record (contents_of b store) { boxes = sym (void-same (contents_of b store).classes (contents_of b store).boxes c.number sound.own.classes (boxes_of store b.boxes) none) i };
   shown = sym (ap (λ o. with_notes c o []) none);
   lists = tt;
   own = record { apart = tt; fresh = λ q live free. tt; free = tt };

@@ -46,7 +46,7 @@ module _ (m now : MachineView) (b later : Builder) (store middle new : Lists Nod
       let own : w.state.classes ≡ m.classes = sym (ap (λ (s : State). s.classes) h.0.state) in
       let empty : notes_in m.classes (contents_of b store).boxes ≡ [] = (λ i. notes_in (sym own i) (h.2 i)) ∙ none in
       let same : emptied_boxes (contents_of b store).boxes ≡ (contents_of b store).boxes =
-      void-boxes 0 m.classes (contents_of b store).boxes classes (subst (λ cs. AreBoxesOf cs (contents_of b store).boxes) known (boxes_of store b.boxes.items)) empty in
+      void-boxes 0 m.classes (contents_of b store).boxes classes (subst (λ cs. AreBoxesOf cs (contents_of b store).boxes) known (boxes_of store b.boxes)) empty in
       subst (λ bs. emptied_boxes bs ≡ bs) h.2 same
 
   module _ (above : hold_penalty <ℤ f.penalty) (contents : contents_of later new ≡ contents_of later middle)

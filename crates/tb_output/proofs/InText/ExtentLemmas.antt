@@ -76,6 +76,17 @@ module _ (a b : Lists Node) (l k : ℕ) (cut : b.lists ≡ with_list a l (take k
       ∙ ap (λ (ns : List Node). size_of (map shape_of (ns ++ (list_at a q ++ take k (list_at a l))))) (sym empty)
       ∙ ap (λ (ns : List Node). size_of (map shape_of ns)) (sym now)
 
+  -- and it has the depth of what was behind the held page, if none is held
+  pub depth-back : (new : Lists Node) (q back : ℕ) (depth : ℤ) → q ≢ l → depth ≡ last_depth (map shape_of (list_at b l)) → list_at b q ≡ [] → list_at a back ≡ [] → get new.lists back ≡ Some (list_at a back ++ (list_at a q ++ take k (list_at a l))) → depth ≡ last_depth (map shape_of (list_at new back))
+  depth-back new q back depth ne is none empty there =
+      let body : list_at b l ≡ take k (list_at a l) = list_same a b l (take k (list_at a l)) cut in
+      let held : list_at b q ≡ list_at a q = list-same a b q (get_other a b l (take k (list_at a l)) q ne cut) in
+      let now : list_at new back ≡ list_at a back ++ (list_at a q ++ take k (list_at a l)) = ap (λ (o : Option (List Node)). unwrap_or o []) there in
+      is
+      ∙ ap (λ (ns : List Node). last_depth (map shape_of ns)) body
+      ∙ (λ i. last_depth (map shape_of (sym empty i ++ ((sym none ∙ held) i ++ take k (list_at a l)))))
+      ∙ ap (λ (ns : List Node). last_depth (map shape_of ns)) (sym now)
+
 -- ---- the depth at the end
 
 told-after : (d e : ℤ) (k : Kind) → kind_depth k ≡ Some e → depth_after d (shape_of_kind k) ≡ e

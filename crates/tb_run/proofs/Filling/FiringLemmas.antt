@@ -120,7 +120,7 @@ module _ (wanted : Bool) (r q d : Routine) (hs : List Happening) (ready : IsRead
   t-now = next-state wanted r q d hs ready h ask asked e of_page sound keeps same most d_left kept
 
   of-boxes : AreBoxesOf s.classes s.boxes
-  of-boxes = subst (λ (c : Contents). AreBoxesOf c.classes s.boxes) ready.settled.between (boxes_of r.store r.builder.boxes.items)
+  of-boxes = subst (λ (c : Contents). AreBoxesOf c.classes s.boxes) ready.settled.between (boxes_of r.store r.builder.boxes)
 
   -- the page in the store
   fired-same : fired_whole d page ≡ f

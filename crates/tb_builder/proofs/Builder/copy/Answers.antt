@@ -1,4 +1,4 @@
-use Rattle.std.proofs.Common.{◌≡◌, refl, ap, ◌∙◌, List}
+use Rattle.std.proofs.Common.{◌≡◌, refl, ap, List}
 use Rattle.tb_builder.specs.declared.ClassList.{ClassList}
 use Rattle.tb_builder.specs.declared.Builder.{Builder}
 use Rattle.tb_builder.specs.Ownership.{ids_of}
@@ -9,7 +9,7 @@ pub returns : goal.returns
 returns c =
     let b = c.args.self.now in
     let copy : Builder = record {
-      boxes = c.in_ok-to_vec.field-0;
+      boxes = c.in_ok-copy.field-0;
       page = b.page;
       waiting = b.waiting;
       held = b.held;
@@ -20,7 +20,7 @@ returns c =
       tried = b.tried;
       course = b.course;
     } in
-    let items : c.in_ok-to_vec.field-0.items ≡ b.boxes.items = c.in_ok-to_vec.ensures.items_if_clones_equal (λ x y h. h) ∙ c.deref.ensures.value in
+    let items : c.in_ok-copy.field-0 ≡ b.boxes = c.in_ok-copy.ensures in
     let ids : ids_of copy ≡ ids_of b = ap (λ (es : List ClassList). record (ids_of b) { boxes = es }) items in
     record {
       ids = ids;

@@ -1,15 +1,21 @@
 use Rattle.std.proofs.Common.{◌≡◌, sym, subst}
+use Rattle.tb_pool.specs.Lists.{list_at}
+use Rattle.tb_node.specs.PlainNodes.{plain_of}
 use Rattle.tb_builder.specs.Contents.{Contents, contents_of}
 use Rattle.tb_builder.specs.PageEvents.{NextIs, FirstIs, KeepsBoxes}
 use Rattle.tb_builder.specs.Contents.{laid, reach_ahead, places_of}
 use Rattle.tb_builder.specs.PassedNodes.{EventPast}
 use Rattle.tb_builder.specs.Courses.{IsSound}
 use Rattle.tb_builder.specs.declared.Event.TheVariants as events
+use Rattle.tb_builder.proofs.Handover.FrontLemmas.{no_nodes}
 use Rattle.tb_builder.proofs.Events.NextLemmas.{fired_keeps}
 use Rattle.tb_builder.proofs.Events.PagingLemmas.{paging_next}
 use Rattle.tb_builder.proofs.Events.WalkLemmas.{told_here}
 use Rattle.tb_builder.proofs.Ownership.SpareLemmas.{contents_still, sound_still, fits_still, keeps_filled}
 use Rattle.tb_builder.proofs.Builder.next.Goals as goal
+
+pub fire-requires-clause-none_held : goal.fire-requires-clause-none_held
+fire-requires-clause-none_held c = no_nodes (plain_of (list_at c.args.store.now)) (list_at c.args.store.now c.args.self.now.held) c.requires.none_held
 
 pub returns-in_err-page-clause-sound : goal.returns-in_err-page-clause-sound
 returns-in_err-page-clause-sound c =

@@ -4,7 +4,7 @@ use Rattle.tb_builder.proofs.Amounts.CountLemmas.{boxes_live, waiting_live}
 use Rattle.tb_builder.proofs.Builder.nodes.Goals as goal
 
 pub count_boxes-boxes-requires-clause-live : goal.count_boxes-boxes-requires-clause-live
-count_boxes-boxes-requires-clause-live c = subst (λ es. AllLive c.args.store.now (box_ids es)) (sym c.deref.ensures.value) (boxes_live (ids_of c.args.self.now) c.args.store.now c.requires.own)
+count_boxes-boxes-requires-clause-live c = subst (λ es. AllLive c.args.store.now (box_ids es)) (sym c.as_slice.ensures) (boxes_live (ids_of c.args.self.now) c.args.store.now c.requires.own)
 
 pub count_nodes-requires-clause-inner : goal.count_nodes-requires-clause-inner
 count_nodes-requires-clause-inner c = waiting_live (ids_of c.args.self.now) c.args.store.now c.requires.own

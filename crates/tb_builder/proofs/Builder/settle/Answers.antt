@@ -1,12 +1,9 @@
 use Rattle.std.proofs.Common.{sym, subst, map}
 use Rattle.tb_pool.specs.Lists.{list_at}
 use Rattle.tb_node.specs.PlainNodes.{shape_of}
-use Rattle.tb_builder.specs.Ownership.{ids_of}
 use Rattle.tb_builder.specs.Sizes.{RoomFits}
 use Rattle.tb_builder.specs.Firing.{SharesOut}
-use Rattle.tb_builder.proofs.Turns.FillLemmas.{first_is}
 use Rattle.tb_builder.proofs.Sorting.RestLemmas.{room-rest}
-use Rattle.tb_builder.proofs.Sorting.GiveLemmas.{first_known}
 use Rattle.tb_builder.proofs.Sorting.SettleLemmas.{settles_all, settles_front, settles_none}
 use Rattle.tb_builder.proofs.Builder.settle.Goals as goal
 
@@ -14,13 +11,6 @@ pub keep_rest-requires-clause-fits : goal.keep_rest-requires-clause-fits
 keep_rest-requires-clause-fits c =
     subst (λ ns. RoomFits (map shape_of ns)) (sym c.give_part.ensures.gives.left)
     (room-rest c.args.i.now.split_top c.in-Front.place (list_at c.args.store.now c.args.i.now.list) c.requires.top c.requires.nodes c.requires.sizes)
-
-pub hold-requires-clause-known : goal.hold-requires-clause-known
-hold-requires-clause-known c =
-    let b = c.args.self.now in
-    let s = c.args.store.now in
-    let f = first_is (list_at s b.page) c.args.n.now c.requires.first in
-    first_known (ids_of b) s c.args.n.now f.0 c.args.i.now c.requires.own f.1 c.requires.insertion
 
 pub returns-in-All-clause-settles : goal.returns-in-All-clause-settles
 returns-in-All-clause-settles c =
@@ -34,5 +24,5 @@ returns-in-Front-clause-settles c =
 
 pub returns-in-Nothing-clause-settles : goal.returns-in-Nothing-clause-settles
 returns-in-Nothing-clause-settles c =
-    subst (SharesOut c.args.self.now c.args.store.now c.args.self.now c.hold.new.store c.args.n.now c.args.i.now) (sym c.in-Nothing.is)
-    (settles_none c.args.self.now c.args.store.now c.hold.new.store c.args.n.now c.args.i.now c.requires.insertion c.hold.ensures.drops)
+    subst (SharesOut c.args.self.now c.args.store.now c.args.self.now c.hold_whole.new.store c.args.n.now c.args.i.now) (sym c.in-Nothing.is)
+    (settles_none c.args.self.now c.args.store.now c.hold_whole.new.store c.args.n.now c.args.i.now c.requires.insertion c.hold_whole.ensures.drops)

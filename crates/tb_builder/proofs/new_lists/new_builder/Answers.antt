@@ -9,18 +9,18 @@ use Rattle.tb_builder.proofs.new_lists.new_builder.Goals as goal
 
 pub returns-in_err-held-clause-others : goal.returns-in_err-held-clause-others
 returns-in_err-held-clause-others c = λ q live.
-    let one = opened_first c.args.store.now c.void_boxes.new.store c.add_list.new.self (box_ids c.in_ok-boxes.boxes.items) c.in_ok-rest.rest c.in_ok-boxes.ensures.boxes.opened c.in_ok-rest.ensures.fresh c.in_ok-rest.ensures.opened in
+    let one = opened_first c.args.store.now c.void_boxes.new.store c.add_list.new.self (box_ids c.in_ok-boxes.boxes) c.in_ok-rest.rest c.in_ok-boxes.ensures.boxes.opened c.in_ok-rest.ensures.fresh c.in_ok-rest.ensures.opened in
     ap (λ m. get m q) c.in_err-held.ensures.err ∙ one.others q live
 
 pub returns-in_err-waiting-clause-others : goal.returns-in_err-waiting-clause-others
 returns-in_err-waiting-clause-others c = λ q live.
-    let one = opened_first c.args.store.now c.void_boxes.new.store c.add_list.new.self (box_ids c.in_ok-boxes.boxes.items) c.in_ok-rest.rest c.in_ok-boxes.ensures.boxes.opened c.in_ok-rest.ensures.fresh c.in_ok-rest.ensures.opened in
+    let one = opened_first c.args.store.now c.void_boxes.new.store c.add_list.new.self (box_ids c.in_ok-boxes.boxes) c.in_ok-rest.rest c.in_ok-boxes.ensures.boxes.opened c.in_ok-rest.ensures.fresh c.in_ok-rest.ensures.opened in
     let two = opened_first c.args.store.now c.add_list.new.self c.add_list-2.new.self _ c.in_ok-held.held one c.in_ok-held.ensures.fresh c.in_ok-held.ensures.opened in
     ap (λ m. get m q) c.in_err-waiting.ensures.err ∙ two.others q live
 
 pub returns-in_err-page-clause-others : goal.returns-in_err-page-clause-others
 returns-in_err-page-clause-others c = λ q live.
-    let one = opened_first c.args.store.now c.void_boxes.new.store c.add_list.new.self (box_ids c.in_ok-boxes.boxes.items) c.in_ok-rest.rest c.in_ok-boxes.ensures.boxes.opened c.in_ok-rest.ensures.fresh c.in_ok-rest.ensures.opened in
+    let one = opened_first c.args.store.now c.void_boxes.new.store c.add_list.new.self (box_ids c.in_ok-boxes.boxes) c.in_ok-rest.rest c.in_ok-boxes.ensures.boxes.opened c.in_ok-rest.ensures.fresh c.in_ok-rest.ensures.opened in
     let two = opened_first c.args.store.now c.add_list.new.self c.add_list-2.new.self _ c.in_ok-held.held one c.in_ok-held.ensures.fresh c.in_ok-held.ensures.opened in
     let three = opened_first c.args.store.now c.add_list-2.new.self c.add_list-3.new.self _ c.in_ok-waiting.waiting two c.in_ok-waiting.ensures.fresh c.in_ok-waiting.ensures.opened in
     ap (λ m. get m q) c.in_err-page.ensures.err ∙ three.others q live
@@ -32,7 +32,7 @@ made c = record { boxes = c.in_ok-boxes.boxes; page = c.in_ok-page.page; waiting
 -- its lists were opened
 opened : (c : After-started) → Opened c.args.store.now c.add_list-4.new.self (own_ids (ids_of (made c)))
 opened c =
-    let one = opened_first c.args.store.now c.void_boxes.new.store c.add_list.new.self (box_ids c.in_ok-boxes.boxes.items) c.in_ok-rest.rest c.in_ok-boxes.ensures.boxes.opened c.in_ok-rest.ensures.fresh c.in_ok-rest.ensures.opened in
+    let one = opened_first c.args.store.now c.void_boxes.new.store c.add_list.new.self (box_ids c.in_ok-boxes.boxes) c.in_ok-rest.rest c.in_ok-boxes.ensures.boxes.opened c.in_ok-rest.ensures.fresh c.in_ok-rest.ensures.opened in
     let two = opened_first c.args.store.now c.add_list.new.self c.add_list-2.new.self _ c.in_ok-held.held one c.in_ok-held.ensures.fresh c.in_ok-held.ensures.opened in
     let three = opened_first c.args.store.now c.add_list-2.new.self c.add_list-3.new.self _ c.in_ok-waiting.waiting two c.in_ok-waiting.ensures.fresh c.in_ok-waiting.ensures.opened in
     opened_first c.args.store.now c.add_list-3.new.self c.add_list-4.new.self _ c.in_ok-page.page three c.in_ok-page.ensures.fresh c.in_ok-page.ensures.opened

@@ -4,7 +4,7 @@ use Rattle.tb_pool.specs.Lists.{IsLive, list_at, with_list}
 use Rattle.tb_pool.proofs.CallerLemmas.{live_other, live_same}
 use Rattle.tb_output.specs.Machine.{MachineView}
 use Rattle.tb_output.specs.FiringParts.{HasTextBack}
-use Rattle.tb_output.proofs.InText.ExtentLemmas.{page-cut, held-cut, room-cut, room-back}
+use Rattle.tb_output.proofs.InText.ExtentLemmas.{page-cut, held-cut, room-cut, room-back, depth-back}
 use Rattle.tb_output.proofs.InText.BackLemmas.{first-live, second-live, second-empty, other-live, text-joined}
 use Rattle.tb_output.proofs.Machine.text_back.Goals as goal
 use Rattle.tb_output.proofs.Machine.text_back.Goals.{then-count-lt2, else-count-lt2}
@@ -35,14 +35,14 @@ close-requires-clause-live c = second-live c.append.new.self c.append-2.new.self
 pub close-requires-clause-empty : goal.close-requires-clause-empty
 close-requires-clause-empty c = second-empty c.append.new.self c.append-2.new.self c.args.back c.args.body c.requires.body_apart c.append-2.ensures.joined
 
-pub text_room-room-requires-clause-held : goal.text_room-room-requires-clause-held
-text_room-room-requires-clause-held c = held-cut c.args.store.now c.shorten.new.store c.args.body _ c.shorten.ensures c.args.self.now.held_page c.requires.held_apart c.requires.held
+pub told-told-requires-clause-held : goal.told-told-requires-clause-held
+told-told-requires-clause-held c = held-cut c.args.store.now c.shorten.new.store c.args.body _ c.shorten.ensures c.args.self.now.held_page c.requires.held_apart c.requires.held
 
-pub text_room-room-requires-clause-held_room : goal.text_room-room-requires-clause-held_room
-text_room-room-requires-clause-held_room c = room-cut c.args.store.now c.shorten.new.store c.args.body _ c.shorten.ensures c.args.self.now.held_page c.args.self.now.held_room c.requires.held_apart c.requires.held_room
+pub told-told-requires-clause-held_room : goal.told-told-requires-clause-held_room
+told-told-requires-clause-held_room c = room-cut c.args.store.now c.shorten.new.store c.args.body _ c.shorten.ensures c.args.self.now.held_page c.args.self.now.held_room c.requires.held_apart c.requires.held_room
 
-pub text_room-room-requires-clause-body : goal.text_room-room-requires-clause-body
-text_room-room-requires-clause-body c = page-cut c.args.store.now c.shorten.new.store c.args.body _ c.shorten.ensures c.requires.body
+pub told-told-requires-clause-body : goal.told-told-requires-clause-body
+told-told-requires-clause-body c = page-cut c.args.store.now c.shorten.new.store c.args.body _ c.shorten.ensures c.requires.body
 
 pub returns-clause-lists : goal.returns-clause-lists
 returns-clause-lists c =
@@ -63,6 +63,13 @@ returns-clause-room c = λ empty.
     let gone : HasTextBack c.args.back c.args.self.now.held_page c.args.body a c.close.new.self = returns-clause-lists c in
     let count : c.if-count-lt2.shorten ≡ length ns - 2 = elim c.if-count-lt2.branch [ then-count-lt2 w ↦ omega (arith, c.len-count.ensures) | else-count-lt2 w ↦ omega (arith, c.len-count.ensures) ] in
     let cut : c.shorten.new.store.lists ≡ with_list a c.args.body (take (length ns - 2) ns) = c.shorten.ensures ∙ ap (λ k. with_list a c.args.body (take k ns)) count in
-    let fits : FitsSigned w64 c.text_room-room.result = search rules in
-    to_z-of_z w64 c.text_room-room.result fits
-    ∙ room-back a c.shorten.new.store c.args.body (length ns - 2) cut c.close.new.self c.args.self.now.held_page c.args.back c.text_room-room.result c.requires.held_apart c.text_room-room.ensures empty gone.list
+    room-back a c.shorten.new.store c.args.body (length ns - 2) cut c.close.new.self c.args.self.now.held_page c.args.back c.told-told.result.room c.requires.held_apart c.told-told.ensures.room empty gone.list
+
+pub returns-clause-depth : goal.returns-clause-depth
+returns-clause-depth c = λ empty has.
+    let a = c.args.store.now in
+    let ns = list_at a c.args.body in
+    let gone : HasTextBack c.args.back c.args.self.now.held_page c.args.body a c.close.new.self = returns-clause-lists c in
+    let count : c.if-count-lt2.shorten ≡ length ns - 2 = elim c.if-count-lt2.branch [ then-count-lt2 w ↦ omega (arith, c.len-count.ensures) | else-count-lt2 w ↦ omega (arith, c.len-count.ensures) ] in
+    let cut : c.shorten.new.store.lists ≡ with_list a c.args.body (take (length ns - 2) ns) = c.shorten.ensures ∙ ap (λ k. with_list a c.args.body (take k ns)) count in
+    depth-back a c.shorten.new.store c.args.body (length ns - 2) cut c.close.new.self c.args.self.now.held_page c.args.back c.told-told.result.depth c.requires.held_apart c.told-told.ensures.depth (c.told-told.ensures.none_held has) empty gone.list

@@ -14,7 +14,7 @@ use Rattle.tb_output.proofs.reading.boxes_height.Goals as goal
 pub loop-class-init : goal.loop-class-init
 loop-class-init c =
     let bs = (contents_of c.args.b.now c.args.store.now).boxes in
-    read-begun c.args.classes.now bs c.requires.classes (subst (λ cs. AreBoxesOf cs bs) c.requires.known (boxes_of c.args.store.now c.args.b.now.boxes.items)) c.requires.few
+    read-begun c.args.classes.now bs c.requires.classes (subst (λ cs. AreBoxesOf cs bs) c.requires.known (boxes_of c.args.store.now c.args.b.now.boxes)) c.requires.few
 
 pub box_height-requires-clause-known : goal.box_height-requires-clause-known
 box_height-requires-clause-known c =

@@ -43,7 +43,7 @@ pub returns-in-Fired-clause-boxed : goal.returns-in-Fired-clause-boxed
 returns-in-Fired-clause-boxed c =
     let before = contents_of c.loop.p.builder c.loop.p.store in
     let after = contents_of c.next.new.self c.next.new.store in
-    fired_box c.loop.p.builder.stopped c.in-Fired.page before after c.loop.p.ask c.next.new.store refl c.loop.invariant.sized c.loop.invariant.few (boxes_of c.loop.p.store c.loop.p.builder.boxes.items)
+    fired_box c.loop.p.builder.stopped c.in-Fired.page before after c.loop.p.ask c.next.new.store refl c.loop.invariant.sized c.loop.invariant.few (boxes_of c.loop.p.store c.loop.p.builder.boxes)
     (subst (λ (e : Event). NextIs c.loop.p.builder.stopped e before c.loop.p.ask after c.next.new.store) c.in-Fired.is c.in-Ok.ensures.event)
 
 pub loop-preserved : goal.loop-preserved

@@ -5,7 +5,7 @@ use Rattle.tb_node.specs.PlainNodes.{plain_of}
 use Rattle.tb_builder.specs.Ownership.{Ids, ids_of, IsOwned}
 use Rattle.tb_builder.specs.PageWalks.{moved, LeadsOn}
 use Rattle.tb_builder.proofs.Events.WalkLemmas.{moved_none, moved_few, moved_front}
-use Rattle.tb_builder.proofs.Builder.pass_nodes.Goals as goal
+use Rattle.tb_builder.proofs.Builder.pass_laid_out.Goals as goal
 
 pub returns-then-passed-eq0-clause-leads : goal.returns-then-passed-eq0-clause-leads
 returns-then-passed-eq0-clause-leads c =

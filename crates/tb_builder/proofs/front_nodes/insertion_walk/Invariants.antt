@@ -1,6 +1,6 @@
 use Rattle.tb_pool.specs.Lists.{list_at}
 use Rattle.tb_builder.proofs.Sorting.PlaceLemmas.{Looking}
-use Rattle.tb_builder.proofs.front_nodes.insertion_place.Given as goal
+use Rattle.tb_builder.proofs.front_nodes.insertion_walk.Given as goal
 
 abbrev pub invariant-loop-n : goal.invariant-loop-n
 invariant-loop-n l = record {
