@@ -54,11 +54,14 @@ local votes = {}       -- by part (the clears before it): name -> value -> numbe
 local part = 0
 
 local fills = {}       -- the glue above a rule that stretches or shrinks, without its width; by the rule's parameter
+local unsaid = {}      -- what no value of a parameter says -> the parameter
+
+function M.unsaid(name, what) unsaid[what] = name end
 
 -- Such glue above the footnote rule moves the footnotes down as `footfill` does.
 local function with_fill(name, value)
   if name ~= "footfill" or not fills.footrule then return value end
-  if value ~= NO_GLUE then log.lost("glue of the footnote rule that stretches or shrinks, with the glue above it") end
+  if value ~= NO_GLUE then M.unsaid(name, "glue in the footnote rule with glue above it (one of the two is written)") end
   return value == NO_GLUE and fills.footrule or value
 end
 
@@ -131,7 +134,7 @@ end
 -- Adds glue to a sum: of the stretch the greatest order alone counts.
 local function add_glue(sum, n, name)
   sum.width, sum.shrink = sum.width + n.width, sum.shrink + n.shrink
-  if n.shrink ~= 0 and n.shrink_order ~= 0 then log.lost("infinite shrink in " .. name .. " (written as finite)") end
+  if n.shrink_order ~= 0 then M.unsaid(name, "infinite shrink in " .. name .. " (written as finite)") end
   if n.stretch == 0 or n.stretch_order < sum.order then return end
   if n.stretch_order > sum.order then sum.stretch, sum.order = 0, n.stretch_order end
   sum.stretch = sum.stretch + n.stretch
@@ -153,7 +156,7 @@ function M.glue(name, box)
     elseif n.id == node.id("glue") then add_glue(sum, n, name)
     elseif n.id == node.id("kern") then sum.width = sum.width + n.kern
     elseif n.height and n.height + n.depth ~= 0 then
-      log.lost("a box or rule in " .. name .. " (its height is kept)")
+      M.unsaid(name, "a box or rule in " .. name .. " (its height is kept)")
       sum.width = sum.width + n.height + n.depth
     end
   end
@@ -174,7 +177,7 @@ function M.rule(name, box)
   end
   fills[name] = is_flexible(above) and sum_text(above, 0) or nil
   if is_flexible(below) or (fills[name] and name ~= "footrule") then
-    log.lost("glue of " .. name .. " that stretches or shrinks (its width is kept)")
+    M.unsaid(name, "glue in " .. name .. " that stretches or shrinks (its width is kept)")
   end
   local is_none = not height and above.width == 0
   tex.sprint(-2, is_none and "none" or string.format("%d %d %d", above.width, height or 0, below.width))
@@ -220,13 +223,20 @@ local function forget_notes()
     if row.notes then
       own[row[1]] = row.kernel
       for _, names in pairs(votes) do names[row[1]] = nil end
+      for what, name in pairs(unsaid) do
+        if name == row[1] then unsaid[what] = nil end
+      end
     end
   end
 end
 
+-- What a `set` line can't say holds all along.
+local function lost(what) log.lost(what, "the whole document") end
+
 -- Chooses each parameter's value over the whole document. `has_notes`: whether it has footnotes.
 function M.settle(has_notes)
   if not has_notes then forget_notes() end
+  for what in pairs(unsaid) do lost(what) end
   for _, row in ipairs(ROWS) do
     local name, all = row[1], {}
     for _, names in pairs(votes) do
@@ -272,9 +282,6 @@ function M.differ(a, b)
 end
 
 -- ---- Lines of a galley
-
--- What a `set` line can't say holds all along.
-local function lost(what) log.lost(what, "the whole document") end
 
 local function clipped(name, value, least, greatest)
   local number = math.floor(tonumber(value) or 0)
