@@ -292,7 +292,7 @@ local function write_part(part, path, title)
     out:write(line, "\n")
     written = written + 1
   end
-  put(next(part.classes) and "galley 2" or "galley 1")
+  put("galley " .. parameters.version(next(part.classes) ~= nil))
   put("# " .. title)
   for _, line in ipairs(parameters.lines(part.values)) do put(line) end
   for _, line in ipairs(parameters.class_lines(part.classes)) do put(line) end
@@ -318,9 +318,16 @@ local function notes_at_start(part, is_first)
   return part.stretches[1].titled and 0 or 1
 end
 
+local function has_footnotes()
+  for _, record in ipairs(records) do
+    if record.kind == "insertion" and parameters.is_footnote(record) then return true end
+  end
+  return false
+end
+
 -- Writes all galleys of the document. Gives their number, and the counts of what stands in them.
 function M.write(job, pages)
-  parameters.settle()
+  parameters.settle(has_footnotes())
   local list = parts(pages)
   for _, part in ipairs(list) do
     part.values = part.values or parameters.whole()

@@ -144,6 +144,16 @@ function add_items(out, v, set, at, kind)
   end
 end
 
+-- A rule of the output routine that stands directly below top floats or above bottom floats is one beside floats.
+local function tell_float_rules(items)
+  local function is_in(item, area) return item and item.kind == "float" and item.float.area == area end
+  for k, item in ipairs(items) do
+    if item.kind == "footrule" and (is_in(items[k - 1], "top") or is_in(items[k + 1], "bottom")) then
+      item.kind = "floatrule"
+    end
+  end
+end
+
 -- ---- Columns
 
 -- The list with the document's own nodes: a class may have put frames or rules round it.
@@ -200,24 +210,28 @@ function M.column(box, of_floats, two_columns, number)
   end
   column.items = {}
   add_items(column.items, v, column.set, 0, column.kind)
+  tell_float_rules(column.items)
   tell_top_skip(v)
   waiting[#waiting + 1] = column
 end
 
 -- ---- Pages
 
--- The floats over both columns at the head of a pair.
+-- The floats over both columns at the head of a pair with the rule below them, and how much room the rule takes.
 local function wide_floats(v)
-  local out, y = {}, 0
+  local out, y, room = {}, 0, 0
   for n in node.traverse(v.head) do
     if is_list(n) then
       local float, side = floats.of(n)
       if float and not side then out[#out + 1] = { kind = "wide", float = float, top = y, height = n.height } end
       y = y + n.height + n.depth
+    elseif n.id == NODE.rule then
+      out[#out + 1] = { kind = "floatrule", top = y, height = n.height, depth = n.depth }
+      y, room = y + n.height + n.depth, room + n.height + n.depth
     elseif n.id == NODE.glue then y = y + n.width
-    elseif n.id == NODE.kern then y = y + n.kern end
+    elseif n.id == NODE.kern then y, room = y + n.kern, room + n.kern end
   end
-  return out
+  return out, room
 end
 
 -- LaTeX ships a page: of the columns that it made since the last one, or of floats over both columns alone.
@@ -229,8 +243,9 @@ function M.page(box, two_columns, text_height, number)
   waiting = {}
   if #page.columns == 2 then
     page.kind = "two"
-    page.at = text_height - page.columns[1].height
-    page.wide = wide_floats(v)
+    local room
+    page.wide, room = wide_floats(v)
+    page.at = text_height - page.columns[1].height + (#page.wide > 0 and room or 0)
   elseif #page.columns == 0 then
     page.kind = "wide"
     local column = { kind = "floats", number = 1, height = v.height, set = setting(v), items = {} }
@@ -261,6 +276,7 @@ local LINE_OF = {
   box = function(item) return string.format("box %s %d %d %d", item.record.name, item.top, item.height, item.depth) end,
   rule = function(item) return string.format("rule %s %d %d %d", item.record.name, item.top, item.height, item.depth) end,
   footrule = function(item) return string.format("footrule %d %d %d", item.top, item.height, item.depth) end,
+  floatrule = function(item) return string.format("floatrule %d %d %d", item.top, item.height, item.depth) end,
   mark = function(item)
     return string.format("%s %s %d", item.record.class == 0 and "mark" or "note", item.record.name, item.top)
   end,

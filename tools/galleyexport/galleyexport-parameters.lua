@@ -1,19 +1,20 @@
 -- Parameters, and the classes of insertions. LaTeX may change a parameter at any place, a galley sets it once: so all
 -- are read for each column that LaTeX makes, and the value of most columns is written. Where one that counts for the
--- pages changes at a clear, nothing is left over from before, and a new galley begins.
+-- pages changes at a clear, nothing is left over from before, and a new galley begins. The parameters of version 3 of
+-- the galley are written if a document gives one of them another value than the kernel has.
 local log = require("galleyexport-log")
 
 local M = {}
 
 local MAX_DIMEN = 1073741823
-local FOOTNOTE_RULE = "-196608 26214 170394"   -- room above, the rule's height, room below: the only one of a galley
+local NO_GLUE = "0 plus 0 minus 0"
 local ORDERS = { [0] = "", "sfil", "sfil", "sfill", "sfilll" }
 
 -- In the order of the galley: name, form, least and greatest value. `part`: a change begins a new galley.
 local ROWS = {
   { "textheight", "number", 1, MAX_DIMEN, part = true }, { "topskip", "number", 1, MAX_DIMEN, part = true },
   { "maxdepth", "number", 0, MAX_DIMEN, part = true }, { "baselineskip", "number", 0, MAX_DIMEN },
-  { "bottom", "bottom", part = true },
+  { "bottom", "text", part = true },
   { "topnumber", "number", 0, 1000, part = true }, { "bottomnumber", "number", 0, 1000, part = true },
   { "totalnumber", "number", 0, 1000, part = true }, { "dbltopnumber", "number", 0, 1000, part = true },
   { "topfraction", "fraction", part = true }, { "bottomfraction", "fraction", part = true },
@@ -31,15 +32,40 @@ local ROWS = {
   { "parskip", "text" }, { "marginparpush", "number", 0, MAX_DIMEN, part = true },
   { "mparswitch", "text", part = true }, { "reversemargin", "text", part = true },
   { "pool", "number", 2, 4096 }, { "maxdeadcycles", "number", 1, 1000000 },
-  { "footfactor", "factor" }, { "footnoterule", "rule" },
-  { "@texttop", "nothing" }, { "topfigrule", "nothing" }, { "botfigrule", "nothing" }, { "dblfigrule", "nothing" },
+  { "footfactor", "factor" },
 }
+
+-- Those of version 3 come after these, with the value that a galley of an earlier version has; `notes`: footnotes alone
+-- are set by it. A rule is the room above it, its height, and the room below it.
+for _, row in ipairs {
+  { "texttop", "text", kernel = NO_GLUE }, { "textbottom", "text", kernel = NO_GLUE },
+  { "footrule", "text", kernel = "-196608 26214 170394", notes = true },
+  { "toprule", "text", kernel = "none" }, { "bottomrule", "text", kernel = "none" },
+  { "dblrule", "text", kernel = "none" },
+  { "footdepth", "text", kernel = "keep", notes = true }, { "footfill", "text", kernel = NO_GLUE, notes = true },
+  { "footplace", "text", kernel = "above", notes = true },
+} do
+  row.part = true
+  ROWS[#ROWS + 1] = row
+end
 
 local own = {}         -- the values at the document's begin; after settle() those that are written
 local votes = {}       -- by part (the clears before it): name -> value -> number of columns
 local part = 0
 
-function M.document(name, value) own[name] = value end
+local fills = {}       -- the glue above a rule that stretches or shrinks, without its width; by the rule's parameter
+local unsaid = {}      -- what no value of a parameter says -> the parameter
+
+function M.unsaid(name, what) unsaid[what] = name end
+
+-- Such glue above the footnote rule moves the footnotes down as `footfill` does.
+local function with_fill(name, value)
+  if name ~= "footfill" or not fills.footrule then return value end
+  if value ~= NO_GLUE then M.unsaid(name, "glue in the footnote rule with glue above it (one of the two is written)") end
+  return value == NO_GLUE and fills.footrule or value
+end
+
+function M.document(name, value) own[name] = with_fill(name, value) end
 
 -- The columns to come stand after so many clears.
 function M.enter(clears) part = clears end
@@ -78,7 +104,7 @@ end
 
 -- A column has this value. For topskip see top_skip(), for parskip float_parskip(): these alone tell which was used.
 function M.column(name, value)
-  if name ~= "topskip" and name ~= "parskip" and name ~= "pool" then add_vote(name, value) end
+  if name ~= "topskip" and name ~= "parskip" and name ~= "pool" then add_vote(name, with_fill(name, value)) end
 end
 
 -- A column's first box, of this height, stands below the glue `g`.
@@ -88,42 +114,73 @@ function M.top_skip(g, height)
   if g.stretch ~= 0 or g.shrink ~= 0 then log.lost("top skip with stretch or shrink (its width is kept)") end
 end
 
--- Prints what \@textbottom puts at a column's foot: `flush`, `ragged` (glue of 0 plus .0001fil) or `other`.
+-- ---- What the commands of the column's maker put, set into a box
+
+local function nodes_of(box) return node.traverse(tex.box[box] and tex.box[box].head) end
+
+-- The glue of \raggedbottom, 0 plus .0001fil.
+local function is_ragged(n)
+  return n.id == node.id("glue") and n.width == 0 and n.stretch_order == 2 and n.stretch == 7
+end
+
+-- Prints whether \@textbottom puts the glue of \raggedbottom: `ragged` or `flush`.
 function M.bottom(box)
-  local word = "flush"
-  for n in node.traverse(tex.box[box] and tex.box[box].head) do
-    if n.id == node.id("glue") and n.width == 0 and n.stretch_order == 2 and n.stretch == 7 and word == "flush" then
-      word = "ragged"
-    elseif n.id ~= node.id("whatsit") and not (n.id == node.id("glue") and n.width == 0 and n.stretch == 0) then
-      word = "other"
+  for n in nodes_of(box) do
+    if is_ragged(n) then return tex.sprint(-2, "ragged") end
+  end
+  tex.sprint(-2, "flush")
+end
+
+-- Adds glue to a sum: of the stretch the greatest order alone counts.
+local function add_glue(sum, n, name)
+  sum.width, sum.shrink = sum.width + n.width, sum.shrink + n.shrink
+  if n.shrink_order ~= 0 then M.unsaid(name, "infinite shrink in " .. name .. " (written as finite)") end
+  if n.stretch == 0 or n.stretch_order < sum.order then return end
+  if n.stretch_order > sum.order then sum.stretch, sum.order = 0, n.stretch_order end
+  sum.stretch = sum.stretch + n.stretch
+end
+
+local function new_sum() return { width = 0, stretch = 0, order = 0, shrink = 0 } end
+
+local function is_flexible(sum) return sum.stretch ~= 0 or sum.shrink ~= 0 end
+
+local function sum_text(sum, width)
+  return string.format("%d plus %d%s minus %d", width, sum.stretch, sum.stretch ~= 0 and ORDERS[sum.order] or "", sum.shrink)
+end
+
+-- Prints the sum of the glue and kerns that were put for the parameter. The glue of \raggedbottom is that of `bottom`.
+function M.glue(name, box)
+  local sum, is_told = new_sum(), name ~= "textbottom"
+  for n in nodes_of(box) do
+    if not is_told and is_ragged(n) then is_told = true
+    elseif n.id == node.id("glue") then add_glue(sum, n, name)
+    elseif n.id == node.id("kern") then sum.width = sum.width + n.kern
+    elseif n.height and n.height + n.depth ~= 0 then
+      M.unsaid(name, "a box or rule in " .. name .. " (its height is kept)")
+      sum.width = sum.width + n.height + n.depth
     end
   end
-  tex.sprint(-2, word)
+  tex.sprint(-2, sum_text(sum, sum.width))
 end
 
--- Prints whether what was set into the box takes room: "nothing" or "something".
-function M.nothing(box)
-  local word = "nothing"
-  for n in node.traverse(tex.box[box] and tex.box[box].head) do
-    if n.height or n.kern or n.width then word = "something" end
+-- Prints what was put as a rule: the sum of what stands before it, its height, and the sum of what stands after it; or
+-- `none`, if there is nothing. Glue above it that stretches or shrinks is kept as a fill.
+function M.rule(name, box)
+  local above, height, below = new_sum(), nil, new_sum()
+  for n in nodes_of(box) do
+    local sum = height and below or above
+    if n.id == node.id("glue") then add_glue(sum, n, name)
+    elseif n.id == node.id("kern") then sum.width = sum.width + n.kern
+    elseif n.height and not height and (n.height + n.depth ~= 0 or n.id == node.id("rule")) then
+      height = n.height + n.depth
+    elseif n.height then sum.width = sum.width + n.height + n.depth end
   end
-  tex.sprint(-2, word)
-end
-
--- Prints the sizes of what \footnoterule puts above the footnotes: the sum of what stands before the rule, its height,
--- and the sum of what stands after it; `nothing` for nothing at all. Glue that stretches or shrinks is told.
-function M.rule(box)
-  local above, height, below, flexible = 0, nil, 0, ""
-  for n in node.traverse(tex.box[box] and tex.box[box].head) do
-    local kind = node.type(n.id)
-    local room = kind == "kern" and n.kern or kind == "glue" and n.width or n.height and n.height + n.depth or 0
-    if kind == "glue" and (n.stretch ~= 0 or n.shrink ~= 0) then flexible = " with glue that stretches or shrinks" end
-    if height then below = below + room
-    elseif n.height and (room ~= 0 or kind == "rule") then height = room
-    else above = above + room end
+  fills[name] = is_flexible(above) and sum_text(above, 0) or nil
+  if is_flexible(below) or (fills[name] and name ~= "footrule") then
+    M.unsaid(name, "glue in " .. name .. " that stretches or shrinks (its width is kept)")
   end
-  local sizes = (height or above ~= 0) and string.format("%d %d %d", above, height or 0, below) or "nothing"
-  tex.sprint(-2, sizes .. flexible)
+  local is_none = not height and above.width == 0
+  tex.sprint(-2, is_none and "none" or string.format("%d %d %d", above.width, height or 0, below.width))
 end
 
 -- ---- What the page builder met in the nodes themselves
@@ -160,8 +217,26 @@ local function tell_others(name, counts, value, where)
   end
 end
 
--- Chooses each parameter's value over the whole document.
-function M.settle()
+-- Forgets how footnotes stand, in a document without any.
+local function forget_notes()
+  for _, row in ipairs(ROWS) do
+    if row.notes then
+      own[row[1]] = row.kernel
+      for _, names in pairs(votes) do names[row[1]] = nil end
+      for what, name in pairs(unsaid) do
+        if name == row[1] then unsaid[what] = nil end
+      end
+    end
+  end
+end
+
+-- What a `set` line can't say holds all along.
+local function lost(what) log.lost(what, "the whole document") end
+
+-- Chooses each parameter's value over the whole document. `has_notes`: whether it has footnotes.
+function M.settle(has_notes)
+  if not has_notes then forget_notes() end
+  for what in pairs(unsaid) do lost(what) end
   for _, row in ipairs(ROWS) do
     local name, all = row[1], {}
     for _, names in pairs(votes) do
@@ -181,6 +256,8 @@ function M.settle_parskip()
   tell_others("parskip at a float between paragraphs", parskips, own.parskip, "")
 end
 
+local is_new = false   -- whether a parameter of version 3 has another value than in an earlier version
+
 -- The values of the part after so many clears, nil where LaTeX made no column in it.
 function M.of_part(clears)
   if not votes[clears] then return nil end
@@ -191,6 +268,7 @@ function M.of_part(clears)
       local counts = votes[clears][name]
       values[name] = counts and winner(counts, own[name]) or own[name]
       if counts then tell_others(name, counts, values[name], " within a part") end
+      if row.kernel and values[name] ~= row.kernel then is_new = true end
     end
   end
   return values
@@ -205,9 +283,6 @@ end
 
 -- ---- Lines of a galley
 
--- What a `set` line can't say holds all along.
-local function lost(what) log.lost(what, "the whole document") end
-
 local function clipped(name, value, least, greatest)
   local number = math.floor(tonumber(value) or 0)
   local kept = math.max(least, math.min(greatest, number))
@@ -218,11 +293,6 @@ end
 local FORMS = {
   number = function(row, value) return clipped(row[1], value, row[3], row[4]) end,
   text = function(_, value) return value end,
-  bottom = function(_, value)
-    if value == "flush" or value == "ragged" then return value end
-    lost("another \\@textbottom (ragged is written)")
-    return "ragged"
-  end,
   fraction = function(row, value)
     local number = tonumber((value:gsub("%s", "")))
     if number and number >= 0 and number <= 1 then return (value:gsub("%s", "")) end
@@ -232,15 +302,12 @@ local FORMS = {
   factor = function(_, value)
     if value ~= "1000" then lost("footnotes with the factor " .. value) end
   end,
-  nothing = function(row, value)
-    if value ~= "nothing" then lost("what \\" .. row[1] .. " puts into a column") end
-  end,
-  rule = function(_, value)
-    if first_foot and value ~= FOOTNOTE_RULE then
-      lost(string.format("the footnote rule %s (a galley's is %s)", value, FOOTNOTE_RULE))
-    end
-  end,
 }
+
+-- The version of the galleys: 3 if one of its parameters is needed, else that of the words that a galley has.
+function M.version(has_classes)
+  return is_new and 3 or has_classes and 2 or 1
+end
 
 -- The `set` lines of a galley whose part has these values.
 function M.lines(values)
@@ -248,7 +315,8 @@ function M.lines(values)
   for _, row in ipairs(ROWS) do
     local name, form = row[1], row[2]
     local value = row.part and values[name] or own[name]
-    local text = value and FORMS[form](row, value)
+    local is_written = value and (is_new or not row.kernel)
+    local text = is_written and FORMS[form](row, value)
     if text then out[#out + 1] = string.format("set %s %s", name, text) end
   end
   return out
@@ -269,6 +337,11 @@ local classes = {}     -- TeX's number of the insertion -> its class
 function M.insertions(kind, number, factor, limit, skip)
   classes[number] = { kind = kind, factor = factor, limit = limit, skip = skip,
     number = kind == ENLARGED and ENLARGED_NUMBER or number % 250 }
+end
+
+function M.is_footnote(record)
+  local class = classes[record.class]
+  return class ~= nil and class.kind == FOOT
 end
 
 -- The class of an insertion, nil for footnotes, which need no number. Notes how it is said.

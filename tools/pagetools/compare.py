@@ -33,7 +33,7 @@ class Verdict:
     contents: bool = False
     setting: bool = False
     places: bool = False
-    rule: bool = True    # the footnote rule
+    rule: bool = True    # the rules of the output routine
     difference: str = ''
 
     def agrees(self):
@@ -62,8 +62,10 @@ def contents(page):
 
 
 def rules(page):
-    """The sizes of the footnote rules of a page, without their places."""
-    return [(item.height, item.depth) for _, item in page.items() if item.kind == 'footrule']
+    """The rules of a page that the output routine puts, above footnotes and beside floats: their kinds and sizes, without
+    their places. One without height is not seen, and stands in a report alone if a document has room there and no rule."""
+    return [(item.kind, item.height, item.depth) for _, item in page.items()
+            if item.kind in report.RULES and item.height + item.depth]
 
 
 def settings(page):
@@ -112,7 +114,7 @@ def compare_pages(page, other):
     verdict.difference = place_difference(page, other)
     verdict.places = not verdict.difference
     if not verdict.difference and not verdict.rule:
-        verdict.difference = 'the footnote rule has another size, or stands on one of the two alone'
+        verdict.difference = 'a rule above footnotes or beside floats has another size, or stands on one of the two alone'
     return verdict
 
 

@@ -41,14 +41,6 @@ class Exporter(Scratch):
         self.assertIn('suppressfloats', lines)
         self.assertLess(lines.index('suppressfloats'), next(k for k, line in enumerate(lines) if line.startswith('float ')))
 
-    def test_the_footnote_rule_by_its_sums(self):
-        text = r'Words.\footnote{A note.}'
-        for rule, is_told in ((r'\kern-3pt\hbox{}\hrule width 2in\kern1.6pt\vskip1pt', False),
-                              (r'\kern-3pt\hrule width 2in\kern1.6pt', True),
-                              (r'\kern-3pt\vfill\hrule width 2in\kern2.6pt', True)):
-            self.export(text, preamble=r'\def\footnoterule{%s}' % rule)
-            self.assertEqual('the footnote rule' in self.read('test.galleylog'), is_told, rule)
-
     def test_notes_of_a_class_with_sides_of_its_own(self):
         self.export(PAGE * 2, preamble=r'\let\old\@addmarginpar\def\@addmarginpar{{\@reversemargintrue\old}}')
         self.assertIn('by the pages: mparswitch off and reversemargin on', self.read('test.galleylog'))
