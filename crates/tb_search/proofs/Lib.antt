@@ -10,4 +10,5 @@ pub mod FullPools
 pub mod QuietLemmas
 pub mod FiredLemmas
 pub mod FilledLemmas
+mod ClosedLemmas
 pub mod FuelLemmas
