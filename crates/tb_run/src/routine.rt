@@ -307,6 +307,7 @@ impl<'a> Routine<'a> {
         ensures ready { IsReady self.new }
         ensures state { state_of self.new ≡ state_of self.old }
         ensures machine { self.new.machine ≡ self.old.machine }
+        ensures left { self.new.left ≡ self.old.left }
         ensures closed { AllByRecursion (λ l. get self.new.store.lists l ≡ None) (happened_lists happened.now) }
     {
         close_happened(&mut self.store, happened);

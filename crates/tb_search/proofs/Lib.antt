@@ -18,6 +18,7 @@ pub mod FullPools
 pub mod QuietLemmas
 pub mod FiredLemmas
 pub mod FilledLemmas
+mod ClosedLemmas
 pub mod FuelLemmas
 pub mod SettleLemmas
 pub mod ExpandLemmas

@@ -167,9 +167,10 @@ impl<'a> Branch<'a> {
         if let Some(ending) = self.routine.serve_unlimited(page, &mut happened)? {
             return Ok(unserved(ending));
         }
-        Ok(Filled::Fired {
-            demerits: page_demerits(&self.routine, params, places, &happened),
-        })
+        let demerits = page_demerits(&self.routine, params, places, &happened);
+        // What was shipped is closed, so that no copy holds it.
+        self.routine.done_with(&happened);
+        Ok(Filled::Fired { demerits })
     }
 }
 

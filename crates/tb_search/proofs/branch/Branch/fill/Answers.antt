@@ -13,6 +13,7 @@ use Rattle.tb_search.specs.declared.branch.Branch.{Branch}
 use Rattle.tb_search.specs.FilledBranches.{FillsTo}
 use Rattle.tb_search.proofs.FiredLemmas.{broke-tried}
 use Rattle.tb_search.proofs.FilledLemmas.{has-fired, unfired-so, unserved-so}
+use Rattle.tb_search.proofs.ClosedLemmas.{fired-closed}
 use Rattle.tb_search.proofs.branch.Branch.fill.Goals as goal
 
 pub returns-in-Ends : goal.returns-in-Ends
@@ -38,8 +39,8 @@ returns-in-Some c =
     (unserved-so c.args.params.now c.args.places.now b c.requires.params now q hs page firing d c.in-Some.ending
     (subst (λ o. ServesUnlimited page q o d) c.in-Some.is c.in_ok-ending.ensures.served))
 
-pub page_demerits-requires-clause-tried : goal.page_demerits-requires-clause-tried
-page_demerits-requires-clause-tried c =
+pub page_demerits-demerits-requires-clause-tried : goal.page_demerits-demerits-requires-clause-tried
+page_demerits-demerits-requires-clause-tried c =
     let b = c.args.self.now in
     let q = c.fill.new.self in
     let hs = c.fill.new.happened.items in
@@ -63,7 +64,9 @@ returns c =
     let goes : HasGoneOn page q d = subst (λ o. ServesUnlimited page q o d) c.in_default.is c.in_ok-ending.ensures.served in
     let sent : HasSent page q d hs new = subst (λ o. IfNone o (HasSent page q d hs new)) c.in_default.is c.in_ok-ending.ensures.sent in
     let ready : IsReady d = subst (λ o. IfNone o (IsReady d)) c.in_default.is c.in_ok-ending.ensures.ready in
-    let value = c.page_demerits.ensures.value ∙ ap (λ xs. demerits_if (rating c.args.params.now c.args.places.now 0 (last_champion (events_of d.store xs)) (floats_waiting (state_of d).floats) (insertions_first (state_of d).waiting))) c.deref.ensures.value in
-    let fits : FitsSigned w128 c.page_demerits.result = search rules in
+    let value = c.page_demerits-demerits.ensures.value ∙ ap (λ xs. demerits_if (rating c.args.params.now c.args.places.now 0 (last_champion (events_of d.store xs)) (floats_waiting (state_of d).floats) (insertions_first (state_of d).waiting))) c.deref.ensures.value in
+    let fits : FitsSigned w128 c.page_demerits-demerits.result = search rules in
+    let closed = c.done_with.ensures in
     simp to_z-of_z
-    (has-fired b c.requires.branch q page hs firing d goes ready c.in_ok-ending.ensures.classes c.args.places.now c.args.params.now c.requires.params c.in_ok-ending.ensures.params new sent c.page_demerits.result value c.page_demerits.ensures.low c.page_demerits.ensures.high)
+    (fired-closed c.args.params.now c.args.places.now c.page_demerits-demerits.result b d b.ahead c.done_with.new.self closed.ready closed.state closed.machine closed.left
+    (has-fired b c.requires.branch q page hs firing d goes ready c.in_ok-ending.ensures.classes c.args.places.now c.args.params.now c.requires.params c.in_ok-ending.ensures.params new sent c.page_demerits-demerits.result value c.page_demerits-demerits.ensures.low c.page_demerits-demerits.ensures.high))

@@ -1,0 +1,39 @@
+-- The lists of a page that was shipped are closed: the state after it stays as it was.
+use Rattle.std.proofs.Common.{◌≡◌, sym, subst, ◌∙◌, ap, ◌++◌, ℤ, List, Option, None}
+use Rattle.tb_output.specs.Machine.{MachineView}
+use Rattle.tb_output.specs.State.{State}
+use Rattle.tb_param.specs.declared.Params.{Params}
+use Rattle.tb_items.specs.declared.items_left.ItemsLeft.{ItemsLeft}
+use Rattle.tb_items.specs.ItemsLeft.{nodes_left, AreItemsLeft}
+use Rattle.tb_run.specs.declared.routine.Routine.{Routine}
+use Rattle.tb_run.specs.Routine.{state_of, IsReady}
+use Rattle.tb_run.specs.ServedStates.{IsServed}
+use Rattle.tb_steps.specs.Run.{goes_on}
+use Rattle.tb_rate.specs.declared.PlacePenalty.{PlacePenalty}
+use Rattle.tb_best.specs.PlanDemerits.{unlimited_step, step_demerits}
+use Rattle.tb_search.specs.declared.branch.Branch.{Branch}
+use Rattle.tb_search.specs.Branches.{shown, IsBranch}
+use Rattle.tb_search.specs.FilledBranches.{HasFired}
+
+-- a routine that shows the same, over other lists
+pub fired-closed : (p : Params) (places : List PlacePenalty) (d : ℤ) (b : Branch) (r : Routine) (o : Option ItemsLeft) (q : Routine) → IsReady q → state_of q ≡ state_of r → q.machine ≡ r.machine → q.left ≡ r.left
+    → HasFired p places d b (record { routine = r; ahead = o }) → HasFired p places d b (record { routine = q; ahead = o })
+fired-closed p places d b r o q ready state machine left h = record {
+  events = h.events;
+  records = h.records;
+  fires = h.fires;
+  step = subst (λ s. unlimited_step p (shown b) ≡ goes_on h.events h.records s) (sym state) h.step;
+  demerits = subst (λ s. d ≡ step_demerits p places (shown b) (goes_on h.events h.records s)) (sym state) h.demerits;
+  low = h.low;
+  high = h.high;
+  branch = record {
+    ready = ready;
+    none = left ∙ h.branch.none;
+    items = subst (λ (s : State). AreItemsLeft s.classes o) (sym state) h.branch.items;
+    served = subst (λ (s : State). IsServed (s.waiting ++ nodes_left o) s) (sym state) h.branch.served;
+    few = h.branch.few;
+  };
+  ahead = h.ahead;
+  params = ap (λ (m : MachineView). m.params) machine ∙ h.params;
+  classes = ap (λ (s : State). s.classes) state ∙ h.classes;
+}
