@@ -39,7 +39,10 @@ end
 
 #[test]
 fn finds_the_places_of_a_galley(rt: HostRuntime) -> Result<(), Fail> {
-    let galley = parse(rt.alloc(), GALLEY).ok().ok_or("galley")?;
+    let galley = match parse(rt.alloc(), GALLEY) {
+        Ok(galley) => galley,
+        Err(_) => Err("no galley")?,
+    };
     let found = places(rt.alloc(), &galley)?;
     assert!(rt; found.as_slice() == [1, 2, 6, 11, 13, 15, 16, 19, 20, 26].as_slice());
     Ok(())
@@ -60,7 +63,10 @@ fn is_break(item: Option<&Item>, line: u32) -> bool {
 
 #[test]
 fn puts_breaks_into_a_galley(rt: HostRuntime) -> Result<(), Fail> {
-    let galley = parse(rt.alloc(), GALLEY).ok().ok_or("galley")?;
+    let galley = match parse(rt.alloc(), GALLEY) {
+        Ok(galley) => galley,
+        Err(_) => Err("no galley")?,
+    };
     let broken = with_breaks(rt.alloc(), &galley, &[1, 13])?;
     assert!(rt; (galley.items.len(), broken.items.len()) == (27, 29));
     assert!(rt; is_break(broken.items.get(1), 3) && is_break(broken.items.get(14), 15));
