@@ -1,5 +1,4 @@
-use Rattle.std.proofs.Common.{◌≡◌, ◌≢◌, sym, subst, ap, ◌∙◌, ◌-◌, length, take, FitsSigned, w64, rules, arith}
-use Rattle.std.proofs.lemmas.Int.{to_z-of_z}
+use Rattle.std.proofs.Common.{◌≡◌, ◌≢◌, sym, subst, ap, ◌∙◌, ◌-◌, length, take, arith}
 use Rattle.tb_pool.specs.Lists.{IsLive, list_at, with_list}
 use Rattle.tb_pool.proofs.CallerLemmas.{live_other, live_same}
 use Rattle.tb_output.specs.Machine.{MachineView}
