@@ -1,14 +1,20 @@
 -- The state in which a search begins, and what its end gives.
-use Rattle.std.proofs.Common.{◌≡◌, refl, sym, ap, subst, ◌∙◌, ◌⊎◌, inl, ℕ, suc, ◌+◌, ◌<◌, false, List, [], Some, length, arith}
-use Rattle.std.specs.Prelude.{ℤ, pos, ◌≤ℤ◌, reverse}
+use Rattle.std.proofs.Common.{◌≡◌, refl, sym, ap, subst, ◌∙◌, ◌⊎◌, inl, ℕ, zero, suc, ◌+◌, ◌*◌, ◌<◌, false, List, [], Option, Some, None, length, arith}
+use Rattle.std.specs.Prelude.{ℤ, pos, ◌+ℤ◌, ◌≤ℤ◌, reverse}
 use Rattle.std.proofs.lemmas.Int.{ints}
 use Rattle.std.specs.Borrow.{Bor}
 use Rattle.tb_galley.specs.declared.Galley.{Galley}
-use Rattle.tb_plans.specs.Plans.{IsPlan}
+use Rattle.tb_param.specs.declared.Params.{Params}
+use Rattle.tb_steps.specs.Run.{done, End, Step, ends, goes_on, firings_left}
+use Rattle.tb_rate.specs.declared.PlacePenalty.{PlacePenalty}
+use Rattle.tb_rate.specs.Places.{place_penalties}
+use Rattle.tb_rate.specs.RatedRun.{more_demerits, demerits_at, demerits_after, start_of}
+use Rattle.tb_best.proofs.ClosedLemmas.{step-low}
+use Rattle.tb_plans.specs.Plans.{IsPlan, with_breaks}
 use Rattle.tb_output.specs.State.{State}
 use Rattle.tb_items.specs.Classes.{classes_of}
 use Rattle.tb_best.specs.BestPlan.{IsBest}
-use Rattle.tb_best.specs.PlanDemerits.{reach_in, plan_demerits}
+use Rattle.tb_best.specs.PlanDemerits.{reach_in, step_demerits, unlimited_step, unlimited_demerits_from, unlimited_demerits, plan_demerits}
 use Rattle.tb_best.specs.ItemsAhead.{Ahead, all_ahead, empty_start}
 use Rattle.tb_best.specs.ClosedTables.{Row, rows_know, Reaches, begun}
 use Rattle.tb_search.specs.declared.branch.Branch.{Branch}
@@ -70,3 +76,42 @@ end-best g t u galley table h none known =
   where
     same : u.galley.now ≡ g
     same = ap (λ (x : Bor Galley). x.now) h.later.galley ∙ galley
+
+-- ---- demerits are never below 0
+
+more-low : (a : ℤ) (o : Option ℤ) (d : ℤ) → pos 0 ≤ℤ a → ((e : ℤ) → o ≡ Some e → pos 0 ≤ℤ e) → more_demerits a o ≡ Some d → pos 0 ≤ℤ d
+more-low a None d low each h = let no : ⊥ = none-some d h in absurd no
+  where
+    none-some : (x : ℤ) → None ≡ Some x → ⊥
+    none-some x e = cc
+more-low a (Some e) d low each h =
+    let b : pos 0 ≤ℤ e = each e refl in
+    let sum : (a +ℤ e) ≡ d = (cc) in
+    omega (arith, ints, low, b, sum)
+
+end-low : (e : End) (d : ℤ) → demerits_at e ≡ Some d → pos 0 ≤ℤ d
+end-low (done left) d h = let same : pos 0 ≡ d = (cc) in omega (arith, ints, same)
+end-low other d h = let no : ⊥ = none-some d h in absurd no
+  where
+    none-some : (x : ℤ) → None ≡ Some x → ⊥
+    none-some x e = cc
+
+from-low : (p : Params) (places : List PlacePenalty) (fuel : ℕ) (s : State) (d : ℤ) → unlimited_demerits_from p places fuel s ≡ Some d → pos 0 ≤ℤ d
+unfolding unlimited_demerits_from
+from-low p places zero s d h = let no : ⊥ = none-some d h in absurd no
+  where
+    none-some : (x : ℤ) → None ≡ Some x → ⊥
+    none-some x e = cc
+from-low p places (suc fuel) s d h = by (unlimited_step p s) (step-low p places s (unlimited_step p s)) (λ t e i. from-low p places fuel t e i) h
+  where
+    by : (x : Step) → pos 0 ≤ℤ step_demerits p places s (unlimited_step p s) → ((t : State) (e : ℤ) → unlimited_demerits_from p places fuel t ≡ Some e → pos 0 ≤ℤ e)
+        → demerits_after (λ t. unlimited_demerits_from p places fuel t) (step_demerits p places s (unlimited_step p s)) x ≡ Some d → pos 0 ≤ℤ d
+    by (ends es rs e) low later k = end-low e d k
+    by (goes_on es rs t) low later k = more-low (step_demerits p places s (unlimited_step p s)) (unlimited_demerits_from p places fuel t) d low (later t) k
+
+-- nor are those of a plan
+pub plan-low : (g : Galley) (plan : List ℕ) (d : ℤ) → plan_demerits g plan ≡ Some d → pos 0 ≤ℤ d
+unfolding plan_demerits unlimited_demerits
+plan-low g plan d h =
+    more-low (pos (1000 * length plan)) (unlimited_demerits (with_breaks g plan)) d (omega (arith, ints))
+    (λ e i. from-low (with_breaks g plan).params (place_penalties (with_breaks g plan).items) (suc (firings_left (with_breaks g plan).params (start_of (with_breaks g plan)))) (start_of (with_breaks g plan)) e i) h

@@ -1,5 +1,6 @@
 use Rattle.std.proofs.Common.{◌≡◌, ℕ, sym, subst, ◌≤◌, reverse, arith}
 use Rattle.std.proofs.lemmas.Int.{ints}
+use Rattle.tb_search.specs.declared.table.Start.{Start}
 use Rattle.tb_search.specs.Branches.{shown}
 use Rattle.tb_search.specs.AheadInCode.{items_ahead}
 use Rattle.tb_search.specs.Starts.{IsReached}
@@ -16,7 +17,7 @@ returns-then-left-gt0-clause-searched c =
 pub end-requires-clause-rated : goal.end-requires-clause-rated
 end-requires-clause-rated c =
     let none : c.args.left ≡ 0 = let e = c.if-left-gt0.false in omega (arith, e) in
-    let x = record { branch = c.args.branch; way = c.args.way } in
+    let x : Start = record { branch = c.args.branch; way = c.args.way } in
     end-rated c.args.self.now.galley.now x (subst (λ n. IsReached c.args.self.now.galley.now n x) none c.requires.reached) c.requires.quiet
 
 pub returns-clause-searched : goal.returns-clause-searched
