@@ -1,7 +1,8 @@
 -- A break is put in before the next item.
-use Rattle.std.proofs.Common.{◌≡◌, refl, sym, ◌∙◌, ap, subst, ℕ, suc, ◌+◌, ◌-◌, ◌<◌, ◌≤◌, ℤ, Bool, true, false, List, [], ◌∷◌, ◌++◌, map, length, get_or, arith}
+use Rattle.std.proofs.Common.{◌≡◌, refl, sym, ◌∙◌, ap, subst, ℕ, zero, suc, ◌+◌, ◌-◌, ◌<◌, ◌≤◌, ℤ, Bool, true, false, List, [], ◌∷◌, ◌++◌, map, length, get_or, arith}
 use Rattle.std.specs.Prelude.{pos, ◌+ℤ◌, ◌≤ℤ◌, ◌<ℤ◌, reverse}
 use Rattle.std.proofs.lemmas.Int.{ints}
+use Rattle.std.proofs.lemmas.List.{length-map}
 use Rattle.tb_node.specs.PlainNodes.{PlainNode}
 use Rattle.tb_galley.specs.declared.Galley.{Galley}
 use Rattle.tb_builder.specs.Reach.{holds_box}
@@ -31,6 +32,23 @@ taken-copy b c e state ahead params h = record {
   ahead = subst (λ o. IsPast o e.ahead) ahead h.ahead;
   params = h.params ∙ params;
 }
+
+-- there is a flag for each item ahead
+pub flags-counted : (t : Table) → IsTable t → length t.is_place.items ≡ length (all_ahead t.galley.now)
+flags-counted t h = ap length h.places ∙ length-map (all_ahead t.galley.now) (λ (c : Ahead). c.is_place)
+
+-- an element of a list does not depend on what stands for one that is missing
+pub get-any : {X : Type 0} (xs : List X) (k : ℕ) (d e : X) → k < length xs → get_or xs k e ≡ get_or xs k d
+get-any [] k d e h = let none : ⊥ = omega (arith, h) in absurd none
+get-any (x ∷ xs) zero d e h = refl
+get-any (x ∷ xs) (suc k) d e h = get-any xs k d e (omega (arith, h))
+
+-- if something is ahead, one item is the next
+pub of-next : (t : Table) (left : ℕ) (x : Start) (u : Table) → 0 < left → IsCutSearched u (shown x.branch) (items_ahead t.galley.now (suc (left - 1))) x.way.demerits (reverse x.way.breaks.items)
+    → IsCutSearched u (shown x.branch) (items_ahead t.galley.now left) x.way.demerits (reverse x.way.breaks.items)
+of-next t left x u some h =
+    let e : suc (left - 1) ≡ left = omega (arith, some) in
+    subst (λ n. IsCutSearched u (shown x.branch) (items_ahead t.galley.now n) x.way.demerits (reverse x.way.breaks.items)) e h
 
 -- the flag of the next item
 pub next-flag : (t : Table) (number k : ℕ) → IsTable t → number + suc k ≡ length (all_ahead t.galley.now) → get_or t.is_place.items number false ≡ (next_ahead t.galley.now k).is_place

@@ -1,6 +1,6 @@
 -- Sums of demerits fit, and tests of them.
 use Rattle.std.proofs.Common.{◌≡◌, refl, sym, ◌∙◌, ap, subst, ℤ, true, false, FitsSigned, to_z, of_z, arith}
-use Rattle.std.specs.Prelude.{pos, ◌+ℤ◌, ◌≤ℤ◌, ◌<ℤ◌, int_le}
+use Rattle.std.specs.Prelude.{pos, ◌+ℤ◌, ◌≤ℤ◌, ◌<ℤ◌, int_le, int_lt}
 use Rattle.std.specs.Int.{w128}
 use Rattle.std.proofs.lemmas.Int.{ints, to_z-of_z}
 
@@ -51,3 +51,30 @@ within-range a b c h k = omega (arith, ints, h, k)
 -- demerits of a page are less than this
 pub page-few : (d : ℤ) → d ≤ℤ pos 352689971456 → d ≤ℤ pos 1000000000000
 page-few d h = omega (arith, ints, h)
+
+-- ---- the cost of a break
+
+module _ (a b : ℤ) (low : pos 0 ≤ℤ a) (high : a ≤ℤ b) (range : b ≤ℤ pos 1000000000000000000000000000) where
+  cost-first : FitsSigned w128 a
+  cost-first = omega (arith, ints, low, high, range)
+
+  cost-bound : FitsSigned w128 b
+  cost-bound = omega (arith, ints, low, high, range)
+
+  cost-both : FitsSigned w128 (a +ℤ pos 1000)
+  cost-both = omega (arith, ints, low, high, range)
+
+  pub cost-fits : FitsSigned w128 (held a +ℤ pos 1000)
+  cost-fits = subst (λ x. FitsSigned w128 (x +ℤ pos 1000)) (sym (to_z-of_z w128 a cost-first)) cost-both
+
+  pub cost-is : held (held a +ℤ pos 1000) ≡ (a +ℤ pos 1000)
+  cost-is = to_z-of_z w128 (held a +ℤ pos 1000) cost-fits ∙ ap (λ x. x +ℤ pos 1000) (to_z-of_z w128 a cost-first)
+
+  cost-test : int_lt b (a +ℤ pos 1000) ≡ int_lt (held b) (held (held a +ℤ pos 1000))
+  cost-test = λ i. int_lt (sym (to_z-of_z w128 b cost-bound) i) (sym cost-is i)
+
+  pub cost-above : int_lt (held b) (held (held a +ℤ pos 1000)) ≡ true → b <ℤ (a +ℤ pos 1000)
+  cost-above e = let t = cost-test ∙ e in grind (arith, ints, t)
+
+  pub cost-within : int_lt (held b) (held (held a +ℤ pos 1000)) ≡ false → (a +ℤ pos 1000) ≤ℤ b
+  cost-within e = let t = cost-test ∙ e in grind (arith, ints, t)
