@@ -1,5 +1,5 @@
 -- The state in which a search begins, and what its end gives.
-use Rattle.std.proofs.Common.{◌≡◌, refl, sym, ap, subst, ◌∙◌, ◌⊎◌, inl, ℕ, zero, suc, ◌+◌, ◌*◌, ◌<◌, false, List, [], Option, Some, None, length, arith}
+use Rattle.std.proofs.Common.{◌≡◌, refl, sym, ap, subst, ◌∙◌, inl, ℕ, zero, suc, ◌*◌, false, List, [], Option, Some, None, length, arith}
 use Rattle.std.specs.Prelude.{ℤ, pos, ◌+ℤ◌, ◌≤ℤ◌, reverse}
 use Rattle.std.proofs.lemmas.Int.{ints}
 use Rattle.std.specs.Borrow.{Bor}
@@ -10,9 +10,8 @@ use Rattle.tb_rate.specs.declared.PlacePenalty.{PlacePenalty}
 use Rattle.tb_rate.specs.Places.{place_penalties}
 use Rattle.tb_rate.specs.RatedRun.{more_demerits, demerits_at, demerits_after, start_of}
 use Rattle.tb_best.proofs.ClosedLemmas.{step-low}
-use Rattle.tb_plans.specs.Plans.{IsPlan, with_breaks}
+use Rattle.tb_plans.specs.Plans.{with_breaks}
 use Rattle.tb_output.specs.State.{State}
-use Rattle.tb_items.specs.Classes.{classes_of}
 use Rattle.tb_best.specs.BestPlan.{IsBest}
 use Rattle.tb_best.specs.PlanDemerits.{reach_in, step_demerits, unlimited_step, unlimited_demerits_from, unlimited_demerits, plan_demerits}
 use Rattle.tb_best.specs.ItemsAhead.{Ahead, all_ahead, empty_start}
@@ -23,8 +22,8 @@ use Rattle.tb_search.specs.declared.table.Table.{Table}
 use Rattle.tb_search.specs.Branches.{shown, IsBranch}
 use Rattle.tb_search.specs.AheadInCode.{items_ahead, HasAhead}
 use Rattle.tb_search.specs.Searched.{IsSearched}
-use Rattle.tb_search.specs.Starts.{rows_of, IsStart, IsTable, IsRated}
-use Rattle.tb_search.specs.Continues.{IsLater, HasSearched}
+use Rattle.tb_search.specs.Starts.{rows_of, IsStart, IsTable}
+use Rattle.tb_search.specs.Continues.{HasSearched}
 use Rattle.tb_search.proofs.AheadLemmas.{all-counted, all-are-ahead}
 use Rattle.tb_search.proofs.SearchedLemmas.{searched-best}
 

@@ -91,21 +91,21 @@ module _ (t : Table) (k : ℕ) (x : Start) (some : suc k ≤ length (all_ahead t
     cut-fired u after a later fired h =
         cut-searched u t.galley.now k s x.way.demerits (reverse x.way.breaks.items) some
         (λ _ box.
-            subst (λ z. IsSearchedBy u z (items_ahead t.galley.now k) (x.way.demerits +ℤ pos 1000) (c.number ∷ reverse x.way.breaks.items)) shown-is
-            (fired-searched t u later page after (items_ahead t.galley.now k) a (x.way.demerits +ℤ pos 1000) (c.number ∷ reverse x.way.breaks.items) fired h))
+        subst (λ z. IsSearchedBy u z (items_ahead t.galley.now k) (x.way.demerits +ℤ pos 1000) (c.number ∷ reverse x.way.breaks.items)) shown-is
+        (fired-searched t u later page after (items_ahead t.galley.now k) a (x.way.demerits +ℤ pos 1000) (c.number ∷ reverse x.way.breaks.items) fired h))
 
     -- no run goes on after the break
     pub cut-refused : IsRefusal (unlimited_step t.galley.now.params (shown page)) → IsCutSearched t s (items_ahead t.galley.now (suc k)) x.way.demerits (reverse x.way.breaks.items)
     cut-refused h =
         cut-searched t t.galley.now k s x.way.demerits (reverse x.way.breaks.items) some
         (λ _ box.
-            refused-searched t t (later-itself t) cut_state (items_ahead t.galley.now k) (x.way.demerits +ℤ pos 1000) (c.number ∷ reverse x.way.breaks.items)
-            (fired-refused t.galley.now.params cut_state (cut-fires t.galley.now.params s c box) (subst (λ z. IsRefusal (unlimited_step t.galley.now.params z)) shown-is h)))
+        refused-searched t t (later-itself t) cut_state (items_ahead t.galley.now k) (x.way.demerits +ℤ pos 1000) (c.number ∷ reverse x.way.breaks.items)
+        (fired-refused t.galley.now.params cut_state (cut-fires t.galley.now.params s c box) (subst (λ z. IsRefusal (unlimited_step t.galley.now.params z)) shown-is h)))
 
     -- a page fires where a break is put in
     pub cut-not-quiet : IsQuiet t.galley.now.params (shown page) → IsCutSearched t s (items_ahead t.galley.now (suc k)) x.way.demerits (reverse x.way.breaks.items)
     cut-not-quiet h =
         cut-searched t t.galley.now k s x.way.demerits (reverse x.way.breaks.items) some
         (λ _ box.
-            cut-quiet (IsSearchedBy t cut_state (items_ahead t.galley.now k) (x.way.demerits +ℤ pos 1000) (c.number ∷ reverse x.way.breaks.items)) t.galley.now.params s c box
-            (subst (λ z. (reach_in t.galley.now.params z).fires ≡ false) shown-is h.quiet))
+        cut-quiet (IsSearchedBy t cut_state (items_ahead t.galley.now k) (x.way.demerits +ℤ pos 1000) (c.number ∷ reverse x.way.breaks.items)) t.galley.now.params s c box
+        (subst (λ z. (reach_in t.galley.now.params z).fires ≡ false) shown-is h.quiet))

@@ -22,6 +22,7 @@ use Rattle.tb_search.specs.Searched.{KnowsMore}
 use Rattle.tb_search.specs.Continues.{Continues}
 use Rattle.tb_search.specs.Starts.{row_of, rows_from, rows_of, IsStart, AreStarts, IsTable}
 use Rattle.tb_search.proofs.OrderLemmas.{no-better-same, no-better-through}
+use Rattle.tb_search.proofs.LaterLemmas.{know-first, know-second}
 
 -- ---- what holds of each element
 
@@ -74,19 +75,10 @@ module _ (g : Galley) (left : ℕ) where
 
 -- ---- the same of the states of all levels
 
-know-first : (xs ys : List Row) → KnowsMore xs (xs ++ ys)
-know-first [] ys s cs d breaks h = absurd h
-know-first (x ∷ xs) ys s cs d breaks (inl h) = inl h
-know-first (x ∷ xs) ys s cs d breaks (inr h) = inr (know-first xs ys s cs d breaks h)
-
-know-second : (xs ys : List Row) → KnowsMore ys (xs ++ ys)
-know-second [] ys s cs d breaks h = h
-know-second (x ∷ xs) ys s cs d breaks h = inr (know-second xs ys s cs d breaks h)
-
-know-both : (xs zs ys ws : List Row) → KnowsMore xs zs → KnowsMore ys ws → KnowsMore (xs ++ ys) (zs ++ ws)
-know-both [] zs ys ws f k s cs d breaks h = know-second zs ws s cs d breaks (k s cs d breaks h)
-know-both (x ∷ xs) zs ys ws f k s cs d breaks (inl h) = know-first zs ws s cs d breaks (f s cs d breaks (inl h))
-know-both (x ∷ xs) zs ys ws f k s cs d breaks (inr h) = know-both xs zs ys ws (λ t es e bs i. f t es e bs (inr i)) k s cs d breaks h
+know-pair : (xs zs ys ws : List Row) → KnowsMore xs zs → KnowsMore ys ws → KnowsMore (xs ++ ys) (zs ++ ws)
+know-pair [] zs ys ws f k s cs d breaks h = know-second zs ws s cs d breaks (k s cs d breaks h)
+know-pair (x ∷ xs) zs ys ws f k s cs d breaks (inl h) = know-first zs ws s cs d breaks (f s cs d breaks (inl h))
+know-pair (x ∷ xs) zs ys ws f k s cs d breaks (inr h) = know-pair xs zs ys ws (λ t es e bs i. f t es e bs (inr i)) k s cs d breaks h
 
 module _ (g : Galley) (bound : ℤ) where
   -- the states of a level can be gone on from
@@ -114,10 +106,10 @@ module _ (g : Galley) (bound : ℤ) where
   levels-know base [] k at w d e more s cs t breaks = λ h. h
   levels-know base (v ∷ vs) zero at w d e more s cs t breaks =
       let same : at ≡ base = omega (arith, e) in
-      know-both (map (row_of g base) v.items) (map (row_of g base) w.items) (rows_from g (suc base) vs) (rows_from g (suc base) vs)
+      know-pair (map (row_of g base) v.items) (map (row_of g base) w.items) (rows_from g (suc base) vs) (rows_from g (suc base) vs)
       (subst (λ n. KnowsMore (map (row_of g n) v.items) (map (row_of g n) w.items)) same more) (λ x xs e bs h. h) s cs t breaks
   levels-know base (v ∷ vs) (suc k) at w d e more s cs t breaks =
-      know-both (map (row_of g base) v.items) (map (row_of g base) v.items) (rows_from g (suc base) vs) (rows_from g (suc base) (set vs k w))
+      know-pair (map (row_of g base) v.items) (map (row_of g base) v.items) (rows_from g (suc base) vs) (rows_from g (suc base) (set vs k w))
       (λ x xs e bs h. h) (levels-know (suc base) vs k at w d (omega (arith, e)) more) s cs t breaks
 
 -- a level that is set is known

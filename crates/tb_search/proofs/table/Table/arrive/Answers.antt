@@ -1,5 +1,4 @@
-use Rattle.std.proofs.Common.{◌≡◌, ℕ, sym, subst, ◌≤◌, reverse, arith}
-use Rattle.std.proofs.lemmas.Int.{ints}
+use Rattle.std.proofs.Common.{◌≡◌, sym, subst, reverse, arith}
 use Rattle.tb_search.specs.declared.table.Start.{Start}
 use Rattle.tb_search.specs.Branches.{shown}
 use Rattle.tb_search.specs.AheadInCode.{items_ahead}

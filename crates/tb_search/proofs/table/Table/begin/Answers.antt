@@ -1,5 +1,4 @@
-use Rattle.std.proofs.Common.{◌≡◌, refl, sym, ap, subst, ◌∙◌, ◌+◌, ◌≤◌, length, [], arith}
-use Rattle.std.proofs.lemmas.Int.{ints}
+use Rattle.std.proofs.Common.{◌≡◌, refl, sym, ap, subst, ◌∙◌, ◌+◌, length, arith}
 use Rattle.std.specs.Borrow.{Bor}
 use Rattle.std.specs.Prelude.{pos, reverse}
 use Rattle.tb_galley.specs.declared.Galley.{Galley}
@@ -51,12 +50,12 @@ keep-requires-clause-start c =
     let w : Way = record { breaks = c.new.result; demerits = pos 0 } in
     subst (λ (g : Galley). IsStart g c.args.self.now.bound (c.len.result + 1) (record { branch = c.in_ok-first.first; way = w })) (sym c.requires.galley)
     (first-start c.args.galley.now (c.len.result + 1) c.in_ok-first.first w c.in_ok-first.ensures.state (all-items (goal.at.keep-requires-clause-start c).After-len) c.new.ensures.items refl c.args.self.now.bound c.in_ok-first.ensures.branch
-      c.in_ok-first.ensures.items c.in_ok-first.ensures.params c.requires.low)
+    c.in_ok-first.ensures.items c.in_ok-first.ensures.params c.requires.low)
 
 pub returns-clause-begun : goal.returns-clause-begun
 returns-clause-begun c =
     let w : Way = record { breaks = c.new.result; demerits = pos 0 } in
     if-both c.keep.result _ _ _ c.keep.ensures.continues (c.keep.ensures.first c.requires.none)
     (λ on h.
-      first-known c.args.galley.now (c.len.result + 1) c.in_ok-first.first w c.in_ok-first.ensures.state (all-items (goal.at.returns-clause-begun c).After-len) c.new.ensures.items refl (rows_of c.keep.new.self)
-      (subst (λ (g : Galley). rows_know (rows_of c.keep.new.self) (shown c.in_ok-first.first) (items_ahead g (c.len.result + 1)) w.demerits (reverse w.breaks.items)) (ap (λ (x : Bor Galley). x.now) on.later.galley ∙ c.requires.galley) h))
+    first-known c.args.galley.now (c.len.result + 1) c.in_ok-first.first w c.in_ok-first.ensures.state (all-items (goal.at.returns-clause-begun c).After-len) c.new.ensures.items refl (rows_of c.keep.new.self)
+    (subst (λ (g : Galley). rows_know (rows_of c.keep.new.self) (shown c.in_ok-first.first) (items_ahead g (c.len.result + 1)) w.demerits (reverse w.breaks.items)) (ap (λ (x : Bor Galley). x.now) on.later.galley ∙ c.requires.galley) h))

@@ -1,4 +1,4 @@
-use Rattle.std.proofs.Common.{◌≡◌, refl, sym, ap, subst, ◌∙◌, [], ◌∷◌, ◌++◌, List, map, length, ◌≤◌}
+use Rattle.std.proofs.Common.{refl, sym, subst, ◌∙◌, [], ◌∷◌, ◌++◌, List, map, length, ◌≤◌}
 use Rattle.std.specs.List.{AllByRecursion}
 use Rattle.tb_galley.specs.declared.Galley.{Galley}
 use Rattle.std.specs.Borrow.{Bor}

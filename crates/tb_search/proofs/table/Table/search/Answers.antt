@@ -1,4 +1,4 @@
-use Rattle.std.proofs.Common.{◌≡◌, refl, sym, ap, subst, ◌∙◌, [], ◌∷◌, ◌++◌, map, length, length-append, arith}
+use Rattle.std.proofs.Common.{◌≡◌, refl, sym, ap, subst, ◌∙◌, [], ◌∷◌, map, length, length-append, arith}
 use Rattle.std.specs.List.{AllByRecursion}
 use Rattle.tb_search.specs.Starts.{row_of, IsStart}
 use Rattle.tb_search.specs.Continues.{HasSearched}

@@ -83,8 +83,8 @@ pub returns-in-Quiet-clause-searched : goal.returns-in-Quiet-clause-searched
 returns-in-Quiet-clause-searched c =
     if-both c.arrive.result _ _ _ c.arrive.ensures.continues c.arrive.ensures.searched
     (λ on searched.
-        subst (λ (t : Table). IsStartSearched t.galley.now c.args.left (record { branch = c.args.branch; way = c.args.way }) c.arrive.new.self) c.fires.invariant.same
-        (c.fires.invariant.on.back c.arrive.new.self on.later searched))
+    subst (λ (t : Table). IsStartSearched t.galley.now c.args.left (record { branch = c.args.branch; way = c.args.way }) c.arrive.new.self) c.fires.invariant.same
+    (c.fires.invariant.on.back c.arrive.new.self on.later searched))
 
 -- ---- the pool is full
 
@@ -108,9 +108,9 @@ pub returns-then-left-gt0-clause-searched : goal.returns-then-left-gt0-clause-se
 returns-then-left-gt0-clause-searched c =
     if-both c.keep.result _ _ _ c.keep.ensures.continues c.keep.ensures.known
     (λ on known.
-        subst (λ (t : Table). IsStartSearched t.galley.now c.args.left (record { branch = c.args.branch; way = c.args.way }) c.keep.new.self) c.fires.invariant.same
-        (c.fires.invariant.on.back c.keep.new.self on.later
-        (kept-searched c.fires.self c.keep.new.self on.later c.args.left (shown c.fires.branch) c.fires.way known)))
+    subst (λ (t : Table). IsStartSearched t.galley.now c.args.left (record { branch = c.args.branch; way = c.args.way }) c.keep.new.self) c.fires.invariant.same
+    (c.fires.invariant.on.back c.keep.new.self on.later
+    (kept-searched c.fires.self c.keep.new.self on.later c.args.left (shown c.fires.branch) c.fires.way known)))
 
 pub returns-in-Full-clause-table : goal.returns-in-Full-clause-table
 returns-in-Full-clause-table c = subst IsTable (sym c.fires.invariant.same) c.requires.table
