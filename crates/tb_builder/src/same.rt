@@ -129,6 +129,11 @@ impl Builder {
         ensures exact { (contents_of self.now store.now).waiting ≡ (contents_of other.now other_store.now).waiting → (contents_of self.now store.now).boxes ≡ (contents_of other.now other_store.now).boxes → IsTrue result }
     {
         same_waiting(store, self.waiting, other_store, other.waiting)
-            && same_boxes(store, &self.boxes, other_store, &other.boxes)
+            && same_boxes(
+                store,
+                self.boxes.as_slice(),
+                other_store,
+                other.boxes.as_slice(),
+            )
     }
 }
