@@ -70,16 +70,28 @@ pub fn best_breaks(alloc: Global, galley: &Galley, greedy: i128) -> Result<BestP
     ensures best { IfOk result (λ b. IsBest galley.now b.places.items b.demerits) }
 {
     let mut bound = FIRST_BOUND;
-    for _ in 0..BOUNDS {
+    'bounds: for _ in 0..BOUNDS {
         if bound < greedy {
             let plan = best_within(alloc, galley, greedy, bound)?;
             if plan.demerits <= bound {
                 return Ok(plan);
             }
-            bound *= 4;
         }
+        bound = next_bound(bound, greedy);
     }
     best_within(alloc, galley, greedy, greedy)
+}
+
+// The bound after one that no plan is within.
+fn next_bound(bound: i128, greedy: i128) -> i128
+    requires low { pos 1 ≤ℤ bound }
+    requires high { bound ≤ℤ pos 4000000000000000000000000000 }
+    requires greedy { greedy ≤ℤ pos 1000000000000000000000000000 }
+
+    ensures low { pos 1 ≤ℤ result }
+    ensures high { result ≤ℤ pos 4000000000000000000000000000 }
+{
+    if bound < greedy { bound * 4 } else { bound }
 }
 
 // The best of the plans within a bound, or one past the bound if there is none: no more than the greedy pages have.
