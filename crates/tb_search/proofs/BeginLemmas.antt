@@ -64,11 +64,11 @@ module _ (g : Galley) (left : ℕ) (b : Branch) (w : Way) (state : shown b ≡ e
       (subst (λ (d : ℤ). rows_know rows (shown b) (items_ahead g left) d []) zero-way
       (subst (λ (bs : List ℕ). rows_know rows (shown b) (items_ahead g left) w.demerits (reverse bs)) none h)))
 
--- if all is searched from the beginning and no state waits, the best way of the table is the best plan
-pub end-best : (g : Galley) (t u : Table) → t.galley.now ≡ g → IsTable u → HasSearched [] t u → rows_of u ≡ [] → rows_know (rows_of t) (empty_start g) (all_ahead g) (pos 0) [] → IsBest g u.best.breaks.items u.best.demerits
-end-best g t u galley table h none known =
+-- if all is searched from the beginning and no state waits, the best way of the table is the best plan if it is within the bound
+pub end-best : (g : Galley) (t u : Table) → t.galley.now ≡ g → IsTable u → HasSearched [] t u → rows_of u ≡ [] → rows_know (rows_of t) (empty_start g) (all_ahead g) (pos 0) [] → u.best.demerits ≤ℤ u.bound → IsBest g u.best.breaks.items u.best.demerits
+end-best g t u galley table h none known within =
     subst (λ (k : Galley). IsBest k u.best.breaks.items u.best.demerits) same
-    (searched-best u.galley.now u.bound u.best.demerits u.best.breaks.items table.bounded table.best.is_plan table.best.sum
+    (searched-best u.galley.now u.bound u.best.demerits u.best.breaks.items within table.best.is_plan table.best.sum
     (subst (λ (k : Galley). IsSearched u.galley.now u.bound u.best.demerits (reverse u.best.breaks.items) [] (empty_start k) (all_ahead k) (pos 0) []) (sym same)
     (subst (λ (rows : List Row). IsSearched u.galley.now u.bound u.best.demerits (reverse u.best.breaks.items) rows (empty_start g) (all_ahead g) (pos 0) []) none
     (h.all (empty_start g) (all_ahead g) (pos 0) [] known))))

@@ -66,7 +66,7 @@ pub record IsRated (g : Galley) (w : Way) : Type 0 where
   pub is_plan : IsPlan g w.breaks.items
   pub sum : plan_demerits g w.breaks.items ≡ Some w.demerits
 
--- a table of the search: what it says of the galley is true, its states can be gone on from, and its best way is a plan within the bound
+-- a table of the search: what it says of the galley is true, its states can be gone on from, and its best way is a plan
 pub record IsTable (t : Table) : Type 0 where
   pub mild : AllByRecursion IsMildPlace t.penalties.items
   pub range : t.bound ≤ℤ pos 1000000000000000000000000000
@@ -76,4 +76,4 @@ pub record IsTable (t : Table) : Type 0 where
   pub levels : length t.starts.items ≤ length (all_ahead t.galley.now) + 1
   pub starts : AreStarts t.galley.now t.bound 0 t.starts.items
   pub best : IsRated t.galley.now t.best
-  pub bounded : t.best.demerits ≤ℤ t.bound
+  pub bounded : t.best.demerits ≤ℤ pos 1000000000000000000000000000

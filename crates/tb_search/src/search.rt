@@ -48,10 +48,19 @@ impl From<AllocError> for BestFault {
     }
 }
 
+// The search begins with this bound on the demerits.
+const FIRST_BOUND: i128 = 10_000;
+
+// So many bounds are tried before that of the greedy pages. Each is four times the one before, and the last is above all demerits.
+const BOUNDS: u32 = 40;
+
 /// The best plan of a galley: of all ways to put page breaks in at its places the one of least demerits, and of several the
 /// one whose breaks, read from the last, are the greatest. `greedy` are the demerits of the galley without breaks put in.
 ///
 /// It fails if the search comes to too many states or to one that holds too many nodes, or if memory runs out.
+//
+// A way with more demerits than a bound is not gone on. Low bounds leave most ways out, so they are tried first: a plan within
+// the bound is the best of all.
 pub fn best_breaks(alloc: Global, galley: &Galley, greedy: i128) -> Result<BestPlan, BestFault>
     requires valid { IsValid galley.now }
     requires sum { plan_demerits galley.now [] ≡ Some greedy }
@@ -60,7 +69,48 @@ pub fn best_breaks(alloc: Global, galley: &Galley, greedy: i128) -> Result<BestP
 
     ensures best { IfOk result (λ b. IsBest galley.now b.places.items b.demerits) }
 {
-    let mut table = Table::new(alloc, galley, greedy)?;
+    let mut bound = FIRST_BOUND;
+    'bounds: for _ in 0..BOUNDS {
+        if bound < greedy {
+            let plan = best_within(alloc, galley, greedy, bound)?;
+            if plan.demerits <= bound {
+                return Ok(plan);
+            }
+        }
+        bound = next_bound(bound, greedy);
+    }
+    best_within(alloc, galley, greedy, greedy)
+}
+
+// The bound after one that no plan is within.
+fn next_bound(bound: i128, greedy: i128) -> i128
+    requires low { pos 1 ≤ℤ bound }
+    requires high { bound ≤ℤ pos 4000000000000000000000000000 }
+    requires greedy { greedy ≤ℤ pos 1000000000000000000000000000 }
+
+    ensures low { pos 1 ≤ℤ result }
+    ensures high { result ≤ℤ pos 4000000000000000000000000000 }
+{
+    if bound < greedy { bound * 4 } else { bound }
+}
+
+// The best of the plans within a bound, or one past the bound if there is none: no more than the greedy pages have.
+fn best_within(
+    alloc: Global,
+    galley: &Galley,
+    greedy: i128,
+    bound: i128,
+) -> Result<BestPlan, BestFault>
+    requires valid { IsValid galley.now }
+    requires sum { plan_demerits galley.now [] ≡ Some greedy }
+    requires low { pos 0 ≤ℤ bound }
+    requires bound { bound ≤ℤ greedy }
+    requires high { greedy ≤ℤ pos 1000000000000000000000000000 }
+
+    ensures best { IfOk result (λ b. b.demerits ≤ℤ bound → IsBest galley.now b.places.items b.demerits) }
+    ensures fewer { IfOk result (λ b. b.demerits ≤ℤ greedy) }
+{
+    let mut table = Table::new(alloc, galley, greedy, bound)?;
     table.begin(alloc, galley)?;
     table.search(alloc)?;
     Ok(BestPlan {

@@ -154,14 +154,22 @@ fn push_start<'a>(starts: &mut Vec<Start<'a>>, start: Start<'a>) -> Result<(), B
 
 impl<'a> Table<'a> {
     /// No state is kept. `greedy` are the demerits of the galley without breaks put in. It fails only if memory runs out.
-    pub(crate) fn new(alloc: Global, galley: &'a Galley, greedy: i128) -> Result<Self, AllocError>
+    pub(crate) fn new(
+        alloc: Global,
+        galley: &'a Galley,
+        greedy: i128,
+        bound: i128,
+    ) -> Result<Self, AllocError>
         requires valid { IsValid galley.now }
+        requires low { pos 0 ≤ℤ bound }
+        requires bound { bound ≤ℤ greedy }
         requires greedy { plan_demerits galley.now [] ≡ Option.Some greedy }
         requires range { greedy ≤ℤ pos 1000000000000000000000000000 }
 
         ensures table { IfOk result IsTable }
         ensures galley { IfOk result (λ t. t.galley.now ≡ galley.now) }
-        ensures bound { IfOk result (λ t. t.bound ≡ greedy) }
+        ensures bound { IfOk result (λ t. t.bound ≡ bound) }
+        ensures greedy { IfOk result (λ t. t.best.demerits ≡ greedy) }
         ensures none { IfOk result (λ t. rows_of t ≡ []) }
         ensures levels { IfOk result (λ t. length t.starts.items ≡ length (all_ahead galley.now) + 1) }
     {
@@ -176,7 +184,7 @@ impl<'a> Table<'a> {
             is_place,
             starts,
             count: 0,
-            bound: greedy,
+            bound,
             best: Way {
                 breaks: Vec::new(alloc),
                 demerits: greedy,

@@ -18,10 +18,12 @@ returns-clause-table c =
     let all = all-counted g in
     let fits : FitsSigned w128 c.args.greedy = search rules in
     let greedy : to_z w128 (of_z w128 c.args.greedy) ≡ c.args.greedy = simp to_z-of_z refl in
+    let within : FitsSigned w128 c.args.bound = search rules in
+    let bound : to_z w128 (of_z w128 c.args.bound) ≡ c.args.bound = simp to_z-of_z refl in
     let count : c.len-count.result + 1 ≡ length g.items + 1 = ap (λ n. n + 1) c.len-count.ensures in
     record {
       mild = subst (AllByRecursion IsMildPlace) (sym c.in_ok-penalties.ensures.places) c.in_ok-penalties.ensures.mild;
-      range = subst (λ (z : ℤ). z ≤ℤ pos 1000000000000000000000000000) (sym greedy) c.requires.range;
+      range = let b = c.requires.bound in let r = c.requires.range in subst (λ (z : ℤ). z ≤ℤ pos 1000000000000000000000000000) (sym bound) (omega (arith, ints, b, r));
       penalties = c.in_ok-penalties.ensures.places ∙ ap place_penalties c.as_slice.ensures;
       places =
           c.in_ok-is_place.ensures
@@ -29,12 +31,12 @@ returns-clause-table c =
           ∙ flags-are g;
       few = let few = few-items g c.requires.valid in omega (arith, all, few);
       levels = let l = c.in_ok-starts.ensures.count in omega (arith, all, l, count);
-      starts = none-start g (to_z w128 (of_z w128 c.args.greedy)) 0 c.in_ok-starts.starts.items c.in_ok-starts.ensures.empty;
+      starts = none-start g (to_z w128 (of_z w128 c.args.bound)) 0 c.in_ok-starts.starts.items c.in_ok-starts.ensures.empty;
       best = record {
         is_plan = subst (λ plan. IsPlan g plan) (sym c.new.ensures.items) refl;
         sum = ap (plan_demerits g) c.new.ensures.items ∙ c.requires.greedy ∙ ap Some (sym greedy);
       };
-      bounded = omega (arith, ints);
+      bounded = subst (λ (z : ℤ). z ≤ℤ pos 1000000000000000000000000000) (sym greedy) c.requires.range;
     }
 
 pub returns-clause-none : goal.returns-clause-none
