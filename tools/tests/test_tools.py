@@ -104,7 +104,7 @@ class Comparisons(Scratch):
         path = self.changed(stored('notes.pages'), 'footrule 5670391 26214 0', 'footrule 5670391 52428 0')
         status, said = run(compare.main, path, stored('notes.report'))
         self.assertEqual(status, 1)
-        self.assertIn('another footnote rule', said)
+        self.assertIn('other rules', said)
 
     def test_warnings(self):
         with open(self.path('log'), 'w', encoding='latin-1') as log:
