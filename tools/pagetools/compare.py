@@ -12,10 +12,11 @@ from . import document, report
 USAGE = """Compares the pages that LaTeX made of a document (NAME.pages, by galleyexport) with the reports on its
 galleys. A line for each page that differs tells whether it agrees in its contents (the same boxes, rules, footnotes,
 floats and notes in the same order and column, floats in the same area), in the natural height and glue set of each
-column, and in every place; then come the totals and the first difference. Pages that the exporter put in are left out.
+column, in every place, and in the rules above footnotes and beside floats; then come the totals and the first
+difference. Pages that the exporter put in are left out.
 The exit status is 0 if all agrees, 1 if anything differs, 2 if a file can't be read."""
 
-# What no galley says and LaTeX's pages have otherwise: it takes no part in the comparison of contents and places.
+# What takes no part in the comparison of contents and places: LaTeX may have it otherwise than a galley says.
 APART = ('mark', 'note', 'footrule', 'floatrule')
 
 # The warnings of a report, by how LaTeX's own are told in its log.
@@ -190,7 +191,7 @@ def table(comparison, every):
         yield '%4s  %-8s  %-8s  %-6s  %s%s' % (
             verdict.latex or '-', mark[verdict.contents], mark[verdict.setting] if verdict.contents else '-',
             mark[verdict.places] if verdict.setting else '-', verdict.report or '-',
-            '' if verdict.rule else '  another footnote rule')
+            '' if verdict.rule else '  other rules')
     others = len(comparison.verdicts) - len(shown)
     if others:
         which = '%d %spage%s' % (others, 'other ' if shown else '', ' is' if others == 1 else 's are')

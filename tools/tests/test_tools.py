@@ -6,7 +6,7 @@ import unittest
 
 from support import HERE, Scratch, document, run, stored
 
-from pagetools import check, compare, galley, places, report, tries
+from pagetools import check, check_rows, compare, galley, places, report, tries
 
 
 class Reports(Scratch):
@@ -104,7 +104,7 @@ class Comparisons(Scratch):
         path = self.changed(stored('notes.pages'), 'footrule 5670391 26214 0', 'footrule 5670391 52428 0')
         status, said = run(compare.main, path, stored('notes.report'))
         self.assertEqual(status, 1)
-        self.assertIn('another footnote rule', said)
+        self.assertIn('other rules', said)
 
     def test_warnings(self):
         with open(self.path('log'), 'w', encoding='latin-1') as log:
@@ -196,10 +196,10 @@ class Tables(Scratch):
     def test_rows(self):
         _, pages = run(compare.main, document('paper.pages'), document('paper.report'), '--quiet')
         said = pages + 'TeX weighed 338 places, 336 were found the same; 4 of 4 pages agree\n'
-        cells = check.row('our paper', said)
+        cells = check_rows.row('our paper', said)
         self.assertEqual(cells, ('our paper', '4', '8', '4', '4', '4', '14 of 14', '22 of 22', '336 of 338'))
-        self.assertEqual(check.total([cells, cells])[6:], ('28 of 28', '44 of 44', '672 of 676'))
-        self.assertIsNone(check.row('none', 'paginate: no galley was written'))
+        self.assertEqual(check_rows.total([cells, cells])[6:], ('28 of 28', '44 of 44', '672 of 676'))
+        self.assertIsNone(check_rows.row('none', 'paginate: no galley was written'))
 
     def test_the_list_of_documents(self):
         listed = list(check.documents(os.path.join(HERE, os.pardir, 'documents')))
