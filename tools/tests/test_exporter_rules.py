@@ -85,13 +85,18 @@ class NewParameters(Scratch):
 
     def test_another_footnote_rule(self):
         for rule, value in ((r'\kern-3pt\hrule height 1pt\kern1.6pt', '-196608 65536 104858'), ('', 'none'),
-                            (r'\vskip 4pt', '262144 0 0')):
+                            (r'\vskip 4pt', '262144 0 0'), (r'\vspace*{1pt}\hrule\kern1pt', '65536 26214 65536')):
             self.export(document(), preamble=r'\def\footnoterule{%s}' % rule)
             self.assert_new(footrule=value)
 
     def test_a_footnote_rule_with_fill(self):
         self.export(document(), preamble=r'\def\footnoterule{\kern-3pt\vfill\hrule width 2in\kern2.6pt}\flushbottom')
         self.assert_new(footfill=FILL)
+
+    def test_two_rules_are_told(self):
+        self.export(document(), preamble=r'\def\topfigrule{\hrule\kern1pt\hrule}')
+        self.assertIn('\nset toprule 0 26214 91750\n', self.read('test.galley'))
+        self.assertIn("can't say: a second rule or box in toprule (its height is kept): 1 times", self.read('test.galleylog'))
 
     def test_a_footnote_rule_with_fill_below_is_told(self):
         self.export(document(), preamble=r'\def\footnoterule{\kern-3pt\hrule width 2in\kern2.6pt\vfill}')
