@@ -1,15 +1,13 @@
 """Tests of the exporter on documents that ask for the parameters of version 3: rules, the glue at a column's ends, how
 footnotes stand. With a program, its pages are to be LaTeX's in every place. Left out where no LuaLaTeX is installed."""
-import os
 import re
 import shutil
 import subprocess
 import unittest
 
 from pagetools import compare
-from support import HERE, PROGRAM, Scratch, run
+from support import PROGRAM, Latex, run
 
-PACKAGE = os.path.join(HERE, os.pardir, 'galleyexport')
 FLOAT = r'\begin{%s}[%s]\vbox to 3cm{}\caption{A}\end{%s} '
 LINES = 'Words that fill some lines of the page, so that it has text. ' * 6 + '\n\n'
 NOTE = r'Words.\footnote{A note.} '
@@ -34,19 +32,7 @@ def is_installed(*files):
 
 
 @unittest.skipUnless(shutil.which('lualatex'), 'no lualatex')
-class NewParameters(Scratch):
-    def export(self, text, options='', preamble='', document_class='article'):
-        with open(self.path('test.tex'), 'w', encoding='utf-8') as out:
-            out.write(r'\documentclass[%s]{%s}\usepackage{galleyexport}\makeatletter %s\makeatother'
-                      r'\begin{document}%s\end{document}' % (options, document_class, preamble, text))
-        subprocess.run(['lualatex', '-interaction=nonstopmode', 'test.tex'], cwd=self.folder, check=False,
-                       stdin=subprocess.DEVNULL, stdout=subprocess.DEVNULL, stderr=subprocess.DEVNULL, timeout=300,
-                       env=dict(os.environ, TEXINPUTS='.:%s:' % PACKAGE, max_print_line='100000'))
-
-    def read(self, name):
-        with open(self.path(name), encoding='utf-8', errors='replace') as file:
-            return file.read()
-
+class NewParameters(Latex):
     def assert_old(self):
         """The galley is of version 1, and has no parameter of version 3."""
         galley = self.read('test.galley')
