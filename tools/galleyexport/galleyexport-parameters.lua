@@ -164,16 +164,22 @@ function M.glue(name, box)
 end
 
 -- Prints what was put as a rule: the sum of what stands before it, its height, and the sum of what stands after it; or
--- `none`, if there is nothing. Glue above it that stretches or shrinks is kept as a fill.
+-- `none`, if there is nothing. Rules without height, such as that of \vspace*, are none. Glue above it that stretches or
+-- shrinks is kept as a fill.
 function M.rule(name, box)
   local above, height, below = new_sum(), nil, new_sum()
   for n in nodes_of(box) do
     local sum = height and below or above
     if n.id == node.id("glue") then add_glue(sum, n, name)
     elseif n.id == node.id("kern") then sum.width = sum.width + n.kern
-    elseif n.height and not height and (n.height + n.depth ~= 0 or n.id == node.id("rule")) then
-      height = n.height + n.depth
-    elseif n.height then sum.width = sum.width + n.height + n.depth end
+    elseif n.height and n.height + n.depth ~= 0 then
+      if height then
+        sum.width = sum.width + n.height + n.depth
+        M.unsaid(name, "a second rule or box in " .. name .. " (its height is kept)")
+      else
+        height = n.height + n.depth
+      end
+    end
   end
   fills[name] = is_flexible(above) and sum_text(above, 0) or nil
   if is_flexible(below) or (fills[name] and name ~= "footrule") then

@@ -203,7 +203,7 @@ def _sentence(cause, line, number, source):
     header = 'lines 1' if is_lines else 'galley 1'
     choice = 'Lines begin with ' + ', '.join(sorted(forms))
     if words[:1] == ['class']:
-        choice = '`class` is a word of `galley 2` alone'
+        choice = '`class` is a word of `galley 2` and `galley 3`'
     split = {'lines': 'Split it between paragraphs', 'dvilist': 'Make it of fewer pages'}
     return CAUSES.get(cause, 'this is refused').format(
         header=header,

@@ -14,6 +14,7 @@ HERE = os.path.dirname(os.path.abspath(__file__))
 STORED = os.path.join(HERE, 'stored')
 TOP = os.path.normpath(os.path.join(HERE, os.pardir, os.pardir))
 DOCUMENT = os.path.join(TOP, 'examples', 'document')
+PACKAGE = os.path.join(HERE, os.pardir, 'galleyexport')
 PROGRAM = os.environ.get('GALLEY_PAGES')
 sys.path.insert(0, os.path.join(HERE, os.pardir))
 
@@ -88,3 +89,21 @@ class Scratch(unittest.TestCase):
         with open(path, 'w', encoding='latin-1') as file:
             file.write(text.replace(old, new, 1))
         return path
+
+
+class Latex(Scratch):
+    """A test that compiles documents with the exporter."""
+
+    def export(self, text, name='test', options='', preamble='', document_class='article'):
+        """Compiles a document with the exporter. Gives LaTeX's log."""
+        with open(self.path(name + '.tex'), 'w', encoding='utf-8') as out:
+            out.write(r'\documentclass[%s]{%s}\usepackage{galleyexport}\makeatletter %s\makeatother'
+                      r'\begin{document}%s\end{document}' % (options, document_class, preamble, text))
+        subprocess.run(['lualatex', '-interaction=nonstopmode', name + '.tex'], cwd=self.folder, check=False,
+                       stdin=subprocess.DEVNULL, stdout=subprocess.DEVNULL, stderr=subprocess.DEVNULL, timeout=300,
+                       env=dict(os.environ, TEXINPUTS='.:%s:' % PACKAGE, max_print_line='100000'))
+        return self.read(name + '.log')
+
+    def read(self, name):
+        with open(self.path(name), encoding='utf-8', errors='replace') as file:
+            return file.read()

@@ -1,33 +1,17 @@
 """Tests of the exporter on small documents, where LuaLaTeX is installed; else they are left out. Run by tools/test."""
-import os
 import re
 import shutil
 import subprocess
 import unittest
 
-from support import HERE, Scratch
+from support import Latex
 
-PACKAGE = os.path.join(HERE, os.pardir, 'galleyexport')
 FLOAT = r'\begin{figure}[%s]\vbox to 3cm{}\caption{A}\end{figure} '
 PAGE = r'Words.\vspace*{10cm} Words.\marginpar{note} \newpage '
 
 
 @unittest.skipUnless(shutil.which('lualatex'), 'no lualatex')
-class Exporter(Scratch):
-    def export(self, text, name='test', options='', preamble=''):
-        """Compiles a document with the exporter. Gives LaTeX's log."""
-        with open(self.path(name + '.tex'), 'w', encoding='utf-8') as out:
-            out.write(r'\documentclass[%s]{article}\usepackage{galleyexport}\makeatletter %s\makeatother'
-                      r'\begin{document}%s\end{document}' % (options, preamble, text))
-        subprocess.run(['lualatex', '-interaction=nonstopmode', name + '.tex'], cwd=self.folder, check=False,
-                       stdin=subprocess.DEVNULL, stdout=subprocess.DEVNULL, stderr=subprocess.DEVNULL, timeout=300,
-                       env=dict(os.environ, TEXINPUTS='.:%s:' % PACKAGE, max_print_line='100000'))
-        return self.read(name + '.log')
-
-    def read(self, name):
-        with open(self.path(name), encoding='utf-8', errors='replace') as file:
-            return file.read()
-
+class Exporter(Latex):
     def test_void_boxes_do_not_end_latex(self):
         log = self.export(r'\twocolumn[\vbox to 50cm{A head that is too high}] Words. ' + FLOAT % 't')
         self.assertTrue('node lib' not in log and 'Output written' in log)

@@ -1,15 +1,13 @@
 """Tests of the exporter on documents that ask for the parameters of version 3: rules, the glue at a column's ends, how
 footnotes stand. With a program, its pages are to be LaTeX's in every place. Left out where no LuaLaTeX is installed."""
-import os
 import re
 import shutil
 import subprocess
 import unittest
 
 from pagetools import compare
-from support import HERE, PROGRAM, Scratch, run
+from support import PROGRAM, Latex, run
 
-PACKAGE = os.path.join(HERE, os.pardir, 'galleyexport')
 FLOAT = r'\begin{%s}[%s]\vbox to 3cm{}\caption{A}\end{%s} '
 LINES = 'Words that fill some lines of the page, so that it has text. ' * 6 + '\n\n'
 NOTE = r'Words.\footnote{A note.} '
@@ -34,19 +32,7 @@ def is_installed(*files):
 
 
 @unittest.skipUnless(shutil.which('lualatex'), 'no lualatex')
-class NewParameters(Scratch):
-    def export(self, text, options='', preamble='', document_class='article'):
-        with open(self.path('test.tex'), 'w', encoding='utf-8') as out:
-            out.write(r'\documentclass[%s]{%s}\usepackage{galleyexport}\makeatletter %s\makeatother'
-                      r'\begin{document}%s\end{document}' % (options, document_class, preamble, text))
-        subprocess.run(['lualatex', '-interaction=nonstopmode', 'test.tex'], cwd=self.folder, check=False,
-                       stdin=subprocess.DEVNULL, stdout=subprocess.DEVNULL, stderr=subprocess.DEVNULL, timeout=300,
-                       env=dict(os.environ, TEXINPUTS='.:%s:' % PACKAGE, max_print_line='100000'))
-
-    def read(self, name):
-        with open(self.path(name), encoding='utf-8', errors='replace') as file:
-            return file.read()
-
+class NewParameters(Latex):
     def assert_old(self):
         """The galley is of version 1, and has no parameter of version 3."""
         galley = self.read('test.galley')
@@ -85,13 +71,18 @@ class NewParameters(Scratch):
 
     def test_another_footnote_rule(self):
         for rule, value in ((r'\kern-3pt\hrule height 1pt\kern1.6pt', '-196608 65536 104858'), ('', 'none'),
-                            (r'\vskip 4pt', '262144 0 0')):
+                            (r'\vskip 4pt', '262144 0 0'), (r'\vspace*{1pt}\hrule\kern1pt', '65536 26214 65536')):
             self.export(document(), preamble=r'\def\footnoterule{%s}' % rule)
             self.assert_new(footrule=value)
 
     def test_a_footnote_rule_with_fill(self):
         self.export(document(), preamble=r'\def\footnoterule{\kern-3pt\vfill\hrule width 2in\kern2.6pt}\flushbottom')
         self.assert_new(footfill=FILL)
+
+    def test_two_rules_are_told(self):
+        self.export(document(), preamble=r'\def\topfigrule{\hrule\kern1pt\hrule}')
+        self.assertIn('\nset toprule 0 26214 91750\n', self.read('test.galley'))
+        self.assertIn("can't say: a second rule or box in toprule (its height is kept): 1 times", self.read('test.galleylog'))
 
     def test_a_footnote_rule_with_fill_below_is_told(self):
         self.export(document(), preamble=r'\def\footnoterule{\kern-3pt\hrule width 2in\kern2.6pt\vfill}')
