@@ -1,10 +1,7 @@
 -- A break is put in before the next item.
-use Rattle.std.proofs.Common.{◌≡◌, refl, sym, ◌∙◌, ap, subst, ◌⊎◌, inl, inr, ℕ, zero, suc, ◌+◌, ◌-◌, ◌<◌, ◌≤◌, ℤ, Bool, true, false, List, [], ◌∷◌, ◌++◌, map, length, get_or, arith}
-use Rattle.std.specs.Prelude.{pos, ◌+ℤ◌, ◌≤ℤ◌, ◌<ℤ◌, reverse}
-use Rattle.std.proofs.lemmas.Int.{ints}
+use Rattle.std.proofs.Common.{◌≡◌, refl, sym, ◌∙◌, ap, subst, ◌⊎◌, inl, inr, ℕ, zero, suc, ◌+◌, ◌-◌, ◌<◌, ◌≤◌, ℤ, true, false, List, [], ◌∷◌, ◌++◌, map, length, get_or, arith}
+use Rattle.std.specs.Prelude.{pos, ◌+ℤ◌, ◌<ℤ◌, reverse}
 use Rattle.std.proofs.lemmas.List.{length-map, reverse-append}
-use Rattle.tb_node.specs.PlainNodes.{PlainNode}
-use Rattle.tb_galley.specs.declared.Galley.{Galley}
 use Rattle.tb_builder.specs.Reach.{holds_box}
 use Rattle.tb_output.specs.State.{State}
 use Rattle.tb_rate.specs.Places.{place_penalties}
@@ -16,8 +13,8 @@ use Rattle.tb_search.specs.declared.branch.Filled.{Filled}
 use Rattle.tb_search.specs.declared.branch.Filled.TheVariants as filled
 use Rattle.tb_search.specs.declared.table.Start.{Start}
 use Rattle.tb_search.specs.declared.table.Table.{Table}
-use Rattle.tb_search.specs.Branches.{shown, next_of, break_before, IsPast, IsBranch, HasTaken}
-use Rattle.tb_search.specs.FilledBranches.{IsRefusal, IsRefused, IsQuiet, HasFired, FillsTo}
+use Rattle.tb_search.specs.Branches.{shown, next_of, break_before, IsPast, HasTaken}
+use Rattle.tb_search.specs.FilledBranches.{IsRefusal, IsQuiet, HasFired, FillsTo}
 use Rattle.tb_search.specs.AheadInCode.{items_ahead}
 use Rattle.tb_search.specs.Searched.{over}
 use Rattle.tb_search.specs.Starts.{IsReached, IsTable}

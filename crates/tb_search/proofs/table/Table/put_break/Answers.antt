@@ -1,12 +1,12 @@
-use Rattle.std.proofs.Common.{◌≡◌, refl, sym, ◌∙◌, ap, subst, ◌-◌, ◌++◌, [], ◌∷◌, reverse, arith}
-use Rattle.std.specs.Prelude.{pos, ◌+ℤ◌, ◌≤ℤ◌}
+use Rattle.std.proofs.Common.{◌≡◌, sym, ◌∙◌, ap, subst, ◌-◌, ◌++◌, [], ◌∷◌, reverse}
+use Rattle.std.specs.Prelude.{pos, ◌+ℤ◌}
 use Rattle.tb_rate.specs.Places.{place_penalties}
 use Rattle.tb_search.specs.declared.table.Start.{Start}
 use Rattle.tb_search.specs.Branches.{shown, IsBranch}
 use Rattle.tb_search.specs.FilledBranches.{HasFired, FillsTo}
 use Rattle.tb_search.specs.AheadInCode.{items_ahead}
 use Rattle.tb_search.specs.Starts.{IsReached}
-use Rattle.tb_search.specs.Continues.{IsSearchedAsGoodBy, IsCutSearched}
+use Rattle.tb_search.specs.Continues.{IsSearchedAsGoodBy}
 use Rattle.tb_search.proofs.AheadLemmas.{next_ahead}
 use Rattle.tb_search.proofs.LaterLemmas.{continues-itself}
 use Rattle.tb_search.proofs.ReachedWays.{reached-cut, reached-fired}
