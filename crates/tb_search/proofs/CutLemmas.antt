@@ -1,10 +1,7 @@
 -- A break is put in before the next item.
-use Rattle.std.proofs.Common.{◌≡◌, refl, sym, ◌∙◌, ap, subst, ℕ, zero, suc, ◌+◌, ◌-◌, ◌<◌, ◌≤◌, ℤ, Bool, true, false, List, [], ◌∷◌, ◌++◌, map, length, get_or, arith}
-use Rattle.std.specs.Prelude.{pos, ◌+ℤ◌, ◌≤ℤ◌, ◌<ℤ◌, reverse}
-use Rattle.std.proofs.lemmas.Int.{ints}
-use Rattle.std.proofs.lemmas.List.{length-map}
-use Rattle.tb_node.specs.PlainNodes.{PlainNode}
-use Rattle.tb_galley.specs.declared.Galley.{Galley}
+use Rattle.std.proofs.Common.{◌≡◌, refl, sym, ◌∙◌, ap, subst, ◌⊎◌, inl, inr, ℕ, zero, suc, ◌+◌, ◌-◌, ◌<◌, ◌≤◌, ℤ, true, false, List, [], ◌∷◌, ◌++◌, map, length, get_or, arith}
+use Rattle.std.specs.Prelude.{pos, ◌+ℤ◌, ◌<ℤ◌, reverse}
+use Rattle.std.proofs.lemmas.List.{length-map, reverse-append}
 use Rattle.tb_builder.specs.Reach.{holds_box}
 use Rattle.tb_output.specs.State.{State}
 use Rattle.tb_rate.specs.Places.{place_penalties}
@@ -12,15 +9,17 @@ use Rattle.tb_best.specs.PlanDemerits.{reach_in, unlimited_step}
 use Rattle.tb_best.specs.ItemsAhead.{Ahead, all_ahead, forced, state_with}
 use Rattle.tb_best.proofs.CutPages.{cut-fires}
 use Rattle.tb_search.specs.declared.branch.Branch.{Branch}
+use Rattle.tb_search.specs.declared.branch.Filled.{Filled}
+use Rattle.tb_search.specs.declared.branch.Filled.TheVariants as filled
 use Rattle.tb_search.specs.declared.table.Start.{Start}
 use Rattle.tb_search.specs.declared.table.Table.{Table}
-use Rattle.tb_search.specs.Branches.{shown, next_of, break_before, IsPast, IsBranch, HasTaken}
-use Rattle.tb_search.specs.FilledBranches.{IsRefusal, IsRefused, IsQuiet, HasFired}
+use Rattle.tb_search.specs.Branches.{shown, next_of, break_before, IsPast, HasTaken}
+use Rattle.tb_search.specs.FilledBranches.{IsRefusal, IsQuiet, HasFired, FillsTo}
 use Rattle.tb_search.specs.AheadInCode.{items_ahead}
 use Rattle.tb_search.specs.Searched.{over}
 use Rattle.tb_search.specs.Starts.{IsReached, IsTable}
 use Rattle.tb_search.specs.Continues.{IsSearchedBy, IsSearchedAsGoodBy, IsLater, IsCutSearched}
-use Rattle.tb_search.proofs.AheadLemmas.{next_ahead, flag-of-next}
+use Rattle.tb_search.proofs.AheadLemmas.{next_ahead, flag-of-next, number-of-next}
 use Rattle.tb_search.proofs.LaterLemmas.{later-itself}
 use Rattle.tb_search.proofs.ReachedWays.{shown-cut}
 use Rattle.tb_search.proofs.SearchSteps.{refused-searched, fired-searched, cut-searched, cut-quiet, fired-refused}
@@ -109,3 +108,41 @@ module _ (t : Table) (k : ℕ) (x : Start) (some : suc k ≤ length (all_ahead t
         (λ _ box.
         cut-quiet (IsSearchedBy t cut_state (items_ahead t.galley.now k) (x.way.demerits +ℤ pos 1000) (c.number ∷ reverse x.way.breaks.items)) t.galley.now.params s c box
         (subst (λ z. (reach_in t.galley.now.params z).fires ≡ false) shown-is h.quiet))
+
+    -- the page did not fire
+    pub cut-unfired : (f : Filled) (after : Branch) → (f ≡ filled.Quiet) ⊎ ((f ≡ filled.Full) ⊎ (f ≡ filled.Refused)) → FillsTo t.galley.now.params (place_penalties t.galley.now.items) page f after
+        → IsCutSearched t s (items_ahead t.galley.now (suc k)) x.way.demerits (reverse x.way.breaks.items)
+    cut-unfired f after (inl e) h = cut-not-quiet (subst (λ r. FillsTo t.galley.now.params (place_penalties t.galley.now.items) page r after) e h)
+    cut-unfired f after (inr (inl e)) h = let full = subst (λ r. FillsTo t.galley.now.params (place_penalties t.galley.now.items) page r after) e h in cut-refused full.step
+    cut-unfired f after (inr (inr e)) h = let refused = subst (λ r. FillsTo t.galley.now.params (place_penalties t.galley.now.items) page r after) e h in cut-refused refused.step
+
+-- ---- a break in code
+
+-- a break before the next item, which has this number, and the item wait behind what waited in a state
+pub record IsCutBefore (t : Table) (left number : ℕ) (x : Start) (page : Branch) : Type 0 where
+  pub some : suc (left - 1) ≤ length (all_ahead t.galley.now)
+  pub reached : IsReached t.galley.now (suc (left - 1)) x
+  pub place : (next_ahead t.galley.now (left - 1)).is_place ≡ true
+  pub numbered : (next_ahead t.galley.now (left - 1)).number ≡ number
+  pub taken : HasTaken (break_before x.branch.ahead ++ next_of x.branch.ahead) x.branch page
+
+-- so it is after a break was put into a copy
+pub cut-before : (t : Table) (left number : ℕ) (x : Start) (c e : Branch) → IsTable t → 0 < left → left ≤ length (all_ahead t.galley.now) → number + left ≡ length (all_ahead t.galley.now)
+    → get_or t.is_place.items number false ≡ true → IsReached t.galley.now left x → shown c ≡ shown x.branch → c.ahead ≡ x.branch.ahead → c.routine.machine.params ≡ x.branch.routine.machine.params
+    → HasTaken (break_before c.ahead ++ next_of c.ahead) c e → IsCutBefore t left number x e
+cut-before t left number x c e table some inside count flag reached state ahead params taken =
+    let within : suc (left - 1) ≤ length (all_ahead t.galley.now) = omega (arith, some, inside) in
+    let next : left ≡ suc (left - 1) = omega (arith, some) in
+    let counted : number + suc (left - 1) ≡ length (all_ahead t.galley.now) = omega (arith, some, count) in
+    let difference : length (all_ahead t.galley.now) - suc (left - 1) ≡ number = omega (arith, counted) in
+    record {
+      some = within;
+      reached = subst (λ n. IsReached t.galley.now n x) next reached;
+      place = sym (next-flag t number (left - 1) table counted) ∙ flag;
+      numbered = number-of-next t.galley.now (left - 1) within ∙ difference;
+      taken = taken-copy x.branch c e state ahead params taken;
+    }
+
+-- breaks with one more behind them, read from the last
+pub read-back : (bs old : List ℕ) (n m : ℕ) → bs ≡ old ++ m ∷ [] → n ≡ m → reverse bs ≡ n ∷ reverse old
+read-back bs old n m h e = ap reverse h ∙ reverse-append old (m ∷ []) ∙ ap (λ k. k ∷ reverse old) (sym e)

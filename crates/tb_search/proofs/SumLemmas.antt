@@ -1,5 +1,5 @@
 -- Sums of demerits fit, and tests of them.
-use Rattle.std.proofs.Common.{◌≡◌, refl, sym, ◌∙◌, ap, subst, ℤ, true, false, FitsSigned, to_z, of_z, arith}
+use Rattle.std.proofs.Common.{◌≡◌, sym, ◌∙◌, ap, subst, ℤ, true, false, FitsSigned, to_z, of_z, arith}
 use Rattle.std.specs.Prelude.{pos, ◌+ℤ◌, ◌≤ℤ◌, ◌<ℤ◌, int_le, int_lt}
 use Rattle.std.specs.Int.{w128}
 use Rattle.std.proofs.lemmas.Int.{ints, to_z-of_z}
@@ -78,3 +78,30 @@ module _ (a b : ℤ) (low : pos 0 ≤ℤ a) (high : a ≤ℤ b) (range : b ≤�
 
   pub cost-within : int_lt (held b) (held (held a +ℤ pos 1000)) ≡ false → (a +ℤ pos 1000) ≤ℤ b
   cost-within e = let t = cost-test ∙ e in grind (arith, ints, t)
+
+-- ---- the cost of a break, and then that of a page
+
+module _ (a b d : ℤ) (low : pos 0 ≤ℤ a) (high : (a +ℤ pos 1000) ≤ℤ b) (range : b ≤ℤ pos 1000000000000000000000000000) (more : pos 0 ≤ℤ d) (few : d ≤ℤ pos 352689971456) where
+  before-paid : a ≤ℤ b
+  before-paid = omega (arith, ints, high)
+
+  paid-low : pos 0 ≤ℤ (a +ℤ pos 1000)
+  paid-low = omega (arith, ints, low)
+
+  paid-range : (a +ℤ pos 1000) ≤ℤ pos 1000000000000000000000000000
+  paid-range = omega (arith, ints, high, range)
+
+  paid-is : held (held a +ℤ pos 1000) ≡ held (a +ℤ pos 1000)
+  paid-is = cost-is a b low before-paid range ∙ sym (to_z-of_z w128 (a +ℤ pos 1000) (cost-both a b low before-paid range))
+
+  pub paid-fits : FitsSigned w128 (held (held a +ℤ pos 1000) +ℤ held d)
+  paid-fits = subst (λ x. FitsSigned w128 (x +ℤ held d)) (sym paid-is) (sum-fits (a +ℤ pos 1000) d paid-low paid-range more (page-few d few))
+
+  pub paid-sum : held (held (held a +ℤ pos 1000) +ℤ held d) ≡ ((a +ℤ pos 1000) +ℤ d)
+  paid-sum = ap (λ x. held (x +ℤ held d)) paid-is ∙ sum-is (a +ℤ pos 1000) d paid-low paid-range more (page-few d few)
+
+  sum-high : ((a +ℤ pos 1000) +ℤ d) ≤ℤ (b +ℤ pos 1000000000000)
+  sum-high = omega (arith, ints, high, few)
+
+  pub paid-high : held (held (held a +ℤ pos 1000) +ℤ held d) ≤ℤ (b +ℤ pos 1000000000000)
+  paid-high = subst (λ x. x ≤ℤ (b +ℤ pos 1000000000000)) (sym paid-sum) sum-high
