@@ -21,7 +21,7 @@ pub record HasMoves (g : Galley) (bound total : ℤ) (best : List ℕ) (Known : 
   pub cuts : (t u : State) (c : Ahead) (ds : List Ahead) (es : List RunEvent) (rs : List Recorded) → TakesOn g r.state r.ahead t (c ∷ ds) → (reach_in g.params t).fires ≡ false
       → c.is_place ≡ true → holds_box t.waiting ≡ true → unlimited_step g.params (state_with (forced c ∷ c.nodes) t) ≡ goes_on es rs u
       → KnowsAsGood g Known u ds (with_page g (r.demerits +ℤ pos 1000) (state_with (forced c ∷ c.nodes) t) es rs u) (c.number ∷ r.breaks)
-        ⊎ (bound <ℤ with_page g (r.demerits +ℤ pos 1000) (state_with (forced c ∷ c.nodes) t) es rs u)
+      ⊎ (bound <ℤ with_page g (r.demerits +ℤ pos 1000) (state_with (forced c ∷ c.nodes) t) es rs u)
   -- the run ends well
   pub finishes : (t : State) (es : List RunEvent) (rs : List Recorded) (left : List PlainNode) → TakesOn g r.state r.ahead t [] → (reach_in g.params t).fires ≡ false
       → unlimited_step g.params t ≡ ends es rs (done left) → IsNoBetter total best r.demerits r.breaks

@@ -8,6 +8,7 @@ use std::alloc::{AllocError, Global};
 use tb_galley::Galley;
 
 /// The best plan of a galley.
+#[derive(Drop)]
 pub struct BestPlan {
     /// The numbers of the items before which a break is put in, in their order.
     pub places: Vec<u32>,

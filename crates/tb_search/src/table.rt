@@ -9,6 +9,7 @@ use tb_galley::Galley;
 use tb_rate::{PlacePenalty, place_penalties};
 
 /// A way that the search went: the breaks that were put in, and the demerits so far.
+#[derive(Drop)]
 pub(crate) struct Way {
     /// The numbers of the items before which a break was put in, in their order.
     pub(crate) breaks: Vec<u32>,
@@ -17,6 +18,7 @@ pub(crate) struct Way {
 }
 
 /// A state between two pages in which no page fires, with the best way to it.
+#[derive(Drop)]
 pub(crate) struct Start<'a> {
     /// The state.
     pub(crate) branch: Branch<'a>,
@@ -25,6 +27,7 @@ pub(crate) struct Start<'a> {
 }
 
 /// The states from which the search goes on, and what it knows of the galley.
+#[derive(Drop)]
 pub(crate) struct Table<'a> {
     /// The galley.
     pub(crate) galley: &'a Galley,
@@ -47,7 +50,7 @@ const MOST_STATES: u64 = 1_000_000;
 
 // Which of so many numbers are in a list.
 fn flags(alloc: Global, count: usize, numbers: &[u32]) -> Result<Vec<bool>, AllocError> {
-    let mut flags = Vec::with_capacity_in(count, alloc)?;
+    let mut flags = Vec::new(alloc);
     for _ in 0..count {
         flags.push(false)?;
     }
@@ -107,9 +110,10 @@ impl<'a> Table<'a> {
         let places = tb_plans::places(alloc, galley)?;
         let count = galley.items.len() + 1;
         let is_place = flags(alloc, count, places.as_slice())?;
-        let mut starts = Vec::with_capacity_in(count + 1, alloc)?;
+        let mut starts = Vec::new(alloc);
         for _ in 0..count + 1 {
-            starts.push(Vec::new(alloc))?;
+            starts.reserve(1)?;
+            starts.push_reserved(Vec::new(alloc));
         }
         Ok(Table {
             galley,
@@ -145,7 +149,8 @@ impl<'a> Table<'a> {
             return Err(BestFault::Choices);
         }
         self.count += 1;
-        starts.push(Start { branch, way })?;
+        starts.reserve(1)?;
+        starts.push_reserved(Start { branch, way });
         Ok(())
     }
 

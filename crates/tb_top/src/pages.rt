@@ -77,6 +77,17 @@ pub fn paginate<K: Sink>(
     run_on(alloc, &mut routine, view, out)
 }
 
+// The same of a galley that can be run.
+pub(crate) fn paginate_valid<K: Sink>(
+    alloc: Global,
+    galley: &Galley,
+    view: View,
+    out: &mut K,
+) -> Result<Totals, PageFault> {
+    let mut routine = Routine::new(alloc, galley)?;
+    run_on(alloc, &mut routine, view, out)
+}
+
 // Runs a routine from its first page on to its end.
 fn run_on<K: Sink>(
     alloc: Global,

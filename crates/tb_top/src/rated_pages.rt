@@ -115,7 +115,7 @@ fn run_on<K: Sink>(
 }
 
 // The rating of the column that the last turn put out. A turn that ends the run puts out none, or one that does not count.
-fn rating_of(
+pub(crate) fn rating_of(
     params: &Params,
     places: &[PlacePenalty],
     page: u64,

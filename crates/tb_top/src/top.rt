@@ -12,7 +12,9 @@ use crate::dvi_pages::paginate_dvi;
 use crate::input::{read_input, read_text};
 use crate::refusal::Refusal;
 use crate::summary::summary_text;
-use crate::{Status, View, first_unsuited, paginate, paginate_plain, rate_pages, why_pages};
+use crate::{
+    Status, View, best_pages, first_unsuited, paginate, paginate_plain, rate_pages, why_pages,
+};
 use std::alloc::Global;
 use tb_galley::{Galley, new_reader, print};
 use tb_generator::generate;
@@ -92,6 +94,7 @@ fn serve<S: Source, K: Sink>(
         Mode::Trace => write_trace(alloc, source, out),
         Mode::Rate => write_rated(alloc, source, out),
         Mode::Why => write_told(alloc, source, out),
+        Mode::Best => write_best(alloc, source, out),
         Mode::Print => write_canonical(alloc, source, out),
         Mode::Lines => write_lines(alloc, source, out),
         Mode::Dvi => write_dvi(alloc, source, out),
@@ -162,6 +165,19 @@ fn write_told<S: Source, K: Sink>(alloc: Global, source: &mut S, out: &mut K) ->
 {
     let galley = read_galley(alloc, source)?;
     why_pages(alloc, &galley, out)?;
+    Ok(())
+}
+
+// Reads a galley and writes its best page breaks, and the report of its run with them.
+fn write_best<S: Source, K: Sink>(alloc: Global, source: &mut S, out: &mut K) -> Result<(), Refusal>
+    ensures stands { StandsAfter (Some Mode.Best) (served_status result)
+        (stream (S.left source.old) (S.left source.new) (S.faults source.old) (S.faults source.new))
+        (stream (K.held out.old) (K.held out.new) (K.faults out.old) (K.faults out.new))
+        (served_line result) }
+    ensures stops { StopsReading (S.left source.old) (S.left source.new) }
+{
+    let galley = read_galley(alloc, source)?;
+    best_pages(alloc, &galley, out)?;
     Ok(())
 }
 
