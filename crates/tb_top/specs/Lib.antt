@@ -7,6 +7,7 @@ pub mod WhyReport
 pub mod WhyPages
 pub mod Status
 pub mod Answer
+pub mod BestReport
 pub mod Outcome
 pub mod Input
 pub mod Refusal

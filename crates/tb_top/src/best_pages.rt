@@ -57,12 +57,30 @@ struct BrokenColumn {
     page: u64,
 }
 
-/// Writes the page breaks that make the demerits of a galley least, and the report of its run with them.
+/// Writes the page breaks that make the demerits of a galley least, and the report of its run with them: the demerits of the
+/// pages without breaks put in and of the best ones, and for each break the line of the item before which it goes, the number of
+/// the page that ends there and the last box or rule before it.
+///
+/// Of all ways to put page breaks in at its places none has fewer demerits, and of several ways with as many it is the one whose
+/// breaks, read from the last, are the furthest down. If the run without breaks is refused, so is this; `NodeLimit` may come too
+/// from the run with the best breaks. Then nothing is written. `Choices` comes if the search came to more than 1000000 states,
+/// or to one that holds more than 4194304 nodes; nothing is written. After `WriteFault` and `Memory` a prefix of the text is
+/// written.
 pub fn best_pages<K: Sink>(
     alloc: Global,
     galley: &Galley,
     out: &mut K,
-) -> Result<(), BestPagesFault> {
+) -> Result<(), BestPagesFault>
+    requires valid { IsValid galley.now }
+
+    ensures done { OnOk result (WritesBest galley.now (K.held out.old) (K.held out.new)) }
+    ensures laws { OnOk result (KeepsLaws galley.now (totals_of (run_of galley.now).events)) }
+    ensures cycles { HasRoomForCycles galley.now → IfErr result IsNoCycleRefusal }
+    ensures refused { IfErr result (RefusesBest galley.now (K.held out.old) (K.held out.new)) }
+
+    ensures cause { result ≡ Err (BestPagesFault.Pages PageFault.WriteFault) → Rose (K.faults out.old) (K.faults out.new) }
+    ensures later { K.faults out.old ≤ K.faults out.new }
+{
     let mut unseen = SureSink::new(alloc);
     let greedy = rate_pages(alloc, galley, &mut unseen)?;
     let plan = best_breaks(alloc, galley, greedy)?;
