@@ -9,8 +9,8 @@ use Rattle.tb_best.specs.BestOf.{RatedPlan, best_of}
 use Rattle.tb_best.specs.BestLines.{best_lines}
 use Rattle.tb_top.specs.declared.PageFault.{PageFault}
 use Rattle.tb_top.specs.declared.PageFault.TheVariants as faults
-use Rattle.tb_top.specs.declared.best_pages.BestPagesFault.{BestPagesFault}
-use Rattle.tb_top.specs.declared.best_pages.BestPagesFault.TheVariants as refused
+use Rattle.tb_top.specs.declared.chosen_pages.BestPagesFault.{BestPagesFault}
+use Rattle.tb_top.specs.declared.chosen_pages.BestPagesFault.TheVariants as refused
 use Rattle.tb_top.specs.Pages.{end_fault, IsNoCycleFault}
 use Rattle.tb_top.specs.Report.{report}
 

@@ -21,8 +21,8 @@ use Rattle.tb_top.specs.declared.refusal.Refusal.TheVariants as refusals
 use Rattle.tb_top.specs.declared.makeup_pages.PlainRunFault.{PlainRunFault}
 use Rattle.tb_top.specs.declared.makeup_pages.PlainRunFault.TheVariants as unmade
 use Rattle.tb_plain.specs.Report.{unsuited_text}
-use Rattle.tb_top.specs.declared.best_pages.BestPagesFault.{BestPagesFault}
-use Rattle.tb_top.specs.declared.best_pages.BestPagesFault.TheVariants as unchosen
+use Rattle.tb_top.specs.declared.chosen_pages.BestPagesFault.{BestPagesFault}
+use Rattle.tb_top.specs.declared.chosen_pages.BestPagesFault.TheVariants as unchosen
 use Rattle.tb_top.specs.declared.dvi_pages.DviRunFault.{DviRunFault}
 use Rattle.tb_top.specs.declared.dvi_pages.DviRunFault.TheVariants as undone
 use Rattle.tb_top.specs.declared.dvi_refusal.DviRefusal.TheVariants as dvi

@@ -5,7 +5,7 @@
 //! or [`paginate_plain`] and writes what the mode asks for, or says on `err` why not.
 #![tactic(auto)]
 
-mod best_pages;
+mod chosen_pages;
 mod dvi_listing;
 mod dvi_pages;
 mod dvi_refusal;
@@ -23,7 +23,7 @@ mod top;
 mod views;
 mod why_law;
 
-pub use best_pages::{BestPagesFault, best_pages};
+pub use chosen_pages::{BestPagesFault, best_pages};
 pub use laws::each_makes_up_once;
 pub use makeup_pages::{PlainRunFault, paginate_plain};
 pub use pages::paginate;

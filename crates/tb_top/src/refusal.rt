@@ -5,7 +5,7 @@ ghost use Rattle.tb_top.specs.Answer.{answer_for_cause, bare_text, pool_full_tex
 ghost use Rattle.tb_top.specs.Refusal.{refusal_status, page_status, lines_status, input_status, words_status, output_status, refusal_text, page_text, refusal_line, best_fault, dvi_fault, makeup_refusal};
 ghost use Rattle.tb_top.specs.declared.refusal.Refusal.TheVariants.{Words, Input, Galley, Pages, Lines, Output, Memory};
 
-use crate::best_pages::BestPagesFault;
+use crate::chosen_pages::BestPagesFault;
 use crate::dvi_pages::DviRunFault;
 use crate::dvi_refusal::{DviRefusal, dvi_status, put_dvi};
 use crate::input::InputFault;

@@ -1,5 +1,14 @@
 //! From a galley to the report of its best pages: those that the page breaks make which give the least demerits.
 
+ghost use Rattle.std.specs.Prelude.{◌≡◌, ◌≤◌, Err, OnOk, IfErr};
+ghost use Rattle.tb_io.specs.Faults.{Rose};
+ghost use Rattle.tb_galley.specs.Valid.{IsValid};
+ghost use Rattle.tb_steps.specs.Run.{run_of};
+ghost use Rattle.tb_laws.specs.Totals.{totals_of};
+ghost use Rattle.tb_laws.specs.Laws.{KeepsLaws};
+ghost use Rattle.tb_laws.specs.DeadCycles.{HasRoomForCycles};
+ghost use Rattle.tb_top.specs.BestReport.{WritesBest, RefusesBest, IsNoCycleRefusal};
+
 use crate::pages::{fault_of, paginate_valid};
 use crate::rated_pages::{rate_pages, rating_of};
 use crate::views::count_happened;
@@ -26,7 +35,7 @@ pub enum BestPagesFault {
 }
 
 impl From<PageFault> for BestPagesFault {
-    ghost use Rattle.tb_top.specs.declared.best_pages.BestPagesFault.TheVariants.{Pages};
+    ghost use Rattle.tb_top.specs.declared.chosen_pages.BestPagesFault.TheVariants.{Pages};
 
     ghost from_gives = { λ fault e. e ≡ Pages fault };
 
