@@ -1,0 +1,2 @@
+pub mod BestEnds
+pub mod BestOutcomes
