@@ -59,3 +59,7 @@ RefusesBest g old new refused.Choices = (end_fault (run_of g).end ≡ None) × K
 abbrev pub IsNoCycleRefusal : BestPagesFault → Type 0
 IsNoCycleRefusal (refused.Pages f) = IsNoCycleFault f
 IsNoCycleRefusal refused.Choices = Unit {0}
+
+-- the search gave up, or there was no memory for it
+abbrev pub IsNoPlan : BestPagesFault → Type 0
+IsNoPlan f = (f ≡ refused.Choices) ⊎ (f ≡ refused.Pages faults.Memory)

@@ -5,6 +5,7 @@
 //! or [`paginate_plain`] and writes what the mode asks for, or says on `err` why not.
 #![tactic(auto)]
 
+mod best_text;
 mod chosen_pages;
 mod dvi_listing;
 mod dvi_pages;
