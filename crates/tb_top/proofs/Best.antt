@@ -1,2 +1,3 @@
 pub mod BestEnds
 pub mod BestOutcomes
+pub mod BestLineLemmas

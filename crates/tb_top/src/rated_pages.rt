@@ -144,7 +144,6 @@ fn run_on<K: Sink>(
         let page = totals.pages + 1;
         let ending = routine.turn(true, &mut happened)?;
         let rating = rating_of(params, places, page, routine, &happened, ending);
-        note_column(columns, &happened, rating)?;
         send(
             &routine.store,
             &happened,
@@ -156,6 +155,7 @@ fn run_on<K: Sink>(
         if let Some(ending) = ending {
             return finish(alloc, routine, &totals, demerits, ending, out);
         }
+        note_column(columns, &happened, rating)?;
         demerits = demerits_with(demerits, rating);
         routine.make_room(&happened);
     }
@@ -190,7 +190,7 @@ fn note_column(
     happened: &[Happening],
     rating: Option<Rating>,
 ) -> Result<(), AllocError>
-    ensures { (store : Lists Node) → OnOk result (shown_columns columns.new.items ≡ shown_columns columns.old.items ++ turn_columns (events_of store happened.now) rating) }
+    ensures { OnOk result ((store : Lists Node) → shown_columns columns.new.items ≡ shown_columns columns.old.items ++ turn_columns (events_of store happened.now) rating) }
 {
     let Some(rating) = rating else {
         return Ok(());
