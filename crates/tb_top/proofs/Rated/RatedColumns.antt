@@ -18,11 +18,17 @@ use Rattle.tb_rate.specs.Rating.{rating, rated}
 use Rattle.tb_rate.specs.Tries.{later_champion, champion_or, last_champion}
 use Rattle.tb_rate.specs.RatedRun.{Rated, happens, rates, if_rated, rating_by, rated_after, rated_from, rated_of_state, floats_waiting, insertions_first}
 use Rattle.tb_best.specs.BestLines.{BrokenColumn, broken_at, broken_columns}
-use Rattle.tb_top.specs.BestText.{turn_columns}
+use Rattle.tb_top.specs.declared.rated_pages.RatedColumn.{RatedColumn}
+use Rattle.tb_top.specs.BestText.{shown_columns, turn_columns}
 use Rattle.tb_top.proofs.Written.GoingLemmas.{steps}
 use Rattle.tb_top.proofs.Written.FinishLemmas.{over-some, over-none}
 use Rattle.tb_top.proofs.Written.TurnLemmas.{ShowsStep}
 use Rattle.tb_top.proofs.Rated.RatedTurns.{rating_now, rating-is, events-are}
+
+-- one column more
+pub shown-more : (cs : List RatedColumn) (c : RatedColumn) → shown_columns (cs ++ c ∷ []) ≡ shown_columns cs ++ shown_columns (c ∷ [])
+shown-more [] c = refl
+shown-more (d ∷ cs) c = ap (λ l. record { line = d.line; page = d.page } ∷ l) (shown-more cs c)
 
 -- ---- the place at which a column broke
 

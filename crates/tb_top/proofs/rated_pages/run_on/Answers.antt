@@ -1,4 +1,4 @@
-use Rattle.std.proofs.Common.{◌∙◌, ap, sym, subst, ◌≡◌, ◌<◌, ◌+◌, pos, true, refl, Option, FitsSigned, rules, None, arith}
+use Rattle.std.proofs.Common.{◌∙◌, ◌++◌, ap, sym, subst, ◌≡◌, ◌<◌, ◌+◌, pos, true, refl, Option, FitsSigned, rules, None, arith}
 use Rattle.std.proofs.lemmas.Result.{err_from_is_err_and, IfErr-weaker, IfOk-weaker, IfErr-at_err}
 use Rattle.std.specs.Prelude.{IfSome}
 use Rattle.std.specs.Int.{w128}
@@ -239,7 +239,8 @@ firing-preserved g c =
       tally = turn-tally p views.Trace s None None c.firing.totals run c.firing.invariant.going q hs o shows few c.firing.invariant.tally (few-wait c.firing.routine c.firing.invariant.ready) c.in_ok-ending.ensures.pages c.send.new.totals after c.make_room.ensures.state c.in_default-ending.is counted;
       rated = subst (λ d. RatedGoing p c.args.places.now after (g.K.Sink.held c.args.out.now) (g.K.Sink.held c.send.new.out) d run.events (demerits_of_state p c.args.places.now (state_of c.args.routine.now)) (rated_text p c.args.places.now (state_of c.args.routine.now))) (sym same)
           (turn-goes p c.args.places.now s _ _ _ _ _ _ _ c.firing.invariant.rated c.firing.invariant.going.page q hs o shows (c.firing.totals.pages + 1) c.firing.invariant.tally.pages c.rating_of-rating.result value after c.make_room.ensures.state c.in_default-ending.is shown);
-      columns = columns-go p c.args.places.now s q hs o shows _ _ c.firing.invariant.columns (c.firing.totals.pages + 1) c.firing.invariant.tally.pages c.rating_of-rating.result value after c.make_room.ensures.state c.in_default-ending.is (shown_columns c.note_column.new.columns.items) c.firing.invariant.going.page ?;
+      columns = columns-go p c.args.places.now s q hs o shows _ _ c.firing.invariant.columns (c.firing.totals.pages + 1) c.firing.invariant.tally.pages c.rating_of-rating.result value after c.make_room.ensures.state c.in_default-ending.is (shown_columns c.note_column.new.columns.items) c.firing.invariant.going.page
+          (c.in_ok-note_column.ensures q.store ∙ ap (λ hs. shown_columns c.firing.columns.items ++ turn_columns (events_of q.store hs) c.rating_of-rating.result) c.deref-in-firing-2.ensures.value);
       sum = subst (λ d. IsSum p d after) (sym same) (sum-next p _ s after c.firing.invariant.sum fewer c.rating_of-rating.result c.rating_of-rating.ensures.range);
       later = omega (arith, start, later);
     })
