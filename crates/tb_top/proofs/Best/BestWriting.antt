@@ -75,6 +75,9 @@ pub no-write-rated : (e : End) (f : PageFault) → StopsRated e f → f ≡ page
 no-write-rated e f (inl h) is = cc
 no-write-rated e f (inr h) is = no-write-end e (h ∙ ap Some is)
 
+pub no-write-pages : (e : End) (f : PageFault) → StopsRated e f → refused.Pages f ≡ refused.Pages pages.WriteFault → ⊥
+no-write-pages e f h is = no-write-rated e f h (let same : f ≡ pages.WriteFault = cc in same)
+
 pub no-write-plan : (f : BestPagesFault) → IsNoPlan f → f ≡ refused.Pages pages.WriteFault → ⊥
 no-write-plan f (inl h) is = cc
 no-write-plan f (inr h) is = cc

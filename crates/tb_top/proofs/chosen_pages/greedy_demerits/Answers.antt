@@ -1,8 +1,6 @@
 use Rattle.std.proofs.Common.{arith}
 use Rattle.std.proofs.lemmas.Result.{IfOk-weaker}
 use Rattle.tb_top.proofs.Rated.RatedOutcomes.{unseen-refused}
-use Rattle.tb_top.proofs.Best.BestWriting.{is-best}
-use Rattle.tb_top.proofs.Best.BrokenGalleys.{broken-runs}
 use Rattle.tb_top.proofs.chosen_pages.greedy_demerits.Goals as goal
 
 pub returns-clause-demerits : goal.returns-clause-demerits

@@ -10,7 +10,7 @@ pub returns-in_default-last_champion : goal.returns-in_default-last_champion
 returns-in_default-last_champion c = λ store.
     let before = shown_columns c.args.columns.now.items in
     sym (append-nil before)
-    ∙ ap (λ o. before ++ broken_at o c.in-Some.rating.page) (sym (sym (c.last_champion.ensures store) ∙ c.in_default-last_champion.ensures))
+    ∙ ap (λ o. before ++ broken_at o c.in-Some.rating.page) (c.in_default-last_champion.ensures store)
     ∙ ap (λ r. before ++ turn_columns (events_of store c.args.happened.now) r) (sym c.in-Some.is)
 
 pub returns : goal.returns
