@@ -1,5 +1,5 @@
 -- What the mode best writes before the report, piece by piece.
-use Rattle.std.specs.Prelude.{ℕ, ℤ, nat_lt, IsTrue, List, [], ◌∷◌, ◌++◌, length, map, codes, Option, Some, None}
+use Rattle.std.specs.Prelude.{ℕ, ℤ, nat_lt, IsTrue, List, [], ◌++◌, length, map, codes, Option, Some, None}
 use Rattle.std.specs.List.{list_all}
 use Rattle.tb_text.specs.Fields.{and_number, and_count, line}
 use Rattle.tb_galley.specs.declared.Item.{Item}

@@ -1,5 +1,5 @@
 -- What holds after the best pages of a galley were made, or not.
-use Rattle.std.proofs.Common.{◌≡◌, refl, ◌∙◌, sym, ap, subst, ℕ, ℤ, inl, inr, ◌⊎◌, List, [], ◌++◌, Option, None, Some, Ok, Err, Bool, true, false}
+use Rattle.std.proofs.Common.{◌≡◌, refl, ◌∙◌, sym, ap, subst, ℕ, inl, inr, ◌⊎◌, List, [], Option, None, Some, Ok, Bool, true, false}
 use Rattle.std.specs.Prelude.{if◌then◌else◌, MatchOption}
 use Rattle.std.specs.Io.KnownBytes.{Keeps, Appends}
 use Rattle.tb_io.specs.Sink.{AppendsPrefix}
@@ -21,7 +21,7 @@ use Rattle.tb_top.specs.declared.PageFault.TheVariants as pages
 use Rattle.tb_top.specs.declared.chosen_pages.BestPagesFault.{BestPagesFault}
 use Rattle.tb_top.specs.declared.chosen_pages.BestPagesFault.TheVariants as refused
 use Rattle.tb_top.specs.declared.status.Status.TheVariants as answers
-use Rattle.tb_top.specs.Answer.{Reply, best_reply, best_reply_by, whole_reply, err_line, reply_to}
+use Rattle.tb_top.specs.Answer.{best_reply, best_reply_by, whole_reply, err_line, reply_to}
 use Rattle.tb_top.specs.Outcome.{Stream, Failed, Gives, HasLawfulRun, LacksRoomForCycles, Decided, Finished, OutOfCycles, CutOff, GivenUp, StandsAfter}
 use Rattle.tb_top.specs.Pages.{end_fault}
 use Rattle.tb_top.specs.BestReport.{run_with, best_report, IsBestRun, WritesBest, StopsBest, CutsBest, RefusesBest}

@@ -11,7 +11,7 @@ use Rattle.tb_io.proofs.Appended.{prefix_longer, prefix_on}
 use Rattle.tb_galley.specs.declared.Galley.{Galley}
 use Rattle.tb_galley.specs.Valid.{IsValid}
 use Rattle.tb_report.specs.declared.Totals.{Totals}
-use Rattle.tb_steps.specs.Run.{End, done, pool_full, dead_cycles, page_limit, node_limit, run_of}
+use Rattle.tb_steps.specs.Run.{End, done, run_of}
 use Rattle.tb_plans.specs.Plans.{with_breaks}
 use Rattle.tb_rate.specs.RatedRun.{demerits, rated_run}
 use Rattle.tb_laws.specs.DeadCycles.{HasRoomForCycles}
@@ -27,13 +27,13 @@ use Rattle.tb_top.specs.declared.PageFault.TheVariants as pages
 use Rattle.tb_top.specs.declared.View.TheVariants as views
 use Rattle.tb_top.specs.declared.chosen_pages.BestPagesFault.{BestPagesFault}
 use Rattle.tb_top.specs.declared.chosen_pages.BestPagesFault.TheVariants as refused
-use Rattle.tb_top.specs.Pages.{end_fault, Paginates, EndsWith, Refuses}
+use Rattle.tb_top.specs.Pages.{end_fault, Paginates, Refuses}
 use Rattle.tb_top.specs.PagesWritten.{write_fault}
 use Rattle.tb_top.specs.Report.{report}
 use Rattle.tb_top.specs.RatedPages.{StopsRated}
 use Rattle.tb_top.specs.Views.{FailsToShow}
 use Rattle.tb_top.specs.BestText.{plan_text}
-use Rattle.tb_top.specs.BestReport.{run_with, best_report, IsBestRun, WritesBest, StopsBest, CutsBest, RefusesBest, IsNoCycleRefusal, IsNoPlan}
+use Rattle.tb_top.specs.BestReport.{best_report, IsBestRun, WritesBest, CutsBest, RefusesBest, IsNoCycleRefusal, IsNoPlan}
 use Rattle.tb_top.proofs.Best.BestOutcomes.{no-room-for-best}
 
 -- ---- the demerits without breaks

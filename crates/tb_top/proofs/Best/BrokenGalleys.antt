@@ -1,5 +1,5 @@
 -- A valid galley with the breaks of a plan can be run, and the numbers of a plan are those of its items.
-use Rattle.std.proofs.Common.{◌≡◌, refl, sym, subst, ◌∙◌, ap, ℕ, zero, suc, ◌+◌, ◌*◌, ◌<◌, ◌≤◌, ◌==◌, pos, Bool, true, false, List, [], ◌∷◌, ◌++◌, length, arith}
+use Rattle.std.proofs.Common.{◌≡◌, refl, sym, subst, ℕ, suc, ◌+◌, ◌*◌, ◌≤◌, ◌==◌, pos, Bool, true, false, List, [], ◌∷◌, ◌++◌, length, arith}
 use Rattle.std.specs.Prelude.{All, IsTrue, nat_lt, neg_ℤ, ◌&&◌, if◌then◌else◌}
 use Rattle.std.specs.List.{list_all}
 use Rattle.std.proofs.lemmas.Int.{ints}
@@ -8,7 +8,7 @@ use Rattle.std.proofs.lemmas.List.{length-map}
 use Rattle.std.proofs.lemmas.List.Elements.{All-nil, All-cons, All-head, All-tail, All-append}
 use Rattle.tb_node.specs.declared.Float.{Float}
 use Rattle.tb_node.specs.declared.Act.TheVariants as acts
-use Rattle.tb_node.specs.PlainNodes.{Leaf as PlainLeaf, PlainNode, plain, pen, act, on_line, clearpage_kinds}
+use Rattle.tb_node.specs.PlainNodes.{Leaf as PlainLeaf, plain, pen, act, on_line, clearpage_kinds}
 use Rattle.tb_param.specs.declared.Params.{Params}
 use Rattle.tb_param.specs.Release.{has_second}
 use Rattle.tb_insert.specs.declared.Class.{Class}
@@ -18,10 +18,10 @@ use Rattle.tb_galley.specs.declared.Item.{Item}
 use Rattle.tb_galley.specs.declared.ItemKind.{ItemKind}
 use Rattle.tb_galley.specs.declared.ItemKind.TheVariants as items
 use Rattle.tb_galley.specs.declared.Galley.{Galley}
-use Rattle.tb_galley.specs.GalleyNodes.{plain_leaf, with_firings, item_kinds, item_nodes, two_after, expanded}
+use Rattle.tb_galley.specs.GalleyNodes.{plain_leaf, with_firings, item_kinds, item_nodes, two_after}
 use Rattle.tb_galley.specs.Valid.{weight_of, weight, IsValid}
 use Rattle.tb_items.specs.Classes.{classes_of}
-use Rattle.tb_items.specs.WaitingNodes.{IsItem, AreItems}
+use Rattle.tb_items.specs.WaitingNodes.{IsItem}
 use Rattle.tb_items.specs.GalleyNodes.{IsGalleyNode, AreGalleyNodes}
 use Rattle.tb_items.proofs.GalleyItems.{galley-items, most}
 use Rattle.tb_items.proofs.GalleyNodeLemmas.{galley-nodes}

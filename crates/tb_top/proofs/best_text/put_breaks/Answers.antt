@@ -1,4 +1,4 @@
-use Rattle.std.proofs.Common.{◌≡◌, ◌∙◌, ◌++◌, get_or}
+use Rattle.std.proofs.Common.{◌∙◌, ◌++◌, get_or}
 use Rattle.tb_top.specs.BestText.{shown_columns, break_text}
 use Rattle.tb_top.proofs.Best.BestLineLemmas.{lines-next, numbers-next}
 use Rattle.tb_top.proofs.best_text.put_breaks.Goals as goal

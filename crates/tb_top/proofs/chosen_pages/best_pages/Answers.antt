@@ -1,4 +1,4 @@
-use Rattle.std.proofs.Common.{◌≡◌, sym, ◌∙◌, ap, subst, refl, inl, None, Err, FitsSigned, rules}
+use Rattle.std.proofs.Common.{◌≡◌, sym, ◌∙◌, ap, subst, refl, inl, None, FitsSigned, rules}
 use Rattle.std.specs.Int.{w128}
 use Rattle.std.proofs.lemmas.Int.{to_z-of_z}
 use Rattle.std.specs.Prelude.{IfErr}
@@ -8,7 +8,7 @@ use Rattle.std.proofs.KnownBytes.{Keeps-refl}
 use Rattle.tb_steps.specs.Run.{run_of}
 use Rattle.tb_plans.specs.Plans.{with_breaks}
 use Rattle.tb_rate.specs.RatedRun.{rated_run}
-use Rattle.tb_best.specs.BestLines.{broken_columns, best_lines}
+use Rattle.tb_best.specs.BestLines.{broken_columns}
 use Rattle.tb_top.specs.declared.PageFault.TheVariants.{WriteFault}
 use Rattle.tb_top.specs.declared.View.TheVariants.{Report}
 use Rattle.tb_top.specs.declared.chosen_pages.BestPagesFault.TheVariants.{Pages}

@@ -1,6 +1,5 @@
-use Rattle.std.proofs.Common.{◌≡◌, sym, ◌∙◌, ap, ◌++◌, append-nil, Some}
+use Rattle.std.proofs.Common.{sym, ◌∙◌, ap, ◌++◌, append-nil}
 use Rattle.tb_items.specs.Happenings.{events_of}
-use Rattle.tb_rate.specs.Tries.{last_champion}
 use Rattle.tb_best.specs.BestLines.{broken_at}
 use Rattle.tb_top.specs.BestText.{shown_columns, turn_columns}
 use Rattle.tb_top.proofs.Rated.RatedColumns.{shown-more}

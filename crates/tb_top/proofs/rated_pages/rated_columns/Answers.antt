@@ -1,4 +1,4 @@
-use Rattle.std.proofs.Common.{sym, ◌∙◌, ap, subst, ◌++◌, inl, refl, None, Err, arith}
+use Rattle.std.proofs.Common.{sym, ◌∙◌, ap, subst, ◌++◌, None, Err, arith}
 use Rattle.std.specs.List.{AllByRecursion}
 use Rattle.std.proofs.lemmas.Result.{err_from_is_err_and}
 use Rattle.tb_output.specs.State.{State}
