@@ -15,6 +15,6 @@ _galley_pages() {
   mapfile -t COMPREPLY < <(compgen -f -- "$word")
   compopt -o filenames
   [ "$COMP_CWORD" -ne 1 ] ||
-    mapfile -t -O "${#COMPREPLY[@]}" COMPREPLY < <(compgen -W 'report trace rate why plain print lines dvi dvilist gen' -- "$word")
+    mapfile -t -O "${#COMPREPLY[@]}" COMPREPLY < <(compgen -W 'report trace rate best why plain print lines dvi dvilist gen' -- "$word")
 }
 complete -F _galley_pages galley-pages

@@ -224,11 +224,18 @@ end
 
 -- Puts what stands between two clears. `ends_part`: the clear that ends it ends the galley too.
 local function put_stretch(part, stretch, ends_part)
-  local function put(line) part.lines[#part.lines + 1] = line end
+  local begins                                 -- the number of the record that the next line begins with
+  local function put(line)
+    part.lines[#part.lines + 1] = line
+    part.begins[#part.lines], begins = begins, nil
+  end
   put_titles(part, stretch, put)
   local last_clear = ends_part and stretch.last or math.huge
   local k = stretch.first
-  while k <= stretch.last do k = put_record(part, put, k, last_clear) end
+  while k <= stretch.last do
+    begins = records[k].id
+    k = put_record(part, put, k, last_clear)
+  end
 end
 
 -- ---- Parts
@@ -254,7 +261,7 @@ local function parts(pages)
     local part = out[#out]
     local turns = jumps and (jumps[k - 1] or #titles_at(stretch.first, stretch.last) > 0)
     if not part or turns or (own and values and parameters.differ(own, values)) then
-      part = { lines = {}, classes = {}, stretches = {}, two_columns = two, first_clear = k - 1 }
+      part = { lines = {}, begins = {}, classes = {}, stretches = {}, two_columns = two, first_clear = k - 1 }
       out[#out + 1] = part
     end
     part.values = part.values or own
@@ -276,10 +283,15 @@ local function check_length(part, path)
   end
 end
 
+-- Writes the galley, and its map for galleybreaks: a line of the galley, and the record that it begins with.
 local function write_part(part, path, title)
   check_length(part, path)
-  local out = assert(io.open(path, "w"))
-  local function put(line) out:write(line, "\n") end
+  local out, map = assert(io.open(path, "w")), assert(io.open(path .. "map", "w"))
+  local written = 0
+  local function put(line)
+    out:write(line, "\n")
+    written = written + 1
+  end
   put(next(part.classes) and "galley 2" or "galley 1")
   put("# " .. title)
   for _, line in ipairs(parameters.lines(part.values)) do put(line) end
@@ -290,9 +302,13 @@ local function write_part(part, path, title)
     put("newpage")
   end
   for k = 1, part.start_notes do put("note start." .. k) end
-  for _, line in ipairs(part.lines) do put(line) end
+  for k, line in ipairs(part.lines) do
+    put(line)
+    if part.begins[k] then map:write(written, " ", part.begins[k], "\n") end
+  end
   put("end")
   out:close()
+  map:close()
 end
 
 -- How many whatsits a part's first page begins with: those that the class left, or the one of the clear before. Below a

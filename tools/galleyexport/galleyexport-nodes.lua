@@ -209,6 +209,9 @@ function M.add(record)
   M.records[#M.records + 1] = record
 end
 
+-- Called with each node that is contributed, and its record; galleybreaks puts its breaks in here.
+function M.contributed(_, _) end
+
 -- Takes what was contributed since the page builder ran last.
 function M.take()
   local n = tex.lists.contrib_head
@@ -220,9 +223,18 @@ function M.take()
         record.columns, change = change, nil
         M.clears = M.clears + 1
       end
+      if record then M.contributed(n, record) end
     end
     n = n.next
   end
+end
+
+-- Puts a node before one that is contributed. As it is none of the document's, it has the number 0.
+function M.put_before(n, new)
+  node.set_attribute(new, RECORD, 0)
+  local head = tex.lists.contrib_head
+  local first = node.insert_before(head, n, new)
+  if first ~= head then tex.lists.contrib_head = first end
 end
 
 -- What the output routine put back or made is none of the document's.

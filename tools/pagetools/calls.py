@@ -14,8 +14,8 @@ DOT = 1.9                # the radius of the mark at a call
 PANEL_LETTERS = 96       # so many letters has a line of what is told
 
 
-def page_file(number, latex=False):
-    return 'page%03d%s.svg' % (number, '-latex' if latex else '')
+def page_file(number, beside=''):
+    return 'page%03d%s.svg' % (number, beside and '-' + beside)
 
 
 class PageCalls:

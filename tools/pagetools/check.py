@@ -2,33 +2,24 @@
 import argparse
 import gzip
 import os
-import re
 import shutil
 import signal
 import subprocess
 import sys
 import tempfile
 
-from . import tries
+from . import check_best, check_rows, tries
 
 USAGE = """Runs tools/paginate on the paper in examples/document and on the documents of tools/documents that are
 installed, and prints how many of their pages are the same as LaTeX's: a table for tools/README.md. The exit status is 0
 if every page of the paper is the same, its stored report is what the program writes, and every document was
-paginated, without a change to what LaTeX weighs (one more run, without the exporter, shows that)."""
+paginated, without a change to what LaTeX weighs (one more run, without the exporter, shows that). With --best it runs
+tools/paginate --best, and the table tells the sums of demerits before and with the best page breaks, how many breaks and
+bad columns these are, and how many of the chosen pages LaTeX made."""
 
 TOOLS = os.path.dirname(os.path.dirname(os.path.abspath(__file__)))
 EXAMPLE = os.path.join(TOOLS, os.pardir, 'examples', 'document')
 PAPER = os.path.join(EXAMPLE, 'paper.tex')
-HEADER = ('Document', 'Pages', 'Columns', 'Same contents', 'and glue set', 'and every place', 'Floats and notes in place',
-          'Footnote lines in place', 'Places weighed the same')
-
-PAGES = re.compile(
-    r'^(?P<name>.*): LaTeX made (?P<pages>\d+) pages \((?P<columns>\d+) columns\), the report has \d+; '
-    r'(?P<contents>\d+) agree in contents, (?P<sets>\d+) in glue set, (?P<places>\d+) in every place; '
-    r'floats and notes in the same place (?P<floats>\d+ of \d+); footnote lines (?P<feet>\d+ of \d+)$', re.M)
-PLACES = re.compile(r'^TeX weighed (?P<weighed>\d+) places, (?P<same>\d+) were found the same', re.M)
-
-
 class Document:
     """A line of tools/documents: the Debian package, the path below the TeX tree, and code that is to stand before."""
 
@@ -79,10 +70,10 @@ def output(command, seconds, **options):
     return said.decode('utf-8', 'replace')
 
 
-def paginate(source, out, code, seconds):
+def paginate(source, out, code, options):
     """What tools/paginate says of the document."""
-    command = [os.path.join(TOOLS, 'paginate'), source, '--out', out, '--no-pictures'] + (['--before', code] if code else [])
-    return output(command, seconds)
+    command = [os.path.join(TOOLS, 'paginate'), source, '--out', out, '--no-pictures'] + ['--best'] * options.best
+    return output(command + (['--before', code] if code else []), options.seconds)
 
 
 def weighed(log):
@@ -116,32 +107,54 @@ def stored_difference(program):
         return '' if report == stored.read() else 'examples/document/paper.report is not what the program writes'
 
 
-def row(name, said):
-    """The cells of a document's row, None if it was not paginated."""
-    pages, places = PAGES.search(said), PLACES.search(said)
-    if not pages or not places:
-        return None
-    cell = pages.groupdict()
-    return (name, cell['pages'], cell['columns'], cell['contents'], cell['sets'], cell['places'], cell['floats'],
-            cell['feet'], '%s of %s' % (places.group('same'), places.group('weighed')))
-
-
-def total(rows):
-    """The sums over all rows: numbers, and pairs `A of B`."""
-    cells = ['all']
-    for column in range(1, len(HEADER)):
-        parts = [[int(n) for n in cells_of[column].split(' of ')] for cells_of in rows]
-        cells.append(' of '.join(str(sum(numbers)) for numbers in zip(*parts)))
-    return tuple(cells)
-
-
 def show(cells):
     print('| %s |' % ' | '.join(cells), flush=True)
+
+
+class Table:
+    """The rows of all documents, and what failed."""
+
+    def __init__(self, options, scratch):
+        self.options, self.scratch = options, scratch
+        self.out = options.out or os.path.join(scratch, 'out')
+        self.form = check_best if options.best else check_rows
+        self.rows, self.missing, self.failed = [], [], []
+        show(self.form.HEADER)
+        show(['---'] * len(self.form.HEADER))
+
+    def take(self, document, root):
+        """A row for a document of the list, or for our own paper (None)."""
+        name = document.name if document else 'our paper'
+        source = unpacked(document, root, tempfile.mkdtemp(dir=self.scratch)) if document else PAPER
+        if not source:
+            self.missing.append('%s (package %s)' % (name, document.package))
+            return
+        code, own = document.code if document else '', os.path.join(self.out, name.replace(' ', '-'))
+        said = paginate(source, own, code, self.options)
+        cells = self.form.row(name, said)
+        if cells:
+            self.rows.append(cells)
+            show(cells)
+        if not cells or (not document and not self.form.is_whole(cells)):
+            self.failed.append((name, said))
+        elif not self.options.best and not is_untouched(source, own, code, self.scratch, self.options.seconds):
+            self.failed.append((name, 'LaTeX weighs other places without the exporter'))
+
+    def finish(self):
+        """The sums, and what failed. Gives the exit status."""
+        if self.rows:
+            show(self.form.total(self.rows))
+        for name in self.missing:
+            print('not installed: ' + name)
+        for name, said in self.failed:
+            print('%s: %s' % (name, '\n'.join(said.strip().splitlines()[-6:])))
+        return 1 if self.failed else 0
 
 
 def main(arguments):
     parser = argparse.ArgumentParser(prog='check', description=USAGE)
     parser.add_argument('names', nargs='*', help='these documents alone')
+    parser.add_argument('--best', action='store_true', help='with tools/paginate --best: what the best page breaks change')
     parser.add_argument('--documents', default=os.path.join(TOOLS, 'documents'), help='another list of documents')
     parser.add_argument('--out', help='keep all files in this folder')
     parser.add_argument('--seconds', type=int, default=900, help='how long one document may take (900)')
@@ -151,36 +164,11 @@ def main(arguments):
         return 3
     program = subprocess.run([os.path.join(TOOLS, 'program')], stdout=subprocess.PIPE, check=True).stdout.decode().strip()
     os.environ['GALLEY_PAGES'] = program
-    show(HEADER)
-    show(['---'] * len(HEADER))
-    rows, missing, failed = [], [], []
-    if stored_difference(program):
-        failed.append(('the stored example', stored_difference(program)))
     with tempfile.TemporaryDirectory() as scratch:
-        root, out = tree(), options.out or os.path.join(scratch, 'out')
+        table = Table(options, scratch)
+        if stored_difference(program):
+            table.failed.append(('the stored example', stored_difference(program)))
         for document in [None] + list(documents(options.documents)):
-            name = document.name if document else 'our paper'
-            if options.names and name not in options.names:
-                continue
-            folder = tempfile.mkdtemp(dir=scratch)
-            source = unpacked(document, root, folder) if document else PAPER
-            if not source:
-                missing.append('%s (package %s)' % (name, document.package))
-                continue
-            code, own = document.code if document else '', os.path.join(out, name.replace(' ', '-'))
-            said = paginate(source, own, code, options.seconds)
-            cells = row(name, said)
-            if cells and not is_untouched(source, own, code, scratch, options.seconds):
-                failed.append((name, 'LaTeX weighs other places without the exporter'))
-            if cells:
-                rows.append(cells)
-                show(cells)
-            if not cells or (not document and cells[1] != cells[5]):
-                failed.append((name, said))
-    if rows:
-        show(total(rows))
-    for name in missing:
-        print('not installed: ' + name)
-    for name, said in failed:
-        print('%s: %s' % (name, '\n'.join(said.strip().splitlines()[-6:])))
-    return 1 if failed else 0
+            if not options.names or (document.name if document else 'our paper') in options.names:
+                table.take(document, tree())
+        return table.finish()

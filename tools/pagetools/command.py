@@ -7,14 +7,16 @@ import subprocess
 import sys
 import tempfile
 
-from . import about, messages, points, program, report, settings, story, why, why_data, why_tries
+from . import about, best, best_words, messages, points, program, report, settings, story, why, why_data, why_tries
 
-MODES = ('report', 'trace', 'rate', 'why', 'plain', 'print', 'lines', 'dvi', 'dvilist', 'gen')
+MODES = ('report', 'trace', 'rate', 'best', 'why', 'plain', 'print', 'lines', 'dvi', 'dvilist', 'gen')
 REPORTS = ('report', 'trace', 'plain')      # the modes whose output is a page report
+TOLD = ('best', 'why')                      # the modes whose output is told in words
 MOST = 8388608                              # bytes of an input
 WHO = 'galley-pages'
 
 USAGE = """usage: galley-pages [MODE] [FILE ..] [-o OUT] [--json | --points] [--count N] [--quiet]
+       galley-pages best [FILE] [-o OUT] [--json | --raw] [--quiet]
        galley-pages why [FILE [NAME [LINE]]] [-o OUT] [--json | --raw] [--quiet]
        galley-pages --help | --version
 
@@ -24,6 +26,7 @@ MODE     what is made (report where none is named):
   report   the page report of a galley
   trace    the same, with each place at which a page was weighed, and its cost
   rate     the same, with how good each text column is, and the sum of their demerits
+  best     the page breaks that make all pages together best, and what they change, page by page (docs/BEST.md)
   why      a table of all floats: where each was called and where it landed, how late, and why; with NAME the story
            of that float or marginal note, and what would have let it in earlier (docs/WHY.md)
   plain    the report of its pages under plain TeX's page makeup
@@ -34,24 +37,25 @@ MODE     what is made (report where none is named):
   gen      one line about the run of a generated galley of --count N items
 FILE     a galley (of the mode lines a text of paragraphs, of dvilist a DVI file); standard input without one, or as -.
          Of several files each is a run of its own; what they give comes one after another. A file that is named as a
-         mode is written as ./report. Of the mode why it is one, and then a name may follow.
+         mode is written as ./report. Of the modes best and why it is one; of why a name may follow.
 NAME     of the mode why: a float or a marginal note; LINE is the line of its galley, where several have the name
 
 -o OUT     write to the file OUT in place of standard output
---json     a report as JSON (docs/JSON.md); of the modes report, trace and plain; and what the mode why tells
---raw      of the mode why: the trace with its lines (docs/FORMATS.md), as the program writes it
+--json     a report as JSON (docs/JSON.md); of the modes report, trace and plain; and what the modes best and why tell
+--raw      of the modes best and why: the lines of the program (docs/FORMATS.md), as it writes them
 --points   a report with all sizes in points, as TeX prints them; of the same modes
 --count N  of the mode gen: how many items, 1 to 40000; 1000 without it
 --quiet    no line that the program is not proved, and none if the reader of a pipe has stopped
 
 A refusal is told as FILE:LINE:FIELD: CAUSE, what it means and what to do, with the line and a mark under the field;
-docs/MESSAGES.md has all of them. Without --json and --points, and but for the mode why, what is written is the program's
-output, byte for byte. The status is the program's (docs/FORMATS.md), of several files the first that is not 0; 1 if there
-is no program, 2 after a usage error, as NAME where the galley has no such float.
+docs/MESSAGES.md has all of them. Without --json and --points, and but for the modes best and why, what is written is the
+program's output, byte for byte. The status is the program's (docs/FORMATS.md), of several files the first that is not 0;
+1 if there is no program, 2 after a usage error, as NAME where the galley has no such float.
 
   galley-pages paper.galley -o paper.report
   galley-pages trace paper.galley --json
   galley-pages dvi paper.galley -o paper.dvi
+  galley-pages best paper.galley
   galley-pages why paper.galley fig.3
 """
 
@@ -90,11 +94,11 @@ def check(options):
     """Raises a usage error where options do not go together."""
     if options.json and options.points:
         raise Usage('--json and --points do not go together')
-    if options.json and options.mode not in REPORTS + ('why',):
-        raise Usage('--json is for the modes report, trace, plain and why')
+    if options.json and options.mode not in REPORTS + TOLD:
+        raise Usage('--json is for the modes report, trace, plain, best and why')
     if options.points and options.mode not in REPORTS:
         raise Usage('--points is for the modes report, trace and plain')
-    check_why(options)
+    check_told(options)
     if options.count is not None and options.mode != 'gen':
         raise Usage('--count is for the mode gen')
     if options.mode == 'gen' and options.files != ['-']:
@@ -109,10 +113,12 @@ def check(options):
             raise Usage('%s would be written over itself' % file)
 
 
-def check_why(options):
-    """Raises a usage error where the options of the mode why are wrong."""
-    if options.raw and (options.mode != 'why' or options.json or options.name):
-        raise Usage('--raw is for the mode why, without --json and without a name')
+def check_told(options):
+    """Raises a usage error where the options of the modes best and why are wrong."""
+    if options.raw and (options.mode not in TOLD or options.json or options.name):
+        raise Usage('--raw is for the modes best and why, without --json and without a name')
+    if options.mode == 'best' and len(options.files) > 1:
+        raise Usage('the mode best takes one file')
     if len(options.name) > 2 or not all(line.isdigit() for line in options.name[1:]):
         raise Usage('the mode why takes one file, and then the name of a float or note and the number of its line')
 
@@ -138,7 +144,7 @@ def main(arguments):
     except (Usage, story.Unknown) as fault:
         say('%s: %s; galley-pages --help says more' % (WHO, fault))
         return 2
-    except (program.NotBuilt, report.ReportFault, why.WhyFault) as fault:
+    except (program.NotBuilt, report.ReportFault, best.BestFault, why.WhyFault) as fault:
         say('%s: %s' % (WHO, fault))
         return 1
     except KeyboardInterrupt:
@@ -179,7 +185,7 @@ class Run:
         self.name = 'standard input' if file == '-' else file
         self.out = b''
         words = [path, '--mode', options.mode] + (['--count', options.count] if options.count is not None else [])
-        tells = options.mode == 'why' and not options.raw
+        tells = options.mode in TOLD and not options.raw
         keeps = options.json or options.points or options.out or tells
         with input_of(file, options.mode) as given:
             start = given.tell() if given.seekable() else 0
@@ -190,7 +196,8 @@ class Run:
             if ran.stderr:
                 self.tell(ran.stderr.decode('latin-1'), text)
         if tells:
-            self.put(told(options, ran.stdout.decode('latin-1'), text.decode('latin-1'), path))
+            tell = told_best if options.mode == 'best' else told
+            self.put(tell(options, ran.stdout.decode('latin-1'), text.decode('latin-1'), path))
         elif keeps:
             self.put(shaped(options, ran.stdout, self.name))
 
@@ -265,6 +272,18 @@ def told(options, out, text, path):
     if options.json:
         return (json.dumps(why_data.data(run, known, floats, notes, tried), indent=1) + '\n').encode()
     lines = story.lines(run, known, floats, notes, tried) if name is not None else story.Story(run, known).table()
+    return ''.join(line + '\n' for line in lines).encode('latin-1')
+
+
+def told_best(options, out, text, path):
+    """What the mode best chose, as the options ask for it: in words, or as JSON."""
+    if not out:
+        return b''
+    choice = best.read(out, options.files[0])
+    before, after = best.compared(path, text, choice)
+    if options.json:
+        return (json.dumps(best_words.data(choice, before, after), indent=1) + '\n').encode()
+    lines = best_words.Story(text, choice, before, after).lines()
     return ''.join(line + '\n' for line in lines).encode('latin-1')
 
 

@@ -46,9 +46,28 @@ PAGE = '''<!doctype html>
 
 # ---- What is written of the whole document
 
+@dataclass(frozen=True)
+class Beside:
+    """What the pages are called that stand beside those of the report where they differ."""
+    page: str            # before its number
+    file: str
+    title: str           # of its drawing
+    own_title: str       # of the report's page beside it
+    differ: str          # the heading of a list of those that differ
+    same: str            # what is said of a page that is the same
+    side: str            # the side in the words of a difference
+
+
+LATEX = Beside("LaTeX's page ", 'latex', "page %d, LaTeX's own", 'page %d, galley_pages', "Pages that differ from LaTeX's",
+               " the same as LaTeX's", 'LaTeX')
+BEFORE = Beside('before: page ', 'before', 'page %d, before', 'page %d, with the page breaks',
+                'Pages that are others than before', ' the same as before', 'the report before')
+
+
 @dataclass
 class Facts:
     """What the index says besides the pages."""
+    told: list = field(default_factory=list)         # lines as they are
     totals: list = field(default_factory=list)       # of the comparison with LaTeX's pages and places
     losses: list = field(default_factory=list)       # what the galley can't say
     warnings: list = field(default_factory=list)     # the number of the page, the words of the report
@@ -142,9 +161,10 @@ def story_cells(story):
     return '<td>%d<td>%s' % (story.late(), escape(stories.reason(story)))
 
 
-def facts_text(facts, figures):
+def facts_text(facts, figures, beside):
     told = ['<p>%s</p>' % escape(line) for line in facts.totals]
-    told.append(details("Pages that differ from LaTeX's",
+    told += ['<pre>%s</pre>' % escape('\n'.join(facts.told))] * bool(facts.told)
+    told.append(details(beside.differ,
                         ['%s: %s' % (figure.link('page %d' % figure.number), escape(figure.difference))
                          for figure in figures if figure.difference]))
     told.append(details('Warnings', ['%s: %s' % (page_link(number), escape(warning_text(warning)))
@@ -170,19 +190,19 @@ class Figure:
         return '<a href="#%s"%s>%s</a>' % (self.identity, kind, words)
 
 
-def figure(sheet, drawings):
-    """The figure of a sheet with its drawings, LaTeX's first."""
+def figure(sheet, drawings, beside):
+    """The figure of a sheet with its drawings, the other page's first."""
     number, verdict = sheet.number(), sheet.verdict
     difference = verdict.difference if verdict else ''
-    names = ['%s%d' % ("LaTeX's page " if k < len(drawings) - 1 else 'page ', number) for k in range(len(drawings))]
+    names = ['%s%d' % (beside.page if k < len(drawings) - 1 else 'page ', number) for k in range(len(drawings))]
     if not sheet.page:
-        names = ["LaTeX's page %d" % number]
+        names = ['%s%d' % (beside.page, number)]
     ratio = sum(drawing.width / drawing.height for drawing in drawings)
     kinds = ['left' if number % 2 == 0 else 'right'] + (['pair'] if len(drawings) > 1 else [])
-    link = '<a href="page%03d%s.svg">%s</a>' % (number, '' if sheet.page else '-latex', names[-1])
-    told = ' <em>%s</em>' % escape(difference) if difference else " the same as LaTeX's" if verdict else ''
+    link = '<a href="page%03d%s.svg">%s</a>' % (number, '' if sheet.page else '-' + beside.file, names[-1])
+    told = ' <em>%s</em>' % escape(difference) if difference else beside.same if verdict else ''
     pictures = '\n'.join(drawing.inline(name) for drawing, name in zip(drawings, names))
-    identity = 'page-%d' % number if sheet.page else 'latex-%d' % number
+    identity = 'page-%d' % number if sheet.page else '%s-%d' % (beside.file, number)
     text = '<figure id="%s" class="%s" style="--ratio:%.4f">\n%s\n<figcaption>%s%s</figcaption>\n</figure>' % (
         identity, ' '.join(kinds), ratio, pictures, link, told)
     return Figure(identity, number, difference, text)
@@ -193,11 +213,12 @@ def stored(name):
         return file.read().rstrip()
 
 
-def write(path, title, pages, figures, facts):
-    """Writes the index of so many pages."""
+def write(path, title, pages, figures, told):
+    """Writes the index of so many pages, by facts and what stands beside the pages."""
     parts = {'title': escape(title), 'pages': '%d page%s' % (pages, '' if pages == 1 else 's'),
              'style': svg.style() + '\n' + stored('index.css'), 'patterns': svg.patterns(),
-             'numbers': ' '.join(figure.link(str(figure.number)) for figure in figures), 'facts': facts_text(facts, figures),
+             'numbers': ' '.join(figure.link(str(figure.number)) for figure in figures),
+             'facts': facts_text(told[0], figures, told[1]),
              'figures': '\n'.join(figure.text for figure in figures), 'script': stored('index.js') + '\n' + svg.STORIES}
     with open(path, 'w', encoding='utf-8') as out:
         out.write(PAGE % parts)

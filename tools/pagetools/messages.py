@@ -74,6 +74,7 @@ OTHERS = {
     'Memory': 'there was not enough memory. Give it more, or split the input at a `clearpage`',
     'NodeLimit': '{now} nodes are held, and `maxnodes` allows fewer. {advice}',
     'Unsuited': '{word} is not supported by the mode plain. Use the mode report, or leave it out',
+    'Choices': 'there are too many ways to choose page breaks. Split the galley at a `clearpage`, or use the mode report',
     'TooFar': 'an item of page {now} is too far up or down for a DVI file, or the file gets too long. Use the mode report',
     'NoBreaks': 'the paragraph `{name}` has no feasible lines. Raise `set tolerance` (10000 is the most), widen `set '
                 'hsize`, or give its spaces more stretch',
@@ -89,6 +90,7 @@ REFUSALS = [
     (re.compile(r'page (\d+): out of DVI range$'), 'TooFar'),
     (re.compile(r'byte (\d+): (\w+)$'), 'Dvi'),
     (re.compile(r'paragraph (\d+): no feasible breaks$'), 'NoBreaks'),
+    (re.compile(r'more than \d+ states$'), 'Choices'),
     (re.compile(r'words refused$'), 'Words'),
     (re.compile(r'read fault$'), 'ReadFault'),
     (re.compile(r'write fault$'), 'WriteFault'),

@@ -1,129 +1,28 @@
 """From a LaTeX document to the pages that galley_pages makes of it, compared with LaTeX's own, and to pictures of them."""
 import argparse
-import filecmp
-import glob
 import os
-import re
 import shutil
 import subprocess
 import sys
+import time
 
-from . import compare, picture, report, tries
+from . import best, best_document, compare, picture, report, tries
+from .latex_document import TOOLS, Document, Refusal, say
 
 USAGE = """Compiles the document with lualatex and the package galleyexport, as it is; runs galley_pages on its galleys;
 tells how many pages and places are the same as LaTeX made and weighed; draws each page, with the way of each float from
 its call. All files go to the folder DIR: NAME.galley, NAME.pages, NAME.galleylog, NAME.report, NAME.trace, NAME.why,
-pictures/index.html, and LaTeX's own. The exit status
-is 0 if all agrees, 1 if anything differs, and 2 or more if no pages were made: 2 for the arguments or the document, 3 if
-lualatex or galley_pages is missing, 4 if galley_pages refused a galley. Errors that TeX reports in the document are
-counted, and change no status."""
+pictures/index.html, and LaTeX's own. With --best page breaks are chosen so that all pages together are best
+(NAME.best), LaTeX makes its pages again with them, and what changed is told page by page (NAME.changes); the pictures
+show the pages before beside those that changed. The exit status is 0 if all agrees, 1 if anything differs, and 2 or
+more if no pages were made: 2 for the arguments or the document, 3 if lualatex or galley_pages is missing, 4 if
+galley_pages refused a galley. Errors that TeX reports in the document are counted, and change no status."""
 
 PROGRAM_HELP = """Which galley_pages is run, and how long it takes to build one, is told by `tools/program --help'. The
 variable GALLEY_PAGES names another program in its place; `bench/unproved.py OUT' makes one in two minutes, without its
 proofs."""
 
-TOOLS = os.path.dirname(os.path.dirname(os.path.abspath(__file__)))
-WRAPPER = 'galleyexport-document.tex'        # what LaTeX reads: the package, and the document
-MOST_RUNS = 3
-SHOWN_ERRORS = 3
 ENDED_WITH_PAGES = (0, 5, 6, 7, 11)          # the statuses of galley_pages that leave a report
-
-
-class Refusal(Exception):
-    """Why no pages are made, and the exit status."""
-
-    def __init__(self, text, status=2):
-        super().__init__(text)
-        self.status = status
-
-
-def say(text):
-    """A line of progress."""
-    print(text, file=sys.stderr, flush=True)
-
-
-def document_name(path):
-    """The name of a document's files: that of its source without .tex or .ltx."""
-    name, extension = os.path.splitext(os.path.basename(path))
-    return name if extension in ('.tex', '.ltx') else name + extension
-
-
-class Document:
-    """A document and the folder of its files."""
-
-    def __init__(self, source, out, before):
-        self.source, self.before = os.path.realpath(source), before
-        self.name = document_name(source)
-        # a folder that begins with a hyphen is no option of a tool
-        self.out = os.path.normpath(os.path.join(os.curdir, out or self.name + '.paginated'))
-        if self.out.startswith('-'):
-            self.out = os.path.join(os.curdir, self.out)
-
-    def path(self, ending):
-        return os.path.join(self.out, self.name + ending)
-
-    def parts(self, ending):
-        """The files of all parts: NAME.galley, NAME.2.galley .., in order."""
-        found = [path for path in glob.glob(os.path.join(glob.escape(self.out), glob.escape(self.name) + '*' + ending))
-                 if re.fullmatch(r'(\.\d+)?' + re.escape(ending), path[len(self.path('')):])]
-        return sorted(found, key=lambda path: (len(path), path))
-
-    def clean(self):
-        """Takes away what an earlier call made, but for LaTeX's auxiliary files."""
-        made = [path for ending in ('.galley', '.report', '.trace', '.why') for path in self.parts(ending)]
-        made += [self.path('.pages'), self.path('.galleylog')]
-        made += glob.glob(os.path.join(glob.escape(self.out), 'pictures', 'page*.svg'))
-        for path in made:
-            if os.path.exists(path):
-                os.remove(path)
-
-    # ---- LaTeX
-
-    def run_latex(self):
-        """One run of LaTeX. What it says on the terminal goes to a file."""
-        with open(os.path.join(self.out, WRAPPER), 'w', encoding='utf-8') as out:
-            # the path comes from the environment, since it may have any letter
-            out.write('%s\\RequirePackage[trace]{galleyexport}\\input{\\directlua{tex.sprint(-2,'
-                      'os.getenv("GALLEY_SOURCE"))}}\n' % self.before)
-        folders = ['.', os.path.join(TOOLS, 'galleyexport'), os.path.dirname(self.source), os.environ.get('TEXINPUTS', '')]
-        settings = {'TEXINPUTS': ':'.join(folders), 'max_print_line': '100000', 'GALLEY_SOURCE': self.source}
-        with open(self.path('.terminal'), 'wb') as terminal:
-            subprocess.run(['lualatex', '-interaction=nonstopmode', '-jobname=' + self.name, WRAPPER], cwd=self.out,
-                           stdin=subprocess.DEVNULL, stdout=terminal, stderr=subprocess.STDOUT, check=False,
-                           env=dict(os.environ, **settings))
-
-    def compile(self):
-        """Runs LaTeX until its auxiliary file stays the same. That of an earlier call counts too."""
-        aux, last = self.path('.aux'), self.path('.aux.last')
-        for run in range(1, MOST_RUNS + 1):
-            if os.path.exists(aux):
-                shutil.copy(aux, last)
-            say('LaTeX, run %d of at most %d' % (run, MOST_RUNS))
-            self.run_latex()
-            if not os.path.exists(aux) or os.path.exists(last) and filecmp.cmp(aux, last, shallow=False):
-                break
-        if os.path.exists(last):
-            os.remove(last)
-
-    def log_lines(self, start):
-        """The lines of LaTeX's log that begin with these letters."""
-        if not os.path.exists(self.path('.log')):
-            return []
-        with open(self.path('.log'), encoding='utf-8', errors='replace') as log:
-            return [line.rstrip() for line in log if line.startswith(start)]
-
-    def galleys(self):
-        """The galleys that LaTeX's last run wrote."""
-        errors, found = self.log_lines('!'), self.parts('.galley')
-        if not found or not report.read(self.path('.pages')).pages:
-            what = 'LaTeX made no page' if found else 'no galley was written'
-            shown = errors[-SHOWN_ERRORS:] + self.log_lines('Package galleyexport Warning')
-            told = ''.join('\n  ' + line for line in shown) or ' none'
-            raise Refusal('%s; the last errors in %s:%s' % (what, self.path('.log'), told))
-        if errors:
-            print('TeX reported %d error%s, the first: %s (see %s)' % (
-                len(errors), 's' if len(errors) > 1 else '', errors[0], self.path('.log')))
-        return found
 
 
 # ---- The program
@@ -185,11 +84,49 @@ def paginate(document, options):
     return same
 
 
+def paginate_best(doc, options):
+    """Chooses the best page breaks, has LaTeX make the pages with them, and compares. Gives whether all agree."""
+    path = program()
+    os.makedirs(doc.out, exist_ok=True)
+    doc.clean()
+    doc.compile()
+    galleys = doc.galleys()
+    with open(doc.path('.galleylog'), encoding='utf-8', errors='replace') as log:
+        print(log.read(), end='')
+    say('galley_pages: choosing page breaks')
+    begun = time.monotonic()
+    parts = best_document.choose(path, galleys)
+    say('galley_pages: chosen in %.1f s' % (time.monotonic() - begun))
+    is_stable = True
+    if any(part.choice.breaks for part in parts):
+        parts, is_stable = best_document.set_again(path, doc, parts)
+    best_document.make_sides(path, parts)
+    told = '\n'.join(best_document.words(parts))
+    print(told)
+    if not is_stable:
+        print('the page numbers in the text change its lines each time, and with them the breaks')
+    missing = best_document.not_put_in(doc.path('.log')) if any(part.choice.breaks for part in parts) else ''
+    if missing:
+        print(missing)
+    reports = [part.file('.chosen.report') for part in parts]
+    every = ['--every-page'] if options.every_page else []
+    same = compare.main([doc.path('.pages')] + reports + ['--log', doc.path('.log')] + every) == 0
+    if not options.no_pictures:
+        chosen = [[part.file('.chosen.' + ending) for part in parts] for ending in ('galley', 'trace', 'why')]
+        picture.main(reports + ['--galley'] + chosen[0] + ['--trace'] + chosen[1] + ['--why'] + chosen[2] + [
+            '--before'] + [part.file('.report') for part in parts] + [
+            '--told', best_document.write(doc.path('.changes'), told + '\n'), '--galleylog', doc.path('.galleylog'),
+            '--out', os.path.join(doc.out, 'pictures')])
+    return same and is_stable and not missing
+
+
 def parsed(arguments):
     parser = argparse.ArgumentParser(prog='paginate', description=USAGE, epilog=PROGRAM_HELP)
     parser.add_argument('file', metavar='FILE.tex', help='the document, which stays as it is')
     parser.add_argument('--out', metavar='DIR', help='the folder for all files (NAME.paginated in the current folder)')
     parser.add_argument('--before', metavar='CODE', default='', help='TeX code that is to stand before the document')
+    parser.add_argument('--best', action='store_true',
+                        help='choose the best page breaks, and have LaTeX make the pages with them')
     parser.add_argument('--no-pictures', action='store_true', help='draw nothing')
     parser.add_argument('--every-page', action='store_true', help='a line for each page, not for those alone that differ')
     return parser.parse_args(arguments)
@@ -203,8 +140,9 @@ def main(arguments):
         if not shutil.which('lualatex'):
             raise Refusal('lualatex is needed; on Debian it comes with the packages texlive-luatex and '
                           'texlive-latex-recommended', 3)
-        return 0 if paginate(Document(options.file, options.out, options.before), options) else 1
-    except (Refusal, report.ReportFault, OSError) as fault:
+        made = paginate_best if options.best else paginate
+        return 0 if made(Document(options.file, options.out, options.before), options) else 1
+    except (Refusal, best.BestFault, report.ReportFault, OSError) as fault:
         print('paginate: %s' % fault, file=sys.stderr)
         return getattr(fault, 'status', 2)
     except KeyboardInterrupt:

@@ -17,9 +17,10 @@ below a column stand its natural height, how far its glue is set, and the badnes
 told by what the galley says of them, with --trace the places that were weighed and their costs, and where and why the
 column ends. With --why a mark stands where a float is called, with a line to the float, or a tag that names its page; a
 click on mark, tag or float shows the tests that were made of it, the first that failed in words, and what would have
-passed that test. With --latex a page that differs from LaTeX's stands beside LaTeX's own, with the first difference
-marked. At the head of a page stand its top mark and its first mark, at its foot its bottom mark, if there are any.
-Several reports, as of the parts of one document, are drawn one after another."""
+passed that test. With --latex a page that differs from LaTeX's stands beside LaTeX's own, with the first
+difference marked; with --before beside the page of the reports before. At the head of a page stand its top mark and its
+first mark, at its foot its bottom mark, if there are any. Several reports, as of the parts of one document, are drawn one
+after another."""
 
 COLUMN_GAP = 22.0
 MARGIN_ROOM = 96.0
@@ -90,11 +91,11 @@ class Sheet:
     """A page of the report, or of LaTeX's, or both where they differ: a figure of the index."""
     page: object = None
     galley: object = None
-    latex: object = None             # LaTeX's page, where it differs
+    other: object = None             # LaTeX's page, or that before a change, where it differs
     verdict: object = None           # of compare; None if nothing was compared
 
     def number(self):
-        return (self.page or self.latex).number
+        return (self.page or self.other).number
 
 
 class Book:
@@ -119,7 +120,8 @@ class Book:
         self.marks = {id(page): own for page, own in zip(self.pages(), marks.of_pages(read))}
         self.drawn = {sheet.number() for sheet in chosen(self.sheets, options.pages)}
         self.own = set(map(id, self.pages()))
-        self.comparison = self._compare(options) if options.latex else None
+        self.beside = index.BEFORE if options.before else index.LATEX
+        self.comparison = self._compare(options) if options.latex or options.before else None
 
     def _tell(self, own, part, options):
         """Adds what was told of a part: the places that were weighed, and why floats went where they went."""
@@ -136,16 +138,17 @@ class Book:
         return id(page) in self.own
 
     def _compare(self, options):
-        """Puts LaTeX's pages beside those that differ."""
-        latex = report.read(options.latex).pages
+        """Puts LaTeX's pages, or those before, beside those that differ."""
+        others = document.pages(options.before) if options.before else report.read(options.latex).pages
         for k, path in enumerate(options.galley):
-            self.entries.update(entries_of(latex, galleys.read(path), k))
+            self.entries.update(entries_of(others, galleys.read(path), k))
         own = {id(sheet.page): sheet for sheet in self.sheets}
-        comparison = compare.Comparison(latex, self.pages())
+        comparison = compare.Comparison(others, self.pages())
         self.sheets = []
         for verdict, (page, other) in zip(comparison.verdicts, comparison.pairs):
             sheet = own[id(other)] if other else Sheet()
-            sheet.verdict, sheet.latex = verdict, None if verdict.agrees() else page
+            verdict.difference = verdict.difference.replace('LaTeX', self.beside.side)
+            sheet.verdict, sheet.other = verdict, None if verdict.agrees() else page
             self.sheets.append(sheet)
         return comparison
 
@@ -153,7 +156,7 @@ class Book:
         return [sheet.page for sheet in self.sheets if sheet.page]
 
     def drawn_pages(self):
-        return [page for sheet in self.sheets for page in (sheet.page, sheet.latex) if page]
+        return [page for sheet in self.sheets for page in (sheet.page, sheet.other) if page]
 
     def text_height(self):
         return max([column.height + page.at for page in self.drawn_pages() for column in page.columns] + [int(PT)])
@@ -185,16 +188,16 @@ def chosen(sheets, asked):
 # ---- Files
 
 def drawings(sheet, book, measures):
-    """The drawings of a sheet: LaTeX's page first, if it stands beside the other."""
+    """The drawings of a sheet: LaTeX's page or that before first, if it stands beside the other."""
     ours, theirs = None, None
-    if sheet.page and sheet.latex:
-        theirs, ours = compare.first_items(sheet.latex, sheet.page)
+    if sheet.page and sheet.other:
+        theirs, ours = compare.first_items(sheet.other, sheet.page)
     out = []
-    if sheet.latex:
-        page = PageDrawing(sheet.latex, book, *measures)
-        out.append(page.draw(title="page %d, LaTeX's own" % sheet.latex.number, marked=theirs))
+    if sheet.other:
+        page = PageDrawing(sheet.other, book, *measures)
+        out.append(page.draw(title=book.beside.title % sheet.other.number, marked=theirs))
     if sheet.page:
-        title = 'page %d, galley_pages' % sheet.page.number if sheet.latex else ''
+        title = book.beside.own_title % sheet.page.number if sheet.other else ''
         out.append(PageDrawing(sheet.page, book, *measures).draw(sheet.galley, title, ours))
     return out
 
@@ -217,12 +220,12 @@ def write_sheets(folder, book, sheets):
     numbers = [sheet.page.number for sheet in sheets if sheet.page]
     for sheet in sheets:
         shapes = drawings(sheet, book, measures)
-        figures.append(index.figure(sheet, shapes))
+        figures.append(index.figure(sheet, shapes, book.beside))
         if sheet.page:
             add_links(shapes[-1], sheet.page.number, numbers)
             shapes[-1].write(os.path.join(folder, page_file(sheet.page.number)))
-        if sheet.latex:
-            shapes[0].write(os.path.join(folder, page_file(sheet.latex.number, latex=True)))
+        if sheet.other:
+            shapes[0].write(os.path.join(folder, page_file(sheet.other.number, book.beside.file)))
     return figures
 
 
@@ -231,8 +234,11 @@ def facts(book, options):
     out = index.Facts(warnings=[(page.number, warning) for page in book.pages() for warning in page.warnings],
                       floats=index.float_rows(book.pages(), book.entries, book.stories),
                       unshipped=[story for story in book.stories if not story.page])
-    if book.comparison:
+    if book.comparison and options.latex:
         out.totals.append(compare.totals(book.comparison))
+    if options.told:
+        with open(options.told, encoding='latin-1') as lines:
+            out.told = [line.rstrip() for line in lines]
     if options.log and options.trace:
         weighed = tries.of_files(options.log, options.trace)
         out.totals.append(tries.summary(weighed))
@@ -251,11 +257,16 @@ def parsed(arguments):
     parser.add_argument('--why', nargs='+', default=[], metavar='NAME.why',
                         help='what the mode why writes of these galleys, with --galley; its places too, without --trace')
     parser.add_argument('--latex', metavar='NAME.pages', help="LaTeX's own pages, to stand beside those that differ")
+    parser.add_argument('--before', nargs='+', default=[], metavar='REPORT',
+                        help='the reports before a change, to stand beside the pages that differ, in place of --latex')
+    parser.add_argument('--told', metavar='FILE', help='lines of text for the head of the index')
     parser.add_argument('--log', help="LaTeX's log, with the places that TeX weighed, for the index")
     parser.add_argument('--galleylog', help="what the galley can't say, for the index")
     parser.add_argument('--out', help='the folder to write to (NAME.pictures)')
     parser.add_argument('--pages', help='A-B: these pages alone')
     options = parser.parse_args(arguments)
+    if options.latex and options.before:
+        parser.error('--latex and --before do not go together')
     for name in ('trace', 'why'):
         if len(getattr(options, name)) > len(options.galley):
             parser.error('--%s needs --galley: what it tells is told by the lines of the galley' % name)
@@ -275,6 +286,6 @@ def main(arguments):
         return 2
     os.makedirs(folder, exist_ok=True)
     figures = write_sheets(folder, book, sheets)
-    index.write(os.path.join(folder, 'index.html'), os.path.basename(name), len(book.pages()), figures, told)
+    index.write(os.path.join(folder, 'index.html'), os.path.basename(name), len(book.pages()), figures, (told, book.beside))
     print('%d pages drawn in %s' % (len(figures), folder))
     return 0

@@ -123,7 +123,8 @@ def _item(kind, words):
     return Item(kind, words[0], int(words[1]), int(words[2]), int(words[3]))
 
 
-def _try(words):
+def read_try(words):
+    """A place that was weighed, by the words of its line behind `try`."""
     return Try(int(words[0]), int(words[2]), tuple(int(n) for n in words[4:8]), int(words[9]), int(words[11]), words[13],
                int(words[15]), words[17], len(words) > 18)
 
@@ -145,7 +146,7 @@ class _Reader:
         elif word == 'column':
             pages[-1].columns.append(_column(words))
         elif word == 'try':
-            self.tries.append(_try(words))
+            self.tries.append(read_try(words))
         elif word == 'warn':
             self.warnings.append(' '.join(words))
             self.report.warnings.append(' '.join(words))

@@ -8,7 +8,7 @@ USAGE = """usage: examples/run [--proved] FILE [OPTION ..]
 
 Runs galley_pages on a galley, and shows what it writes: the report of its pages. FILE is the galley, - standard input.
 The further options are the program's own (docs/FORMATS.md):
-  --mode report | trace | rate | why | plain | print | lines | dvi | dvilist | gen
+  --mode report | trace | rate | best | why | plain | print | lines | dvi | dvilist | gen
   --count N     of the mode gen: how many items, 1 to 40000
 
 The program is built first, unless there is one of these sources. Without --proved this takes about two minutes, and a

@@ -74,6 +74,19 @@ class Options(Commands):
         self.assertEqual(self.run_on('lines', given='piped\n')[:2], (0, '--mode lines\npiped\n'))
         self.assertEqual(self.run_on('gen', '--count', '7', given='unread')[:2], (0, '--mode gen --count 7\n'))
 
+    def test_the_mode_best(self):
+        self.put('a', 'first\n')
+        self.put('b', 'second\n')
+        self.assertEqual(self.run_on('best', '--raw', 'a')[:2], (0, '--mode best\nfirst\n'))
+        status, out, said = self.run_on('best', 'a')
+        self.assertEqual((status, out), (1, ''))
+        self.assertIn('a: no line of the mode best: --mode best\n', said)
+        for words, told in ((['a', 'b'], 'the mode best takes one file'), (['a', '--points'], '--points is for the modes'),
+                            (['a', '--raw', '--json'], '--raw is for the modes best and why')):
+            status, out, said = self.run_on('best', *words)
+            self.assertEqual((status, out), (2, ''))
+            self.assertIn(told, said)
+
     def test_an_output_file(self):
         self.put('a', 'first\n')
         self.assertEqual(self.run_on('print', 'a', '-o', 'out'), (0, '', ''))

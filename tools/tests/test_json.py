@@ -13,7 +13,7 @@ HERE = os.path.dirname(os.path.abspath(__file__))
 TOP = os.path.normpath(os.path.join(HERE, os.pardir, os.pardir))
 sys.path.insert(0, os.path.join(HERE, os.pardir))
 
-from pagetools import points, report  # noqa: E402
+from pagetools import best, best_words, points, report  # noqa: E402
 
 # A report with what the examples lack: a page of double floats, an overfull column, all warnings, what is left.
 RARE = """report 1
@@ -124,10 +124,19 @@ class Data(unittest.TestCase):
         self.assertIn('1 1 box ', ran.stdout)
         Shape().check(json.loads(ran.stdout.splitlines()[-1]), 'Report')
 
+    def test_what_the_mode_best_chose(self):
+        text = '\n'.join(['best 1', 'greedy 7', 'least 5', 'break 3 page 0 after -', 'break 9 page 1 after b']) + '\n' + RARE
+        choice = best.read(text, 'a test')
+        ends = [best.Ending(1, 2, line, badness, -51, 1, 0, 100, 5, (0, 0, 0, 0), True, 3) for line, badness in ((9, '0'), (0, '*'))]
+        data = best_words.data(choice, best.Side(ends, choice.report), best.Side(ends, choice.report))
+        Shape().check(data, 'Best')
+        self.assertEqual(data['breaks'], [{'line': 3, 'page': None, 'after': None}, {'line': 9, 'page': 1, 'after': 'b'}])
+        self.assertEqual([(it['line'], it['badness']) for it in data['after']], [(9, 0), (None, None)])
+
     def test_each_table_has_rows(self):
         self.assertEqual(set(tables()), {'Report', 'Page', 'Before', 'Column', 'Set', 'Item', 'Warning', 'Try', 'Left',
                                          'Totals', 'Why', 'Float', 'Spot', 'Landing', 'Reason', 'Decision', 'Test', 'Tried',
-                                         'Margin', 'Marks', 'PageMarks'})
+                                         'Margin', 'Marks', 'PageMarks', 'Best', 'Break', 'Ending'})
         self.assertTrue(all(tables().values()))
 
 

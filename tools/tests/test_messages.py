@@ -38,6 +38,7 @@ class Messages(unittest.TestCase):
 
     def test_the_page_has_each_message(self):
         names = {it[0] for it in MESSAGE.findall(page())}
+        names |= set(re.findall(r'^\*\*(\w+)\*\* \(\d+\)\..*no input of it is kept', page(), re.M))
         others = {'Files and options', 'No program'}
         self.assertEqual(names - others, {*messages.CAUSES, *messages.DVI_CAUSES, *messages.OTHERS})
 

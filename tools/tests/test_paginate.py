@@ -5,7 +5,7 @@ from unittest import mock
 
 from support import STORED, Scratch, run, stored
 
-from pagetools import paginate
+from pagetools import latex_document, paginate
 
 # Stands for lualatex: the stored files of notes.tex under the name of the job, or a log with an error.
 FAKE_LATEX = '''#!/usr/bin/env python3
@@ -17,18 +17,26 @@ if os.environ.get('FAILS'):
     sys.exit(1)
 for ending in ('galley', 'galleylog', 'pages', 'log'):
     shutil.copy(os.path.join(%r, 'notes.' + ending), name + '.' + ending)
+if os.path.exists(name + '.best'):
+    with open(name + '.log', 'a') as log: log.write(os.environ.get('PUT', 'galleybreaks: 1 of 1 page breaks were put in') + '\\n')
 open(name + '.aux', 'w').close()
 '''
 
-# Stands for galley_pages: the stored report and trace of notes.tex. It has no float, so nothing is told besides the trace.
+# Stands for galley_pages: the stored report, trace and ratings of notes.tex, and a choice with the breaks that BREAKS has. It has no float, so nothing is told besides the trace.
 FAKE_PROGRAM = '''#!/usr/bin/env python3
-import sys
+import os, sys
 sys.stdin.read()
-print(open(%r + sys.argv[2].replace('why', 'trace')).read(), end='')
+mode = sys.argv[2]
+if mode == 'best':
+    if os.environ.get('REFUSES'):
+        print('galley_pages: ' + os.environ['REFUSES'].split(' ', 1)[1], file=sys.stderr)
+        sys.exit(int(os.environ['REFUSES'].split()[0]))
+    print('best 1\\ngreedy 9\\nleast 8\\n' + os.environ.get('BREAKS', ''), end='')
+print(open(%r + {'why': 'trace', 'best': 'report'}.get(mode, mode)).read(), end='')
 '''
 
 
-class Documents(Scratch):
+class Stand(Scratch):
     def setUp(self):
         super().setUp()
         self.script('lualatex', FAKE_LATEX % STORED)
@@ -48,6 +56,8 @@ class Documents(Scratch):
     def paginate(self, *arguments):
         return run(paginate.main, *arguments, '--out', self.path('out of it'))
 
+
+class Documents(Stand):
     def test_a_document_with_a_space_in_its_name(self):
         status, said = self.paginate(self.path('my notes.tex'))
         self.assertEqual(status, 0, said)
@@ -81,14 +91,64 @@ class Documents(Scratch):
 
     def test_names(self):
         for path, name in (('a/b.tex', 'b'), ('b.ltx', 'b'), ('b.dtx', 'b.dtx'), ('a.b.tex', 'a.b')):
-            self.assertEqual(paginate.document_name(path), name)
+            self.assertEqual(latex_document.document_name(path), name)
 
     def test_parts_in_order(self):
-        notes = paginate.Document('a [b].tex', self.folder, '')
+        notes = latex_document.Document('a [b].tex', self.folder, '')
         for name in ('a [b].galley', 'a [b].10.galley', 'a [b].2.galley', 'a [b] c.galley', 'a b.galley'):
             open(self.path(name), 'w', encoding='utf-8').close()
         self.assertEqual([os.path.basename(path) for path in notes.parts('.galley')],
                          ['a [b].galley', 'a [b].2.galley', 'a [b].10.galley'])
+
+
+class Best(Stand):
+    BREAK = 'break 60 page 1 after b\n'
+
+    def best(self, **settings):
+        with mock.patch.dict(os.environ, settings):
+            return self.paginate(self.path('my notes.tex'), '--best')
+
+    def test_no_break_is_put_in(self):
+        status, said = self.best()
+        self.assertEqual(status, 0, said)
+        self.assertIn('\nno page break is put in: no choice of breaks has fewer demerits\n', said)
+        self.assertEqual(said.count('LaTeX, run'), 2)
+        self.assertTrue(os.path.exists(self.path('out of it/my notes.best')))
+
+    def test_latex_runs_again_with_the_breaks(self):
+        status, said = self.best(BREAKS=self.BREAK)
+        self.assertEqual(status, 0, said)
+        self.assertIn('\n1 page break is put in:\n  line 60, after b: ', said)
+        self.assertIn('\ndemerits: 9 before, 8 now\n', said)
+        self.assertEqual(said.count('LaTeX, run'), 3)
+        for name in ('chosen.galley', 'chosen.report', 'changes', 'report'):
+            self.assertTrue(os.path.exists(self.path('out of it/my notes.' + name)), name)
+        with open(self.path('out of it/galleyexport-document.tex'), encoding='utf-8') as wrapper:
+            self.assertIn('{galleyexport}\\RequirePackage{galleybreaks}\\input', wrapper.read())
+        with open(self.path('out of it/pictures/index.html'), encoding='utf-8') as page:
+            self.assertIn('demerits: 9 before, 8 now', page.read())
+        self.best()                             # what an earlier call chose is no break of the next one
+        self.assertEqual(self.paginate(self.path('my notes.tex'))[0], 0)
+        self.assertFalse(os.path.exists(self.path('out of it/my notes.best')))
+
+    def test_breaks_that_latex_did_not_put_in(self):
+        status, said = self.best(BREAKS=self.BREAK, PUT='galleybreaks: 0 of 1 page breaks were put in\n'
+                                 'Package galleybreaks Warning: no page break after b: the text has changed.')
+        self.assertEqual(status, 1)
+        self.assertIn('\n0 of 1 page breaks were put in:\n  no page break after b: the text has changed.\n', said)
+        status, said = self.best(BREAKS=self.BREAK, PUT='nothing')
+        self.assertEqual(status, 1)
+        self.assertIn('\nno page break was put in: see ', said)
+
+    def test_refusals(self):
+        for refuses, told in (('16 more than 1000000 states', 'my notes.galley: there are too many choices of breaks'),
+                              ('2 words refused', 'my notes.galley: this galley_pages has no mode best'),
+                              ('11 node limit at 7', 'my notes.galley: node limit at 7\n')):
+            status, said = self.best(REFUSES=refuses)
+            self.assertEqual(status, 4)
+            self.assertIn('paginate: no breaks were chosen: ', said)
+            self.assertIn(told, said)
+
 
 if __name__ == '__main__':
     unittest.main()
