@@ -23,9 +23,10 @@ use tb_lines::lines_galley;
 use tb_words::{Mode, read_words};
 
 /// Does what the words ask for: reads a galley from `source` and writes its report, its report with the places that were
-/// tried, its report under plain TeX's page makeup, its canonical text or the DVI file of its pages to `out`; or reads a text
-/// of paragraphs and writes the galley of their lines; or reads a DVI file and writes what its pages show; or runs a
-/// generated galley and writes its totals. If it cannot, it says on `err` why not.
+/// tried, its best page breaks with the report of the run with them, its report under plain TeX's page makeup, its canonical
+/// text or the DVI file of its pages to `out`; or reads a text of paragraphs and writes the galley of their lines; or reads a
+/// DVI file and writes what its pages show; or runs a generated galley and writes its totals. If it cannot, it says on `err`
+/// why not.
 ///
 /// `words` are the program's name and the words after it; an empty list is read as the name alone. They are read by one
 /// command of `clap`, as [`tb_words`] says. The whole galley is read and parsed before anything is written, in pieces of at
