@@ -8,9 +8,9 @@ use std::alloc::Global;
 use std::process::Abort;
 use std::test::Fail;
 use tb_worked_rows::{
-    COLUMN_END_ROWS, COLUMN_ROWS, FLOAT_ROWS, INPUT, MODE_ROWS, ModeRow, NONE, RATE_ROWS, REPORT,
-    ROWS, Row, VERSION_ROWS, WHY_ROWS, long_galley, long_report, run_by, run_on, run_with,
-    words_of,
+    BEST_ROWS, COLUMN_END_ROWS, COLUMN_ROWS, FLOAT_ROWS, INPUT, MODE_ROWS, ModeRow, NONE,
+    RATE_ROWS, REPORT, ROWS, Row, VERSION_ROWS, WHY_ROWS, long_galley, long_report, run_by, run_on,
+    run_with, words_of,
 };
 
 // Runs each row on an input that is read by pieces of this size, and says where it differs.
@@ -89,6 +89,11 @@ fn modes_give_what_they_say(rt: HostRuntime) -> Result<(), Fail> {
 #[test]
 fn columns_are_rated(rt: HostRuntime) -> Result<(), Fail> {
     check_modes(&rt, rt.alloc(), &RATE_ROWS)
+}
+
+#[test]
+fn best_pages_are_made(rt: HostRuntime) -> Result<(), Fail> {
+    check_modes(&rt, rt.alloc(), &BEST_ROWS)
 }
 
 #[test]

@@ -1,3 +1,4 @@
 pub mod RatedGoing
 pub mod RatedTurns
+pub mod RatedColumns
 pub mod RatedOutcomes

@@ -29,6 +29,8 @@ use Rattle.tb_steps.specs.Run.{Run, End, done, pool_full, dead_cycles, page_limi
 use Rattle.tb_top.specs.Report.{report, trace}
 use Rattle.tb_top.specs.RatedReport.{rated_report}
 use Rattle.tb_top.specs.WhyReport.{why_report}
+use Rattle.tb_best.specs.BestOf.{RatedPlan, best_of}
+use Rattle.tb_top.specs.BestReport.{run_with, best_report}
 use Rattle.tb_laws.specs.Totals.{totals_of}
 use Rattle.tb_laws.specs.DviPages.{run_pages}
 use Rattle.tb_laws.specs.DviFiles.{is_done, dvi_file}
@@ -80,6 +82,10 @@ page_limit_text n = codes "page limit " ++ decimal n
 abbrev pub node_limit_text : ℕ → List ℕ
 node_limit_text n = codes "node limit at " ++ decimal n
 
+-- the search for the best pages came to too many states
+abbrev pub choices_text : List ℕ
+choices_text = codes "more than 1000000 states"
+
 -- the line for a run that ends so; a run that ends well has none
 abbrev pub line_at : End → List ℕ
 line_at (done left) = []
@@ -114,6 +120,10 @@ read_fault_line = err_line (bare_text answers.ReadFault)
 -- the sink of the report failed
 abbrev pub write_fault_line : List ℕ
 write_fault_line = err_line (bare_text answers.WriteFault)
+
+-- the search for the best pages was given up
+abbrev pub choices_line : List ℕ
+choices_line = err_line choices_text
 
 -- there was no memory
 abbrev pub memory_line : List ℕ
@@ -152,6 +162,19 @@ summary_at n t _ = []
 -- the reply of the run of a generated galley
 abbrev pub summary_reply : ℕ → Run → Reply
 summary_reply n r = record { answer = answer_at r.end; written = summary_at n (totals_of r.events) r.end; line = line_at r.end; writes = is_done r.end }
+
+-- the reply of a run that writes its text if it ends well, and else nothing
+abbrev pub whole_reply : List ℕ → Run → Reply
+whole_reply text r = let written = if is_done r.end then text else [] in record { answer = answer_at r.end; written = written; line = line_at r.end; writes = is_done r.end }
+
+-- the reply to a galley whose run ends well, by its best plan
+abbrev pub best_reply_by : Galley → Option RatedPlan → Reply
+best_reply_by g None = whole_reply [] (run_of g)
+best_reply_by g (Some w) = whole_reply (best_report g w) (run_with g w)
+
+-- the reply to a galley whose best pages are made, if its run ends well without breaks
+abbrev pub best_reply : Galley → Reply
+best_reply g = let reply = best_reply_by g (best_of g) in if is_done (run_of g).end then reply else whole_reply [] (run_of g)
 
 -- the reply to a galley, or to the first fault of what is none
 abbrev pub galley_reply : (Galley → Reply) → Result Galley Fault → Reply
@@ -212,6 +235,7 @@ reply_to modes.Report input = galley_reply (λ g. run_reply (report (run_of g)) 
 reply_to modes.Trace input = galley_reply (λ g. run_reply (trace (run_of g)) (run_of g)) (grammar input)
 reply_to modes.Rate input = galley_reply (λ g. run_reply (rated_report g) (run_of g)) (grammar input)
 reply_to modes.Why input = galley_reply (λ g. run_reply (why_report g) (run_of g)) (grammar input)
+reply_to modes.Best input = galley_reply best_reply (grammar input)
 reply_to modes.Print input = galley_reply (λ g. text_reply (printed g)) (grammar input)
 reply_to modes.Lines input = lines_reply (lines_galley input)
 reply_to modes.Dvi input = galley_reply (λ g. dvi_reply g.params.textheight (run_of g)) (grammar input)

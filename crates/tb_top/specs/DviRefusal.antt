@@ -40,3 +40,4 @@ IsNoListing reply (refusals.Pages f) = ⊥
 IsNoListing reply (refusals.Lines f) = ⊥
 IsNoListing reply (refusals.Output f) = ⊥
 IsNoListing reply (refusals.Unsuited n) = ⊥
+IsNoListing reply refusals.Choices = ⊥

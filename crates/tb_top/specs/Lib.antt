@@ -7,6 +7,9 @@ pub mod WhyReport
 pub mod WhyPages
 pub mod Status
 pub mod Answer
+pub mod CanRun
+pub mod BestText
+pub mod BestReport
 pub mod Outcome
 pub mod Input
 pub mod Refusal

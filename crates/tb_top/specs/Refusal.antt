@@ -21,6 +21,8 @@ use Rattle.tb_top.specs.declared.refusal.Refusal.TheVariants as refusals
 use Rattle.tb_top.specs.declared.makeup_pages.PlainRunFault.{PlainRunFault}
 use Rattle.tb_top.specs.declared.makeup_pages.PlainRunFault.TheVariants as unmade
 use Rattle.tb_plain.specs.Report.{unsuited_text}
+use Rattle.tb_top.specs.declared.chosen_pages.BestPagesFault.{BestPagesFault}
+use Rattle.tb_top.specs.declared.chosen_pages.BestPagesFault.TheVariants as unchosen
 use Rattle.tb_top.specs.declared.dvi_pages.DviRunFault.{DviRunFault}
 use Rattle.tb_top.specs.declared.dvi_pages.DviRunFault.TheVariants as undone
 use Rattle.tb_top.specs.declared.dvi_refusal.DviRefusal.TheVariants as dvi
@@ -28,7 +30,7 @@ use Rattle.tb_top.specs.DviRefusal.{dvi_status, dvi_text}
 use Rattle.tb_top.specs.declared.status.Status.{Status}
 use Rattle.tb_top.specs.declared.status.Status.TheVariants as answers
 use Rattle.tb_top.specs.Outcome.{Stream, Failed, Gives}
-use Rattle.tb_top.specs.Answer.{answer_for_cause, err_line, bare_text, pool_full_text, dead_cycles_text, page_limit_text, node_limit_text}
+use Rattle.tb_top.specs.Answer.{answer_for_cause, err_line, bare_text, pool_full_text, dead_cycles_text, page_limit_text, node_limit_text, choices_text}
 
 -- ---- the status
 
@@ -78,6 +80,7 @@ refusal_status (refusals.Pages f) = page_status f
 refusal_status (refusals.Lines f) = lines_status f
 refusal_status (refusals.Dvi f) = dvi_status f
 refusal_status (refusals.Unsuited n) = answers.Unsuited
+refusal_status refusals.Choices = answers.Choices
 
 -- ---- the line on err
 
@@ -106,6 +109,7 @@ refusal_text (refusals.Pages f) = page_text f
 refusal_text (refusals.Lines f) = lines_text f
 refusal_text (refusals.Dvi f) = dvi_text f
 refusal_text (refusals.Unsuited n) = unsuited_text n
+refusal_text refusals.Choices = choices_text
 
 -- the whole line of a refusal on standard error
 abbrev pub refusal_line : Refusal → List ℕ
@@ -122,6 +126,11 @@ makeup_refusal (unmade.PageLimit n) = refusals.Pages (pages.PageLimit n)
 makeup_refusal (unmade.NodeLimit n) = refusals.Pages (pages.NodeLimit n)
 makeup_refusal unmade.WriteFault = refusals.Pages pages.WriteFault
 makeup_refusal unmade.Memory = refusals.Pages pages.Memory
+
+-- the refusal of a galley without best pages
+abbrev pub best_fault : BestPagesFault → Refusal
+best_fault (unchosen.Pages f) = refusals.Pages f
+best_fault unchosen.Choices = refusals.Choices
 
 -- ---- of a run before its line is written
 
@@ -150,6 +159,7 @@ IsNoGalley source (refusals.Output f) = ⊥
 IsNoGalley source (refusals.Lines f) = ⊥
 IsNoGalley source (refusals.Dvi f) = ⊥
 IsNoGalley source (refusals.Unsuited n) = ⊥
+IsNoGalley source refusals.Choices = ⊥
 
 -- the source gave this galley
 pub record GivesGalley (source : Stream) (g : Galley) : Type 0 where

@@ -20,3 +20,4 @@ code_of answers.Unsuited = 12
 code_of answers.TooFar = 13
 code_of answers.Dvi = 14
 code_of answers.NoBreaks = 15
+code_of answers.Choices = 16

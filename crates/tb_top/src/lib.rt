@@ -5,6 +5,8 @@
 //! or [`paginate_plain`] and writes what the mode asks for, or says on `err` why not.
 #![tactic(auto)]
 
+mod best_text;
+mod chosen_pages;
 mod dvi_listing;
 mod dvi_pages;
 mod dvi_refusal;
@@ -22,6 +24,7 @@ mod top;
 mod views;
 mod why_law;
 
+pub use chosen_pages::{BestPagesFault, best_pages};
 pub use laws::each_makes_up_once;
 pub use makeup_pages::{PlainRunFault, paginate_plain};
 pub use pages::paginate;

@@ -10,6 +10,7 @@ ghost use Rattle.tb_run.specs.Routine.{IsReady, state_of};
 ghost use Rattle.tb_laws.specs.Laws.{KeepsLaws, WithinLimits};
 ghost use Rattle.tb_laws.specs.DeadCycles.{HasRoomForCycles};
 ghost use Rattle.tb_top.specs.Pages.{Paginates, Refuses, IsNoCycleFault};
+ghost use Rattle.tb_top.specs.CanRun.{CanRun};
 ghost use Rattle.tb_top.specs.PagesWritten.{write_fault, run_on, EndsWell, StopsWith, IsRefusalOf, IsFaultRefusal};
 
 use crate::views::{is_traced, send, show};
@@ -71,6 +72,24 @@ pub fn paginate<K: Sink>(
 
     ensures cause { result ≡ Err PageFault.WriteFault → Rose (K.faults out.old) (K.faults out.new) }
     ensures silent { view ≡ View.Silent → result ≢ Err PageFault.WriteFault }
+    ensures later { K.faults out.old ≤ K.faults out.new }
+{
+    let mut routine = Routine::new(alloc, galley)?;
+    run_on(alloc, &mut routine, view, out)
+}
+
+/// The same of a galley that can be run: one with page breaks put in may have more items than a valid one.
+pub(crate) fn paginate_runnable<K: Sink>(
+    alloc: Global,
+    galley: &Galley,
+    view: View,
+    out: &mut K,
+) -> Result<Totals, PageFault>
+    requires { CanRun galley.now }
+
+    ensures done { IfOk result (Paginates view (run_of galley.now) (K.held out.old) (K.held out.new)) }
+    ensures refused { IfErr result (Refuses view (run_of galley.now) (K.held out.old) (K.held out.new)) }
+    ensures cause { result ≡ Err PageFault.WriteFault → Rose (K.faults out.old) (K.faults out.new) }
     ensures later { K.faults out.old ≤ K.faults out.new }
 {
     let mut routine = Routine::new(alloc, galley)?;

@@ -1,6 +1,6 @@
 //! From a galley to the report of its run with the ratings of its text columns.
 
-ghost use Rattle.std.specs.Prelude.{◌≡◌, ◌≤◌, ◌+◌, ◌++◌, ◌+ℤ◌, ◌≤ℤ◌, pos, Err, IsTrue, OnOk, IfOk, IfErr, IfNone, IfSome};
+ghost use Rattle.std.specs.Prelude.{◌≡◌, ◌≤◌, ◌+◌, ◌++◌, ◌+ℤ◌, ◌≤ℤ◌, pos, None, Err, IsTrue, OnOk, IfOk, IfErr, IfNone, IfSome};
 ghost use Rattle.std.specs.List.{AllByRecursion};
 ghost use Rattle.tb_io.specs.Faults.{Rose};
 ghost use Rattle.tb_galley.specs.Valid.{IsValid};
@@ -15,13 +15,16 @@ ghost use Rattle.tb_laws.specs.Laws.{KeepsLaws, WithinLimits};
 ghost use Rattle.tb_laws.specs.DeadCycles.{HasRoomForCycles};
 ghost use Rattle.tb_rate.specs.Places.{IsMildPlace};
 ghost use Rattle.tb_rate.specs.Rating.{rating, IsTried};
-ghost use Rattle.tb_rate.specs.RatedRun.{demerits, demerits_if, demerits_of_state, floats_waiting, insertions_first};
+ghost use Rattle.tb_rate.specs.RatedRun.{demerits, demerits_if, demerits_of_state, floats_waiting, insertions_first, rated_of_state, rated_run};
+ghost use Rattle.tb_best.specs.BestLines.{broken_columns};
 ghost use Rattle.tb_rate.specs.RatingLines.{rating_lines};
 ghost use Rattle.tb_rate.specs.Tries.{last_champion};
-ghost use Rattle.tb_top.specs.Pages.{IsNoCycleFault, RefusesText};
+ghost use Rattle.tb_top.specs.Pages.{end_fault, IsNoCycleFault, RefusesText};
 ghost use Rattle.tb_top.specs.Report.{all_lines, event_lines};
 ghost use Rattle.tb_top.specs.RatedReport.{rated_report, rated_text};
-ghost use Rattle.tb_top.specs.RatedPages.{Rates};
+ghost use Rattle.tb_top.specs.RatedPages.{Rates, IsGreedy, StopsRated};
+ghost use Rattle.tb_top.specs.BestText.{shown_columns, turn_columns};
+ghost use Rattle.tb_top.specs.CanRun.{CanRun};
 ghost use Rattle.tb_top.specs.RatedWritten.{unless_ended, last_rated_lines, EndsWell, StopsWith, IsRated};
 ghost use Rattle.tb_top.specs.Views.{Shows, with_events};
 
@@ -30,7 +33,7 @@ use crate::views::{count_happened, show};
 use crate::{PageFault, View};
 use std::alloc::{AllocError, Global};
 use tb_galley::Galley;
-use tb_io::{Sink, SinkFault};
+use tb_io::{Sink, SinkFault, SureSink};
 use tb_items::Happening;
 use tb_node::Node;
 use tb_param::Params;
@@ -41,6 +44,15 @@ use tb_rate::{
 };
 use tb_report::{HEADER, Totals, end_text, put_sent};
 use tb_run::{Ending, Routine};
+
+/// A column that is rated.
+#[derive(Clone, Copy)]
+pub(crate) struct RatedColumn {
+    /// The line of the item at which it broke.
+    pub(crate) line: u32,
+    /// The number of its page.
+    pub(crate) page: u64,
+}
 
 /// Makes the pages of a galley and writes the report of the run, with a line after what each firing sent that put out a text
 /// column: the column's page, its badness and its penalty, how many floats wait after it, how many insertions it had no room
@@ -53,6 +65,7 @@ pub fn rate_pages<K: Sink>(alloc: Global, galley: &Galley, out: &mut K) -> Resul
     requires valid { IsValid galley.now }
 
     ensures done { IfOk result (Rates (run_of galley.now).end (demerits galley.now) (rated_report galley.now) (K.held out.old) (K.held out.new)) }
+    ensures range { IfOk result IsGreedy }
     ensures laws { IfOk result (λ d. KeepsLaws galley.now (totals_of (run_of galley.now).events)) }
     ensures limits { WithinLimits galley.now.params (run_of galley.now) }
     ensures cycles { HasRoomForCycles galley.now → IfErr result IsNoCycleFault }
@@ -63,15 +76,46 @@ pub fn rate_pages<K: Sink>(alloc: Global, galley: &Galley, out: &mut K) -> Resul
 {
     let places = place_penalties(alloc, galley.items.as_slice())?;
     let mut routine = Routine::new(alloc, galley)?;
-    run_on(alloc, &galley.params, places.as_slice(), &mut routine, out)
+    let mut columns = Vec::new(alloc);
+    run_on(
+        alloc,
+        &galley.params,
+        places.as_slice(),
+        &mut routine,
+        &mut columns,
+        out,
+    )
 }
 
-// Runs a routine from its first page on to its end.
+/// The columns that are rated of a galley that can be run, in their order. The run ends well or is refused as in [`rate_pages`].
+pub(crate) fn rated_columns(alloc: Global, galley: &Galley) -> Result<Vec<RatedColumn>, PageFault>
+    requires { CanRun galley.now }
+    ensures columns { IfOk result (λ cs. shown_columns cs.items ≡ broken_columns None (rated_run galley.now)) }
+    ensures done { IfOk result (λ cs. end_fault (run_of galley.now).end ≡ None) }
+    ensures refused { IfErr result (StopsRated (run_of galley.now).end) }
+{
+    let places = place_penalties(alloc, galley.items.as_slice())?;
+    let mut routine = Routine::new(alloc, galley)?;
+    let mut columns = Vec::new(alloc);
+    let mut unseen = SureSink::new(alloc);
+    run_on(
+        alloc,
+        &galley.params,
+        places.as_slice(),
+        &mut routine,
+        &mut columns,
+        &mut unseen,
+    )?;
+    Ok(columns)
+}
+
+// Runs a routine from its first page on to its end, and appends the columns that are rated.
 fn run_on<K: Sink>(
     alloc: Global,
     params: &Params,
     places: &[PlacePenalty],
     routine: &mut Routine<'_>,
+    columns: &mut Vec<RatedColumn>,
     out: &mut K,
 ) -> Result<i128, PageFault>
     requires ready { IsReady routine.old }
@@ -82,6 +126,8 @@ fn run_on<K: Sink>(
     requires mild { AllByRecursion IsMildPlace places.now }
 
     ensures done { IfOk result (Rates (run_of_state params.now (state_of routine.old)).end (demerits_of_state params.now places.now (state_of routine.old)) (rated_text params.now places.now (state_of routine.old)) (K.held out.old) (K.held out.new)) }
+    ensures range { IfOk result IsGreedy }
+    ensures columns { OnOk result (shown_columns columns.new.items ≡ shown_columns columns.old.items ++ broken_columns None (rated_of_state params.now places.now (state_of routine.old))) }
     ensures refused { IfErr result (RefusesText (run_of_state params.now (state_of routine.old)).end (rated_text params.now places.now (state_of routine.old)) (K.held out.old) (K.held out.new)) }
     ensures cause { result ≡ Err PageFault.WriteFault → Rose (K.faults out.old) (K.faults out.new) }
     ensures later { K.faults out.old ≤ K.faults out.new }
@@ -109,6 +155,7 @@ fn run_on<K: Sink>(
         if let Some(ending) = ending {
             return finish(alloc, routine, &totals, demerits, ending, out);
         }
+        note_column(columns, &happened, rating)?;
         demerits = demerits_with(demerits, rating);
         routine.make_room(&happened);
     }
@@ -135,6 +182,27 @@ fn rating_of(
     let held = insertions_first(&routine.store, routine.builder.waiting(), &routine.left);
     let waiting = routine.machine.floats_waiting();
     rate(params, places, page, last_champion(happened), waiting, held)
+}
+
+// Appends the column that a turn put out, if it is rated.
+fn note_column(
+    columns: &mut Vec<RatedColumn>,
+    happened: &[Happening],
+    rating: Option<Rating>,
+) -> Result<(), AllocError>
+    ensures { OnOk result ((store : Lists Node) → shown_columns columns.new.items ≡ shown_columns columns.old.items ++ turn_columns (events_of store happened.now) rating) }
+{
+    let Some(rating) = rating else {
+        return Ok(());
+    };
+    let Some(broke) = last_champion(happened) else {
+        return Ok(());
+    };
+    columns.push(RatedColumn {
+        line: broke.line,
+        page: rating.page,
+    })?;
+    Ok(())
 }
 
 // The demerits with those of a rating.

@@ -2,9 +2,10 @@
 ghost use Rattle.std.specs.Prelude.{◌≡◌, ◌++◌, IfOk, OnOk};
 ghost use Rattle.tb_plain.specs.Report.{unsuited_text};
 ghost use Rattle.tb_top.specs.Answer.{answer_for_cause, bare_text, pool_full_text};
-ghost use Rattle.tb_top.specs.Refusal.{refusal_status, page_status, lines_status, input_status, words_status, output_status, refusal_text, page_text, refusal_line, dvi_fault, makeup_refusal};
+ghost use Rattle.tb_top.specs.Refusal.{refusal_status, page_status, lines_status, input_status, words_status, output_status, refusal_text, page_text, refusal_line, best_fault, dvi_fault, makeup_refusal};
 ghost use Rattle.tb_top.specs.declared.refusal.Refusal.TheVariants.{Words, Input, Galley, Pages, Lines, Output, Memory};
 
+use crate::chosen_pages::BestPagesFault;
 use crate::dvi_pages::DviRunFault;
 use crate::dvi_refusal::{DviRefusal, dvi_status, put_dvi};
 use crate::input::InputFault;
@@ -34,6 +35,8 @@ pub enum Refusal {
     Dvi(DviRefusal),
     /// The item on this line is not served by plain TeX's page makeup.
     Unsuited { line: u32 },
+    /// The search for the best pages came to too many states.
+    Choices,
     /// A text was not written.
     Output(SinkFault),
     /// There was no memory for what was to be written.
@@ -104,6 +107,17 @@ impl From<PlainRunFault> for Refusal {
     }
 }
 
+impl From<BestPagesFault> for Refusal {
+    ghost from_gives = { λ fault e. e ≡ best_fault fault };
+
+    fn from(fault: BestPagesFault) -> Self {
+        match fault {
+            BestPagesFault::Pages(fault) => Refusal::Pages(fault),
+            BestPagesFault::Choices => Refusal::Choices,
+        }
+    }
+}
+
 impl From<SinkFault> for Refusal {
     ghost from_gives = { λ fault e. e ≡ Output fault };
 
@@ -134,6 +148,7 @@ impl Refusal {
             Refusal::Lines(refusal) => lines_status(refusal),
             Refusal::Dvi(refusal) => dvi_status(*refusal),
             Refusal::Unsuited { line: _ } => Status::Unsuited,
+            Refusal::Choices => Status::Choices,
             Refusal::Output(fault) => output_status(*fault),
             Refusal::Memory => Status::Memory,
         }
@@ -163,6 +178,7 @@ impl Refusal {
             Refusal::Lines(refusal) => put_refusal(line, refusal),
             Refusal::Dvi(refusal) => put_dvi(line, *refusal),
             Refusal::Unsuited { line: at } => put_unsuited(line, *at),
+            Refusal::Choices => line.extend_from_slice(b"more than 1000000 states"),
             Refusal::Output(fault) => line.extend_from_slice(bare_text(output_status(*fault))),
             Refusal::Memory => line.extend_from_slice(bare_text(Status::Memory)),
         }

@@ -35,6 +35,8 @@ pub enum Status {
     Dvi,
     /// No way to break a paragraph into lines is feasible.
     NoBreaks,
+    /// The search for the best pages came to too many states.
+    Choices,
 }
 
 impl Status {
@@ -58,6 +60,7 @@ impl Status {
             Status::TooFar => 13,
             Status::Dvi => 14,
             Status::NoBreaks => 15,
+            Status::Choices => 16,
         }
     }
 }

@@ -12,7 +12,9 @@ use crate::dvi_pages::paginate_dvi;
 use crate::input::{read_input, read_text};
 use crate::refusal::Refusal;
 use crate::summary::summary_text;
-use crate::{Status, View, first_unsuited, paginate, paginate_plain, rate_pages, why_pages};
+use crate::{
+    Status, View, best_pages, first_unsuited, paginate, paginate_plain, rate_pages, why_pages,
+};
 use std::alloc::Global;
 use tb_galley::{Galley, new_reader, print};
 use tb_generator::generate;
@@ -21,9 +23,10 @@ use tb_lines::lines_galley;
 use tb_words::{Mode, read_words};
 
 /// Does what the words ask for: reads a galley from `source` and writes its report, its report with the places that were
-/// tried, its report under plain TeX's page makeup, its canonical text or the DVI file of its pages to `out`; or reads a text
-/// of paragraphs and writes the galley of their lines; or reads a DVI file and writes what its pages show; or runs a
-/// generated galley and writes its totals. If it cannot, it says on `err` why not.
+/// tried, its best page breaks with the report of the run with them, its report under plain TeX's page makeup, its canonical
+/// text or the DVI file of its pages to `out`; or reads a text of paragraphs and writes the galley of their lines; or reads a
+/// DVI file and writes what its pages show; or runs a generated galley and writes its totals. If it cannot, it says on `err`
+/// why not.
 ///
 /// `words` are the program's name and the words after it; an empty list is read as the name alone. They are read by one
 /// command of `clap`, as [`tb_words`] says. The whole galley is read and parsed before anything is written, in pieces of at
@@ -92,6 +95,7 @@ fn serve<S: Source, K: Sink>(
         Mode::Trace => write_trace(alloc, source, out),
         Mode::Rate => write_rated(alloc, source, out),
         Mode::Why => write_told(alloc, source, out),
+        Mode::Best => write_best(alloc, source, out),
         Mode::Print => write_canonical(alloc, source, out),
         Mode::Lines => write_lines(alloc, source, out),
         Mode::Dvi => write_dvi(alloc, source, out),
@@ -162,6 +166,19 @@ fn write_told<S: Source, K: Sink>(alloc: Global, source: &mut S, out: &mut K) ->
 {
     let galley = read_galley(alloc, source)?;
     why_pages(alloc, &galley, out)?;
+    Ok(())
+}
+
+// Reads a galley and writes its best page breaks, and the report of its run with them.
+fn write_best<S: Source, K: Sink>(alloc: Global, source: &mut S, out: &mut K) -> Result<(), Refusal>
+    ensures stands { StandsAfter (Some Mode.Best) (served_status result)
+        (stream (S.left source.old) (S.left source.new) (S.faults source.old) (S.faults source.new))
+        (stream (K.held out.old) (K.held out.new) (K.faults out.old) (K.faults out.new))
+        (served_line result) }
+    ensures stops { StopsReading (S.left source.old) (S.left source.new) }
+{
+    let galley = read_galley(alloc, source)?;
+    best_pages(alloc, &galley, out)?;
     Ok(())
 }
 

@@ -13,6 +13,7 @@ words_rows = record {
   trace = refl;
   rate = refl;
   why = refl;
+  best = refl;
   print = refl;
   lines = refl;
   dvi = refl;

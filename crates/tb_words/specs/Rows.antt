@@ -2,7 +2,7 @@
 use Rattle.std.specs.Prelude.{◌≡◌, List, [], ◌∷◌, codes, Some, None}
 use Rattle.clap.specs.Words.{Text}
 use Rattle.tb_words.specs.Words.{asked}
-use Rattle.tb_words.specs.declared.Mode.TheVariants.{Report, Trace, Rate, Why, Print, Lines, Dvi, DviList, Plain, Generate}
+use Rattle.tb_words.specs.declared.Mode.TheVariants.{Report, Trace, Rate, Why, Best, Print, Lines, Dvi, DviList, Plain, Generate}
 
 -- the words after the program's name
 abbrev pub named : List Text → List Text
@@ -18,6 +18,7 @@ pub record WordsRows : Type 0 where
   pub trace : asked (named (codes "--mode" ∷ codes "trace" ∷ [])) ≡ Some Trace
   pub rate : asked (named (codes "--mode" ∷ codes "rate" ∷ [])) ≡ Some Rate
   pub why : asked (named (codes "--mode" ∷ codes "why" ∷ [])) ≡ Some Why
+  pub best : asked (named (codes "--mode" ∷ codes "best" ∷ [])) ≡ Some Best
   pub print : asked (named (codes "--mode" ∷ codes "print" ∷ [])) ≡ Some Print
   pub lines : asked (named (codes "--mode" ∷ codes "lines" ∷ [])) ≡ Some Lines
   pub dvi : asked (named (codes "--mode" ∷ codes "dvi" ∷ [])) ≡ Some Dvi

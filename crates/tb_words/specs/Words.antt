@@ -48,6 +48,7 @@ mode_named name count =
     else if bytes_eq name (codes "trace") then Some modes.Trace
     else if bytes_eq name (codes "rate") then Some modes.Rate
     else if bytes_eq name (codes "why") then Some modes.Why
+    else if bytes_eq name (codes "best") then Some modes.Best
     else if bytes_eq name (codes "print") then Some modes.Print
     else if bytes_eq name (codes "lines") then Some modes.Lines
     else if bytes_eq name (codes "dvi") then Some modes.Dvi
@@ -75,6 +76,7 @@ IsServed modes.Report = Unit {0}
 IsServed modes.Trace = Unit {0}
 IsServed modes.Rate = Unit {0}
 IsServed modes.Why = Unit {0}
+IsServed modes.Best = Unit {0}
 IsServed modes.Print = Unit {0}
 IsServed modes.Lines = Unit {0}
 IsServed modes.Dvi = Unit {0}

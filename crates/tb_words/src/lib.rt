@@ -30,6 +30,8 @@ pub enum Mode {
     /// Reads a galley and writes its report as a trace, with lines between that tell why each float and marginal note goes where
     /// it goes, and a line for each float at the end.
     Why,
+    /// Reads a galley, and writes the page breaks that make its demerits least and the report of its run with them.
+    Best,
     /// Reads a galley and writes its canonical text.
     Print,
     /// Reads a text of paragraphs and writes the galley of their lines.
@@ -139,6 +141,7 @@ fn mode_named(name: &str, count: u32) -> Option<Mode>
         "trace" => Some(Mode::Trace),
         "rate" => Some(Mode::Rate),
         "why" => Some(Mode::Why),
+        "best" => Some(Mode::Best),
         "print" => Some(Mode::Print),
         "lines" => Some(Mode::Lines),
         "dvi" => Some(Mode::Dvi),

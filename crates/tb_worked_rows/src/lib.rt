@@ -2,6 +2,7 @@
 //! For tests alone.
 #![tactic(auto)]
 
+mod best_rows;
 mod column_end_rows;
 mod column_rows;
 mod float_rows;
@@ -14,6 +15,7 @@ mod runs;
 mod version_rows;
 mod why_rows;
 
+pub use best_rows::BEST_ROWS;
 pub use column_end_rows::COLUMN_END_ROWS;
 pub use column_rows::COLUMN_ROWS;
 pub use float_rows::FLOAT_ROWS;

@@ -10,7 +10,7 @@ use Rattle.tb_top.specs.Pages.{end_fault, EndsWith, Refuses, StopsText, RefusesT
 use Rattle.tb_laws.specs.DeadCycles.{EndsWithinCycles, HasRoomForCycles}
 use Rattle.tb_laws.proofs.DeadCycles.CycleBound.{dead-cycle-bound}
 
-not-ended : (e : End) (n : ℕ) → EndsWithinCycles e → end_fault e ≡ Some (faults.DeadCycles n) → ⊥
+pub not-ended : (e : End) (n : ℕ) → EndsWithinCycles e → end_fault e ≡ Some (faults.DeadCycles n) → ⊥
 not-ended (dead_cycles m) n few is = absurd few
 not-ended e n few is = cc
 

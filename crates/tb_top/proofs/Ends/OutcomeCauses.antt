@@ -34,4 +34,5 @@ module _ (asked : Option Mode) (source out err : Stream) where
   refused-outcome answers.DeadCycles o is = absurd (decided-asked asked answers.DeadCycles source out _ o.1.0 is)
   refused-outcome answers.ReadFault o is = let no : Some o.1.0.mode ≡ None = sym o.1.0.asked_for ∙ is in cc
   refused-outcome answers.WriteFault o is = let no : Some o.1.0.mode ≡ None = sym o.1.0.asked_for ∙ is in cc
+  refused-outcome answers.Choices o is = let no : Some modes.Best ≡ None = sym o.1.0.asked_for ∙ is in cc
   refused-outcome answer o is = absurd (decided-asked asked answer source out _ o.1 is)

@@ -43,9 +43,9 @@ use Rattle.tb_top.specs.RatedReport.{rated_report}
 use Rattle.tb_top.specs.WhyReport.{why_report}
 use Rattle.tb_laws.specs.Totals.{totals_of}
 use Rattle.tb_laws.specs.Laws.{KeepsLaws}
-use Rattle.tb_top.specs.Answer.{Reply, dvi_reply, makeup_reply, listing_reply, summary_line, summary_at, answer_at, line_at, answer_for_cause, err_line, bare_text, fault_reply, no_lines_reply, lines_reply, galley_reply, run_reply, text_reply, reply_to}
+use Rattle.tb_top.specs.Answer.{Reply, best_reply, dvi_reply, makeup_reply, listing_reply, summary_line, summary_at, answer_at, line_at, answer_for_cause, err_line, bare_text, fault_reply, no_lines_reply, lines_reply, galley_reply, run_reply, text_reply, reply_to}
 use Rattle.tb_laws.specs.DviFiles.{is_done}
-use Rattle.tb_top.specs.Outcome.{Stream, Failed, Gives, Reads, IsUnread, IsGalleyWith, ShowsRunOf, HasLawfulRun, LacksRoomForCycles, Decided, Finished, OutOfCycles, CutOff, StandsAfter, TellsLine, Says, Outcome, Succeeds, IsAnswer, input_of}
+use Rattle.tb_top.specs.Outcome.{Stream, Failed, Gives, Reads, IsUnread, IsGalleyWith, ShowsRunOf, HasLawfulRun, LacksRoomForCycles, Decided, Finished, OutOfCycles, CutOff, StandsAfter, TellsLine, Says, Outcome, Succeeds, IsGivenUp, IsAnswer, input_of}
 use Rattle.tb_top.proofs.Ends.CycleAnswers.{no-room}
 use Rattle.tb_top.specs.declared.dvi_refusal.DviRefusal.{DviRefusal}
 use Rattle.tb_top.specs.declared.dvi_refusal.DviRefusal.TheVariants as undvi
@@ -155,6 +155,9 @@ rate_reads = record { reads = λ s input g. g; unread = λ s f. f; replies = λ 
 
 pub why_reads : ReadsGalleys modes.Why (λ g. run_reply (why_report g) (run_of g))
 why_reads = record { reads = λ s input g. g; unread = λ s f. f; replies = λ input. refl }
+
+pub best_reads : ReadsGalleys modes.Best best_reply
+best_reads = record { reads = λ s input g. g; unread = λ s f. f; replies = λ input. refl }
 
 pub print_reads : ReadsGalleys modes.Print (λ g. text_reply (printed g))
 print_reads = record { reads = λ s input g. g; unread = λ s f. f; replies = λ input. refl }
@@ -304,6 +307,7 @@ refusal_status-refused (refusals.Pages f) = page_status-refused f
 refusal_status-refused (refusals.Lines f) = lines_status-refused f
 refusal_status-refused (refusals.Dvi f) = dvi_status-refused f
 refusal_status-refused (refusals.Unsuited n) = λ same. cc
+refusal_status-refused refusals.Choices = λ same. cc
 
 prefix_told : (line : List ℕ) (err : Stream) → TellsLine line err → AppendsPrefix err.before err.after line
 prefix_told line err (inl all) = prefix_whole err.before err.after line all
@@ -339,11 +343,11 @@ grammar-read false input rest is ended =
     rw (ended short, append-nil) refl
 
 -- a status that what was read decides is that of what was left
-galley_answer : (reply : Galley → Reply) (status : Status) (before after : Option (List ℕ)) (input : List ℕ) → Gives before after input → status ≡ (galley_reply reply (grammar input)).answer
-    → IfSome before (λ left. (status ≡ (galley_reply reply (grammar left)).answer) ⊎ (status ≡ answers.Memory))
-galley_answer reply status None after input g is = tt
-galley_answer reply status (Some xs) None input g is = absurd g.given
-galley_answer reply status (Some xs) (Some ys) input g is =
+galley_answer : (G : Type 0) (reply : Galley → Reply) (status : Status) (before after : Option (List ℕ)) (input : List ℕ) → Gives before after input → status ≡ (galley_reply reply (grammar input)).answer
+    → IfSome before (λ left. (status ≡ (galley_reply reply (grammar left)).answer) ⊎ (status ≡ answers.Memory) ⊎ G)
+galley_answer G reply status None after input g is = tt
+galley_answer G reply status (Some xs) None input g is = absurd g.given
+galley_answer G reply status (Some xs) (Some ys) input g is =
     let one = grammar-read (nat_lt input_limit (length input)) input ys refl g.ended in
     inl (is ∙ ap (λ r. (galley_reply reply r).answer) (one ∙ ap grammar (sym g.given)))
 
@@ -356,11 +360,11 @@ lines-read false input rest is ended =
     let short : length input ≤ input_limit = grind (arith, nat_tests) in
     rw (ended short, append-nil) refl
 
-lines_answer : (status : Status) (before after : Option (List ℕ)) (input : List ℕ) → Gives before after input → status ≡ (lines_reply (lines_galley input)).answer
-    → IfSome before (λ left. (status ≡ (lines_reply (lines_galley left)).answer) ⊎ (status ≡ answers.Memory))
-lines_answer status None after input g is = tt
-lines_answer status (Some xs) None input g is = absurd g.given
-lines_answer status (Some xs) (Some ys) input g is =
+lines_answer : (G : Type 0) (status : Status) (before after : Option (List ℕ)) (input : List ℕ) → Gives before after input → status ≡ (lines_reply (lines_galley input)).answer
+    → IfSome before (λ left. (status ≡ (lines_reply (lines_galley left)).answer) ⊎ (status ≡ answers.Memory) ⊎ G)
+lines_answer G status None after input g is = tt
+lines_answer G status (Some xs) None input g is = absurd g.given
+lines_answer G status (Some xs) (Some ys) input g is =
     let one = lines-read (nat_lt input_limit (length input)) input ys refl g.ended in
     inl (is ∙ ap (λ r. (lines_reply r).answer) (one ∙ ap lines_galley (sym g.given)))
 
@@ -373,32 +377,37 @@ listing-read false input rest is ended =
     let short : length input ≤ input_limit = grind (arith, nat_tests) in
     rw (ended short, append-nil) refl
 
-listing_answer : (status : Status) (before after : Option (List ℕ)) (input : List ℕ) → Gives before after input → status ≡ (listing_reply input).answer → IfSome before (λ left. (status ≡ (listing_reply left).answer) ⊎ (status ≡ answers.Memory))
-listing_answer status None after input g is = tt
-listing_answer status (Some xs) None input g is = absurd g.given
-listing_answer status (Some xs) (Some ys) input g is =
+listing_answer : (G : Type 0) (status : Status) (before after : Option (List ℕ)) (input : List ℕ) → Gives before after input → status ≡ (listing_reply input).answer → IfSome before (λ left. (status ≡ (listing_reply left).answer) ⊎ (status ≡ answers.Memory) ⊎ G)
+listing_answer G status None after input g is = tt
+listing_answer G status (Some xs) None input g is = absurd g.given
+listing_answer G status (Some xs) (Some ys) input g is =
     let one = listing-read (nat_lt input_limit (length input)) input ys refl g.ended in
     inl (is ∙ ap (λ (r : Reply). r.answer) (one ∙ ap listing_reply (sym g.given)))
 
 IsAnswer-given : (m : Mode) (status : Status) (source : Stream) (input : List ℕ) → Reads m source input → status ≡ (reply_to m input).answer → IsAnswer m status source.before
-IsAnswer-given modes.Report status source input g is = galley_answer (λ g. run_reply (report (run_of g)) (run_of g)) status source.before source.after input g is
-IsAnswer-given modes.Trace status source input g is = galley_answer (λ g. run_reply (trace (run_of g)) (run_of g)) status source.before source.after input g is
-IsAnswer-given modes.Rate status source input g is = galley_answer (λ g. run_reply (rated_report g) (run_of g)) status source.before source.after input g is
-IsAnswer-given modes.Why status source input g is = galley_answer (λ g. run_reply (why_report g) (run_of g)) status source.before source.after input g is
-IsAnswer-given modes.Print status source input g is = galley_answer (λ g. text_reply (printed g)) status source.before source.after input g is
-IsAnswer-given modes.Lines status source input g is = lines_answer status source.before source.after input g is
-IsAnswer-given modes.Dvi status source input g is = galley_answer (λ g. dvi_reply g.params.textheight (run_of g)) status source.before source.after input g is
-IsAnswer-given modes.DviList status source input g is = listing_answer status source.before source.after input g is
-IsAnswer-given modes.Plain status source input g is = galley_answer makeup_reply status source.before source.after input g is
+IsAnswer-given modes.Report status source input g is = galley_answer (IsGivenUp modes.Report status) (λ g. run_reply (report (run_of g)) (run_of g)) status source.before source.after input g is
+IsAnswer-given modes.Trace status source input g is = galley_answer (IsGivenUp modes.Trace status) (λ g. run_reply (trace (run_of g)) (run_of g)) status source.before source.after input g is
+IsAnswer-given modes.Rate status source input g is = galley_answer (IsGivenUp modes.Rate status) (λ g. run_reply (rated_report g) (run_of g)) status source.before source.after input g is
+IsAnswer-given modes.Why status source input g is = galley_answer (IsGivenUp modes.Why status) (λ g. run_reply (why_report g) (run_of g)) status source.before source.after input g is
+IsAnswer-given modes.Best status source input g is = galley_answer (IsGivenUp modes.Best status) best_reply status source.before source.after input g is
+IsAnswer-given modes.Print status source input g is = galley_answer (IsGivenUp modes.Print status) (λ g. text_reply (printed g)) status source.before source.after input g is
+IsAnswer-given modes.Lines status source input g is = lines_answer (IsGivenUp modes.Lines status) status source.before source.after input g is
+IsAnswer-given modes.Dvi status source input g is = galley_answer (IsGivenUp modes.Dvi status) (λ g. dvi_reply g.params.textheight (run_of g)) status source.before source.after input g is
+IsAnswer-given modes.DviList status source input g is = listing_answer (IsGivenUp modes.DviList status) status source.before source.after input g is
+IsAnswer-given modes.Plain status source input g is = galley_answer (IsGivenUp modes.Plain status) makeup_reply status source.before source.after input g is
 IsAnswer-given (modes.Generate n) status source input g is = inl is
 
-some_memory : (left : Option (List ℕ)) (P : List ℕ → Type 0) → IfSome left (λ input. P input ⊎ (answers.Memory ≡ answers.Memory))
-some_memory None P = tt
-some_memory (Some xs) P = inr refl
+some_memory : (left : Option (List ℕ)) (P : List ℕ → Type 0) (G : Type 0) → IfSome left (λ input. P input ⊎ (answers.Memory ≡ answers.Memory) ⊎ G)
+some_memory None P G = tt
+some_memory (Some xs) P G = inr (inl refl)
+
+some_given_up : (left : Option (List ℕ)) (P Q : List ℕ → Type 0) (G : Type 0) → G → IfSome left (λ input. P input ⊎ Q input ⊎ G)
+some_given_up None P Q G h = tt
+some_given_up (Some xs) P Q G h = inr (inr h)
 
 module _ (asked : Option Mode) (m : Mode) (source out : Stream) (well : Succeeds asked m source out) where
   IsAnswer-memory : IsAnswer m answers.Memory source.before
-  IsAnswer-memory = some_memory (input_of m source.before) (λ input. answers.Memory ≡ (reply_to m input).answer)
+  IsAnswer-memory = some_memory (input_of m source.before) (λ input. answers.Memory ≡ (reply_to m input).answer) (IsGivenUp m answers.Memory)
 
   same_mode : (n : Mode) → asked ≡ Some n → n ≡ m
   same_mode n is = let two : Some n ≡ Some m = sym is ∙ well.asked_for in cc
@@ -413,6 +422,8 @@ module _ (asked : Option Mode) (m : Mode) (source out : Stream) (well : Succeeds
   IsAnswer-stands answers.WriteFault line left = absurd (well.written left.1)
   IsAnswer-stands answers.Memory line left = IsAnswer-memory
   IsAnswer-stands answers.Done line left = IsAnswer-decided answers.Done line left.0
+  IsAnswer-stands answers.Choices line left =
+      some_given_up (input_of m source.before) (λ input. answers.Choices ≡ (reply_to m input).answer) (λ input. answers.Choices ≡ answers.Memory) (IsGivenUp m answers.Choices) (sym (same_mode modes.Best left.0.asked_for), refl)
   IsAnswer-stands answers.DeadCycles line left = IsAnswer-decided answers.DeadCycles line left.0
   IsAnswer-stands status line left = IsAnswer-decided status line left
 

@@ -1,5 +1,5 @@
 -- What a run of the page makeup counts stays in the range of the counts: pages by their limit, boxes and floats by the nodes of a page.
-use Rattle.std.proofs.Common.{◌≡◌, refl, subst, ◌∙◌, ap, ℕ, zero, suc, pos, ◌+◌, ◌*◌, ◌-◌, ◌≤◌, Bool, true, false, List, [], ◌∷◌, ◌++◌, map, length, length-append, arith}
+use Rattle.std.proofs.Common.{◌≡◌, refl, subst, ◌∙◌, ap, ℕ, zero, suc, pos, ◌+◌, ◌*◌, ◌-◌, ◌≤◌, Bool, true, false, List, [], ◌∷◌, ◌++◌, length, length-append, arith}
 use Rattle.std.specs.Prelude.{pred, nat_abs, int_lt, if◌then◌else◌}
 use Rattle.std.proofs.Math.Nat.{add_right_comm}
 use Rattle.tb_report.proofs.CountLemmas.{count_kinds-le}

@@ -1,5 +1,6 @@
 -- What holds after the pages of a galley were rated, or not.
-use Rattle.std.proofs.Common.{◌≡◌, refl, ◌∙◌, sym, ap, subst, ℕ, ℤ, inr, List, [], Option, None, Some, Ok}
+use Rattle.std.proofs.Common.{◌≡◌, refl, ◌∙◌, sym, ap, subst, ℕ, ℤ, inl, inr, List, [], Option, None, Some, Result, Ok, Err}
+use Rattle.std.specs.Prelude.{IfErr}
 use Rattle.std.specs.Io.KnownBytes.{Appends}
 use Rattle.tb_io.specs.Sink.{AppendsPrefix}
 use Rattle.tb_galley.specs.declared.Galley.{Galley}
@@ -9,12 +10,13 @@ use Rattle.tb_galley.specs.Valid.{IsValid}
 use Rattle.tb_words.specs.declared.Mode.TheVariants as modes
 use Rattle.tb_output.specs.State.{State, first_state}
 use Rattle.tb_items.specs.Classes.{classes_of}
-use Rattle.tb_steps.specs.Run.{run_of, run_of_state}
+use Rattle.tb_steps.specs.Run.{End, run_of, run_of_state}
 use Rattle.tb_laws.specs.Laws.{KeepsLaws}
 use Rattle.tb_laws.specs.Totals.{totals_of}
 use Rattle.tb_rate.specs.declared.PlacePenalty.{PlacePenalty}
 use Rattle.tb_rate.specs.Places.{place_penalties}
-use Rattle.tb_rate.specs.RatedRun.{demerits, demerits_of_state}
+use Rattle.tb_rate.specs.RatedRun.{demerits, demerits_of_state, rated_of_state, rated_run}
+use Rattle.tb_best.specs.BestLines.{broken_columns}
 use Rattle.tb_top.specs.declared.PageFault.{PageFault}
 use Rattle.tb_top.specs.declared.PageFault.TheVariants as pages
 use Rattle.tb_top.specs.declared.View.TheVariants as views
@@ -23,7 +25,7 @@ use Rattle.tb_top.specs.Answer.{err_line, run_reply, reply_to}
 use Rattle.tb_top.specs.Outcome.{Stream, Failed, Gives, HasLawfulRun, LacksRoomForCycles, Decided, Finished, OutOfCycles, StandsAfter}
 use Rattle.tb_top.specs.Pages.{end_fault, StopsText, RefusesText}
 use Rattle.tb_top.specs.RatedReport.{rated_report, rated_text}
-use Rattle.tb_top.specs.RatedPages.{Rates}
+use Rattle.tb_top.specs.RatedPages.{Rates, StopsRated}
 use Rattle.tb_top.specs.Refusal.{page_status, page_text}
 use Rattle.tb_top.proofs.Ends.CycleAnswers.{no-room-for-text}
 use Rattle.tb_top.proofs.Ends.Outcomes.{answer_at-well, line_at-well, page_status-ended, page_text-ended, decided_by, shown_by, cut_off_by, galley_with, replies_to, rate_reads}
@@ -51,6 +53,10 @@ module _ (g : Galley) (s : State) (is : s ≡ first_state g.params (classes_of g
   unfolding rated_report
   text-is = λ i. rated_text g.params (placed i) (is i)
 
+  pub columns-are : broken_columns None (rated_of_state g.params places s) ≡ broken_columns None (rated_run g)
+  unfolding rated_run
+  columns-are = λ i. broken_columns None (rated_of_state g.params (placed i) (is i))
+
   pub rates-galley : (d : ℤ) → Rates (run_of_state g.params s).end (demerits_of_state g.params places s) (rated_text g.params places s) old new d → Rates (run_of g).end (demerits g) (rated_report g) old new d
   rates-galley d h = record { ended = ap end_fault (sym end-is) ∙ h.ended; demerits = sym sum-is ∙ h.demerits; written = subst (Appends old new) text-is h.written }
 
@@ -64,6 +70,16 @@ module _ (g : Galley) (s : State) (is : s ≡ first_state g.params (classes_of g
   refuses-galley (pages.NodeLimit n) h = stops-galley (pages.NodeLimit n) h
   refuses-galley pages.WriteFault h = subst (AppendsPrefix old new) text-is h
   refuses-galley pages.Memory h = subst (AppendsPrefix old new) text-is h
+
+-- a run of which nothing is seen, written to a sink that never fails
+pub stops-unseen : (end : End) (text : List ℕ) (old new : Option (List ℕ)) (f : PageFault) → (f ≡ pages.WriteFault → ⊥) → RefusesText end text old new f → StopsRated end f
+stops-unseen end text old new pages.WriteFault never h = absurd (never refl)
+stops-unseen end text old new pages.Memory never h = inl refl
+stops-unseen end text old new f never h = inr h.ended
+
+pub unseen-refused : {T : Type 0} (r : Result T PageFault) (end : End) (text : List ℕ) (old new : Option (List ℕ)) → (r ≡ Err pages.WriteFault → ⊥) → IfErr r (RefusesText end text old new) → IfErr r (StopsRated end)
+unseen-refused (Ok v) end text old new never h = tt
+unseen-refused (Err f) end text old new never h = stops-unseen end text old new f (λ is. never (ap Err is)) h
 
 -- ---- the outcome
 

@@ -38,7 +38,7 @@ use Rattle.tb_top.specs.declared.PageFault.TheVariants as faults
 use Rattle.tb_top.specs.Pages.{end_fault, StopsText, RefusesText}
 use Rattle.tb_top.specs.PagesWritten.{IsFaultRefusal, IsRefusalOf}
 use Rattle.tb_top.specs.RatedReport.{rated_text}
-use Rattle.tb_top.specs.RatedPages.{Rates}
+use Rattle.tb_top.specs.RatedPages.{Rates, IsGreedy}
 use Rattle.tb_top.specs.RatedWritten.{unless_ended, last_rated_lines, EndsWell, StopsWith, IsRated}
 use Rattle.tb_top.proofs.Written.GoingLemmas.{header, refuses-text, failed-write}
 use Rattle.tb_top.proofs.Written.FinishLemmas.{ClosesAt, over-some, over-none}
@@ -64,7 +64,7 @@ module _ (p : Params) (places : List PlacePenalty) (s : State) (q : Routine) whe
   rating-by-step page is (Some ending) (goes_on es rs u) h = absurd h
 
   module _ (hs : List Happening) (o : Option Ending) (shows : ShowsStep p true s q hs o) where
-    events-are : events_of q.store hs ≡ step_events (step p s)
+    pub events-are : events_of q.store hs ≡ step_events (step p s)
     events-are = shows.events ∙ all-noted (step_events (step p s))
 
     -- it is that of the step
@@ -111,6 +111,12 @@ sum-next p d s u h fewer (Some r) range = record { low = low-by d r.demerits h.l
 
 pub sum-high : (p : Params) (d : ℤ) (s : State) → IsSum p d s → d ≤ℤ pos 1000000000000000000000000000
 sum-high p d s h = let k = h.high in omega (arith, ints, k)
+
+pub greedy-none : IsGreedy (pos 0)
+greedy-none = record { low = omega (arith, ints); high = omega (arith, ints) }
+
+pub greedy-sum : (p : Params) (d : ℤ) (s : State) → IsSum p d s → IsGreedy d
+greedy-sum p d s h = record { low = h.low; high = sum-high p d s h }
 
 -- ---- the insertions that come first
 

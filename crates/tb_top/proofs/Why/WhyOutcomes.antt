@@ -1,7 +1,5 @@
 -- What holds after the run of a galley was told, or not.
-use Rattle.std.proofs.Common.{◌≡◌, refl, ◌∙◌, sym, ap, subst, ℕ, inr, List, [], Option, None, Some, Ok}
-use Rattle.std.specs.Io.KnownBytes.{Appends}
-use Rattle.tb_io.specs.Sink.{AppendsPrefix}
+use Rattle.std.proofs.Common.{◌≡◌, refl, subst, ℕ, inr, List, [], Option, None, Some, Ok}
 use Rattle.tb_galley.specs.declared.Galley.{Galley}
 use Rattle.tb_galley.specs.Grammar.{grammar}
 use Rattle.tb_galley.specs.GalleyNodes.{expanded}
@@ -9,7 +7,7 @@ use Rattle.tb_galley.specs.Valid.{IsValid}
 use Rattle.tb_words.specs.declared.Mode.TheVariants as modes
 use Rattle.tb_output.specs.State.{first_state}
 use Rattle.tb_items.specs.Classes.{classes_of}
-use Rattle.tb_steps.specs.Run.{run_of, run_of_state}
+use Rattle.tb_steps.specs.Run.{run_of}
 use Rattle.tb_report.specs.declared.Totals.{Totals}
 use Rattle.tb_run.specs.declared.routine.Routine.{Routine}
 use Rattle.tb_run.specs.Routine.{state_of}
@@ -21,7 +19,7 @@ use Rattle.tb_top.specs.declared.View.TheVariants as views
 use Rattle.tb_top.specs.declared.status.Status.TheVariants as answers
 use Rattle.tb_top.specs.Answer.{err_line, run_reply, reply_to}
 use Rattle.tb_top.specs.Outcome.{Stream, Failed, Gives, HasLawfulRun, LacksRoomForCycles, Decided, Finished, OutOfCycles, StandsAfter}
-use Rattle.tb_top.specs.Pages.{end_fault, StopsText, RefusesText}
+use Rattle.tb_top.specs.Pages.{StopsText, RefusesText}
 use Rattle.tb_top.specs.PagesWritten.{run_on}
 use Rattle.tb_top.specs.Refusal.{page_status, page_text}
 use Rattle.tb_top.specs.WhyReport.{why_report, why_text}

@@ -1,4 +1,4 @@
-use Rattle.std.proofs.Common.{◌∙◌, ap, sym, subst, ◌≡◌, ◌<◌, ◌+◌, pos, true, refl, Option, FitsSigned, rules, None, arith}
+use Rattle.std.proofs.Common.{◌∙◌, ◌++◌, ap, sym, subst, ◌≡◌, ◌<◌, ◌+◌, pos, true, refl, Option, FitsSigned, rules, None, arith}
 use Rattle.std.proofs.lemmas.Result.{err_from_is_err_and, IfErr-weaker, IfOk-weaker, IfErr-at_err}
 use Rattle.std.specs.Prelude.{IfSome}
 use Rattle.std.specs.Int.{w128}
@@ -25,7 +25,11 @@ use Rattle.tb_top.proofs.Written.GoingLemmas.{refuses-text}
 use Rattle.tb_top.proofs.Written.FinishLemmas.{ClosesAt, start-closing, start-going, start-tally, turn-closing, turn-going, turn-counts, turn-tally, limit-ready, few-wait}
 use Rattle.tb_top.proofs.Written.TurnLemmas.{ShowsStep, shows-step, turn-fewer}
 use Rattle.tb_top.proofs.Rated.RatedGoing.{turn_lines, RatedGoing, rated-first, rated-now}
-use Rattle.tb_top.proofs.Rated.RatedTurns.{IsSum, RatedClosesAt, start-goes, start-closes, rating_now, break-tried, sum-first, sum-next, sum-high, turn-cut, turn-goes, turn-closes, ends-rated, stops-rated, stops-cause}
+use Rattle.tb_io.proofs.Appended.{prefix_whole}
+use Rattle.tb_top.specs.RatedPages.{IsGreedy}
+use Rattle.tb_top.specs.BestText.{shown_columns, turn_columns}
+use Rattle.tb_top.proofs.Rated.RatedColumns.{columns-start, columns-limited, columns-go, columns-end}
+use Rattle.tb_top.proofs.Rated.RatedTurns.{greedy-none, greedy-sum, IsSum, RatedClosesAt, start-goes, start-closes, rating_now, break-tried, sum-first, sum-next, sum-high, turn-cut, turn-goes, turn-closes, ends-rated, stops-rated, stops-cause}
 use Rattle.tb_top.proofs.rated_pages.run_on.Given.{Over}
 use Rattle.tb_top.proofs.rated_pages.run_on.Goals.{In-Some, In_ok-ending, In_ok-send}
 use Rattle.tb_top.proofs.rated_pages.run_on.Goals as goal
@@ -68,6 +72,16 @@ returns-in-Some-clause-refused g c =
 pub returns-in-Some-clause-cause : goal.returns-in-Some-clause-cause
 returns-in-Some-clause-cause g c = λ is. stops-cause c.node_limit.new.self c.new-totals.result (pos 0) c.in-Some.ending _ _ _ _ _ c.in_ok-show.ensures.later (IfErr-at_err _ is c.finish.ensures.refused)
 
+pub returns-in-Some-clause-range : goal.returns-in-Some-clause-range
+returns-in-Some-clause-range g c = IfOk-weaker c.finish.result _ _ (λ u h. subst IsGreedy (sym h.demerits) greedy-none) c.finish.ensures.done
+
+pub returns-in-Some-clause-columns : goal.returns-in-Some-clause-columns
+returns-in-Some-clause-columns g c =
+    let w = (goal.at.returns-in-Some-clause-columns g c).In-Some in
+    IfOk-weaker c.finish.result _ _
+    (λ u h. sym (columns-limited c.args.params.now c.args.places.now (state_of c.args.routine.now) c.node_limit.new.self (ap state_of c.node_limit.ensures.same) (shown_columns c.args.columns.now.items) c.node_limit.result (more g w) c.in-Some.ending c.in-Some.is))
+    c.finish.ensures.done
+
 pub firing-init : goal.firing-init
 firing-init g c =
     let p = c.args.params.now in
@@ -81,6 +95,7 @@ firing-init g c =
       going = start-going p views.Trace first c.node_limit.new.self None None c.new-totals.result c.node_limit.result is c.requires.page tt c.new-totals.ensures more c.in_default.is;
       tally = start-tally p views.Trace first c.node_limit.new.self None None c.new-totals.result c.node_limit.result is c.requires.page tt c.new-totals.ensures more c.requires.cycles few;
       rated = start-goes p c.args.places.now first c.node_limit.new.self _ _ c.node_limit.result is c.in_ok-show.ensures.whole more c.in_default.is;
+      columns = columns-start p c.args.places.now first c.node_limit.new.self is (shown_columns c.args.columns.now.items) c.node_limit.result more c.in_default.is;
       sum = sum-first p (state_of c.node_limit.new.self) few (ap (λ (s : State). s.page) is ∙ c.requires.page) (ap (λ (s : State). s.dead_cycles) is ∙ c.requires.cycles);
       later = c.in_ok-show.ensures.later;
     }
@@ -162,7 +177,31 @@ returns-in-Some-ending-clause-refused g c =
     let rated = turn-closes p c.args.places.now s _ _ _ _ _ _ _ c.firing.invariant.rated c.firing.invariant.going.page q c.turn.new.happened.items c.in_ok-ending.ending shows (c.firing.totals.pages + 1) c.firing.invariant.tally.pages c.rating_of-rating.result value c.in-Some-ending.ending c.in-Some-ending.is shown in
     IfErr-weaker c.finish-in-Some-ending.result _ _ (λ f h. stops-rated p c.args.places.now q c.send.new.totals _ c.in-Some-ending.ending _ _ _ run _ _ closing rated _ _ f h) c.finish-in-Some-ending.ensures.refused
 
+pub returns-in-Some-ending-clause-range : goal.returns-in-Some-ending-clause-range
+returns-in-Some-ending-clause-range g c =
+    IfOk-weaker c.finish-in-Some-ending.result _ _ (λ u h. subst IsGreedy (sym h.demerits) (greedy-sum c.args.params.now _ (state_of c.firing.routine) c.firing.invariant.sum)) c.finish-in-Some-ending.ensures.done
+
+pub returns-in-Some-ending-clause-columns : goal.returns-in-Some-ending-clause-columns
+returns-in-Some-ending-clause-columns g c =
+    let shows = turn g (goal.at.returns-in-Some-ending-clause-columns g c).In_ok-ending in
+    IfOk-weaker c.finish-in-Some-ending.result _ _
+    (λ u h. sym (columns-end c.args.params.now c.args.places.now (state_of c.firing.routine) c.turn.new.self c.turn.new.happened.items c.in_ok-ending.ending shows _ _ c.firing.invariant.columns c.in-Some-ending.ending c.in-Some-ending.is))
+    c.finish-in-Some-ending.ensures.done
+
 -- ---- the turn was not the last
+
+pub returns-in_err-note_column-clause-refused : goal.returns-in_err-note_column-clause-refused
+returns-in_err-note_column-clause-refused g c =
+    let p = c.args.params.now in
+    let s = state_of c.firing.routine in
+    let q = c.turn.new.self in
+    let shows = turn g (goal.at.returns-in_err-note_column-clause-refused g c).In_ok-ending in
+    let failed = err_from_is_err_and c.from_residual-in_err-note_column.result c.from_residual-in_err-note_column.ensures.1 in
+    let value = c.rating_of-rating.ensures.value ∙ ap (λ hs. rating_now p c.args.places.now s q (c.firing.totals.pages + 1) c.in_ok-ending.ending (events_of q.store hs)) c.deref.ensures.value in
+    let shown = subst (λ hs. Appends (g.K.Sink.held c.firing.out) (g.K.Sink.held c.send.new.out) (turn_lines (events_of q.store hs) c.rating_of-rating.result)) c.deref-in-firing.ensures.value c.in_ok-send.ensures.shown.whole in
+    rw (failed.1, failed.2)
+    (turn-cut p c.args.places.now s _ _ _ _ _ _ _ c.firing.invariant.rated c.firing.invariant.going.page q c.turn.new.happened.items c.in_ok-ending.ending shows (c.firing.totals.pages + 1) c.firing.invariant.tally.pages c.rating_of-rating.result value
+    (prefix_whole (g.K.Sink.held c.firing.out) (g.K.Sink.held c.send.new.out) _ shown))
 
 pub demerits_with-demerits-requires-clause-high : goal.demerits_with-demerits-requires-clause-high
 demerits_with-demerits-requires-clause-high g c = sum-high c.args.params.now _ (state_of c.firing.routine) c.firing.invariant.sum
@@ -200,6 +239,8 @@ firing-preserved g c =
       tally = turn-tally p views.Trace s None None c.firing.totals run c.firing.invariant.going q hs o shows few c.firing.invariant.tally (few-wait c.firing.routine c.firing.invariant.ready) c.in_ok-ending.ensures.pages c.send.new.totals after c.make_room.ensures.state c.in_default-ending.is counted;
       rated = subst (λ d. RatedGoing p c.args.places.now after (g.K.Sink.held c.args.out.now) (g.K.Sink.held c.send.new.out) d run.events (demerits_of_state p c.args.places.now (state_of c.args.routine.now)) (rated_text p c.args.places.now (state_of c.args.routine.now))) (sym same)
           (turn-goes p c.args.places.now s _ _ _ _ _ _ _ c.firing.invariant.rated c.firing.invariant.going.page q hs o shows (c.firing.totals.pages + 1) c.firing.invariant.tally.pages c.rating_of-rating.result value after c.make_room.ensures.state c.in_default-ending.is shown);
+      columns = columns-go p c.args.places.now s q hs o shows _ _ c.firing.invariant.columns (c.firing.totals.pages + 1) c.firing.invariant.tally.pages c.rating_of-rating.result value after c.make_room.ensures.state c.in_default-ending.is (shown_columns c.note_column.new.columns.items) c.firing.invariant.going.page
+          (c.in_ok-note_column.ensures q.store ∙ ap (λ hs. shown_columns c.firing.columns.items ++ turn_columns (events_of q.store hs) c.rating_of-rating.result) c.deref-in-firing-2.ensures.value);
       sum = subst (λ d. IsSum p d after) (sym same) (sum-next p _ s after c.firing.invariant.sum fewer c.rating_of-rating.result c.rating_of-rating.ensures.range);
       later = omega (arith, start, later);
     })

@@ -22,6 +22,9 @@ returns-in-Rate-clause-stands g c = rw (c.in_ok-mode.ensures.asked, c.in-Rate.is
 pub returns-in-Why-clause-stands : goal.returns-in-Why-clause-stands
 returns-in-Why-clause-stands g c = rw (c.in_ok-mode.ensures.asked, c.in-Why.is) c.write_told.ensures.stands
 
+pub returns-in-Best-clause-stands : goal.returns-in-Best-clause-stands
+returns-in-Best-clause-stands g c = rw (c.in_ok-mode.ensures.asked, c.in-Best.is) c.write_best.ensures.stands
+
 pub returns-in-Print-clause-stands : goal.returns-in-Print-clause-stands
 returns-in-Print-clause-stands g c = rw (c.in_ok-mode.ensures.asked, c.in-Print.is) c.write_canonical.ensures.stands
 

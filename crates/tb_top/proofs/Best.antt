@@ -1,0 +1,5 @@
+pub mod BestEnds
+pub mod BestOutcomes
+pub mod BestLineLemmas
+pub mod BrokenGalleys
+pub mod BestWriting
