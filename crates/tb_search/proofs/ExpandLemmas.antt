@@ -1,8 +1,7 @@
 -- Items are taken one after the other from a state while no page fires.
-use Rattle.std.proofs.Common.{◌≡◌, refl, sym, ◌∙◌, ap, subst, ◌⊎◌, inl, inr, ℕ, suc, ◌-◌, ◌<◌, ◌≤◌, ℤ, List, [], ◌∷◌, ◌++◌, length, arith}
-use Rattle.std.proofs.Common.{FitsSigned}
+use Rattle.std.proofs.Common.{◌≡◌, refl, sym, ◌∙◌, subst, ℕ, suc, ◌-◌, ◌<◌, ◌≤◌, ℤ, [], ◌∷◌, length, FitsSigned, arith}
 use Rattle.std.proofs.lemmas.Int.{ints}
-use Rattle.std.specs.Prelude.{pos, ◌+ℤ◌, ◌≤ℤ◌, ◌<ℤ◌, reverse}
+use Rattle.std.specs.Prelude.{pos, ◌+ℤ◌, ◌≤ℤ◌, reverse}
 use Rattle.std.specs.Int.{w128}
 use Rattle.tb_galley.specs.declared.Galley.{Galley}
 use Rattle.tb_rate.specs.Places.{place_penalties}
@@ -16,7 +15,7 @@ use Rattle.tb_search.specs.FilledBranches.{HasFired, IsRefused, IsRefusal, IsQui
 use Rattle.tb_search.specs.AheadInCode.{items_ahead}
 use Rattle.tb_search.specs.Starts.{row_of, IsReached, MayTake}
 use Rattle.tb_search.specs.KeptStarts.{IsNoWorseWay}
-use Rattle.tb_search.specs.Continues.{IsSearchedBy, IsSearchedAsGoodBy, IsLater, Continues, HasSearched, IsCutSearched}
+use Rattle.tb_search.specs.Continues.{IsSearchedBy, IsSearchedAsGoodBy, Continues, HasSearched, IsCutSearched}
 use Rattle.tb_search.proofs.LaterLemmas.{later-itself, later-through, searched-itself, continues-searched, searched-through, one-searched}
 use Rattle.tb_search.proofs.ReachedWays.{reached-taken, reached-fired, shown-taken}
 use Rattle.tb_search.proofs.SumLemmas.{held, sum-fits, sum-is, within-range, page-few}

@@ -1,13 +1,12 @@
-use Rattle.std.proofs.Common.{◌≡◌, sym, ◌∙◌, subst, ◌⊎◌, inl, inr, ◌-◌, ◌<◌, ◌≤◌, [], ◌∷◌, length, reverse, arith}
+use Rattle.std.proofs.Common.{◌≡◌, ◌∙◌, subst, ◌⊎◌, inl, inr, ◌-◌, ◌<◌, arith}
 use Rattle.std.proofs.lemmas.Result.{on_ok_weaker}
 use Rattle.tb_rate.specs.Places.{place_penalties}
 use Rattle.tb_best.specs.PlanDemerits.{unlimited_step}
 use Rattle.tb_search.specs.declared.table.Start.{Start}
-use Rattle.tb_search.specs.declared.table.Table.{Table}
 use Rattle.tb_search.specs.declared.branch.Filled.{Filled}
 use Rattle.tb_search.specs.declared.branch.Filled.TheVariants as filled
 use Rattle.tb_search.specs.Branches.{shown}
-use Rattle.tb_search.specs.FilledBranches.{HasFired, IsQuiet, IsFull, IsRefused, IsRefusal, FillsTo}
+use Rattle.tb_search.specs.FilledBranches.{HasFired, IsQuiet, IsRefused, IsRefusal, FillsTo}
 use Rattle.tb_search.specs.Starts.{IsReached, MayTake}
 use Rattle.tb_search.proofs.ExpandLemmas.{IsTakenOn, none-taken, next-taken-on, inside-now, level-now, taken-refused, taken-ended, taken-left, summed-fits, summed-high, summed-reached, summed-searched}
 use Rattle.tb_search.proofs.ReachedWays.{start-reached, end-rated}
@@ -58,7 +57,6 @@ page-requires-clause-branch c = c.in_ok-take.ensures.branch c.if-not-branch.fals
 
 pub page-requires-clause-params : goal.page-requires-clause-params
 page-requires-clause-params c = (taken (goal.at.page-requires-clause-params c).Else-not-branch).reached.params
-
 
 -- ---- a page fired
 
@@ -152,10 +150,10 @@ items-preserved c =
     let places = place_penalties c.cut.new.self.galley.now.items in
     let of : (f : Filled) → c.in_ok-filled.filled ≡ f → FillsTo p places c.take.new.self f c.in_ok-filled.page = λ f is. subst (λ f. FillsTo p places c.take.new.self f c.in_ok-filled.page) is c.in_ok-filled.ensures in
     let going : MayTake c.cut.new.self.galley.now (shown c.take.new.self) × ((0 < (c.items.left - 1)) ⊎ IsRefusal (unlimited_step c.cut.new.self.galley.now.params (shown c.take.new.self))) =
-        elim c.match-filled.branch [
-          in-Quiet+else-left-eq0 w ↦ (inl (of filled.Quiet w.in-Quiet.is).quiet, inl (let t = w.if-left-eq0.false in omega (arith, t)))
-          | in-Full w ↦ (full-may c.cut.new.self.galley.now (shown c.take.new.self) (of filled.Full w.in-Full.is), inr (of filled.Full w.in-Full.is).step)
-        ]
+    elim c.match-filled.branch [
+      | in-Quiet+else-left-eq0 w ↦ (inl (of filled.Quiet w.in-Quiet.is).quiet, inl (let t = w.if-left-eq0.false in omega (arith, t)))
+      | in-Full w ↦ (full-may c.cut.new.self.galley.now (shown c.take.new.self) (of filled.Full w.in-Full.is), inr (of filled.Full w.in-Full.is).step)
+    ]
     in
     record { table = c.in_ok-cut.ensures.table; on = taken (goal.at.items-preserved c).Else-not-branch; may = going.0; some = going.1 }
 
