@@ -1,6 +1,8 @@
 -- Items are taken one after the other from a state while no page fires.
-use Rattle.std.proofs.Common.{◌≡◌, refl, sym, ◌∙◌, ap, subst, ◌⊎◌, inl, inr, ℕ, suc, ◌-◌, ◌<◌, ◌≤◌, ℤ, List, [], ◌∷◌, ◌++◌, length, arith}
-use Rattle.std.specs.Prelude.{pos, ◌+ℤ◌, ◌≤ℤ◌, ◌<ℤ◌, reverse}
+use Rattle.std.proofs.Common.{◌≡◌, refl, sym, ◌∙◌, subst, ℕ, suc, ◌-◌, ◌<◌, ◌≤◌, ℤ, [], ◌∷◌, length, FitsSigned, arith}
+use Rattle.std.proofs.lemmas.Int.{ints}
+use Rattle.std.specs.Prelude.{pos, ◌+ℤ◌, ◌≤ℤ◌, reverse}
+use Rattle.std.specs.Int.{w128}
 use Rattle.tb_galley.specs.declared.Galley.{Galley}
 use Rattle.tb_rate.specs.Places.{place_penalties}
 use Rattle.tb_best.specs.PlanDemerits.{unlimited_step}
@@ -13,9 +15,10 @@ use Rattle.tb_search.specs.FilledBranches.{HasFired, IsRefused, IsRefusal, IsQui
 use Rattle.tb_search.specs.AheadInCode.{items_ahead}
 use Rattle.tb_search.specs.Starts.{row_of, IsReached, MayTake}
 use Rattle.tb_search.specs.KeptStarts.{IsNoWorseWay}
-use Rattle.tb_search.specs.Continues.{IsSearchedBy, IsSearchedAsGoodBy, IsLater, Continues, HasSearched, IsCutSearched}
+use Rattle.tb_search.specs.Continues.{IsSearchedBy, IsSearchedAsGoodBy, Continues, HasSearched, IsCutSearched}
 use Rattle.tb_search.proofs.LaterLemmas.{later-itself, later-through, searched-itself, continues-searched, searched-through, one-searched}
-use Rattle.tb_search.proofs.ReachedWays.{reached-taken, shown-taken}
+use Rattle.tb_search.proofs.ReachedWays.{reached-taken, reached-fired, shown-taken}
+use Rattle.tb_search.proofs.SumLemmas.{held, sum-fits, sum-is, within-range, page-few}
 use Rattle.tb_search.proofs.SearchSteps.{refused-searched, end-searched, no-end-searched, fired-searched, taken-searched}
 
 -- this state of a table with so many items ahead is searched
@@ -97,3 +100,27 @@ module _ (t : Table) (left : ℕ) (x : Start) (u : Table) (behind : ℕ) (y : St
   taken-left none may k =
       taken-done u (searched-itself u)
       (subst (λ n. IsSearchedFrom u.galley.now n y u) (sym none) (no-end-searched u u (later-itself u) (shown y.branch) y.way.demerits (reverse y.way.breaks.items) may k))
+
+  -- its page fired: the demerits are summed in code
+  module _ (range : u.bound ≤ℤ pos 1000000000000000000000000000) (c : Branch) (d : ℤ) (k : HasFired u.galley.now.params (place_penalties u.galley.now.items) d y.branch c) where
+    within : y.way.demerits ≤ℤ pos 1000000000000000000000000000
+    within = within-range y.way.demerits u.bound (pos 1000000000000000000000000000) h.high range
+
+    -- the demerits after the page, as the code has them
+    abbrev pub summed : ℤ
+    summed = held (held y.way.demerits +ℤ held d)
+
+    summed-is : summed ≡ (y.way.demerits +ℤ d)
+    summed-is = sum-is y.way.demerits d h.reached.low within k.low (page-few d k.high)
+
+    pub summed-fits : FitsSigned w128 (held y.way.demerits +ℤ held d)
+    summed-fits = sum-fits y.way.demerits d h.reached.low within k.low (page-few d k.high)
+
+    pub summed-high : summed ≤ℤ (u.bound +ℤ pos 1000000000000)
+    summed-high = subst (λ a. a ≤ℤ (u.bound +ℤ pos 1000000000000)) (sym summed-is) (let high = h.high in let few = page-few d k.high in omega (arith, ints, high, few))
+
+    pub summed-reached : IsReached u.galley.now behind (record { branch = c; way = record { breaks = y.way.breaks; demerits = summed } })
+    summed-reached = subst (λ a. IsReached u.galley.now behind (record { branch = c; way = record { breaks = y.way.breaks; demerits = a } })) (sym summed-is) (reached-fired u.galley.now behind y c d h.reached k)
+
+    pub summed-searched : (v : Table) → Continues u v → IsSearchedAsGoodBy v (shown c) (items_ahead u.galley.now behind) summed (reverse y.way.breaks.items) → HasSearched (row_of t.galley.now left x ∷ []) t v
+    summed-searched v on s = taken-fired c d v k on (subst (λ a. IsSearchedAsGoodBy v (shown c) (items_ahead u.galley.now behind) a (reverse y.way.breaks.items)) summed-is s)
