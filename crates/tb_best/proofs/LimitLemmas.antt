@@ -1,5 +1,5 @@
 -- A firing does not look at the limit on nodes.
-use Rattle.std.proofs.Common.{◌≡◌, refl, ap, ℕ, zero, suc, ℤ, Bool, true, false, List, [], ◌∷◌, ◌++◌, map, length, Option, Some, None}
+use Rattle.std.proofs.Common.{◌≡◌, refl, ap, ℕ, zero, suc, ℤ, Bool, true, false, List, [], ◌∷◌, ◌++◌, map, length, Option, Some, None, ◌∙◌}
 use Rattle.std.specs.Prelude.{◌+ℤ◌, ◌-ℤ◌, not, ◌&&◌, int_le, if◌then◌else◌}
 use Rattle.tb_scaled.specs.Scaled.{eject_penalty, max_ℤ}
 use Rattle.tb_scaled.specs.Glue.{filling_glue}

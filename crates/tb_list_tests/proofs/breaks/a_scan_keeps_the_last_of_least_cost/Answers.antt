@@ -25,3 +25,6 @@ add-requires-3-clause-fits g c =
     let again = c.offer-second.ensures.stands (pos 0) _ [] two in
     let low : pos 0 ≤ℤ pos 0 = omega (arith, ints) in
     stands-fits _ (pos 0) _ (shape_of c.make_box-3.result) again low (record { sized = All-from_recursion IsSized (shape_of c.make_box.result ∷ shape_of c.make_box-2.result ∷ shape_of c.make_box-3.result ∷ []) (c.make_box.ensures, (c.make_box-2.ensures, (c.make_box-3.ensures, tt))); few = omega arith })
+
+pub add-requires-2-clause-node : goal.add-requires-2-clause-node
+add-requires-2-clause-node g c = sized-fits (shape_of c.make_box-2.result) c.make_box-2.ensures
