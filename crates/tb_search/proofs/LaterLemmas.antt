@@ -169,7 +169,6 @@ level-searched t before after v galley bound best starts h = record {
       (by s cs d breaks (rows-last before.galley.now 0 before.starts.items v s cs d breaks (subst (λ xs. rows_know (rows_from before.galley.now 0 xs) s cs d breaks) starts (subst (λ a. rows_know (rows_from a.now 0 t.starts.items) s cs d breaks) (sym galley) y))));
 }
   where
-
     by : (s : State) (cs : List Ahead) (d : ℤ) (breaks : List ℕ) → rows_know (map (row_of before.galley.now (0 + length before.starts.items)) v.items) s cs d breaks ⊎ rows_know (rows_of before) s cs d breaks
         → rows_know (map (row_of before.galley.now (length before.starts.items)) v.items ++ rows_of before) s cs d breaks
     by s cs d breaks (inl y) =

@@ -133,12 +133,12 @@ module _ (g : Galley) where
   pub end-rated : (x : Start) → IsReached g 0 x → IsQuiet g.params (shown x.branch) → IsRated g x.way
   end-rated x h k =
       let is = ends-are-plans g x.way.demerits (reverse x.way.breaks.items) (record {
-            state = shown x.branch;
-            events = k.events;
-            records = k.records;
-            left = k.left;
-            reached = subst (λ cs. Reaches g (shown x.branch) cs x.way.demerits (reverse x.way.breaks.items)) (none-ahead g) h.reached;
-            ends_well = k.step;
-          })
+        state = shown x.branch;
+        events = k.events;
+        records = k.records;
+        left = k.left;
+        reached = subst (λ cs. Reaches g (shown x.branch) cs x.way.demerits (reverse x.way.breaks.items)) (none-ahead g) h.reached;
+        ends_well = k.step;
+      })
       in
       record { is_plan = subst (IsPlan g) (reverse-reverse x.way.breaks.items) is.0; sum = ap (plan_demerits g) (sym (reverse-reverse x.way.breaks.items)) ∙ is.1 }

@@ -84,7 +84,7 @@ module _ (t u : Table) (later : IsLater t u) where
       subst (λ cs. IsSearchedBy u s cs d breaks) (sym (next-is g left some))
       (takes s (next_ahead g left) (items_ahead g left) d breaks (in-galley (λ a. (reach_in a.params s).fires ≡ false) quiet)
       (λ place box.
-          still-searched middle u on (state_with (forced (next_ahead g left) ∷ (next_ahead g left).nodes) s) (items_ahead g left) (d +ℤ pos 1000) ((next_ahead g left).number ∷ breaks) (put_in place box))
+      still-searched middle u on (state_with (forced (next_ahead g left) ∷ (next_ahead g left).nodes) s) (items_ahead g left) (d +ℤ pos 1000) ((next_ahead g left).number ∷ breaks) (put_in place box))
       h)
 
 -- ---- breaks
@@ -92,7 +92,7 @@ module _ (t u : Table) (later : IsLater t u) where
 -- the ways with a break before the next item, by that item
 pub cut-searched : (u : Table) (g : Galley) (left : ℕ) (s : State) (d : ℤ) (breaks : List ℕ) → suc left ≤ length (all_ahead g)
     → ((next_ahead g left).is_place ≡ true → holds_box s.waiting ≡ true
-        → IsSearchedBy u (state_with (forced (next_ahead g left) ∷ (next_ahead g left).nodes) s) (items_ahead g left) (d +ℤ pos 1000) ((next_ahead g left).number ∷ breaks))
+    → IsSearchedBy u (state_with (forced (next_ahead g left) ∷ (next_ahead g left).nodes) s) (items_ahead g left) (d +ℤ pos 1000) ((next_ahead g left).number ∷ breaks))
     → IsCutSearched u s (items_ahead g (suc left)) d breaks
 cut-searched u g left s d breaks some h = subst (λ cs. IsCutSearched u s cs d breaks) (sym (next-is g left some)) h
 

@@ -53,7 +53,7 @@ module _ (g : Galley) (bound total : ℤ) (best : List ℕ) (waiting : List Row)
 -- ---- later tables
 
 module _ (g : Galley) (bound total after : ℤ) (best later : List ℕ) (better : IsNoBetter after later total best) (waiting rows : List Row)
-  (all : (s : State) (cs : List Ahead) (d : ℤ) (breaks : List ℕ) → rows_know waiting s cs d breaks → IsSearched g bound after later rows s cs d breaks) where
+    (all : (s : State) (cs : List Ahead) (d : ℤ) (breaks : List ℕ) → rows_know waiting s cs d breaks → IsSearched g bound after later rows s cs d breaks) where
   -- if the rows that waited are searched, so is what was searched up to them
   pub searched-later : (s : State) (cs : List Ahead) (d : ℤ) (breaks : List ℕ) → IsSearched g bound total best waiting s cs d breaks → IsSearched g bound after later rows s cs d breaks
   searched-later _ _ _ _ (over s cs d breaks h) = over s cs d breaks h

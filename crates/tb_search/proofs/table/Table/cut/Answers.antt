@@ -32,7 +32,7 @@ returns-then-not-index-clause-searched c =
     let flag = next-flag c.args.self.now (c.len.result - c.args.left) (c.args.left - 1) c.requires.table (omega (arith, a, b, i, s)) in
     let found : get_or c.args.self.now.is_place.items (c.len.result - c.args.left) c.index.result.now ≡ false = sym c.index.ensures ∙ c.if-not-index.true in
     let none : get_or c.args.self.now.is_place.items (c.len.result - c.args.left) false ≡ false =
-        ap (get_or c.args.self.now.is_place.items (c.len.result - c.args.left)) (sym c.if-not-index.true) ∙ found
+    ap (get_or c.args.self.now.is_place.items (c.len.result - c.args.left)) (sym c.if-not-index.true) ∙ found
     in
     of-next c.args.self.now c.args.left x c.args.self.now s
     (not-place c.args.self.now (c.args.left - 1) x (omega (arith, i, s)) c.args.self.now (sym flag ∙ none))

@@ -47,7 +47,7 @@ settle-requires-clause-reached c =
     let is : IsBranch c.cut.new.self = c.in_ok-cut.ensures.branch c.if-not-branch.false in
     let y : Start = record { branch = c.cut.new.self; way = record { breaks = breaks; demerits = a +ℤ pos 1000 } } in
     let more : breaks.items ≡ c.args.way.now.breaks.items ++ (next_ahead g k).number ∷ [] =
-        c.in_ok-breaks.ensures ∙ (λ i. c.as_slice.ensures.value i ++ sym m.numbered i ∷ [])
+    c.in_ok-breaks.ensures ∙ (λ i. c.as_slice.ensures.value i ++ sym m.numbered i ∷ [])
     in
     let cut = reached-cut g k x c.cut.new.self breaks m.some m.reached m.place m.taken is more in
     subst (λ e. IsReached g k (record { branch = c.fill.new.self; way = record { breaks = breaks; demerits = e } }))
@@ -69,8 +69,8 @@ returns-in-Fired-clause-searched c =
     let f = fired (goal.at.returns-in-Fired-clause-searched c).In-Fired in
     let sum = paid-sum a t.bound c.in-Fired.demerits c.requires.reached.low c.requires.high c.requires.table.range f.low f.high in
     let back : reverse c.in_ok-breaks.breaks.items ≡ (next_ahead t.galley.now k).number ∷ reverse c.args.way.now.breaks.items =
-        read-back c.in_ok-breaks.breaks.items c.args.way.now.breaks.items (next_ahead t.galley.now k).number c.args.number
-        (c.in_ok-breaks.ensures ∙ ap (λ bs. bs ++ c.args.number ∷ []) c.as_slice.ensures.value) m.numbered
+    read-back c.in_ok-breaks.breaks.items c.args.way.now.breaks.items (next_ahead t.galley.now k).number c.args.number
+    (c.in_ok-breaks.ensures ∙ ap (λ bs. bs ++ c.args.number ∷ []) c.as_slice.ensures.value) m.numbered
     in
     if-both c.settle.result _ _ _ c.settle.ensures.continues c.settle.ensures.searched
     (λ on searched.
@@ -87,7 +87,7 @@ returns-in-Quiet c =
     let x : Start = record { branch = c.args.branch.now; way = c.args.way.now } in
     let m = made (goal.at.returns-in-Quiet c).After-fill in
     let f =
-        subst (λ ps. FillsTo t.galley.now.params ps c.cut.new.self c.in_ok-demerits.field-0 c.fill.new.self) (c.as_slice-2.ensures.value ∙ c.requires.table.penalties) c.in_ok-demerits.ensures
+    subst (λ ps. FillsTo t.galley.now.params ps c.cut.new.self c.in_ok-demerits.field-0 c.fill.new.self) (c.as_slice-2.ensures.value ∙ c.requires.table.penalties) c.in_ok-demerits.ensures
     in
     record {
       table = c.requires.table;
