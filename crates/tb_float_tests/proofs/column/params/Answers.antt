@@ -35,4 +35,11 @@ returns c =
       dblfptop = others.dblfptop;
       dblfpsep = others.dblfpsep;
       dblfpbot = others.dblfpbot;
+      texttop = others.texttop;
+      textbottom = others.textbottom;
+      footfill = others.footfill;
+      footrule = others.footrule;
+      toprule = others.toprule;
+      bottomrule = others.bottomrule;
+      dblrule = others.dblrule;
     }
