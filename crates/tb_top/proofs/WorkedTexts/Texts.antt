@@ -221,6 +221,6 @@ class_of_a_foot_in_version_1 : spelled (codes "galley 1\nfoot 254\nendfoot\nend\
 unfolding spelled grammar row_of word_of default_params
 class_of_a_foot_in_version_1 = refl
 
-version_3 : spelled (codes "galley 3\nend\n") ≡ Err (fault 1 2 causes.NoHeader)
+version_4 : spelled (codes "galley 4\nend\n") ≡ Err (fault 1 2 causes.NoHeader)
 unfolding spelled grammar row_of word_of default_params
-version_3 = refl
+version_4 = refl

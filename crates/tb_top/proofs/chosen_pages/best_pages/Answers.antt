@@ -24,8 +24,8 @@ use Rattle.tb_top.proofs.chosen_pages.best_pages.Goals as goal
 
 -- ---- what is asked
 
-pub best_breaks-requires-clause-greedy : goal.best_breaks-requires-clause-greedy
-best_breaks-requires-clause-greedy g c =
+pub best_breaks-requires-clause-sum : goal.best_breaks-requires-clause-sum
+best_breaks-requires-clause-sum g c =
     let fits : FitsSigned w128 c.in_ok-greedy.greedy = search rules in
     simp to_z-of_z (greedy-plan c.args.galley.now c.in_ok-greedy.greedy c.in_ok-greedy.ensures.demerits)
 
