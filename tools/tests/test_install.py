@@ -194,7 +194,7 @@ class Manual(unittest.TestCase):
 
     def test_statuses(self):
         found = re.findall(r'Status::(\w+) => (\d+)', read('crates', 'tb_top', 'src', 'status.rt'))
-        self.assertEqual(len(found), 15)
+        self.assertEqual(len(found), 16)
         for name, code in found:
             self.assertRegex(self.text, r'\.B %s\n%s[.:]' % (code, name))
 
