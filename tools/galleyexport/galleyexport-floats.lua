@@ -172,11 +172,12 @@ local function margin_line(note, mode)
   return string.format("margin %s %s %s", note.name, table.concat(sizes, " "), mode)
 end
 
+-- Whether a float or marginal note has what only galleys of version 3 say: `nobreak`, or the depth of a double float.
+function M.is_new(float) return float.no_break or float.double end
+
 -- The line of a float or marginal note that was called in a paragraph (`mode` par) or between two (vert).
 function M.line(float, mode)
-  if float.no_break and mode == "vert" then
-    log.lost("a float or marginal note right below a heading (a page may end there)", float.place)
-  end
+  if float.no_break then mode = mode .. " nobreak" end
   if float.kind == "margin" then return margin_line(float, mode) end
   if float.depth > 1 then log.lost("a float with a depth", float.place) end
   return string.format("float %s %d %s %s %d %s", float.name, M.class(float), float.double and "double" or "single",

@@ -131,6 +131,7 @@ local function put_float(put, record)
     return
   end
   local vert = record.value == FLOAT_VERT
+  if floats.is_new(float) then parameters.use_new() end
   put(floats.line(float, vert and "vert" or "par"))
   if float.kind == "margin" then
     counts.margins = counts.margins + 1

@@ -217,7 +217,7 @@ end
 
 -- ---- Pages
 
--- The floats over both columns at the head of a pair with the rule below them, and how much room the rule takes.
+-- The floats over both columns at the head of a pair with the rule below them, and how much room their depths and the rule take.
 local function wide_floats(v)
   local out, y, room = {}, 0, 0
   for n in node.traverse(v.head) do
@@ -225,6 +225,7 @@ local function wide_floats(v)
       local float, side = floats.of(n)
       if float and not side then
         out[#out + 1] = { kind = "wide", float = float, top = y, height = n.height, depth = n.depth }
+        room = room + n.depth
       end
       y = y + n.height + n.depth
     elseif n.id == NODE.rule then
@@ -234,15 +235,6 @@ local function wide_floats(v)
     elseif n.id == NODE.kern then y, room = y + n.kern, room + n.kern end
   end
   return out, room
-end
-
--- Tells of the depth of 1sp that LaTeX gives to double floats, where it moves anything: on a page of them alone, and above
--- another one.
-local function tell_depths(items)
-  for k, item in ipairs(items) do
-    local moves = item.kind == "float" or (items[k + 1] and items[k + 1].kind == "wide")
-    if item.float and item.depth > 0 and moves then log.lost("the depth of a double float (0 is written)") end
-  end
 end
 
 -- LaTeX ships a page: of the columns that it made since the last one, or of floats over both columns alone.
@@ -257,13 +249,11 @@ function M.page(box, two_columns, text_height, number)
     local room
     page.wide, room = wide_floats(v)
     page.at = text_height - page.columns[1].height + (#page.wide > 0 and room or 0)
-    tell_depths(page.wide)
   elseif #page.columns == 0 then
     page.kind = "wide"
     local column = { kind = "floats", number = 1, height = v.height, set = setting(v), items = {} }
     add_items(column.items, v, column.set, 0, column.kind)
     page.columns = { column }
-    tell_depths(column.items)
   elseif two_columns then
     log.lost("a page of one column where there are two")
   end

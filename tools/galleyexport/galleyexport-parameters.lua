@@ -262,7 +262,10 @@ function M.settle_parskip()
   tell_others("parskip at a float between paragraphs", parskips, own.parskip, "")
 end
 
-local is_new = false   -- whether a parameter of version 3 has another value than in an earlier version
+local is_new = false   -- whether a parameter of version 3 has another value than in an earlier version, or a float or a class needs that version
+
+-- A float or marginal note needs version 3.
+function M.use_new() is_new = true end
 
 -- The values of the part after so many clears, nil where LaTeX made no column in it.
 function M.of_part(clears)
@@ -310,7 +313,8 @@ local FORMS = {
   end,
 }
 
--- The version of the galleys: 3 if one of its parameters is needed, else that of the words that a galley has.
+-- The version of the galleys: 3 if one of its parameters or a class below the footnotes is needed, or by a float, else that of the words
+-- that a galley has.
 function M.version(has_classes)
   return is_new and 3 or has_classes and 2 or 1
 end
@@ -350,6 +354,16 @@ function M.is_footnote(record)
   return class ~= nil and class.kind == FOOT
 end
 
+local FIRST_SERIES = 100
+local below = {}       -- TeX's number of the insertion -> the rule of a series below the footnotes, and its place
+local series = 0
+
+-- A series of notes stands below the footnotes and the series before it, under this rule.
+function M.below(number, rule)
+  series = series + 1
+  below[number] = { rule = rule, order = series }
+end
+
 -- The class of an insertion, nil for footnotes, which need no number. Notes how it is said.
 function M.class_of(record)
   if not classes[record.class] then
@@ -362,6 +376,10 @@ function M.class_of(record)
   if class.kind == ENLARGED then
     log.lost(#record.leaves > 1 and "\\enlargethispage* (an insertion of class 253 is written)"
       or "\\enlargethispage (an insertion of class 253 is written)", record.place)
+  elseif below[record.class] then
+    local own = below[record.class]
+    class.below, class.number = own.rule, FIRST_SERIES + own.order
+    is_new = true
   else
     log.lost("another class of insertions (its boxes stand before the footnotes, without a rule)", record.place)
   end
@@ -374,7 +392,8 @@ function M.class_lines(used)
   for class in pairs(used) do sorted[#sorted + 1] = class end
   table.sort(sorted, function(a, b) return a.number < b.number end)
   for _, class in ipairs(sorted) do
-    out[#out + 1] = string.format("class %d %d %d %s", class.number, class.factor, class.limit, class.skip)
+    out[#out + 1] = string.format("class %d %d %d %s%s", class.number, class.factor, class.limit,
+      class.below and "below " .. class.below .. " " or "", class.skip)
   end
   return out
 end

@@ -12,7 +12,8 @@ from . import report
 FORCED = -10000
 STRENGTHS = {'0': 0, '1': 51, '2': 151, '3': 301, '4': 10000}      # the penalties of nopagebreak, by its number
 HEADER = ('galley', 'set', 'class')
-PASSED = ('penalty', 'pagebreak', 'nopagebreak', 'mark', 'note', 'foot', 'float', 'margin', 'suppressfloats')   # no room
+PASSED = ('penalty', 'pagebreak', 'nopagebreak', 'mark', 'note', 'foot', 'float', 'margin', 'suppressfloats',
+          'page')   # no room
 CHOICES = 16            # the status where there are too many choices
 WAITING_DEMERITS = 10000    # demerits for each float that waits and each insertion that is held
 

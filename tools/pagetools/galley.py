@@ -6,7 +6,7 @@ from .tries import scaled
 
 # What may stand between two boxes: room, and what says whether a page may end there.
 BETWEEN = ('glue', 'kern', 'penalty', 'newpage', 'clearpage', 'onecolumn', 'twocolumn', 'pagebreak', 'nopagebreak',
-           'suppressfloats')
+           'suppressfloats', 'page')
 UNITS = {'fil': 'fil', 'fill': 'fill', 'filll': 'filll'}
 
 

@@ -12,10 +12,11 @@ GALLEY_LINES = {
     'galley': 'galley 1', 'set': 'set NAME VALUE', 'box': 'box NAME HEIGHT DEPTH', 'rule': 'rule NAME HEIGHT DEPTH',
     'glue': 'glue WIDTH [plus STRETCH] [minus SHRINK]', 'kern': 'kern WIDTH', 'penalty': 'penalty NUMBER',
     'mark': 'mark NAME', 'note': 'note NAME', 'class': 'class NUMBER FACTOR LIMIT WIDTH [plus STRETCH] [minus SHRINK]',
-    'foot': 'foot', 'endfoot': 'endfoot', 'float': 'float NAME CLASS single|double PLACES HEIGHT par|vert',
-    'margin': 'margin NAME LEFT-HEIGHT LEFT-DEPTH RIGHT-HEIGHT RIGHT-DEPTH par|vert', 'newpage': 'newpage',
+    'foot': 'foot', 'endfoot': 'endfoot', 'float': 'float NAME CLASS single|double PLACES HEIGHT par|vert [nobreak]',
+    'margin': 'margin NAME LEFT-HEIGHT LEFT-DEPTH RIGHT-HEIGHT RIGHT-DEPTH par|vert [nobreak]', 'newpage': 'newpage',
     'clearpage': 'clearpage', 'pagebreak': 'pagebreak 0..4', 'nopagebreak': 'nopagebreak 0..4', 'onecolumn': 'onecolumn',
-    'twocolumn': 'twocolumn', 'suppressfloats': 'suppressfloats [t|b]', 'end': 'end',
+    'twocolumn': 'twocolumn', 'suppressfloats': 'suppressfloats [t|b]', 'page': 'page NUMBER',
+    'end': 'end',
 }
 PARAGRAPH_LINES = {
     'lines': 'lines 1', 'set': 'set NAME VALUE', 'par': 'par NAME', 'endpar': 'endpar', 'word': 'word WIDTH HEIGHT DEPTH',

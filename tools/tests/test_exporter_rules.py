@@ -137,6 +137,15 @@ class NewParameters(Latex):
         self.export(document(), preamble=r'\usepackage[bottom,abovefloats]{footmisc}')
         self.assertIn("can't say: the glue that footmisc puts above bottom floats", self.read('test.galleylog'))
 
+    @unittest.skipUnless(is_installed('manyfoot.sty'), 'no manyfoot')
+    def test_series_of_manyfoot(self):
+        preamble = r'\usepackage{manyfoot}\SelectFootnoteRule[2]{default}\newfootnote{A}\SelectFootnoteRule{default}\newfootnote{B}'
+        series = r'Words.\FootnotetextB{b}{A note of B.} Words.\FootnotetextA{a}{A note of A.} '
+        self.export(LINES * 3 + NOTE + series + LINES * 20 + NOTE + series, preamble=preamble)
+        self.assert_new()
+        rules = re.findall(r'^class ([0-9]*) 1000 [0-9]* below (.*) 589824 plus', self.read('test.galley'), re.M)
+        self.assertEqual(rules, [('101', KERNEL['footrule']), ('102', KERNEL['footrule'])])
+
 
 if __name__ == '__main__':
     unittest.main()

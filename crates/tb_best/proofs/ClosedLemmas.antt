@@ -11,7 +11,7 @@ use Rattle.tb_steps.specs.Run.{Step, ends, goes_on}
 use Rattle.tb_rate.specs.declared.PlacePenalty.{PlacePenalty}
 use Rattle.tb_rate.specs.Places.{place_penalties}
 use Rattle.tb_rate.specs.Rating.{square, points_left, base, with_penalty, rated_badness, rated_penalty, rated, rating}
-use Rattle.tb_rate.specs.Tries.{last_champion}
+use Rattle.tb_rate.specs.Tries.{last_champion, first_number}
 use Rattle.tb_rate.specs.RatedRun.{floats_waiting, insertions_first, demerits_if}
 use Rattle.tb_best.specs.PlanDemerits.{step_demerits}
 use Rattle.tb_best.specs.ItemsAhead.{Ahead, forced, state_with}
@@ -62,7 +62,7 @@ rating-low p places page (Some t) waiting held = rating-by p places page t waiti
 
 pub step-low : (p : Params) (places : List PlacePenalty) (s : State) (x : Step) → pos 0 ≤ℤ step_demerits p places s x
 step-low p places s (ends es rs e) = omega (arith, ints)
-step-low p places s (goes_on es rs t) = rating-low p places s.page (last_champion es) (floats_waiting t.floats) (insertions_first t.waiting)
+step-low p places s (goes_on es rs t) = rating-low p places (first_number t.number es) (last_champion es) (floats_waiting t.floats) (insertions_first t.waiting)
 
 -- ---- the sum of a way
 

@@ -14,7 +14,8 @@ use Rattle.tb_insert.specs.Terms.{Terms}
 use Rattle.tb_insert.specs.Account.{terms_after}
 use Rattle.tb_builder.specs.Reach.{Reach, tried, also_reached, page_place, stopped_at, reach_at, reach_node, reach_from, holds_box}
 use Rattle.tb_builder.specs.FiredPages.{frozen_for}
-use Rattle.tb_output.specs.State.{State, ask_of}
+use Rattle.tb_output.specs.State.{State}
+use Rattle.tb_steps.specs.Run.{ask_for}
 use Rattle.tb_best.specs.PlanDemerits.{reach_in}
 use Rattle.tb_best.specs.ItemsAhead.{Ahead, forced, state_with}
 
@@ -91,10 +92,11 @@ module _ (top : ℤ) where
 pub behind-box : (p : Params) (s : State) (line : ℕ) (q : ℤ) (rest : List PlainNode) → int_lt q inf_penalty ≡ true → int_le q eject_penalty ≡ true → holds_box s.waiting ≡ true
     → (reach_in p (state_with (record { line = line; kind = plain (pen q) } ∷ rest) s)).fires ≡ true
 behind-box p s line q rest legal stops box =
-    let limit = (ask_of p s).max_depth in
-    let terms = terms_after (frozen_for (ask_of p s) s.classes s.boxes) in
-    ap (λ ns. (reach_from limit terms [] ns).fires) (box-first (ask_of p s).top_skip s.waiting (penalty_on line q ∷ rest) box)
-    ∙ list-fires limit terms line q (record { legal = legal; stops = stops }) [] (pruned_nodes (ask_of p s).top_skip s.waiting) rest
+    let made = ask_for p (state_with (penalty_on line q ∷ rest) s) in
+    let limit = made.max_depth in
+    let terms = terms_after (frozen_for made s.classes s.boxes) in
+    ap (λ ns. (reach_from limit terms [] ns).fires) (box-first made.top_skip s.waiting (penalty_on line q ∷ rest) box)
+    ∙ list-fires limit terms line q (record { legal = legal; stops = stops }) [] (pruned_nodes made.top_skip s.waiting) rest
 
 -- a page with a box fires where a break is put in
 pub cut-fires : (p : Params) (s : State) (c : Ahead) → holds_box s.waiting ≡ true → (reach_in p (state_with (forced c ∷ c.nodes) s)).fires ≡ true

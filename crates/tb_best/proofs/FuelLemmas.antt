@@ -5,12 +5,13 @@ use Rattle.std.proofs.lemmas.Int.{ints}
 use Rattle.std.proofs.lemmas.Nat.{mul-le}
 use Rattle.tb_scaled.specs.Scaled.{awful_bad}
 use Rattle.tb_param.specs.declared.Params.{Params}
+use Rattle.tb_builder.specs.declared.Ask.{Ask}
 use Rattle.tb_builder.specs.Reach.{Reach}
 use Rattle.tb_builder.specs.FiredPages.{Fired, fired_of}
-use Rattle.tb_output.specs.State.{State, Work, Recorded, begun, ask_of, emptied}
+use Rattle.tb_output.specs.State.{State, Work, Recorded, begun, emptied}
 use Rattle.tb_output.specs.Output.{out, after_page}
 use Rattle.tb_items.specs.RunEvents.{RunEvent, sent}
-use Rattle.tb_steps.specs.Run.{dead_cycles, page_limit, done, Progress, progress, Step, ends, goes_on, firings_left}
+use Rattle.tb_steps.specs.Run.{dead_cycles, page_limit, done, Progress, progress, Step, ends, goes_on, firings_left, ask_for}
 use Rattle.tb_laws.proofs.StepLaws.TurnLemmas.{Turned, out-turned}
 use Rattle.tb_laws.proofs.Defined.FuelLemmas.{SameCounts, progress-counts, left_of, Turns}
 use Rattle.tb_rate.specs.declared.PlacePenalty.{PlacePenalty}
@@ -54,11 +55,11 @@ work-turns p s es rs w h = by w.refused refl
     by true r = tt
     by false r = h r
 
-fire-turns : (p : Params) (s : State) (w : Reach) (q : Progress) → 1 ≤ s.page → SameCounts s q.state → Turns p s (unlimited_fire p w q)
-fire-turns p s w q h k = by_cycles (int_lt (pos q.state.dead_cycles) p.maxdeadcycles) refl
+fire-turns : (p : Params) (s : State) (a : Ask) (w : Reach) (q : Progress) → 1 ≤ s.page → SameCounts s q.state → Turns p s (unlimited_fire p a w q)
+fire-turns p s a w q h k = by_cycles (int_lt (pos q.state.dead_cycles) p.maxdeadcycles) refl
   where
     f : Fired
-    f = fired_of (ask_of p q.state) q.state.classes q.state.boxes w
+    f = fired_of a q.state.classes q.state.boxes w
 
     turned : Turned p (begun (after_page q.state f)) (out p q.state f)
     turned = out-turned p q.state f
@@ -74,9 +75,9 @@ either-turns : (p : Params) (s : State) (t : Bool) (x y : Step) → Turns p s x 
 either-turns p s true x y h k = h
 either-turns p s false x y h k = k
 
-progress-turns : (p : Params) (s : State) (w : Reach) (q : Progress) (o : Option (ℕ × ℕ)) → 1 ≤ s.page → SameCounts s q.state → Turns p s (unlimited_progress p w q o)
-progress-turns p s w q None h k = either-turns p s w.fires (unlimited_fire p w q) (ends q.events (q.records ++ emptied q.state.floats ∷ []) (done w.passed)) (fire-turns p s w q h k) tt
-progress-turns p s w q (Some f) h k = tt
+progress-turns : (p : Params) (s : State) (a : Ask) (w : Reach) (q : Progress) (o : Option (ℕ × ℕ)) → 1 ≤ s.page → SameCounts s q.state → Turns p s (unlimited_progress p a w q o)
+progress-turns p s a w q None h k = either-turns p s w.fires (unlimited_fire p a w q) (ends q.events (q.records ++ emptied q.state.floats ∷ []) (done w.passed)) (fire-turns p s a w q h k) tt
+progress-turns p s a w q (Some f) h k = tt
 
 -- a step that goes on lowers what is left of the firings
 pub step-turns : (p : Params) (s : State) → 1 ≤ s.page → Turns p s (unlimited_step p s)
@@ -84,7 +85,7 @@ unfolding unlimited_step
 step-turns p s h =
     let w = reach_in p s in
     let q = progress p w.reached awful_bad s in
-    progress-turns p s w q q.fault h (progress-counts p w.reached awful_bad s)
+    progress-turns p s (ask_for p s) w q q.fault h (progress-counts p w.reached awful_bad s)
 
 -- ---- the fuel
 

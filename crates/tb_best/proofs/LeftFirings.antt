@@ -78,13 +78,13 @@ module _ (p : Params) where
 
   ship-other : (a b : PlainSheet) (w : Work) (c : Option PlainColumn) (es : List PlainSent) (rs : List Recorded) → IsLike (ship p a (swapped c es rs w)) (ship p b w)
   ship-other a b w c es rs =
-      let v = record w { state = record w.state { page = w.state.page + 1; dead_cycles = 0 } } in
+      let v = record w { state = record w.state { page = w.state.page + 1; number = w.state.number + 1; dead_cycles = 0 } } in
       either w.refused (swapped c es rs w) w
-      (if int_lt p.maxpages (pos w.state.page) then record (swapped c es rs w) { refused = true } else sends (shipped w.state.page a) (swapped c es rs v))
-      (if int_lt p.maxpages (pos w.state.page) then record w { refused = true } else sends (shipped w.state.page b) v)
+      (if int_lt p.maxpages (pos w.state.page) then record (swapped c es rs w) { refused = true } else sends (shipped w.state.number a) (swapped c es rs v))
+      (if int_lt p.maxpages (pos w.state.page) then record w { refused = true } else sends (shipped w.state.number b) v)
       (c, es, rs, refl)
-      (either (int_lt p.maxpages (pos w.state.page)) (record (swapped c es rs w) { refused = true }) (record w { refused = true }) (sends (shipped w.state.page a) (swapped c es rs v)) (sends (shipped w.state.page b) v)
-      (c, es, rs, refl) (sends-other (shipped w.state.page a) (shipped w.state.page b) v c es rs))
+      (either (int_lt p.maxpages (pos w.state.page)) (record (swapped c es rs w) { refused = true }) (record w { refused = true }) (sends (shipped w.state.number a) (swapped c es rs v)) (sends (shipped w.state.number b) v)
+      (c, es, rs, refl) (sends-other (shipped w.state.number a) (shipped w.state.number b) v c es rs))
 
   float-keep : (place : Where) (f : Float) (left : FloatLists) → Keeps (λ w. place_float p place f left w)
   float-keep place f left w c es rs =
@@ -210,8 +210,8 @@ module _ (p : Params) where
 
   -- ---- a float or note
 
-  interline-keep : Keeps (λ w. puts_interline p w)
-  interline-keep w c es rs = (c, es, rs, refl)
+  interline-keep : (nobreak : Bool) → Keeps (λ w. puts_interline p nobreak w)
+  interline-keep nobreak w c es rs = (c, es, rs, refl)
 
   defer-keep : (f : Float) (left : FloatLists) → Keeps (λ w. defer p f left w)
   defer-keep f left w c es rs =
@@ -221,15 +221,15 @@ module _ (p : Params) where
       (onto (λ v. sends e v) (sends-keep e) (place_float p places.Deferred (with_top f) left (swapped c es rs w)) (place_float p places.Deferred (with_top f) left w) (float-keep places.Deferred (with_top f) left w c es rs))
       (float-keep places.Deferred f left w c es rs)
 
-  interline-float : (place : Where) (f : Float) (left : FloatLists) → Keeps (λ w. puts_interline p (place_float p place f left w))
-  interline-float place f left w c es rs = onto (λ v. puts_interline p v) interline-keep (place_float p place f left (swapped c es rs w)) (place_float p place f left w) (float-keep place f left w c es rs)
+  interline-float : (place : Where) (f : Float) (left : FloatLists) → Keeps (λ w. puts_interline p f.nobreak (place_float p place f left w))
+  interline-float place f left w c es rs = onto (λ v. puts_interline p f.nobreak v) (interline-keep f.nobreak) (place_float p place f left (swapped c es rs w)) (place_float p place f left w) (float-keep place f left w c es rs)
 
-  interline-defer : (f : Float) (left : FloatLists) → Keeps (λ w. puts_interline p (defer p f left w))
-  interline-defer f left w c es rs = onto (λ v. puts_interline p v) interline-keep (defer p f left (swapped c es rs w)) (defer p f left w) (defer-keep f left w c es rs)
+  interline-defer : (f : Float) (left : FloatLists) → Keeps (λ w. puts_interline p f.nobreak (defer p f left w))
+  interline-defer f left w c es rs = onto (λ v. puts_interline p f.nobreak v) (interline-keep f.nobreak) (defer p f left (swapped c es rs w)) (defer p f left w) (defer-keep f left w c es rs)
 
   goes-keep : (vert : Bool) (f : Float) (left : FloatLists) (place : Where) → Keeps (λ w. float_goes p vert f left w place)
   goes-keep vert f left places.Here w c es rs =
-      onto (λ v. puts (here_nodes p vert f) v) (puts-keep (here_nodes p vert f)) (puts_interline p (place_float p places.Here f left (swapped c es rs w))) (puts_interline p (place_float p places.Here f left w))
+      onto (λ v. puts (here_nodes p vert f) v) (puts-keep (here_nodes p vert f)) (puts_interline p f.nobreak (place_float p places.Here f left (swapped c es rs w))) (puts_interline p f.nobreak (place_float p places.Here f left w))
       (interline-float places.Here f left w c es rs)
   goes-keep vert f left places.Top w c es rs = interline-float places.Top f left w c es rs
   goes-keep vert f left places.Bottom w c es rs = interline-float places.Bottom f left w c es rs
@@ -245,10 +245,10 @@ module _ (p : Params) where
   note-keep : (depth : ℤ) (n : Margin) (left : FloatLists) (at : Placed) → Keeps (λ w. note_goes p depth n left w at)
   note-keep depth n left at w c es rs =
       let v = with_note_bottom at.bottom (with_floats left w) in
-      onto (λ u. puts_interline p (puts (note_nodes depth n at) u)) (λ u d fs qs. (d, fs, qs, refl)) (moved_warning n at (swapped c es rs v)) (moved_warning n at v) (moved-keep n at v c es rs)
+      onto (λ u. puts_interline p n.nobreak (puts (note_nodes depth n at) u)) (λ u d fs qs. (d, fs, qs, refl)) (moved_warning n at (swapped c es rs v)) (moved_warning n at v) (moved-keep n at v c es rs)
 
   note-at-keep : (height depth : ℤ) (n : Margin) (left : FloatLists) → Keeps (λ w. note_at p height depth n left w)
-  note-at-keep height depth n left w c es rs = note-keep depth n left (placed_note p w.state.page w.state.two_columns w.state.first_column height w.state.note_bottom n) w c es rs
+  note-at-keep height depth n left w c es rs = note-keep depth n left (placed_note p w.state.number w.state.two_columns w.state.first_column height w.state.note_bottom n) w c es rs
 
   first-keep : (vert : Bool) (height depth high : ℤ) (es : List Entry) → Keeps (λ w. first_goes p vert height depth high es w)
   first-keep vert height depth high [] w c es rs = (c, es, rs, refl)
@@ -280,7 +280,7 @@ module _ (p : Params) where
 
   leave-keep : Keeps (λ w. leave_column w)
   leave-keep w c es rs =
-      let e = warned (warnings.Floats w.state.page) in
+      let e = warned (warnings.Floats w.state.number) in
       onto (λ v. puts (if w.state.two_columns && not w.state.first_column then blank_column ++ blank_column else blank_column) v)
       (λ v d fs qs. (d, fs, qs, refl)) (sends e (swapped c es rs w)) (sends e w) (sends-keep e w c es rs)
 

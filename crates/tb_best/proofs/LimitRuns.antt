@@ -2,7 +2,7 @@
 use Rattle.std.proofs.Common.{◌≡◌, refl, sym, ◌∙◌, ap, ℕ, zero, suc, ℤ, Bool, false, List, [], ◌∷◌, ◌++◌, Option, Some, None}
 use Rattle.std.specs.Prelude.{pos, int_lt, if◌then◌else◌}
 use Rattle.tb_scaled.specs.Scaled.{awful_bad, min_ℤ}
-use Rattle.tb_node.specs.PlainNodes.{on_line, clearpage_kinds}
+use Rattle.tb_node.specs.PlainNodes.{hbox, rule, skip, kerned, pen, mark, note, whatsit, PlainKind, plain, ins, act, PlainNode, on_line, clearpage_kinds}
 use Rattle.tb_node.specs.declared.Act.{Act}
 use Rattle.tb_node.specs.declared.Act.TheVariants as acts
 use Rattle.tb_param.specs.declared.Params.{Params}
@@ -11,14 +11,15 @@ use Rattle.tb_galley.specs.declared.ItemKind.{ItemKind}
 use Rattle.tb_galley.specs.declared.ItemKind.TheVariants as items
 use Rattle.tb_galley.specs.declared.Galley.{Galley}
 use Rattle.tb_galley.specs.GalleyNodes.{item_kinds, item_nodes, two_after, expanded}
+use Rattle.tb_builder.specs.declared.Ask.{Ask}
 use Rattle.tb_builder.specs.declared.Try.{Try}
 use Rattle.tb_builder.specs.Reach.{Reached, acted, tried, Reach, try_of}
-use Rattle.tb_builder.specs.FiredPages.{fired_of}
+use Rattle.tb_builder.specs.FiredPages.{reach_of, fired_of}
 use Rattle.tb_items.specs.Classes.{classes_of}
 use Rattle.tb_items.specs.RunEvents.{offered}
 use Rattle.tb_output.specs.State.{State, first_state, ask_of, emptied}
 use Rattle.tb_output.specs.Act.{act_on}
-use Rattle.tb_steps.specs.Run.{dead_cycles, done, Progress, progress, progress_by, after_events, Step, ends, goes_on, firings_left}
+use Rattle.tb_steps.specs.Run.{dead_cycles, done, Progress, progress, progress_by, after_events, Step, ends, goes_on, firings_left, led_by, led_past, led_through, ask_for}
 use Rattle.tb_plans.specs.declared.walk.Before.{Before}
 use Rattle.tb_plans.specs.declared.walk.Before.TheVariants as befores
 use Rattle.tb_plans.specs.Places.{is_looked_past, is_glue, is_glue_next, is_place, before_by, before_after, past, if_place, places_from, places_of}
@@ -26,10 +27,11 @@ use Rattle.tb_plans.specs.Plans.{is_part, with_breaks}
 use Rattle.tb_rate.specs.declared.PlacePenalty.{PlacePenalty}
 use Rattle.tb_rate.specs.Places.{place_penalties}
 use Rattle.tb_rate.specs.Rating.{rating}
-use Rattle.tb_rate.specs.Tries.{last_champion}
+use Rattle.tb_rate.specs.Tries.{last_champion, first_number}
 use Rattle.tb_rate.specs.RatedRun.{floats_waiting, insertions_first, demerits_if, demerits_after, more_demerits, start_of}
-use Rattle.tb_best.specs.PlanDemerits.{reach_in, unlimited_firing, unlimited_fire, unlimited_progress, unlimited_step, step_demerits, unlimited_demerits_from, unlimited_demerits, breaks_cost, plan_demerits}
+use Rattle.tb_best.specs.PlanDemerits.{reach_in, unlimited_firing, unlimited_fire, unlimited_progress, unlimited_step_of, unlimited_step, step_demerits, unlimited_demerits_from, unlimited_demerits, breaks_cost, plan_demerits}
 use Rattle.tb_best.specs.BestPlan.{IsBest, with_limit}
+use Rattle.tb_steps.proofs.LedLemmas.{led-both}
 use Rattle.tb_best.proofs.LimitLemmas.{lim, out-lim}
 
 module _ (p : Params) (m : ℤ) where
@@ -44,19 +46,39 @@ module _ (p : Params) (m : ℤ) where
   progress-lim (acted a ∷ rs) least s = λ i. progress_by (λ t. progress-lim rs least t i) s (act-lim s a i)
   progress-lim (tried line b ∷ rs) least s = ap (after_events (offered (try_of line b least) ∷ []) []) (progress-lim rs (min_ℤ least b.cost) s)
 
-  fire-lim : (w : Reach) (q : Progress) → unlimited_fire (lim p m) w q ≡ unlimited_fire p w q
-  fire-lim w q = λ i.
-      if int_lt (pos q.state.dead_cycles) p.maxdeadcycles then unlimited_firing q.events q.records (out-lim p m q.state (fired_of (ask_of p q.state) q.state.classes q.state.boxes w) i)
+  led-kind : (ns : List PlainNode) → ((t : State) → led_through (lim p m) ns t ≡ led_through p ns t) → (s : State) (k : PlainKind) → led_past (lim p m) (led_through (lim p m) ns) s k ≡ led_past p (led_through p ns) s k
+  led-kind ns ih s (plain (hbox w h d)) = refl
+  led-kind ns ih s (plain (rule w h d)) = refl
+  led-kind ns ih s (plain (skip g)) = ih s
+  led-kind ns ih s (plain (kerned g)) = ih s
+  led-kind ns ih s (plain (pen q)) = ih s
+  led-kind ns ih s (plain (mark w)) = ih s
+  led-kind ns ih s (plain (note w)) = ih s
+  led-kind ns ih s (plain whatsit) = ih s
+  led-kind ns ih s (ins i) = refl
+  led-kind ns ih s (act a) = ap (led_by (led_through (lim p m) ns) s) (act-lim s a) ∙ led-both p (led_through (lim p m) ns) (led_through p ns) s (act_on p s a) ih
+
+  led-lim : (ns : List PlainNode) (s : State) → led_through (lim p m) ns s ≡ led_through p ns s
+  led-lim [] s = refl
+  led-lim (n ∷ ns) s = led-kind ns (led-lim ns) s n.kind
+
+  asked-lim : (s : State) → ask_for (lim p m) s ≡ ask_for p s
+  asked-lim s = ap (ask_of p) (led-lim s.waiting s)
+
+  fire-lim : (a : Ask) (w : Reach) (q : Progress) → unlimited_fire (lim p m) a w q ≡ unlimited_fire p a w q
+  fire-lim a w q = λ i.
+      if int_lt (pos q.state.dead_cycles) p.maxdeadcycles then unlimited_firing q.events q.records (out-lim p m q.state (fired_of a q.state.classes q.state.boxes w) i)
       else ends q.events q.records (dead_cycles q.state.dead_cycles)
 
-  fault-lim : (w : Reach) (q : Progress) (o : Option (ℕ × ℕ)) → unlimited_progress (lim p m) w q o ≡ unlimited_progress p w q o
-  fault-lim w q None = λ i. if w.fires then fire-lim w q i else ends q.events (q.records ++ emptied q.state.floats ∷ []) (done w.passed)
-  fault-lim w q (Some f) = refl
+  fault-lim : (a : Ask) (w : Reach) (q : Progress) (o : Option (ℕ × ℕ)) → unlimited_progress (lim p m) a w q o ≡ unlimited_progress p a w q o
+  fault-lim a w q None = λ i. if w.fires then fire-lim a w q i else ends q.events (q.records ++ emptied q.state.floats ∷ []) (done w.passed)
+  fault-lim a w q (Some f) = refl
 
   step-lim : (s : State) → unlimited_step (lim p m) s ≡ unlimited_step p s
   unfolding unlimited_step
-  step-lim s = λ i.
-      fault-lim (reach_in p s) (progress-lim (reach_in p s).reached awful_bad s i) (progress-lim (reach_in p s).reached awful_bad s i).fault i
+  step-lim s =
+      ap (λ a. unlimited_step_of (lim p m) s a (reach_of a s.classes s.boxes [] s.waiting)) (asked-lim s)
+      ∙ (λ i. fault-lim (ask_for p s) (reach_in p s) (progress-lim (reach_in p s).reached awful_bad s i) (progress-lim (reach_in p s).reached awful_bad s i).fault i)
 
   rating-lim : (places : List PlacePenalty) (page : ℕ) (o : Option Try) (waiting held : ℕ) → rating (lim p m) places page o waiting held ≡ rating p places page o waiting held
   rating-lim places page None waiting held = refl
@@ -64,7 +86,7 @@ module _ (p : Params) (m : ℤ) where
 
   demerits-lim : (places : List PlacePenalty) (s : State) (x : Step) → step_demerits (lim p m) places s x ≡ step_demerits p places s x
   demerits-lim places s (ends es rs e) = refl
-  demerits-lim places s (goes_on es rs t) = ap demerits_if (rating-lim places s.page (last_champion es) (floats_waiting t.floats) (insertions_first t.waiting))
+  demerits-lim places s (goes_on es rs t) = ap demerits_if (rating-lim places (first_number t.number es) (last_champion es) (floats_waiting t.floats) (insertions_first t.waiting))
 
   from-lim : (places : List PlacePenalty) (k : ℕ) (s : State) → unlimited_demerits_from (lim p m) places k s ≡ unlimited_demerits_from p places k s
   unfolding unlimited_demerits_from

@@ -4,12 +4,13 @@ use Rattle.std.specs.Prelude.{pos, neg_ℤ, pred, int_lt, ◌+ℤ◌, if◌then�
 use Rattle.tb_scaled.specs.Scaled.{awful_bad}
 use Rattle.tb_node.specs.PlainNodes.{PlainNode}
 use Rattle.tb_param.specs.declared.Params.{Params}
+use Rattle.tb_builder.specs.declared.Ask.{Ask}
 use Rattle.tb_builder.specs.Reach.{Reach, holds_box}
 use Rattle.tb_builder.specs.FiredPages.{fired_of}
-use Rattle.tb_output.specs.State.{State, Recorded, ask_of, emptied}
+use Rattle.tb_output.specs.State.{State, Recorded, emptied}
 use Rattle.tb_output.specs.Output.{out}
 use Rattle.tb_items.specs.RunEvents.{RunEvent, sent}
-use Rattle.tb_steps.specs.Run.{done, pool_full, dead_cycles, page_limit, node_limit, Progress, progress, Step, ends, goes_on}
+use Rattle.tb_steps.specs.Run.{done, pool_full, dead_cycles, page_limit, node_limit, Progress, progress, Step, ends, goes_on, ask_for}
 use Rattle.tb_rate.specs.declared.PlacePenalty.{PlacePenalty}
 use Rattle.tb_rate.specs.RatedRun.{demerits_after, more_demerits}
 use Rattle.tb_best.specs.PlanDemerits.{reach_in, unlimited_firing, unlimited_fire, unlimited_progress, unlimited_step, step_demerits, unlimited_demerits_from}
@@ -90,29 +91,29 @@ either-undone : (t : Bool) (x y : Step) → (IsDone x → ⊥) → (IsDone y →
 either-undone true x y h k = h
 either-undone false x y h k = k
 
-fire-undone : (p : Params) (w : Reach) (q : Progress) → IsDone (unlimited_fire p w q) → ⊥
-fire-undone p w q =
-    let work = out p q.state (fired_of (ask_of p q.state) q.state.classes q.state.boxes w) in
+fire-undone : (p : Params) (a : Ask) (w : Reach) (q : Progress) → IsDone (unlimited_fire p a w q) → ⊥
+fire-undone p a w q =
+    let work = out p q.state (fired_of a q.state.classes q.state.boxes w) in
     either-undone (int_lt (pos q.state.dead_cycles) p.maxdeadcycles) (unlimited_firing q.events q.records work) (ends q.events q.records (dead_cycles q.state.dead_cycles))
     (either-undone work.refused (ends (q.events ++ map sent work.sent) (q.records ++ work.records) (page_limit (pred work.state.page))) (goes_on (q.events ++ map sent work.sent) (q.records ++ work.records) work.state) (λ h. h) (λ h. h)) (λ h. h)
 
 -- a page that fires does not end a run well
-progress-undone : (p : Params) (w : Reach) (q : Progress) (o : Option (ℕ × ℕ)) → w.fires ≡ true → IsDone (unlimited_progress p w q o) → ⊥
-progress-undone p w q (Some f) fires h = h
-progress-undone p w q None fires h = fire-undone p w q (subst (λ t. IsDone (if t then unlimited_fire p w q else ends q.events (q.records ++ emptied q.state.floats ∷ []) (done w.passed))) fires h)
+progress-undone : (p : Params) (a : Ask) (w : Reach) (q : Progress) (o : Option (ℕ × ℕ)) → w.fires ≡ true → IsDone (unlimited_progress p a w q o) → ⊥
+progress-undone p a w q (Some f) fires h = h
+progress-undone p a w q None fires h = fire-undone p a w q (subst (λ t. IsDone (if t then unlimited_fire p a w q else ends q.events (q.records ++ emptied q.state.floats ∷ []) (done w.passed))) fires h)
 
 pub step-undone : (p : Params) (s : State) → (reach_in p s).fires ≡ true → IsDone (unlimited_step p s) → ⊥
 unfolding unlimited_step
-step-undone p s fires h = let q = progress p (reach_in p s).reached awful_bad s in progress-undone p (reach_in p s) q q.fault fires h
+step-undone p s fires h = let q = progress p (reach_in p s).reached awful_bad s in progress-undone p (ask_for p s) (reach_in p s) q q.fault fires h
 
 -- without a page that fires the run is over
-progress-over : (p : Params) (w : Reach) (q : Progress) (o : Option (ℕ × ℕ)) → w.fires ≡ false → IsOver (unlimited_progress p w q o)
-progress-over p w q (Some f) quiet = tt
-progress-over p w q None quiet = subst (λ t. IsOver (if t then unlimited_fire p w q else ends q.events (q.records ++ emptied q.state.floats ∷ []) (done w.passed))) (sym quiet) tt
+progress-over : (p : Params) (a : Ask) (w : Reach) (q : Progress) (o : Option (ℕ × ℕ)) → w.fires ≡ false → IsOver (unlimited_progress p a w q o)
+progress-over p a w q (Some f) quiet = tt
+progress-over p a w q None quiet = subst (λ t. IsOver (if t then unlimited_fire p a w q else ends q.events (q.records ++ emptied q.state.floats ∷ []) (done w.passed))) (sym quiet) tt
 
 pub step-over : (p : Params) (s : State) → (reach_in p s).fires ≡ false → IsOver (unlimited_step p s)
 unfolding unlimited_step
-step-over p s quiet = let q = progress p (reach_in p s).reached awful_bad s in progress-over p (reach_in p s) q q.fault quiet
+step-over p s quiet = let q = progress p (reach_in p s).reached awful_bad s in progress-over p (ask_for p s) (reach_in p s) q q.fault quiet
 
 -- ---- each run is a path
 

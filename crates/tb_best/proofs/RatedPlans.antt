@@ -6,12 +6,13 @@ use Rattle.tb_scaled.specs.Scaled.{awful_bad}
 use Rattle.tb_node.specs.PlainNodes.{PlainNode}
 use Rattle.tb_param.specs.declared.Params.{Params}
 use Rattle.tb_galley.specs.declared.Galley.{Galley}
+use Rattle.tb_builder.specs.declared.Ask.{Ask}
 use Rattle.tb_builder.specs.Reach.{Reach}
 use Rattle.tb_builder.specs.FiredPages.{fired_of}
-use Rattle.tb_output.specs.State.{State, Work, Recorded, ask_of, emptied}
+use Rattle.tb_output.specs.State.{State, Work, Recorded, emptied}
 use Rattle.tb_output.specs.Output.{out}
 use Rattle.tb_items.specs.RunEvents.{RunEvent, sent}
-use Rattle.tb_steps.specs.Run.{End, Run, run_by, run_from, run_of, done, pool_full, dead_cycles, page_limit, node_limit, Progress, progress, Step, ends, goes_on, held_count, after_firing, fire, after_progress, step, firings_left}
+use Rattle.tb_steps.specs.Run.{End, Run, run_by, run_from, run_of, done, pool_full, dead_cycles, page_limit, node_limit, Progress, progress, Step, ends, goes_on, held_count, after_firing, fire, after_progress, step, firings_left, ask_for}
 use Rattle.tb_plans.specs.Plans.{with_breaks}
 use Rattle.tb_rate.specs.declared.PlacePenalty.{PlacePenalty}
 use Rattle.tb_rate.specs.Places.{place_penalties}
@@ -49,17 +50,17 @@ either-same : (t : Bool) (x y e : Step) → IsSame x y → IsSame (if t then x e
 either-same true x y e h = h
 either-same false x y e h = inr refl
 
-progress-same : (p : Params) (w : Reach) (q : Progress) (o : Option (ℕ × ℕ)) → IsSame (after_progress p w q o) (unlimited_progress p w q o)
-progress-same p w q (Some f) = inr refl
-progress-same p w q None =
-    let work = out p q.state (fired_of (ask_of p q.state) q.state.classes q.state.boxes w) in
-    either-same w.fires (fire p w q) (unlimited_fire p w q) (ends q.events (q.records ++ emptied q.state.floats ∷ []) (done w.passed))
+progress-same : (p : Params) (a : Ask) (w : Reach) (q : Progress) (o : Option (ℕ × ℕ)) → IsSame (after_progress p a w q o) (unlimited_progress p a w q o)
+progress-same p a w q (Some f) = inr refl
+progress-same p a w q None =
+    let work = out p q.state (fired_of a q.state.classes q.state.boxes w) in
+    either-same w.fires (fire p a w q) (unlimited_fire p a w q) (ends q.events (q.records ++ emptied q.state.floats ∷ []) (done w.passed))
     (either-same (int_lt (pos q.state.dead_cycles) p.maxdeadcycles) (after_firing p q.events q.records work) (unlimited_firing q.events q.records work) (ends q.events q.records (dead_cycles q.state.dead_cycles))
     (work-same p q.events q.records work))
 
 step-same : (p : Params) (s : State) → IsSame (step p s) (unlimited_step p s)
 unfolding step unlimited_step
-step-same p s = let q = progress p (reach_in p s).reached awful_bad s in progress-same p (reach_in p s) q q.fault
+step-same p s = let q = progress p (reach_in p s).reached awful_bad s in progress-same p (ask_for p s) (reach_in p s) q q.fault
 
 -- a step that goes on is the same without the limit
 same-goes-on : (x y : Step) (es : List RunEvent) (rs : List Recorded) (t : State) → x ≡ goes_on es rs t → IsSame x y → y ≡ goes_on es rs t

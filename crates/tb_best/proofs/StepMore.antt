@@ -7,24 +7,27 @@ use Rattle.tb_node.specs.declared.Act.{Act}
 use Rattle.tb_node.specs.declared.Act.TheVariants as acts
 use Rattle.tb_node.specs.declared.Float.{Float}
 use Rattle.tb_param.specs.declared.Params.{Params}
+use Rattle.tb_builder.specs.declared.Ask.{Ask}
 use Rattle.tb_builder.specs.Reach.{Reached, acted, tried, Reach, laid_out, try_of}
-use Rattle.tb_builder.specs.FiredPages.{Fired, fired_of, frozen_for}
+use Rattle.tb_builder.specs.FiredPages.{Fired, reach_of, fired_of, frozen_for}
 use Rattle.tb_insert.specs.Account.{terms_after}
 use Rattle.tb_float.specs.declared.Entry.TheVariants as entries
 use Rattle.tb_float.specs.Lists.{live_count}
 use Rattle.tb_sheet.specs.Sheet.{warned}
-use Rattle.tb_output.specs.State.{State, Work, Recorded, emptied, ask_of}
+use Rattle.tb_output.specs.State.{State, Work, Recorded, emptied}
 use Rattle.tb_output.specs.Act.{Acted, went, full, act_on, taken_float, with_taken, with_current, large_warning}
 use Rattle.tb_output.specs.Output.{out}
 use Rattle.tb_items.specs.RunEvents.{RunEvent, offered, sent}
-use Rattle.tb_steps.specs.Run.{dead_cycles, page_limit, done, Progress, progress, progress_by, after_events, Step, ends, goes_on}
+use Rattle.tb_steps.specs.Run.{dead_cycles, page_limit, done, Progress, progress, progress_by, after_events, Step, ends, goes_on, ask_for}
 use Rattle.tb_rate.specs.declared.PlacePenalty.{PlacePenalty}
 use Rattle.tb_rate.specs.Rating.{rating}
-use Rattle.tb_rate.specs.Tries.{last_champion}
+use Rattle.tb_rate.specs.Tries.{last_champion, first_number}
 use Rattle.tb_rate.specs.RatedRun.{demerits_if, floats_waiting, insertions_first}
 use Rattle.tb_best.specs.PlanDemerits.{reach_in, unlimited_firing, unlimited_fire, unlimited_progress, unlimited_step_of, unlimited_step, step_demerits}
 use Rattle.tb_best.specs.ItemsAhead.{state_with}
 use Rattle.tb_best.proofs.ReachMore.{with_more}
+use Rattle.tb_steps.proofs.LedLemmas.{led-fires}
+use Rattle.tb_best.proofs.TopBreaks.{asked-in}
 use Rattle.tb_best.proofs.FiredMore.{has_other, other-behind, fired_with, begun-more, reach-left, fired-of-more, rest-other}
 
 abbrev pub work_with : List PlainNode → Work → Work
@@ -59,6 +62,7 @@ pub act-more : (p : Params) (s : State) (more : List PlainNode) (a : Act) → ac
 act-more p s more (acts.Take f) = take-more p s more f (int_le p.pool (pos (live_count s.floats)))
 act-more p s more (acts.TakeMargin m) = note-more s more m.line (entries.Left m ∷ entries.Right m ∷ []) (int_lt p.pool (pos (live_count s.floats + 2)))
 act-more p s more (acts.Suppress area) = refl
+act-more p s more (acts.Page n) = refl
 act-more p s more (acts.Columns two) = refl
 
 by-act : (later : State → Progress) (s : State) (more : List PlainNode) (a : Acted) → ((t : State) → later (state_with more t) ≡ progress_with more (later t))
@@ -90,30 +94,35 @@ by-fire : (t : Bool) (more : List PlainNode) (x y e : Step) → x ≡ step_with 
 by-fire true more x y e h k = h
 by-fire false more x y e h k = k
 
-fire-more : (p : Params) (w : Reach) (q : Progress) (more : List PlainNode) → has_other w.beyond ≡ true → unlimited_fire p (with_more more w) (progress_with more q) ≡ step_with more (unlimited_fire p w q)
-fire-more p w q more left =
+fire-more : (p : Params) (a : Ask) (w : Reach) (q : Progress) (more : List PlainNode) → has_other w.beyond ≡ true → unlimited_fire p a (with_more more w) (progress_with more q) ≡ step_with more (unlimited_fire p a w q)
+fire-more p a w q more left =
     ap (λ f. if int_lt (pos q.state.dead_cycles) p.maxdeadcycles then unlimited_firing q.events q.records (out p (state_with more q.state) f) else ends q.events q.records (dead_cycles q.state.dead_cycles))
-    (fired-of-more (ask_of p q.state) q.state.classes q.state.boxes w more left)
+    (fired-of-more a q.state.classes q.state.boxes w more left)
     ∙ by-fire (int_lt (pos q.state.dead_cycles) p.maxdeadcycles) more (unlimited_firing q.events q.records (out p (state_with more q.state) (fired_with more page))) (unlimited_firing q.events q.records (out p q.state page)) (ends q.events q.records (dead_cycles q.state.dead_cycles))
     (ap (unlimited_firing q.events q.records) (out-more p q.state page more) ∙ by-work q.events q.records (out p q.state page) more (out p q.state page).refused) refl
   where
     page : Fired
-    page = fired_of (ask_of p q.state) q.state.classes q.state.boxes w
+    page = fired_of a q.state.classes q.state.boxes w
 
-progress-step : (p : Params) (w : Reach) (q : Progress) (more : List PlainNode) (o : Option (ℕ × ℕ)) → w.fires ≡ true → has_other w.beyond ≡ true
-    → unlimited_progress p (with_more more w) (progress_with more q) o ≡ step_with more (unlimited_progress p w q o)
-progress-step p w q more (Some f) fires left = refl
-progress-step p w q more None fires left = by w.fires fires
+progress-step : (p : Params) (a : Ask) (w : Reach) (q : Progress) (more : List PlainNode) (o : Option (ℕ × ℕ)) → w.fires ≡ true → has_other w.beyond ≡ true
+    → unlimited_progress p a (with_more more w) (progress_with more q) o ≡ step_with more (unlimited_progress p a w q o)
+progress-step p a w q more (Some f) fires left = refl
+progress-step p a w q more None fires left = by w.fires fires
   where
     by : (t : Bool) → t ≡ true
-        → (if t then unlimited_fire p (with_more more w) (progress_with more q) else ends q.events (q.records ++ emptied q.state.floats ∷ []) (done w.passed))
-        ≡ step_with more (if t then unlimited_fire p w q else ends q.events (q.records ++ emptied q.state.floats ∷ []) (done w.passed))
-    by true e = fire-more p w q more left
+        → (if t then unlimited_fire p a (with_more more w) (progress_with more q) else ends q.events (q.records ++ emptied q.state.floats ∷ []) (done w.passed))
+        ≡ step_with more (if t then unlimited_fire p a w q else ends q.events (q.records ++ emptied q.state.floats ∷ []) (done w.passed))
+    by true e = fire-more p a w q more left
     by false e = refl
 
 -- what a state reaches leaves the node at which it stops
 left-in : (p : Params) (s : State) → (reach_in p s).fires ≡ true → has_other (reach_in p s).beyond ≡ true
-left-in p s fires = reach-left (ask_of p s).max_depth (terms_after (frozen_for (ask_of p s) s.classes s.boxes)) [] (laid_out (ask_of p s).top_skip [] s.waiting) fires
+left-in p s fires = reach-left (ask_for p s).max_depth (terms_after (frozen_for (ask_for p s) s.classes s.boxes)) [] (laid_out (ask_for p s).top_skip [] s.waiting) fires
+
+-- if a page fires, it is made for the same whatever waits behind
+pub asked-more : (p : Params) (s : State) (more : List PlainNode) → (reach_in p s).fires ≡ true → ask_for p (state_with more s) ≡ ask_for p s
+asked-more p s more fires =
+    asked-in p s (s.waiting ++ more) s.waiting (led-fires p (ask_for p s).max_depth (terms_after (frozen_for (ask_for p s) s.classes s.boxes)) p.topskip [] s.waiting more s fires)
 
 -- if a page fires, the step is the same whatever waits behind
 pub step-more : (p : Params) (s : State) (more : List PlainNode) → (reach_in p s).fires ≡ true → unlimited_step p (state_with more s) ≡ step_with more (unlimited_step p s)
@@ -121,9 +130,10 @@ unfolding unlimited_step
 step-more p s more fires =
     let w = reach_in p s in
     let q = progress p w.reached awful_bad s in
-    ap (unlimited_step_of p (state_with more s)) (begun-more (ask_of p s) s.classes s.boxes s.waiting more fires)
-    ∙ ap (λ x. unlimited_progress p (with_more more w) x x.fault) (progress-more p w.reached awful_bad s more)
-    ∙ progress-step p w q more q.fault fires (left-in p s fires)
+    ap (λ a. unlimited_step_of p (state_with more s) a (reach_of a s.classes s.boxes [] (s.waiting ++ more))) (asked-more p s more fires)
+    ∙ ap (unlimited_step_of p (state_with more s) (ask_for p s)) (begun-more (ask_for p s) s.classes s.boxes s.waiting more fires)
+    ∙ ap (λ x. unlimited_progress p (ask_for p s) (with_more more w) x x.fault) (progress-more p w.reached awful_bad s more)
+    ∙ progress-step p (ask_for p s) w q more q.fault fires (left-in p s fires)
 
 -- ---- the demerits
 
@@ -147,18 +157,18 @@ either-waits : (t : Bool) (x y : Step) → WaitsOther x → WaitsOther y → Wai
 either-waits true x y h k = h
 either-waits false x y h k = k
 
-progress-waits : (p : Params) (w : Reach) (q : Progress) (o : Option (ℕ × ℕ)) → has_other w.beyond ≡ true → WaitsOther (unlimited_progress p w q o)
-progress-waits p w q (Some f) left = tt
-progress-waits p w q None left =
-    let page = fired_of (ask_of p q.state) q.state.classes q.state.boxes w in
+progress-waits : (p : Params) (a : Ask) (w : Reach) (q : Progress) (o : Option (ℕ × ℕ)) → has_other w.beyond ≡ true → WaitsOther (unlimited_progress p a w q o)
+progress-waits p a w q (Some f) left = tt
+progress-waits p a w q None left =
+    let page = fired_of a q.state.classes q.state.boxes w in
     let work = out p q.state page in
-    either-waits w.fires (unlimited_fire p w q) (ends q.events (q.records ++ emptied q.state.floats ∷ []) (done w.passed))
+    either-waits w.fires (unlimited_fire p a w q) (ends q.events (q.records ++ emptied q.state.floats ∷ []) (done w.passed))
     (either-waits (int_lt (pos q.state.dead_cycles) p.maxdeadcycles) (unlimited_firing q.events q.records work) (ends q.events q.records (dead_cycles q.state.dead_cycles))
-    (work-waits q.events q.records work (out-waits p q.state page (rest-other (ask_of p q.state) q.state.classes q.state.boxes w left))) tt) tt
+    (work-waits q.events q.records work (out-waits p q.state page (rest-other a q.state.classes q.state.boxes w left))) tt) tt
 
 step-waits : (p : Params) (s : State) → (reach_in p s).fires ≡ true → WaitsOther (unlimited_step p s)
 unfolding unlimited_step
-step-waits p s fires = let q = progress p (reach_in p s).reached awful_bad s in progress-waits p (reach_in p s) q q.fault (left-in p s fires)
+step-waits p s fires = let q = progress p (reach_in p s).reached awful_bad s in progress-waits p (ask_for p s) (reach_in p s) q q.fault (left-in p s fires)
 
 first-by : (t : Bool) (ns more : List PlainNode) → (has_other ns ≡ true → insertions_first (ns ++ more) ≡ insertions_first ns) → (if t then has_other ns else true) ≡ true
     → (if t then suc (insertions_first (ns ++ more)) else 0) ≡ (if t then suc (insertions_first ns) else 0)
@@ -171,7 +181,7 @@ first-more (n ∷ ns) more h = first-by (is_insertion_kind n.kind) ns more (firs
 
 rated-more : (p : Params) (places : List PlacePenalty) (s : State) (more : List PlainNode) (x : Step) → WaitsOther x → step_demerits p places (state_with more s) (step_with more x) ≡ step_demerits p places s x
 rated-more p places s more (ends es rs e) h = refl
-rated-more p places s more (goes_on es rs t) h = ap (λ n. demerits_if (rating p places s.page (last_champion es) (floats_waiting t.floats) n)) (first-more t.waiting more h)
+rated-more p places s more (goes_on es rs t) h = ap (λ n. demerits_if (rating p places (first_number t.number es) (last_champion es) (floats_waiting t.floats) n)) (first-more t.waiting more h)
 
 -- if a page fires, its demerits are the same whatever waits behind
 pub demerits-more : (p : Params) (places : List PlacePenalty) (s : State) (more : List PlainNode) → (reach_in p s).fires ≡ true

@@ -1,5 +1,5 @@
 -- A break that is put in before the first box of a page vanishes: the run is that without it.
-use Rattle.std.proofs.Common.{◌≡◌, refl, ◌∙◌, ap, ℕ, zero, suc, ◌+◌, ℤ, Bool, true, false, List, [], ◌∷◌, ◌++◌, map, Option, Some, None, arith}
+use Rattle.std.proofs.Common.{◌≡◌, refl, sym, ◌∙◌, ap, ℕ, zero, suc, ◌+◌, ℤ, Bool, true, false, List, [], ◌∷◌, ◌++◌, map, Option, Some, None, arith}
 use Rattle.std.specs.Prelude.{pos, int_lt, int_le, if◌then◌else◌}
 use Rattle.tb_scaled.specs.Scaled.{awful_bad, min_ℤ}
 use Rattle.tb_node.specs.PlainNodes.{hbox, rule, skip, kerned, pen, mark, note, whatsit, PlainKind, plain, ins, act, PlainNode}
@@ -8,8 +8,9 @@ use Rattle.tb_node.specs.declared.Act.TheVariants as acts
 use Rattle.tb_param.specs.declared.Params.{Params}
 use Rattle.tb_break.specs.PageTop.{pruned_nodes}
 use Rattle.tb_insert.specs.Account.{terms_after}
+use Rattle.tb_builder.specs.declared.Ask.{Ask}
 use Rattle.tb_builder.specs.Reach.{Reached, acted, tried, Reach, holds_box, try_of, reach_from}
-use Rattle.tb_builder.specs.FiredPages.{Fired, fired_of, frozen_for}
+use Rattle.tb_builder.specs.FiredPages.{Fired, reach_of, fired_of, frozen_for}
 use Rattle.tb_float.specs.declared.Entry.TheVariants as entries
 use Rattle.tb_float.specs.Lists.{live_count}
 use Rattle.tb_sheet.specs.Sheet.{warned}
@@ -17,10 +18,11 @@ use Rattle.tb_output.specs.State.{State, ask_of, emptied}
 use Rattle.tb_output.specs.Act.{Acted, went, full, act_on, taken_float, with_taken, with_current, large_warning}
 use Rattle.tb_output.specs.Output.{out}
 use Rattle.tb_items.specs.RunEvents.{offered, sent}
-use Rattle.tb_steps.specs.Run.{dead_cycles, done, Progress, progress, progress_by, after_events, Step, ends, goes_on}
+use Rattle.tb_steps.specs.Run.{dead_cycles, done, Progress, progress, progress_by, after_events, Step, ends, goes_on, led_by, led_past, led_through, ask_for}
 use Rattle.tb_rate.specs.declared.PlacePenalty.{PlacePenalty}
 use Rattle.tb_rate.specs.RatedRun.{demerits_after}
-use Rattle.tb_best.specs.PlanDemerits.{reach_in, unlimited_firing, unlimited_fire, unlimited_progress, unlimited_step, step_demerits, unlimited_demerits_from}
+use Rattle.tb_steps.proofs.LedLemmas.{led-front}
+use Rattle.tb_best.specs.PlanDemerits.{reach_in, unlimited_firing, unlimited_fire, unlimited_progress, unlimited_step_of, unlimited_step, step_demerits, unlimited_demerits_from}
 
 module _ (top : ℤ) (line : ℕ) (q : ℤ) where
   abbrev penalty : PlainNode
@@ -70,6 +72,7 @@ act-in : (p : Params) (s : State) (ws : List PlainNode) (a : Act) → act_on p (
 act-in p s ws (acts.Take f) = either-in ws (int_le p.pool (pos (live_count s.floats))) (full f.line (live_count s.floats)) (went (with_taken p s (taken_float p s f)) (large_warning p f) [])
 act-in p s ws (acts.TakeMargin m) = either-in ws (int_lt p.pool (pos (live_count s.floats + 2))) (full m.line (live_count s.floats)) (went (with_current s (entries.Left m ∷ entries.Right m ∷ [])) [] [])
 act-in p s ws (acts.Suppress area) = refl
+act-in p s ws (acts.Page n) = refl
 act-in p s ws (acts.Columns two) = refl
 
 by-act : (later : State → Progress) (s : State) (ws : List PlainNode) (a : Acted) → ((t : State) → later (waits ws t) ≡ progress_in ws (later t))
@@ -83,44 +86,72 @@ progress-in p (acted a ∷ rs) least s ws =
     ap (progress_by (λ t. progress p rs least t) (waits ws s)) (act-in p s ws a) ∙ by-act (λ t. progress p rs least t) s ws (act_on p s a) (λ t. progress-in p rs least t ws)
 progress-in p (tried line b ∷ rs) least s ws = ap (after_events (offered (try_of line b least) ∷ []) []) (progress-in p rs (min_ℤ least b.cost) s ws)
 
+led-act : (ws : List PlainNode) (f : State → State) (s : State) (o : Acted) → ((t : State) → f (waits ws t) ≡ waits ws (f t)) → led_by f (waits ws s) (acted_in ws o) ≡ waits ws (led_by f s o)
+led-act ws f s (went t es rs) h = h t
+led-act ws f s (full line live) h = refl
+
+led-kind : (p : Params) (ws ns : List PlainNode) → ((t : State) → led_through p ns (waits ws t) ≡ waits ws (led_through p ns t)) → (s : State) (k : PlainKind) → led_past p (led_through p ns) (waits ws s) k ≡ waits ws (led_past p (led_through p ns) s k)
+led-kind p ws ns ih s (plain (hbox w h d)) = refl
+led-kind p ws ns ih s (plain (rule w h d)) = refl
+led-kind p ws ns ih s (plain (skip g)) = ih s
+led-kind p ws ns ih s (plain (kerned g)) = ih s
+led-kind p ws ns ih s (plain (pen q)) = ih s
+led-kind p ws ns ih s (plain (mark w)) = ih s
+led-kind p ws ns ih s (plain (note w)) = ih s
+led-kind p ws ns ih s (plain whatsit) = ih s
+led-kind p ws ns ih s (ins i) = refl
+led-kind p ws ns ih s (act a) = ap (led_by (led_through p ns) (waits ws s)) (act-in p s ws a) ∙ led-act ws (led_through p ns) s (act_on p s a) ih
+
+-- the acts before the first box of a page do not look at what waits
+led-waits : (p : Params) (ws ns : List PlainNode) (s : State) → led_through p ns (waits ws s) ≡ waits ws (led_through p ns s)
+led-waits p ws [] s = refl
+led-waits p ws (n ∷ ns) s = led-kind p ws ns (led-waits p ws ns) s n.kind
+
+-- so what a page is made for depends on what waits only by what these acts lead to
+pub asked-in : (p : Params) (s : State) (ws vs : List PlainNode) → led_through p ws s ≡ led_through p vs s → ask_for p (waits ws s) ≡ ask_for p (waits vs s)
+asked-in p s ws vs h = ap (ask_of p) (led-waits p ws ws s) ∙ ap (ask_of p) h ∙ sym (ap (ask_of p) (led-waits p vs vs s))
+
 out-in : (p : Params) (s : State) (f : Fired) (ws : List PlainNode) → out p (waits ws s) f ≡ out p s f
 unfolding out
 out-in p s f ws = refl
 
-fire-in : (p : Params) (w : Reach) (q : Progress) (ws : List PlainNode) → unlimited_fire p w (progress_in ws q) ≡ unlimited_fire p w q
-fire-in p w q ws =
+fire-in : (p : Params) (a : Ask) (w : Reach) (q : Progress) (ws : List PlainNode) → unlimited_fire p a w (progress_in ws q) ≡ unlimited_fire p a w q
+fire-in p a w q ws =
     ap (λ x. if int_lt (pos q.state.dead_cycles) p.maxdeadcycles then unlimited_firing q.events q.records x else ends q.events q.records (dead_cycles q.state.dead_cycles))
-    (out-in p q.state (fired_of (ask_of p q.state) q.state.classes q.state.boxes w) ws)
+    (out-in p q.state (fired_of a q.state.classes q.state.boxes w) ws)
 
-by-fault : (p : Params) (w : Reach) (q : Progress) (ws : List PlainNode) (o : Option (ℕ × ℕ)) → unlimited_progress p w (progress_in ws q) o ≡ unlimited_progress p w q o
-by-fault p w q ws None = ap (λ x. if w.fires then x else ends q.events (q.records ++ emptied q.state.floats ∷ []) (done w.passed)) (fire-in p w q ws)
-by-fault p w q ws (Some f) = refl
+by-fault : (p : Params) (a : Ask) (w : Reach) (q : Progress) (ws : List PlainNode) (o : Option (ℕ × ℕ)) → unlimited_progress p a w (progress_in ws q) o ≡ unlimited_progress p a w q o
+by-fault p a w q ws None = ap (λ x. if w.fires then x else ends q.events (q.records ++ emptied q.state.floats ∷ []) (done w.passed)) (fire-in p a w q ws)
+by-fault p a w q ws (Some f) = refl
 
--- a step depends on what waits only by what it reaches
-step-in : (p : Params) (s : State) (ws : List PlainNode) → reach_in p (waits ws s) ≡ reach_in p s → unlimited_step p (waits ws s) ≡ unlimited_step p s
+-- a step depends on what waits only by what its page is made for and what it reaches
+step-in : (p : Params) (s : State) (ws : List PlainNode) → ask_for p (waits ws s) ≡ ask_for p s → reach_of (ask_for p s) s.classes s.boxes [] ws ≡ reach_in p s → unlimited_step p (waits ws s) ≡ unlimited_step p s
 unfolding unlimited_step
-step-in p s ws h =
+step-in p s ws asked h =
     let q = progress p (reach_in p s).reached awful_bad s in
-    ap (λ w. unlimited_progress p w (progress p w.reached awful_bad (waits ws s)) (progress p w.reached awful_bad (waits ws s)).fault) h
-    ∙ ap (λ x. unlimited_progress p (reach_in p s) x x.fault) (progress-in p (reach_in p s).reached awful_bad s ws)
-    ∙ by-fault p (reach_in p s) q ws q.fault
+    ap (λ a. unlimited_step_of p (waits ws s) a (reach_of a s.classes s.boxes [] ws)) asked
+    ∙ ap (unlimited_step_of p (waits ws s) (ask_for p s)) h
+    ∙ ap (λ x. unlimited_progress p (ask_for p s) (reach_in p s) x x.fault) (progress-in p (reach_in p s).reached awful_bad s ws)
+    ∙ by-fault p (ask_for p s) (reach_in p s) q ws q.fault
 
 same-demerits : (p : Params) (places : List PlacePenalty) (s : State) (ws : List PlainNode) (x : Step) → step_demerits p places (waits ws s) x ≡ step_demerits p places s x
 same-demerits p places s ws (ends es rs e) = refl
 same-demerits p places s ws (goes_on es rs t) = refl
 
 -- so do the demerits of a run
-pub run-in : (p : Params) (places : List PlacePenalty) (k : ℕ) (s : State) (ws : List PlainNode) → reach_in p (waits ws s) ≡ reach_in p s
+pub run-in : (p : Params) (places : List PlacePenalty) (k : ℕ) (s : State) (ws : List PlainNode) → ask_for p (waits ws s) ≡ ask_for p s → reach_of (ask_for p s) s.classes s.boxes [] ws ≡ reach_in p s
     → unlimited_demerits_from p places k (waits ws s) ≡ unlimited_demerits_from p places k s
 unfolding unlimited_demerits_from
-run-in p places zero s ws h = refl
-run-in p places (suc k) s ws h =
-    ap (λ x. demerits_after (λ t. unlimited_demerits_from p places k t) (step_demerits p places (waits ws s) x) x) (step-in p s ws h)
+run-in p places zero s ws asked h = refl
+run-in p places (suc k) s ws asked h =
+    ap (λ x. demerits_after (λ t. unlimited_demerits_from p places k t) (step_demerits p places (waits ws s) x) x) (step-in p s ws asked h)
     ∙ ap (λ d. demerits_after (λ t. unlimited_demerits_from p places k t) d (unlimited_step p s)) (same-demerits p places s ws (unlimited_step p s))
 
 -- before the first box of a page a break that is put in changes nothing
 pub break-vanishes : (p : Params) (places : List PlacePenalty) (k : ℕ) (s : State) (line : ℕ) (q : ℤ) (xs ys : List PlainNode) → holds_box xs ≡ false
     → unlimited_demerits_from p places k (waits (xs ++ record { line = line; kind = plain (pen q) } ∷ ys) s) ≡ unlimited_demerits_from p places k (waits (xs ++ ys) s)
 break-vanishes p places k s line q xs ys h =
+    let made = ask_for p (waits (xs ++ ys) s) in
     run-in p places k (waits (xs ++ ys) s) (xs ++ record { line = line; kind = plain (pen q) } ∷ ys)
-    (ap (reach_from (ask_of p s).max_depth (terms_after (frozen_for (ask_of p s) s.classes s.boxes)) []) (penalty-vanishes (ask_of p s).top_skip line q xs ys h))
+    (asked-in p s (xs ++ record { line = line; kind = plain (pen q) } ∷ ys) (xs ++ ys) (led-front p xs (record { line = line; kind = plain (pen q) } ∷ ys) ys s (λ t. refl)))
+    (ap (reach_from made.max_depth (terms_after (frozen_for made s.classes s.boxes)) []) (penalty-vanishes made.top_skip line q xs ys h))

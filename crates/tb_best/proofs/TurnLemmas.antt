@@ -1,15 +1,16 @@
 -- A turn that goes on is the step of a run with more nodes behind.
-use Rattle.std.proofs.Common.{◌≡◌, sym, ◌∙◌, ap, subst, Bool, true, false, List, refl}
+use Rattle.std.proofs.Common.{◌≡◌, sym, ◌∙◌, ap, subst, Bool, true, false, List, [], ◌++◌, refl}
 use Rattle.tb_node.specs.PlainNodes.{PlainNode}
 use Rattle.tb_param.specs.declared.Params.{Params}
-use Rattle.tb_output.specs.State.{State, Recorded, ask_of}
+use Rattle.tb_builder.specs.FiredPages.{reach_of}
+use Rattle.tb_output.specs.State.{State, Recorded}
 use Rattle.tb_items.specs.RunEvents.{RunEvent}
-use Rattle.tb_steps.specs.Run.{done, ends, goes_on, step}
+use Rattle.tb_steps.specs.Run.{done, ends, goes_on, step, ask_for}
 use Rattle.tb_rate.specs.declared.PlacePenalty.{PlacePenalty}
 use Rattle.tb_best.specs.PlanDemerits.{reach_in, unlimited_step, step_demerits}
 use Rattle.tb_best.specs.ItemsAhead.{state_with}
 use Rattle.tb_best.proofs.FiredMore.{begun-more}
-use Rattle.tb_best.proofs.StepMore.{step_with, step-more, demerits-more}
+use Rattle.tb_best.proofs.StepMore.{step_with, asked-more, step-more, demerits-more}
 use Rattle.tb_best.proofs.Paths.{IsOver, step-over, IsDone, step-undone}
 use Rattle.tb_best.proofs.RatedPlans.{goes-on, ends-well}
 
@@ -30,7 +31,9 @@ module _ (p : Params) (s t : State) (es : List RunEvent) (rs : List Recorded) (m
 
   -- with more nodes behind the page fires
   pub turn-fires : (reach_in p (state_with more s)).fires ≡ true
-  turn-fires = ap (λ w. w.fires) (begun-more (ask_of p s) s.classes s.boxes s.waiting more fires) ∙ fires
+  turn-fires =
+      ap (λ a. (reach_of a s.classes s.boxes [] (s.waiting ++ more)).fires) (asked-more p s more fires)
+      ∙ ap (λ w. w.fires) (begun-more (ask_for p s) s.classes s.boxes s.waiting more fires) ∙ fires
 
   -- the run goes on with these nodes behind
   pub turn-goes-on : unlimited_step p (state_with more s) ≡ goes_on es rs (state_with more t)

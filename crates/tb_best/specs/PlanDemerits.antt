@@ -4,12 +4,13 @@ use Rattle.std.specs.Prelude.{ℕ, zero, suc, pred, ◌*◌, ℤ, pos, ◌++◌,
 use Rattle.tb_scaled.specs.Scaled.{awful_bad}
 use Rattle.tb_param.specs.declared.Params.{Params}
 use Rattle.tb_galley.specs.declared.Galley.{Galley}
+use Rattle.tb_builder.specs.declared.Ask.{Ask}
 use Rattle.tb_builder.specs.Reach.{Reach}
 use Rattle.tb_builder.specs.FiredPages.{reach_of, fired_of}
-use Rattle.tb_output.specs.State.{State, Recorded, Work, ask_of, emptied}
+use Rattle.tb_output.specs.State.{State, Recorded, Work, emptied}
 use Rattle.tb_output.specs.Output.{out}
 use Rattle.tb_items.specs.RunEvents.{RunEvent, sent}
-use Rattle.tb_steps.specs.Run.{done, pool_full, dead_cycles, page_limit, Progress, progress, Step, ends, goes_on, firings_left}
+use Rattle.tb_steps.specs.Run.{done, pool_full, dead_cycles, page_limit, Progress, progress, ask_for, Step, ends, goes_on, firings_left}
 use Rattle.tb_plans.specs.Plans.{with_breaks}
 use Rattle.tb_rate.specs.declared.PlacePenalty.{PlacePenalty}
 use Rattle.tb_rate.specs.Places.{place_penalties}
@@ -17,7 +18,7 @@ use Rattle.tb_rate.specs.RatedRun.{rating_by, demerits_if, demerits_after, more_
 
 -- what a state reaches with the nodes that wait
 abbrev pub reach_in : Params → State → Reach
-reach_in p s = reach_of (ask_of p s) s.classes s.boxes [] s.waiting
+reach_in p s = reach_of (ask_for p s) s.classes s.boxes [] s.waiting
 
 -- ---- a step in which the number of nodes is not tested
 
@@ -25,24 +26,24 @@ reach_in p s = reach_of (ask_of p s) s.classes s.boxes [] s.waiting
 abbrev pub unlimited_firing : List RunEvent → List Recorded → Work → Step
 unlimited_firing es rs w = if w.refused then ends (es ++ map sent w.sent) (rs ++ w.records) (page_limit (pred w.state.page)) else goes_on (es ++ map sent w.sent) (rs ++ w.records) w.state
 
--- the firing of the page that is reached, if it is allowed
-abbrev pub unlimited_fire : Params → Reach → Progress → Step
-unlimited_fire p w q =
-    let fired = unlimited_firing q.events q.records (out p q.state (fired_of (ask_of p q.state) q.state.classes q.state.boxes w)) in
+-- the firing of the page that is reached, which was made for this, if it is allowed
+abbrev pub unlimited_fire : Params → Ask → Reach → Progress → Step
+unlimited_fire p a w q =
+    let fired = unlimited_firing q.events q.records (out p q.state (fired_of a q.state.classes q.state.boxes w)) in
     if int_lt (pos q.state.dead_cycles) p.maxdeadcycles then fired else ends q.events q.records (dead_cycles q.state.dead_cycles)
 
 -- the step by the progress of its page
-abbrev pub unlimited_progress : Params → Reach → Progress → Option (ℕ × ℕ) → Step
-unlimited_progress p w q None = let fired = unlimited_fire p w q in if w.fires then fired else ends q.events (q.records ++ emptied q.state.floats ∷ []) (done w.passed)
-unlimited_progress p w q (Some f) = ends q.events q.records (pool_full f.0 f.1)
+abbrev pub unlimited_progress : Params → Ask → Reach → Progress → Option (ℕ × ℕ) → Step
+unlimited_progress p a w q None = let fired = unlimited_fire p a w q in if w.fires then fired else ends q.events (q.records ++ emptied q.state.floats ∷ []) (done w.passed)
+unlimited_progress p a w q (Some f) = ends q.events q.records (pool_full f.0 f.1)
 
--- the step by what is reached
-abbrev pub unlimited_step_of : Params → State → Reach → Step
-unlimited_step_of p s w = let q = progress p w.reached awful_bad s in unlimited_progress p w q q.fault
+-- the step by what its page is made for and what is reached of it
+abbrev pub unlimited_step_of : Params → State → Ask → Reach → Step
+unlimited_step_of p s a w = let q = progress p w.reached awful_bad s in unlimited_progress p a w q q.fault
 
 -- one step of a run: a page and its firing
 unfoldable pub unlimited_step : Params → State → Step
-unlimited_step p s = unlimited_step_of p s (reach_in p s)
+unlimited_step p s = unlimited_step_of p s (ask_for p s) (reach_in p s)
 
 -- ---- the demerits
 

@@ -123,7 +123,11 @@ negated_sized : (g : Glue) → IsSizedGlue g → IsSized (glue (negated_glue g))
 negated_sized g h = (negated_dimension g.width h.width, negated_dimension g.stretch h.stretch, negated_dimension g.shrink h.shrink)
 
 float_sized : (place : Where) (f : Float) → IsSizedFloat f → IsSizedNode (float_box place f)
-float_sized place f h = (h, record { low = omega (arith, ints); high = omega (arith, ints) })
+float_sized place f h = (h, by_depth f.deep)
+  where
+    by_depth : (deep : Bool) → IsExtent (if deep then pos 1 else pos 0)
+    by_depth true = record { low = omega (arith, ints); high = omega (arith, ints) }
+    by_depth false = record { low = omega (arith, ints); high = omega (arith, ints) }
 
 pub boxes_with-sized : (place : Where) (sep : Glue) (fs : List Float) → IsSizedGlue sep → All IsSizedFloat fs → All IsSizedNode (boxes_with place sep fs)
 boxes_with-sized place sep [] g h = All-nil IsSizedNode

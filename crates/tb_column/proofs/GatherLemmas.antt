@@ -151,7 +151,7 @@ module _ (old ready front new : Lists Node) (p : Params) (l : FloatLists) (body 
 
   notes-found : (ks : List NoteBox) → AllByRecursion (IsNote old) ks → AllByRecursion (IsNote ready) ks
   notes-found [] h = tt
-  notes-found (k ∷ ks) h = (record { list = page-get old ready k.list (found-get k.list) h.0.list; skip = h.0.skip }, notes-found ks h.1)
+  notes-found (k ∷ ks) h = (record { list = page-get old ready k.list (found-get k.list) h.0.list; rule = h.0.rule; skip = h.0.skip }, notes-found ks h.1)
 
   pub ready_notes : AreNotes ready body ns
   ready_notes = record { rising = can.rising; apart = can.apart; each = notes-found ns can.each }

@@ -5,6 +5,7 @@ pub mod NoteLemmas
 pub mod ShownLemmas
 pub mod TextLemmas
 pub mod GatherLemmas
+pub mod StandingLemmas
 pub mod ClosingLemmas
 pub mod PageLemmas
 pub mod RangeLemmas

@@ -38,6 +38,14 @@ rule-in_range : (r : Option Rule) → IsTrue (is_no_fault (out_of_range (is_rule
 rule-in_range None h = tt
 rule-in_range (Some r) h = ruled r (is_dimen r.above) (is_within (pos 0) (pos 1073741823) r.height) (is_dimen r.below) refl refl refl h
 
+-- the amounts of a rule whose test holds
+pub rule-sized : (r : Option Rule) → IsTrue (is_rule r) → IsSizedRule r
+rule-sized r h = rule-in_range r (fits (is_rule r) h)
+  where
+    fits : (t : Bool) → IsTrue t → IsTrue (is_no_fault (out_of_range t))
+    fits true k = refl
+    fits false k = k
+
 pub column-params : (p : Params) → IsTrue (are_params p) → AreColumnParams p
 unfolding are_params
 column-params p h =

@@ -1,5 +1,5 @@
 -- A text column in the store is the text column of the definitions.
-use Rattle.std.proofs.Common.{◌≡◌, refl, ◌∙◌, ap, sym, ℕ, ℤ, Bool, true, false, ◌==◌, List, [], ◌∷◌, ◌++◌, map, length, Option, Some, None}
+use Rattle.std.proofs.Common.{◌≡◌, refl, ◌∙◌, ap, sym, ℕ, ℤ, Bool, true, false, ◌==◌, List, [], ◌∷◌, ◌++◌, map, length, Option, Some, None, unwrap_or}
 use Rattle.std.specs.Prelude.{if◌then◌else◌}
 use Rattle.std.specs.List.{AllByRecursion}
 use Rattle.std.proofs.lemmas.List.{map-append}
@@ -18,12 +18,14 @@ use Rattle.tb_float.specs.Lists.{FloatLists}
 use Rattle.tb_float.specs.Rooms.{column_height_of}
 use Rattle.tb_column.specs.declared.ColumnKind.TheVariants as column_kinds
 use Rattle.tb_column.specs.declared.NoteBox.{NoteBox}
-use Rattle.tb_column.specs.Column.{is_among, is_below, notes_among, foot_kern, kern_if_any, feet_above, class_below, notes_below, closing_glue, text_above_feet, with_feet, with_bottoms, with_below, text_nodes, closed_nodes, text_column}
+use Rattle.tb_column.specs.declared.Standing.{Standing}
+use Rattle.tb_column.specs.declared.Standing.TheVariants as standings
+use Rattle.tb_column.specs.Column.{standing_of, is_at, is_below, notes_at, notes_among, foot_kern, kern_if_any, feet_above, above_class, class_below, notes_below, closing_glue, text_above_feet, with_feet, with_bottoms, with_below, text_nodes, closed_nodes, text_column}
 use Rattle.tb_column.specs.StoredColumns.{column_shown}
 use Rattle.tb_column.specs.Page.{is_leaf_kind, AreLeaves}
-use Rattle.tb_column.specs.Notes.{note_shown, notes_shown, boxes_among, IsNote}
+use Rattle.tb_column.specs.Notes.{note_shown, notes_shown, boxes_at, boxes_among, IsNote}
 use Rattle.tb_column.specs.FloatColumns.{glue_list, rule_list}
-use Rattle.tb_column.specs.TextColumns.{made_node, kern_list, feet_list, class_above, notes_list, top_list, bottom_list, front_list, footed_list, below_list, text_list, closing_by, closed_list, column_list}
+use Rattle.tb_column.specs.TextColumns.{made_node, kern_list, feet_list, under_list, class_above, notes_list, top_list, bottom_list, front_list, footed_list, below_list, text_list, closing_by, closed_list, column_list}
 use Rattle.tb_column.proofs.FloatLemmas.{rule-held, glue-held, boxes_above-held, boxes_below-held}
 use Rattle.tb_column.proofs.NoteLemmas.{all-among}
 
@@ -63,10 +65,12 @@ feet-held held p kern =
 class-held : (held : ℕ → List Node) (p : Params) (kern : Option ℤ) (store : Lists Node) (n : NoteBox) → AreLeaves (list_at store n.list) → map (plain_of held) (class_above p kern n ++ list_at store n.list) ≡ class_below p kern (note_shown store n)
 class-held held p kern store n leaves = by_test (n.class == 254)
   where
-    by_test : (b : Bool) → map (plain_of held) ((if b then feet_list p kern else made_node (kinds.Skip n.skip) ∷ []) ++ list_at store n.list)
-        ≡ (if b then feet_above p kern ++ map leaf_node (map leaf_of (list_at store n.list)) else made (skip n.skip) ∷ map leaf_node (map leaf_of (list_at store n.list)))
+    by_test : (b : Bool) → map (plain_of held) ((if b then feet_list p kern else under_list n.skip n.below) ++ list_at store n.list)
+        ≡ (if b then feet_above p kern ++ map leaf_node (map leaf_of (list_at store n.list)) else above_class n.skip n.below ++ map leaf_node (map leaf_of (list_at store n.list)))
     by_test true = map-append (plain_of held) (feet_list p kern) (list_at store n.list) ∙ (λ i. feet-held held p kern i ++ leaves-held held (list_at store n.list) leaves i)
-    by_test false = ap (λ ns. made (skip n.skip) ∷ ns) (leaves-held held (list_at store n.list) leaves)
+    by_test false =
+        map-append (plain_of held) (under_list n.skip n.below) (list_at store n.list)
+        ∙ (λ i. (made (skip n.skip) ∷ rule-held held Footnotes (unwrap_or n.below None) i) ++ leaves-held held (list_at store n.list) leaves i)
 
 notes-held : (held : ℕ → List Node) (p : Params) (kern : Option ℤ) (store : Lists Node) (ns : List NoteBox) → AllByRecursion (IsNote store) ns → map (plain_of held) (notes_list p kern store ns) ≡ notes_below p kern (notes_shown store ns)
 notes-held held p kern store [] h = refl
@@ -74,15 +78,21 @@ notes-held held p kern store (n ∷ ns) h =
     map-append (plain_of held) (class_above p kern n ++ list_at store n.list) (notes_list p kern store ns)
     ∙ (λ i. class-held held p kern store n h.0.list.leaves i ++ notes-held held p kern store ns h.1 i)
 
--- those of footnotes, or of the others
-among-shown : (feet : Bool) (store : Lists Node) (ns : List NoteBox) → notes_shown store (boxes_among feet ns) ≡ notes_among feet (notes_shown store ns)
-among-shown feet store [] = refl
-among-shown feet store (n ∷ ns) = by_test (is_among feet n.class) (among-shown feet store ns)
+-- those that stand somewhere
+at-shown : (s : Standing) (store : Lists Node) (ns : List NoteBox) → notes_shown store (boxes_at s ns) ≡ notes_at s (notes_shown store ns)
+at-shown s store [] = refl
+at-shown s store (n ∷ ns) = by_test (is_at s (standing_of n.class n.below)) (at-shown s store ns)
   where
-    by_test : (b : Bool) → notes_shown store (boxes_among feet ns) ≡ notes_among feet (notes_shown store ns)
-        → notes_shown store (if b then n ∷ boxes_among feet ns else boxes_among feet ns) ≡ (if b then note_shown store n ∷ notes_among feet (notes_shown store ns) else notes_among feet (notes_shown store ns))
+    by_test : (b : Bool) → notes_shown store (boxes_at s ns) ≡ notes_at s (notes_shown store ns)
+        → notes_shown store (if b then n ∷ boxes_at s ns else boxes_at s ns) ≡ (if b then note_shown store n ∷ notes_at s (notes_shown store ns) else notes_at s (notes_shown store ns))
     by_test true e = ap (λ ms. note_shown store n ∷ ms) e
     by_test false e = e
+
+-- those of footnotes with what stands below them, or what stands above
+among-shown : (feet : Bool) (store : Lists Node) (ns : List NoteBox) → notes_shown store (boxes_among feet ns) ≡ notes_among feet (notes_shown store ns)
+among-shown true store ns =
+    map-append (note_shown store) (boxes_at standings.Feet ns) (boxes_at standings.Below ns) ∙ (λ i. at-shown standings.Feet store ns i ++ at-shown standings.Below store ns i)
+among-shown false store ns = at-shown standings.Above store ns
 
 -- ---- the column
 

@@ -1,5 +1,5 @@
 -- The text with its floats and insertions: its nodes may be on a page.
-use Rattle.std.proofs.Common.{◌≡◌, refl, sym, ap, subst, ℕ, ◌+◌, ◌*◌, ◌<◌, ◌≤◌, ◌==◌, ℤ, pos, Bool, true, false, List, [], ◌∷◌, ◌++◌, length, length-append, map, neg_ℤ, not, Option, Some, None, arith}
+use Rattle.std.proofs.Common.{◌≡◌, refl, sym, ap, subst, ℕ, ◌+◌, ◌*◌, ◌<◌, ◌≤◌, ◌==◌, ℤ, pos, Bool, true, false, List, [], ◌∷◌, ◌++◌, length, length-append, map, neg_ℤ, not, Option, Some, None, unwrap_or, arith}
 use Rattle.std.specs.Prelude.{All, if◌then◌else◌}
 use Rattle.std.specs.List.{AllByRecursion}
 use Rattle.std.proofs.lemmas.Int.{ints}
@@ -20,13 +20,13 @@ use Rattle.tb_float.specs.Ranges.{IsSizedFloat}
 use Rattle.tb_column.specs.declared.NoteBox.{NoteBox}
 use Rattle.tb_column.specs.Column.{is_drop, is_below, foot_kern}
 use Rattle.tb_column.specs.Page.{AreLeaves, IsPageList}
-use Rattle.tb_column.specs.Ranges.{IsSizedGlue, AreColumnParams}
+use Rattle.tb_column.specs.Ranges.{IsSizedGlue, IsSizedRule, AreColumnParams}
 use Rattle.tb_column.specs.Notes.{note_count, boxes_among, IsNote}
 use Rattle.tb_column.specs.FloatColumns.{glue_list, rule_list}
-use Rattle.tb_column.specs.TextColumns.{made_node, kern_list, feet_list, class_above, above_length, above_count, notes_list, top_list, bottom_list, front_list, footed_list, below_list, text_list}
+use Rattle.tb_column.specs.TextColumns.{made_node, kern_list, feet_list, under_list, class_above, above_length, above_count, notes_list, top_list, bottom_list, front_list, footed_list, below_list, text_list}
 use Rattle.tb_column.proofs.ClosingLemmas.{kept_width}
 use Rattle.tb_column.proofs.FloatLemmas.{one-sized, leaves-append, rule-leaves, rule-sized, rule-length, glue-leaves, glue_list-sized, glue-length, boxes_above-leaves, boxes_below-leaves, boxes_above-sized, boxes_below-sized, boxes_above-length, boxes_below-length}
-use Rattle.tb_column.proofs.NoteLemmas.{all-among, count-both}
+use Rattle.tb_column.proofs.NoteLemmas.{all-among, sum-both, count-both}
 
 -- ---- what is above the insertions of a class
 
@@ -66,18 +66,18 @@ module _ (p : Params) (ranges : AreColumnParams p) (kern : Option ℤ) where
       (All-append IsSizedNode (kern_list kern) (glue_list p.footfill) (kern-sized kern h) (glue_list-sized p.footfill ranges.footfill))
       (All-append IsSizedNode (made_node (kinds.Skip p.skipfootins) ∷ []) (rule_list Footnotes p.footrule) (one-sized p.skipfootins ranges.skipfootins) (rule-sized Footnotes p.footrule ranges.footrule))
 
-  class-sized : (n : NoteBox) → IsSizedKern kern → IsSizedGlue n.skip → All IsSizedNode (class_above p kern n)
-  class-sized n h own = by_test (n.class == 254)
+  class-sized : (n : NoteBox) → IsSizedKern kern → IsSizedGlue n.skip → IsSizedRule (unwrap_or n.below None) → All IsSizedNode (class_above p kern n)
+  class-sized n h own rule = by_test (n.class == 254)
     where
-      by_test : (b : Bool) → All IsSizedNode (if b then feet_list p kern else made_node (kinds.Skip n.skip) ∷ [])
+      by_test : (b : Bool) → All IsSizedNode (if b then feet_list p kern else under_list n.skip n.below)
       by_test true = feet-sized h
-      by_test false = one-sized n.skip own
+      by_test false = All-append IsSizedNode (made_node (kinds.Skip n.skip) ∷ []) (rule_list Footnotes (unwrap_or n.below None)) (one-sized n.skip own) (rule-sized Footnotes (unwrap_or n.below None) rule)
 
   notes-sized : (store : Lists Node) (ns : List NoteBox) → IsSizedKern kern → AllByRecursion (IsNote store) ns → All IsSizedNode (notes_list p kern store ns)
   notes-sized store [] k h = All-nil IsSizedNode
   notes-sized store (n ∷ ns) k h =
       All-append IsSizedNode (class_above p kern n ++ list_at store n.list) (notes_list p kern store ns)
-      (All-append IsSizedNode (class_above p kern n) (list_at store n.list) (class-sized n k h.0.skip) h.0.list.sized)
+      (All-append IsSizedNode (class_above p kern n) (list_at store n.list) (class-sized n k h.0.skip h.0.rule) h.0.list.sized)
       (notes-sized store ns k h.1)
 
 module _ (p : Params) (kern : Option ℤ) where
@@ -89,9 +89,9 @@ module _ (p : Params) (kern : Option ℤ) where
   class-leaves : (n : NoteBox) → AreLeaves (class_above p kern n)
   class-leaves n = by_test (n.class == 254)
     where
-      by_test : (b : Bool) → AreLeaves (if b then feet_list p kern else made_node (kinds.Skip n.skip) ∷ [])
+      by_test : (b : Bool) → AreLeaves (if b then feet_list p kern else under_list n.skip n.below)
       by_test true = feet-leaves
-      by_test false = (tt, tt)
+      by_test false = (tt, rule-leaves Footnotes (unwrap_or n.below None))
 
   feet-length : length (feet_list p kern) ≤ 6
   feet-length =
@@ -107,9 +107,9 @@ module _ (p : Params) (kern : Option ℤ) where
   class-length : (n : NoteBox) → length (class_above p kern n) ≤ above_length n.class
   class-length n = by_test (n.class == 254)
     where
-      by_test : (b : Bool) → length (if b then feet_list p kern else made_node (kinds.Skip n.skip) ∷ []) ≤ (if b then 6 else 1)
+      by_test : (b : Bool) → length (if b then feet_list p kern else under_list n.skip n.below) ≤ (if b then 6 else 4)
       by_test true = feet-length
-      by_test false = omega arith
+      by_test false = omega (arith, rule-length Footnotes (unwrap_or n.below None))
 
   notes-leaves : (store : Lists Node) (ns : List NoteBox) → AllByRecursion (IsNote store) ns → AreLeaves (notes_list p kern store ns)
   notes-leaves store [] h = tt
@@ -127,15 +127,9 @@ module _ (p : Params) (kern : Option ℤ) where
         notes-length store ns,
       )
 
--- footnotes and the others have so many nodes together
+-- footnotes, what stands below them and what stands above have so many nodes together
 held-both : (store : Lists Node) (ns : List NoteBox) → note_count store (boxes_among false ns) + note_count store (boxes_among true ns) ≡ note_count store ns
-held-both store [] = refl
-held-both store (n ∷ ns) = by_test (n.class == 254) (held-both store ns)
-  where
-    by_test : (b : Bool) → note_count store (boxes_among false ns) + note_count store (boxes_among true ns) ≡ note_count store ns
-        → note_count store (if not b then n ∷ boxes_among false ns else boxes_among false ns) + note_count store (if b then n ∷ boxes_among true ns else boxes_among true ns) ≡ length (list_at store n.list) + note_count store ns
-    by_test true e = omega arith
-    by_test false e = omega arith
+held-both store ns = sum-both (note_count store) (λ n. length (list_at store n.list)) refl (λ m ms. refl) ns
 
 -- ---- the whole
 

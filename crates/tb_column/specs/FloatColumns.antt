@@ -14,15 +14,15 @@ use Rattle.tb_node.specs.declared.RuleOf.TheVariants.{Floats}
 use Rattle.tb_param.specs.declared.Rule.{Rule}
 use Rattle.tb_param.specs.declared.Params.{Params}
 use Rattle.tb_column.specs.declared.float_columns.PageGlue.{PageGlue}
-use Rattle.tb_column.specs.Column.{is_no_glue}
+use Rattle.tb_column.specs.Column.{is_no_glue, float_depth}
 
 -- a node that is made here has line 0
 abbrev pub made_node : Kind → Node
 made_node k = record { line = 0; kind = k }
 
--- the box of a float at a place; it has no depth
+-- the box of a float at a place
 abbrev pub float_box : Where → Float → Node
-float_box place f = made_node (kinds.Hbox (what.Float f.name f.class place f.line) f.height (pos 0))
+float_box place f = made_node (kinds.Hbox (what.Float f.name f.class place f.line) f.height (float_depth f))
 
 -- glue of a parameter, unless it is no glue
 abbrev pub glue_list : Glue → List Node

@@ -1,5 +1,5 @@
 -- The nodes of a text column as a store holds them (ltoutput.dtx, \@makecol and \@combinefloats).
-use Rattle.std.specs.Prelude.{ℕ, ℤ, pos, negsuc, neg_ℤ, ◌+◌, ◌==◌, true, false, List, [], ◌∷◌, ◌++◌, length, map, Option, Some, None, if◌then◌else◌}
+use Rattle.std.specs.Prelude.{ℕ, ℤ, pos, negsuc, neg_ℤ, ◌+◌, ◌==◌, true, false, List, [], ◌∷◌, ◌++◌, length, map, Option, Some, None, unwrap_or, if◌then◌else◌}
 use Rattle.tb_pool.specs.Lists.{Lists, list_at}
 use Rattle.tb_scaled.specs.declared.Glue.{Glue}
 use Rattle.tb_scaled.specs.declared.Order.TheVariants.{Normal, Fil}
@@ -10,6 +10,7 @@ use Rattle.tb_node.specs.declared.Where.TheVariants as places
 use Rattle.tb_node.specs.PlainNodes.{shape_of}
 use Rattle.tb_node.specs.Sums.{limited_depth}
 use Rattle.tb_param.specs.declared.Params.{Params}
+use Rattle.tb_param.specs.declared.Rule.{Rule}
 use Rattle.tb_param.specs.declared.Choice.{Choice}
 use Rattle.tb_float.specs.Lists.{FloatLists}
 use Rattle.tb_column.specs.declared.NoteBox.{NoteBox}
@@ -32,13 +33,17 @@ kern_list (Some w) = made_node (kinds.Kern w) ∷ []
 abbrev pub feet_list : Params → Option ℤ → List Node
 feet_list p kern = kern_list kern ++ glue_list p.footfill ++ (made_node (kinds.Skip p.skipfootins) ∷ rule_list Footnotes p.footrule)
 
+-- what is above the insertions of a class other than that of footnotes: its glue, and the rule of one that stands below footnotes
+abbrev pub under_list : Glue → Option (Option Rule) → List Node
+under_list g below = made_node (kinds.Skip g) ∷ rule_list Footnotes (unwrap_or below None)
+
 -- what is above the insertions of a class: those of class 254 are footnotes
 abbrev pub class_above : Params → Option ℤ → NoteBox → List Node
-class_above p kern n = if n.class == 254 then feet_list p kern else made_node (kinds.Skip n.skip) ∷ []
+class_above p kern n = if n.class == 254 then feet_list p kern else under_list n.skip n.below
 
 -- at most how many nodes are above the insertions of a class
 abbrev pub above_length : ℕ → ℕ
-above_length class = if class == 254 then 6 else 1
+above_length class = if class == 254 then 6 else 4
 
 -- at most how many nodes are above the insertions of all classes
 abbrev pub above_count : List NoteBox → ℕ
@@ -75,11 +80,11 @@ top_list p l = boxes_above places.Top p.floatsep p.toprule p.textfloatsep l.top
 abbrev pub bottom_list : Params → FloatLists → List Node
 bottom_list p l = boxes_below places.Bottom p.floatsep p.bottomrule p.textfloatsep l.bottom
 
--- the glue at the top, top floats, text, insertions that are no footnotes
+-- the glue at the top, top floats, text, insertions that stand above footnotes
 abbrev pub front_list : Params → FloatLists → Lists Node → ℕ → List NoteBox → List Node
 front_list p l store body notes = (glue_list p.texttop ++ (top_list p l ++ list_at store body)) ++ notes_list p None store (boxes_among false notes)
 
--- the nodes with footnotes below, in a column with this many floats at its bottom
+-- the nodes with footnotes below, and what stands below those, in a column with this many floats at its bottom
 abbrev pub footed_list : Params → ℕ → Lists Node → List NoteBox → List Node → List Node
 footed_list p bottoms store notes ns = ns ++ notes_list p (foot_kern p bottoms (map shape_of ns)) store (boxes_among true notes)
 

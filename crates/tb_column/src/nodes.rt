@@ -1,7 +1,7 @@
 //! Nodes that come from no galley item.
 ghost use Rattle.std.specs.Prelude.{◌≡◌, ◌+◌, ◌<◌, ◌≤◌, ◌++◌, ◌∷◌, []};
 ghost use Rattle.tb_pool.specs.Lists.{IsLive, list_at, with_list};
-ghost use Rattle.tb_column.specs.Column.{is_no_glue};
+ghost use Rattle.tb_column.specs.Column.{is_no_glue, float_depth};
 ghost use Rattle.tb_column.specs.FloatColumns.{made_node, float_box, glue_list, rule_list};
 
 use tb_node::{Float, Kind, Node, RuleOf, What, Where};
@@ -74,7 +74,14 @@ pub(crate) fn push_rule(store: &mut Lists<Node>, l: ListId, of: RuleOf, rule: Op
     }
 }
 
-/// Puts the box of a float at the end of a list, in a spare place; it has the float's height and no depth.
+/// The depth of a float's box, in sp: 1 of a deep one, else 0 (ltfloat.dtx, \@endfloatbox).
+pub fn float_depth(float: &Float) -> i64
+    ensures { result ≡ float_depth float.now }
+{
+    if float.deep { 1 } else { 0 }
+}
+
+/// Puts the box of a float at the end of a list, in a spare place; it has the float's height and depth.
 pub fn push_float(store: &mut Lists<Node>, l: ListId, place: Where, float: &Float)
     requires live { IsLive store.old l }
     requires room { 0 < store.old.spare }
@@ -93,7 +100,7 @@ pub fn push_float(store: &mut Lists<Node>, l: ListId, place: Where, float: &Floa
                 item: float.line,
             },
             height: float.height,
-            depth: 0,
+            depth: float_depth(float),
         },
     );
 }

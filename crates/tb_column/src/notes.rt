@@ -2,15 +2,15 @@
 ghost use Rattle.std.specs.Prelude.{◌≡◌, ◌≢◌, ◌+◌, ◌≤◌, ◌++◌, true, []};
 ghost use Rattle.std.specs.FinMap.{insert};
 ghost use Rattle.tb_pool.specs.Lists.{IsLive, list_at, with_list};
-ghost use Rattle.tb_column.specs.Column.{is_among};
-ghost use Rattle.tb_column.specs.Notes.{AreRisingFrom, AreApart, boxes_among};
+ghost use Rattle.tb_column.specs.Column.{standing_of, is_at};
+ghost use Rattle.tb_column.specs.Notes.{AreRisingFrom, AreApart, boxes_at, boxes_among};
 ghost use Rattle.tb_column.specs.ColumnChanges.{AreJoined};
-ghost use Rattle.tb_column.specs.TextColumns.{rule_above, kern_list, feet_list, class_above, above_length, above_count, notes_list};
+ghost use Rattle.tb_column.specs.TextColumns.{rule_above, kern_list, feet_list, under_list, class_above, above_length, above_count, notes_list};
 
-use crate::NoteBox;
 use crate::nodes::{push_glue, push_made, push_rule};
+use crate::{NoteBox, Standing};
 use tb_node::{FOOTNOTES, Kind, Node, RuleOf};
-use tb_param::Params;
+use tb_param::{Params, Rule};
 use tb_pool::{ListId, Lists};
 use tb_scaled::Glue;
 
@@ -48,7 +48,7 @@ pub fn push_plain_rule(store: &mut Lists<Node>, l: ListId, skip: Glue)
 fn above_length(class: u8) -> usize
     ensures { result ≡ above_length class }
 {
-    if class == FOOTNOTES { 6 } else { 1 }
+    if class == FOOTNOTES { 6 } else { 4 }
 }
 
 /// At most how many nodes are above the insertions of all these classes.
@@ -92,6 +92,18 @@ fn push_above_feet(store: &mut Lists<Node>, p: &Params, l: ListId, kern: Option<
     push_rule(store, l, RuleOf::Footnotes, p.footrule);
 }
 
+// Puts the glue above the insertions of a class at the end of a list, and the rule of one that stands below footnotes.
+fn push_above_class(store: &mut Lists<Node>, l: ListId, skip: Glue, below: Option<Option<Rule>>)
+    requires live { IsLive store.old l }
+    requires room { 4 ≤ store.old.spare }
+    ensures lists { store.new.lists ≡ with_list store.old l (list_at store.old l ++ under_list skip below) }
+    ensures live { IsLive store.new l }
+    ensures spare { store.old.spare ≤ store.new.spare + 4 }
+{
+    push_made(store, l, Kind::Skip(skip));
+    push_rule(store, l, RuleOf::Footnotes, below.unwrap_or(None));
+}
+
 // Puts what is above the insertions of a class at the end of a list.
 fn push_class(store: &mut Lists<Node>, p: &Params, l: ListId, note: &NoteBox, kern: Option<i64>)
     requires live { IsLive store.old l }
@@ -103,7 +115,7 @@ fn push_class(store: &mut Lists<Node>, p: &Params, l: ListId, note: &NoteBox, ke
     if note.class == FOOTNOTES {
         push_above_feet(store, p, l, kern);
     } else {
-        push_made(store, l, Kind::Skip(note.skip));
+        push_above_class(store, l, note.skip, note.below);
     }
 }
 
@@ -120,19 +132,58 @@ fn join_class(store: &mut Lists<Node>, p: &Params, body: ListId, note: &NoteBox,
     store.append(body, note.list);
 }
 
-// Whether a class is that of footnotes, or whether it is another.
-fn is_among(feet: bool, class: u8) -> bool
-    ensures { result ≡ is_among feet class }
+// Where the insertions of a class stand.
+fn standing_of(class: u8, below: Option<Option<Rule>>) -> Standing
+    ensures { result ≡ standing_of class below }
 {
-    if feet {
-        class == FOOTNOTES
-    } else {
-        class != FOOTNOTES
+    if class == FOOTNOTES {
+        return Standing::Feet;
+    }
+    match below {
+        None => Standing::Above,
+        Some(_) => Standing::Below,
     }
 }
 
-/// Moves the insertions of each class but that of footnotes to the end of a text, in the order of the classes; or
-/// footnotes, under the kern that takes the depth of the text back.
+// Whether the insertions of a class stand there.
+fn is_at(standing: Standing, note: &NoteBox) -> bool
+    ensures { result ≡ is_at standing (standing_of note.now.class note.now.below) }
+{
+    match (standing, standing_of(note.class, note.below)) {
+        (Standing::Above, Standing::Above) => true,
+        (Standing::Feet, Standing::Feet) => true,
+        (Standing::Below, Standing::Below) => true,
+        _ => false,
+    }
+}
+
+// Moves the insertions of each class that stands there to the end of a text, in the order of the classes; footnotes under
+// the kern that takes the depth of the text back.
+fn join_standing(
+    store: &mut Lists<Node>,
+    p: &Params,
+    body: ListId,
+    notes: &[NoteBox],
+    standing: Standing,
+    kern: Option<i64>,
+)
+    requires live { IsLive store.old body }
+    requires notes { AreApart store.old body (boxes_at standing notes.now) }
+    requires room { above_count (boxes_at standing notes.now) ≤ store.old.spare }
+    ensures text { list_at store.new body ≡ list_at store.old body ++ notes_list p.now kern store.old (boxes_at standing notes.now) }
+    ensures live { IsLive store.new body }
+    ensures lists { AreJoined body (boxes_at standing notes.now) store.old store.new }
+    ensures spare { store.old.spare ≤ store.new.spare + above_count (boxes_at standing notes.now) }
+{
+    for note in notes {
+        if is_at(standing, note) {
+            join_class(store, p, body, note, kern);
+        }
+    }
+}
+
+/// Moves the insertions of each class that stands above footnotes to the end of a text, in the order of the classes; or
+/// footnotes, under the kern that takes the depth of the text back, and then those that stand below them.
 pub(crate) fn join_notes(
     store: &mut Lists<Node>,
     p: &Params,
@@ -149,9 +200,10 @@ pub(crate) fn join_notes(
     ensures lists { AreJoined body (boxes_among feet notes.now) store.old store.new }
     ensures spare { store.old.spare ≤ store.new.spare + above_count (boxes_among feet notes.now) }
 {
-    for note in notes {
-        if is_among(feet, note.class) {
-            join_class(store, p, body, note, kern);
-        }
+    if feet {
+        join_standing(store, p, body, notes, Standing::Feet, kern);
+        join_standing(store, p, body, notes, Standing::Below, kern);
+    } else {
+        join_standing(store, p, body, notes, Standing::Above, kern);
     }
 }

@@ -71,7 +71,7 @@ fn is_below(place: Choice) -> bool
     matches!(place, Choice::Below)
 }
 
-// Puts the glue and the floats at the top of a column before its text, and the insertions that are no footnotes behind it.
+// Puts the glue and the floats at the top of a column before its text, and the insertions above footnotes behind it.
 // If there is no memory for a helper list, the pool and all lists stay as they were.
 fn put_front(
     store: &mut Lists<Node>,
@@ -98,7 +98,7 @@ fn put_front(
     Ok(())
 }
 
-// Puts footnotes behind a column with this many floats at its bottom.
+// Puts footnotes, and the insertions below them, behind a column with this many floats at its bottom.
 fn put_feet(store: &mut Lists<Node>, p: &Params, body: ListId, notes: &[NoteBox], bottoms: usize)
     requires params { AreColumnParams p.now }
     requires live { IsLive store.old body }
@@ -224,8 +224,8 @@ fn end_text(store: &mut Lists<Node>, p: &Params, body: ListId) -> Sums
 }
 
 /// Makes the text column of a page: the glue and the floats at its top, the text, the insertions of each class, the floats
-/// at its bottom, then the glue that backs up over the depth and the glue at its bottom. Footnotes are above or below the
-/// floats at the bottom. It is packed to the height, in scaled points, that the wide floats leave of a page (ltoutput.dtx,
+/// at its bottom, then the glue that backs up over the depth and the glue at its bottom. Footnotes, with the classes that
+/// stand below them, are above or below the floats at the bottom. It is packed to the height, in scaled points, that the wide floats leave of a page (ltoutput.dtx,
 /// `\@makecol` and `\@combinefloats`).
 ///
 /// The list of the text becomes the column's, and those of the insertions are emptied into it; no node is copied. The

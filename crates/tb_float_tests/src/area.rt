@@ -33,6 +33,8 @@ fn float_of(name: Name, class: u8, wide: bool, letters: &str, height: u8) -> Flo
         places: places_of(letters),
         bang: letters.as_bytes().contains(&b'!'),
         height: i64::from(height),
+        deep: false,
+        nobreak: false,
     }
 }
 

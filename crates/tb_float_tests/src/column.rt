@@ -1,6 +1,6 @@
 //! Worked pages: insertions of two classes under a text, two columns under a wide float, and floats alone.
 
-ghost use Rattle.std.specs.Prelude.{◌≡◌, ◌≢◌, length, IfOk};
+ghost use Rattle.std.specs.Prelude.{◌≡◌, ◌≢◌, None, length, IfOk};
 ghost use Rattle.tb_pool.specs.Lists.{IsLive, list_at};
 ghost use Rattle.tb_column.specs.Page.{IsPageList};
 ghost use Rattle.tb_column.specs.Ranges.{AreColumnParams, IsSizedGlue};
@@ -133,10 +133,12 @@ fn params(height: u8) -> Params
 fn note_box(class: u8, list: ListId) -> NoteBox
     ensures class { result.class ≡ class }
     ensures list { result.list ≡ list }
+    ensures below { result.below ≡ None }
     ensures skip { IsSizedGlue result.skip }
 {
     NoteBox {
         class,
+        below: None,
         skip: glue_of(0, 0),
         list,
     }
@@ -181,6 +183,8 @@ fn put(pool: &mut Pool, height: u8, part: Part) -> Result<(), Fail>
         },
         bang: false,
         height: i64::from(height),
+        deep: false,
+        nobreak: false,
     };
     if pool.take(float).is_err() {
         return Err("full")?;

@@ -31,6 +31,8 @@ fn float_of(name: Name, class: u8, height: i64) -> Float
         places: ANYWHERE,
         bang: false,
         height,
+        deep: false,
+        nobreak: false,
     }
 }
 
@@ -224,6 +226,7 @@ fn a_note_takes_two_boxes(rt: HostRuntime) -> Result<(), Fail> {
         left_depth: 0,
         right_height: 5,
         right_depth: 0,
+        nobreak: false,
     };
     let mut pool = new_pool(rt.alloc(), 2)?;
     assert!(rt; pool.take_margin(note).is_ok());

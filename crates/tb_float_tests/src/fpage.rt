@@ -33,6 +33,8 @@ fn float_of(name: Name, wide: bool, places: Places, height: u8, class: u8) -> Fl
         places,
         bang: false,
         height: i64::from(height),
+        deep: false,
+        nobreak: false,
     }
 }
 

@@ -19,6 +19,7 @@ fn note(name: Name) -> Margin
         left_depth: 3,
         right_height: 8,
         right_depth: 4,
+        nobreak: false,
     }
 }
 

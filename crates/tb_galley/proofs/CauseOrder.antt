@@ -1,5 +1,5 @@
 -- The causes at each field are listed in the order of the table.
-use Rattle.std.proofs.Common.{◌≡◌, ℕ, ◌+◌, Bool, true, false, not, ◌&&◌, nat_lt, nat_le, ◌==◌, List, [], ◌∷◌, ◌++◌, map, length, Option, Some, None, Result, Ok, Err, if◌then◌else◌, codes, bytes_eq, ℤ, refl, arith}
+use Rattle.std.proofs.Common.{◌≡◌, ℕ, ◌+◌, Bool, true, false, not, ◌&&◌, nat_lt, nat_le, ◌==◌, List, [], ◌∷◌, ◌++◌, map, length, Option, Some, None, Result, Ok, Err, if◌then◌else◌, codes, bytes_eq, ℤ, pos, refl, arith}
 use Rattle.std.specs.List.{list_all}
 use Rattle.std.proofs.lemmas.Bool.Decides.{nat_tests}
 use Rattle.std.proofs.lemmas.Bool.{and_parts, and_from}
@@ -12,8 +12,8 @@ use Rattle.tb_param.specs.declared.table.Form.TheVariants as forms
 use Rattle.tb_param.specs.Table.{Row, row_for}
 use Rattle.tb_galley.specs.declared.Cause.{Cause}
 use Rattle.tb_galley.specs.declared.Cause.TheVariants as causes
-use Rattle.tb_galley.specs.Words.{LineWord, header, setting, class_line, hbox, rule, skip, kern, penalty, mark, note, foot, endfoot, float, margin, newpage, clearpage, pagebreak, nopagebreak, onecolumn, twocolumn, suppressfloats, end, Line, Phase, at_start, among_sets, among_items, in_foot, ended, phase_after, item_count, content_at, is_item_word, Known, known_after, word_here}
-use Rattle.tb_galley.specs.Fields.{Slot, name_slot, parameter_slot, dimension_slot, least_slot, range_slot, stretch_slot, fraction_slot, word_slot, places_slot, seen_slot, wrong_slot, test_slot, class_slot, slot_cause, text_cause, cause_of_read, row_cause, glue_slots, stretch_slots, shrink_slots, past_one, form_slots, row_slots, set_slots, foot_slots, suppress_slots, word_slots, drawn_slots, rule_slots}
+use Rattle.tb_galley.specs.Words.{LineWord, header, setting, class_line, hbox, rule, skip, kern, penalty, mark, note, foot, endfoot, float, margin, newpage, clearpage, pagebreak, nopagebreak, onecolumn, twocolumn, suppressfloats, page_number, end, Line, Phase, at_start, among_sets, among_items, in_foot, ended, phase_after, item_count, content_at, is_item_word, Known, known_after, word_here}
+use Rattle.tb_galley.specs.Fields.{Slot, name_slot, parameter_slot, dimension_slot, least_slot, range_slot, stretch_slot, fraction_slot, word_slot, places_slot, seen_slot, wrong_slot, test_slot, class_slot, slot_cause, text_cause, cause_of_read, row_cause, glue_slots, stretch_slots, shrink_slots, past_one, form_slots, row_slots, set_slots, foot_slots, suppress_slots, word_slots, drawn_slots, rule_slots, nobreak_slots, past_six, ruled_glue_slots, below_slot, standing_slots}
 use Rattle.tb_galley.specs.Faults.{cause_rank, cause_if, causes_in, ascii_causes, is_printable, place_causes, item_causes, missing_cause, value_causes, later_causes, all_content_causes, line_causes, end_causes, causes_from}
 use Rattle.tb_galley.proofs.FirstFaults.{is_led}
 
@@ -140,6 +140,27 @@ late_rule : (fs : List (List ℕ)) → list_all is_late_slot (rule_slots fs) ≡
 late_rule [] = refl
 late_rule (f ∷ fs) = late_rule_by (bytes_eq f (codes "none"))
 
+late_ruled_by : (t : Bool) (fs : List (List ℕ))
+    → list_all is_late_slot (if t then seen_slot ∷ glue_slots causes.UnknownWord fs else dimension_slot ∷ least_slot (pos 0) causes.Parameter ∷ dimension_slot ∷ glue_slots causes.UnknownWord (past_one (past_one fs))) ≡ true
+late_ruled_by true fs = late_glue causes.UnknownWord fs refl
+late_ruled_by false fs = late_glue causes.UnknownWord (past_one (past_one fs)) refl
+
+late_ruled : (fs : List (List ℕ)) → list_all is_late_slot (ruled_glue_slots fs) ≡ true
+late_ruled [] = refl
+late_ruled (f ∷ fs) = late_ruled_by (bytes_eq f (codes "none")) fs
+
+late_below_by : (t : Bool) (fs : List (List ℕ)) → list_all is_late_slot ((if t then seen_slot else wrong_slot causes.BadNumber) ∷ ruled_glue_slots fs) ≡ true
+late_below_by true fs = late_ruled fs
+late_below_by false fs = late_ruled fs
+
+late_standing_by : (t : Bool) (version : ℕ) (f : List ℕ) (fs : List (List ℕ)) → list_all is_late_slot (if t then below_slot version ∷ ruled_glue_slots fs else glue_slots causes.UnknownWord (f ∷ fs)) ≡ true
+late_standing_by true version f fs = late_below_by (nat_le 3 version) fs
+late_standing_by false version f fs = late_glue causes.UnknownWord (f ∷ fs) refl
+
+late_standing : (version : ℕ) (fs : List (List ℕ)) → list_all is_late_slot (standing_slots version fs) ≡ true
+late_standing version [] = refl
+late_standing version (f ∷ fs) = late_standing_by (bytes_eq f (codes "below")) version f fs
+
 late_form : (fs : List (List ℕ)) (form : Form) → list_all is_late_slot (form_slots fs form) ≡ true
 late_form fs forms.Skip = late_glue causes.WrongForm fs refl
 late_form fs forms.Rule = late_rule fs
@@ -165,10 +186,18 @@ late_suppress : (fs : List (List ℕ)) → list_all is_late_slot (suppress_slots
 late_suppress [] = refl
 late_suppress (f ∷ fs) = refl
 
+late_nobreak : (version : ℕ) (fs : List (List ℕ)) → list_all is_late_slot (nobreak_slots version fs) ≡ true
+late_nobreak version [] = refl
+late_nobreak version (f ∷ fs) = by_version (version == 3)
+  where
+    by_version : (t : Bool) → list_all is_late_slot (if t then word_slot (codes "nobreak" ∷ []) causes.UnknownWord ∷ [] else []) ≡ true
+    by_version true = refl
+    by_version false = refl
+
 late_word : (k : Known) (fs : List (List ℕ)) (w : LineWord) → list_all is_late_slot (word_slots k fs w) ≡ true
 late_word k fs header = refl
 late_word k fs setting = late_set k.version fs
-late_word k fs class_line = late_glue causes.UnknownWord (past_one (past_one (past_one fs))) refl
+late_word k fs class_line = late_standing k.version (past_one (past_one (past_one fs)))
 late_word k fs hbox = refl
 late_word k fs rule = refl
 late_word k fs skip = late_glue causes.UnknownWord fs refl
@@ -178,8 +207,8 @@ late_word k fs mark = refl
 late_word k fs note = refl
 late_word k fs foot = late_foot k fs
 late_word k fs endfoot = refl
-late_word k fs float = refl
-late_word k fs margin = refl
+late_word k fs float = late_nobreak k.version (past_six fs)
+late_word k fs margin = late_nobreak k.version (past_six fs)
 late_word k fs newpage = refl
 late_word k fs clearpage = refl
 late_word k fs pagebreak = refl
@@ -187,6 +216,7 @@ late_word k fs nopagebreak = refl
 late_word k fs onecolumn = refl
 late_word k fs twocolumn = refl
 late_word k fs suppressfloats = late_suppress fs
+late_word k fs page_number = refl
 late_word k fs end = refl
 
 led_ascii : (a : Bool) → is_led (cause_if a causes.NotAscii) ≡ true

@@ -11,7 +11,7 @@ use Rattle.tb_galley.specs.declared.classes.ClassLine.{ClassLine}
 use Rattle.tb_galley.specs.Words.{class_line, word_here, among_sets}
 use Rattle.tb_galley.specs.Grammar.{with_class}
 use Rattle.tb_galley.specs.GalleyReader.{State}
-use Rattle.tb_galley.specs.Valid.{is_class, do_classes_rise}
+use Rattle.tb_galley.specs.Valid.{is_class, may_stand, do_all_stand, do_classes_rise}
 use Rattle.tb_galley.specs.ReadBack.{unnumbered_class}
 use Rattle.tb_galley.proofs.SoundLines.{drafted}
 use Rattle.tb_galley.proofs.FieldTexts.{tail_text, state}
@@ -87,48 +87,48 @@ class_state n ps v cs = state n among_sets 0 (drafted ps v cs [] None 0)
 here_in : (v : ℕ) (ks : List ℕ) → (v == 1) ≡ false → word_here (record { version = v; classes = ks }) (Some class_line) ≡ Some class_line
 here_in v ks later = ap (λ t. if t then None else Some class_line) later
 
-class_run : (ps : Params) (v n : ℕ) (before : List ClassLine) (c : ClassLine) → (v == 1) ≡ false → is_class c ≡ true → are_under c.number before ≡ true
+class_run : (ps : Params) (v n : ℕ) (before : List ClassLine) (c : ClassLine) → (v == 1) ≡ false → is_class c ≡ true → may_stand v c.below ≡ true → are_under c.number before ≡ true
     → Runs (class_state n ps v before) ((spelling class_line ++ tail_text (line_fields c)) ∷ []) (class_state (n + 1) ps v (before ++ record c { line = n + 1 } ∷ []))
-class_run ps v n before c later good under =
+class_run ps v n before c later good may under =
     to_state (class_state n ps v before) (class_state (n + 1) ps v (with_class (record c { line = n + 1 }) before)) (class_state (n + 1) ps v (before ++ record c { line = n + 1 } ∷ [])) ((spelling class_line ++ tail_text (line_fields c)) ∷ [])
     (ap (λ cs. class_state (n + 1) ps v cs) (with-last (record c { line = n + 1 }) before under))
-    (word_runs n among_sets 0 (drafted ps v before [] None 0) class_line (line_fields c) (λ m. contents.Class (record c { line = m })) (here_in v (numbers_of before) later) (class_back (known_by v before) c good) refl refl)
+    (word_runs n among_sets 0 (drafted ps v before [] None 0) class_line (line_fields c) (λ m. contents.Class (record c { line = m })) (here_in v (numbers_of before) later) (class_back (known_by v before) c good may) refl refl)
 
 no_more : (cs : List ClassLine) → cs ++ [] ≡ cs
 no_more [] = refl
 no_more (c ∷ cs) = ap (λ ds. c ∷ ds) (no_more cs)
 
-classes_from : (ps : Params) (v n : ℕ) (before cs : List ClassLine) → (v == 1) ≡ false → list_all is_class cs ≡ true → do_classes_rise cs ≡ true → are_over before cs ≡ true
+classes_from : (ps : Params) (v n : ℕ) (before cs : List ClassLine) → (v == 1) ≡ false → list_all is_class cs ≡ true → do_all_stand v cs ≡ true → do_classes_rise cs ≡ true → are_over before cs ≡ true
     → Runs (class_state n ps v before) (class_texts cs) (class_state (n + length cs) ps v (before ++ numbered_classes (n + 1) cs))
-classes_from ps v n before [] later good rise over =
+classes_from ps v n before [] later good may rise over =
     to_state (class_state n ps v before) (class_state n ps v before) (class_state (n + 0) ps v (before ++ [])) []
     (λ i. class_state (same i) ps v (sym (no_more before) i))
     (no_lines (class_state n ps v before))
   where
     same : n ≡ n + 0
     same = omega arith
-classes_from ps v n before (c ∷ cs) later good rise over =
+classes_from ps v n before (c ∷ cs) later good may rise over =
     let first : ClassLine = record c { line = n + 1 } in
     then_lines (class_state n ps v before) (class_state (n + 1) ps v (before ++ first ∷ [])) (class_state (n + length (c ∷ cs)) ps v (before ++ first ∷ numbered_classes (n + 1 + 1) cs))
     ((spelling class_line ++ tail_text (line_fields c)) ∷ []) (class_texts cs)
-    (class_run ps v n before c later (first_so (is_class c) (list_all is_class cs) good) over)
+    (class_run ps v n before c later (first_so (is_class c) (list_all is_class cs) good) (first_so (may_stand v c.below) (do_all_stand v cs) may) over)
     (to_state (class_state (n + 1) ps v (before ++ first ∷ [])) (class_state (n + 1 + length cs) ps v ((before ++ first ∷ []) ++ numbered_classes (n + 1 + 1) cs))
     (class_state (n + length (c ∷ cs)) ps v (before ++ first ∷ numbered_classes (n + 1 + 1) cs)) (class_texts cs)
     (λ i. class_state (counted i) ps v (append_assoc before (first ∷ []) (numbered_classes (n + 1 + 1) cs) i))
-    (classes_from ps v (n + 1) (before ++ first ∷ []) cs later (second_so (is_class c) (list_all is_class cs) good) (rise-rest c cs rise) (over-next before c cs (n + 1) rise over)))
+    (classes_from ps v (n + 1) (before ++ first ∷ []) cs later (second_so (is_class c) (list_all is_class cs) good) (second_so (may_stand v c.below) (do_all_stand v cs) may) (rise-rest c cs rise) (over-next before c cs (n + 1) rise over)))
   where
     counted : n + 1 + length cs ≡ n + length (c ∷ cs)
     counted = omega arith
 
 -- version 1 has no classes
-pub classes_run : (ps : Params) (v n : ℕ) (cs : List ClassLine) → ((v == 1) ≡ true → cs ≡ []) → list_all is_class cs ≡ true → do_classes_rise cs ≡ true
+pub classes_run : (ps : Params) (v n : ℕ) (cs : List ClassLine) → ((v == 1) ≡ true → cs ≡ []) → list_all is_class cs ≡ true → do_all_stand v cs ≡ true → do_classes_rise cs ≡ true
     → Runs (class_state n ps v []) (class_texts cs) (class_state (n + length cs) ps v (numbered_classes (n + 1) cs))
-classes_run ps v n [] none good rise =
+classes_run ps v n [] none good may rise =
     to_state (class_state n ps v []) (class_state n ps v []) (class_state (n + 0) ps v []) [] (λ i. class_state (same i) ps v []) (no_lines (class_state n ps v []))
   where
     same : n ≡ n + 0
     same = omega arith
-classes_run ps v n (c ∷ cs) none good rise = classes_from ps v n [] (c ∷ cs) (later (v == 1) none) good rise refl
+classes_run ps v n (c ∷ cs) none good may rise = classes_from ps v n [] (c ∷ cs) (later (v == 1) none) good may rise refl
   where
     later : (t : Bool) → (t ≡ true → (c ∷ cs) ≡ []) → t ≡ false
     later true f = let e : (c ∷ cs) ≡ [] = f refl in cc

@@ -1,5 +1,5 @@
 -- Reading fields from the left gives the first cause of the slots, or what the line says.
-use Rattle.std.proofs.Common.{◌≡◌, ℕ, ℤ, pos, negsuc, ◌+◌, Bool, true, false, not, nat_abs, List, [], ◌∷◌, ◌++◌, map, ◌==◌, ◌||◌, Option, Some, None, Result, Ok, Err, if◌then◌else◌, bytes_eq, codes, refl, ap, ◌∙◌}
+use Rattle.std.proofs.Common.{◌≡◌, ℕ, ℤ, pos, negsuc, ◌+◌, Bool, true, false, not, nat_abs, ◌&&◌, List, [], ◌∷◌, ◌++◌, map, ◌==◌, ◌||◌, Option, Some, None, Result, Ok, Err, if◌then◌else◌, bytes_eq, nat_le, codes, refl, ap, ◌∙◌}
 use Rattle.std.specs.List.{list_all}
 use Rattle.tb_scaled.specs.declared.Order.{Order}
 use Rattle.tb_scaled.specs.declared.Order.TheVariants.{Normal}
@@ -24,11 +24,11 @@ use Rattle.tb_galley.specs.declared.contents.Content.TheVariants as contents
 use Rattle.tb_galley.specs.declared.ItemKind.TheVariants as items
 use Rattle.tb_galley.specs.declared.LeafKind.TheVariants as leaves
 use Rattle.tb_galley.specs.declared.fields.At.{At}
-use Rattle.tb_galley.specs.Words.{LineWord, header, setting, class_line, hbox, rule, skip, kern, penalty, mark, note, foot, endfoot, float, margin, newpage, clearpage, pagebreak, nopagebreak, onecolumn, twocolumn, suppressfloats, end, Known, number_in, version_named, first_field}
-use Rattle.tb_galley.specs.Fields.{Slot, name_slot, dimension_slot, least_slot, range_slot, stretch_slot, fraction_slot, word_slot, places_slot, seen_slot, wrong_slot, slot_cause, word_slots, size_slot, glue_slots, stretch_slots, shrink_slots, past_one, paragraph_slot, form_slots, row_slots, row_cause, class_slot, class_slots, foot_slots, drawn_slots, rule_slots}
+use Rattle.tb_galley.specs.Words.{LineWord, header, setting, class_line, hbox, rule, skip, kern, penalty, mark, note, foot, endfoot, float, margin, newpage, clearpage, pagebreak, nopagebreak, onecolumn, twocolumn, suppressfloats, page_number, end, Known, number_in, version_named, first_field}
+use Rattle.tb_galley.specs.Fields.{Slot, name_slot, dimension_slot, least_slot, range_slot, stretch_slot, fraction_slot, word_slot, places_slot, seen_slot, wrong_slot, slot_cause, word_slots, size_slot, glue_slots, stretch_slots, shrink_slots, past_one, paragraph_slot, form_slots, row_slots, row_cause, class_slot, class_slots, foot_slots, drawn_slots, rule_slots, nobreak_slots, ruled_glue_slots, below_slot, standing_slots}
 use Rattle.tb_galley.specs.Faults.{is_printable, cause_if, causes_in, ascii_causes, value_causes, missing_cause}
-use Rattle.tb_galley.specs.Grammar.{content_of, field_at, dimension_at, stretch_at, glue_at, glue_from, places_at, has_byte, value_by, set_content, class_at, foot_class_at, rule_at}
-use Rattle.tb_galley.specs.FieldReader.{Left, ◌>>=◌, at_fault, printed, extra_by, minus_next, settled, field_read, dimension_in, integer_in, stretch_in, name_left, dimension_left, stretch_left, least_left, range_left, choice_left, version_left, places_left, sized_left, float_left, margin_left, glue_left, stretch_part, plus_part, shrink_part, end_left, finished, mapped, content_left, area_left, value_left, set_by, set_left, fraction_left, fraction_in, class_left, named_class, foot_left, drawn_left, rule_by, rule_left}
+use Rattle.tb_galley.specs.Grammar.{content_of, field_at, is_at, dimension_at, stretch_at, glue_at, glue_from, places_at, has_byte, value_by, set_content, class_at, foot_class_at, rule_at, below_at, past_rule, past_below}
+use Rattle.tb_galley.specs.FieldReader.{Left, ◌>>=◌, at_fault, printed, extra_by, minus_next, settled, field_read, dimension_in, integer_in, stretch_in, name_left, dimension_left, stretch_left, least_left, range_left, choice_left, word_left, nobreak_by, nobreak_left, version_left, places_left, sized_left, float_left, margin_left, glue_left, stretch_part, plus_part, shrink_part, end_left, finished, mapped, content_left, area_left, value_left, set_by, set_left, fraction_left, fraction_in, class_left, named_class, foot_left, drawn_left, rule_by, rule_left, below_known, below_by, below_left}
 
 abbrev pub left : ℕ → Cause → List (List ℕ) → Left
 left n m fs = record { number = n; missing = m; fields = fs }
@@ -71,6 +71,13 @@ pub then_slot : {X Z : Type 0} (F : Result (X × Left) At → Result Z At) → S
 then_slot F strict s value n m ss z next [] = strict (record { field = n; cause = m })
 then_slot F strict s value n m ss z next (f ∷ fs) = cons_slot F strict s value n m f fs (value_causes m ss fs) (z (f ∷ fs)) (next f fs)
 
+-- the same where the slots that follow depend on the fields that follow
+pub then_more : {X Z : Type 0} (F : Result (X × Left) At → Result Z At) → Strict F → (s : Slot) (value : List ℕ → X) (n : ℕ) (m : Cause) (ss : List (List ℕ) → List Slot) (z : List (List ℕ) → Z)
+    → ((f : List ℕ) (fs : List (List ℕ)) → F (Ok (value f, left (n + 1) m fs)) ≡ settle (first_at (n + 1) (value_causes m (ss fs) fs)) (z (f ∷ fs)))
+    → (fs : List (List ℕ)) → F (field_read s value (left n m fs)) ≡ settle (first_at n (value_causes m (s ∷ ss (past_one fs)) fs)) (z fs)
+then_more F strict s value n m ss z next [] = strict (record { field = n; cause = m })
+then_more F strict s value n m ss z next (f ∷ fs) = cons_slot F strict s value n m f fs (value_causes m (ss fs) fs) (z (f ∷ fs)) (next f fs)
+
 ended_by : {Z : Type 0} (p : Bool) (n : ℕ) (later : List (List Cause)) (z : Z)
     → (extra_by p n >>= λ x. Ok z) ≡ settle (first_at n ((cause_if (not p) causes.NotAscii ++ causes.ExtraField ∷ []) ∷ later)) z
 ended_by true n later z = refl
@@ -91,44 +98,72 @@ one_slot k s value m fs = then_slot (one k) (λ e. refl) s value 2 m [] (λ fs. 
 
 -- ---- a box
 
-sized_slots : {Z : Type 0} (F : Result ((List ℕ × ℤ × ℤ) × Left) At → Result Z At) → Strict F → (n : ℕ) (m : Cause) (ss : List Slot) (z : List (List ℕ) → Z)
-    → ((f g h : List ℕ) (fs : List (List ℕ)) → F (Ok ((f, dimension_in g, dimension_in h), left (n + 1 + 1 + 1) m fs)) ≡ settle (first_at (n + 1 + 1 + 1) (value_causes m ss fs)) (z (f ∷ g ∷ h ∷ fs)))
-    → (fs : List (List ℕ)) → F (sized_left (left n m fs)) ≡ settle (first_at n (value_causes m (name_slot ∷ size_slot ∷ size_slot ∷ ss) fs)) (z fs)
+sized_slots : {Z : Type 0} (F : Result ((List ℕ × ℤ × ℤ) × Left) At → Result Z At) → Strict F → (n : ℕ) (m : Cause) (ss : List (List ℕ) → List Slot) (z : List (List ℕ) → Z)
+    → ((f g h : List ℕ) (fs : List (List ℕ)) → F (Ok ((f, dimension_in g, dimension_in h), left (n + 1 + 1 + 1) m fs)) ≡ settle (first_at (n + 1 + 1 + 1) (value_causes m (ss fs) fs)) (z (f ∷ g ∷ h ∷ fs)))
+    → (fs : List (List ℕ)) → F (sized_left (left n m fs)) ≡ settle (first_at n (value_causes m (name_slot ∷ size_slot ∷ size_slot ∷ ss (past_one (past_one (past_one fs)))) fs)) (z fs)
 unfolding sized_left name_left least_left
 sized_slots F strict n m ss z next =
-    then_slot (λ r. F (r >>= λ a. least_left (pos 0) causes.Dimension a.1 >>= λ b. least_left (pos 0) causes.Dimension b.1 >>= λ c. Ok ((a.0, b.0, c.0), c.1)))
-    (λ e. strict e) name_slot (λ f. f) n m (size_slot ∷ size_slot ∷ ss) z
-    (λ f. then_slot (λ r. F (r >>= λ b. least_left (pos 0) causes.Dimension b.1 >>= λ c. Ok ((f, b.0, c.0), c.1)))
-    (λ e. strict e) size_slot dimension_in (n + 1) m (size_slot ∷ ss) (λ fs. z (f ∷ fs))
-    (λ g. then_slot (λ r. F (r >>= λ c. Ok ((f, dimension_in g, c.0), c.1)))
+    then_more (λ r. F (r >>= λ a. least_left (pos 0) causes.Dimension a.1 >>= λ b. least_left (pos 0) causes.Dimension b.1 >>= λ c. Ok ((a.0, b.0, c.0), c.1)))
+    (λ e. strict e) name_slot (λ f. f) n m (λ gs. size_slot ∷ size_slot ∷ ss (past_one (past_one gs))) z
+    (λ f. then_more (λ r. F (r >>= λ b. least_left (pos 0) causes.Dimension b.1 >>= λ c. Ok ((f, b.0, c.0), c.1)))
+    (λ e. strict e) size_slot dimension_in (n + 1) m (λ gs. size_slot ∷ ss (past_one gs)) (λ fs. z (f ∷ fs))
+    (λ g. then_more (λ r. F (r >>= λ c. Ok ((f, dimension_in g, c.0), c.1)))
     (λ e. strict e) size_slot dimension_in (n + 1 + 1) m ss (λ fs. z (f ∷ g ∷ fs))
     (λ h fs. next f g h fs)))
+
+-- ---- `nobreak`
+
+-- a field too many is a fault whatever the others say
+extra_any : {Z : Type 0} (p : Bool) (n : ℕ) (later : List (List Cause)) (y z : Z)
+    → settle (first_at n ((cause_if (not p) causes.NotAscii ++ causes.ExtraField ∷ []) ∷ later)) y ≡ settle (first_at n ((cause_if (not p) causes.NotAscii ++ causes.ExtraField ∷ []) ∷ later)) z
+extra_any true n later y z = refl
+extra_any false n later y z = refl
+
+nobreak_none : {Z : Type 0} (F : Result (Bool × Left) At → Result Z At) (t : Bool) (n : ℕ) (m : Cause) (z : Z) → F (Ok (false, left n m [])) ≡ Ok z → F (nobreak_by (left n m []) (not t || true)) ≡ Ok z
+nobreak_none F true n m z h = h
+nobreak_none F false n m z h = h
+
+nobreak_some : {Z : Type 0} (F : Result (Bool × Left) At → Result Z At) → Strict F → (t : Bool) (n : ℕ) (m : Cause) (f : List ℕ) (fs : List (List ℕ)) (z : Bool → Z)
+    → ((b : Bool) (k : ℕ) (hs : List (List ℕ)) → F (Ok (b, left k m hs)) ≡ settle (first_at k (value_causes m [] hs)) (z b))
+    → F (nobreak_by (left n m (f ∷ fs)) (not t || false)) ≡ settle (first_at n (value_causes m (if t then word_slot (codes "nobreak" ∷ []) causes.UnknownWord ∷ [] else []) (f ∷ fs))) (z (bytes_eq f (codes "nobreak")))
+unfolding word_left
+nobreak_some F strict true n m f fs z next =
+    cons_slot F strict (word_slot (codes "nobreak" ∷ []) causes.UnknownWord) (λ g. bytes_eq g (codes "nobreak")) n m f fs (value_causes m [] fs) (z (bytes_eq f (codes "nobreak"))) (next (bytes_eq f (codes "nobreak")) (n + 1) fs)
+nobreak_some F strict false n m f fs z next = next false n (f ∷ fs) ∙ extra_any (list_all is_printable f) n (map ascii_causes fs) (z false) (z (bytes_eq f (codes "nobreak")))
+
+nobreak_read : {Z : Type 0} (F : Result (Bool × Left) At → Result Z At) → Strict F → (version n : ℕ) (m : Cause) (fs : List (List ℕ)) (z : Bool → Z)
+    → ((b : Bool) (k : ℕ) (hs : List (List ℕ)) → F (Ok (b, left k m hs)) ≡ settle (first_at k (value_causes m [] hs)) (z b))
+    → F (nobreak_left version (left n m fs)) ≡ settle (first_at n (value_causes m (nobreak_slots version fs) fs)) (z (is_at fs 0 (codes "nobreak")))
+unfolding nobreak_left
+nobreak_read F strict version n m [] z next = nobreak_none F (version == 3) n m (z false) (next false n [])
+nobreak_read F strict version n m (f ∷ fs) z next = nobreak_some F strict (version == 3) n m f fs z next
 
 -- ---- a float
 
 abbrev item : Result ((Float × Bool) × Left) At → Result Content At
 item r = one (λ f. contents.Item (items.Float f.0 f.1)) r
 
-abbrev made : ℕ → List ℕ → ℤ → Bool → Places × Bool → ℤ → Float
-made line n c w p h = record { line = line; name = n; class = nat_abs c; wide = w; places = p.0; bang = p.1; height = h }
+abbrev made : ℕ → ℕ → List ℕ → ℤ → Bool → Places × Bool → ℤ → Bool → Float
+made version line n c w p h b = record { line = line; name = n; class = nat_abs c; wide = w; places = p.0; bang = p.1; height = h; deep = w && (version == 3); nobreak = b }
 
 float_slots : (k : Known) (line : ℕ) (m : Cause) (fs : List (List ℕ))
-    → one (λ f. contents.Item (items.Float f.0 f.1)) (float_left line (left 2 m fs)) ≡ settle (first_at 2 (value_causes m (word_slots k fs float) fs)) (content_of line fs float)
+    → one (λ f. contents.Item (items.Float f.0 f.1)) (float_left k.version line (left 2 m fs)) ≡ settle (first_at 2 (value_causes m (word_slots k fs float) fs)) (content_of k.version line fs float)
 unfolding float_left name_left range_left choice_left places_left least_left
 float_slots k line m fs =
-    then_slot (λ r. item (r >>= λ n. range_left (pos 1) (pos 26) causes.Class n.1 >>= λ c. choice_left (codes "single") (codes "double") causes.UnknownWord c.1 >>= λ w. places_left w.1 >>= λ p. least_left (pos 0) causes.Dimension p.1 >>= λ h. choice_left (codes "par") (codes "vert") causes.UnknownWord h.1 >>= λ v. Ok ((made line n.0 c.0 w.0 p.0 h.0, v.0), v.1)))
-    (λ e. refl) name_slot (λ f. f) 2 m (range_slot (pos 1) (pos 26) causes.Class ∷ word_slot (codes "single" ∷ codes "double" ∷ []) causes.UnknownWord ∷ places_slot ∷ size_slot ∷ paragraph_slot ∷ []) (λ gs. content_of line gs float)
-    (λ f1. then_slot (λ r. item (r >>= λ c. choice_left (codes "single") (codes "double") causes.UnknownWord c.1 >>= λ w. places_left w.1 >>= λ p. least_left (pos 0) causes.Dimension p.1 >>= λ h. choice_left (codes "par") (codes "vert") causes.UnknownWord h.1 >>= λ v. Ok ((made line f1 c.0 w.0 p.0 h.0, v.0), v.1)))
-    (λ e. refl) (range_slot (pos 1) (pos 26) causes.Class) integer_in 3 m (word_slot (codes "single" ∷ codes "double" ∷ []) causes.UnknownWord ∷ places_slot ∷ size_slot ∷ paragraph_slot ∷ []) (λ gs. content_of line (f1 ∷ gs) float)
-    (λ f2. then_slot (λ r. item (r >>= λ w. places_left w.1 >>= λ p. least_left (pos 0) causes.Dimension p.1 >>= λ h. choice_left (codes "par") (codes "vert") causes.UnknownWord h.1 >>= λ v. Ok ((made line f1 (integer_in f2) w.0 p.0 h.0, v.0), v.1)))
-    (λ e. refl) (word_slot (codes "single" ∷ codes "double" ∷ []) causes.UnknownWord) (λ f. bytes_eq f (codes "double")) 4 m (places_slot ∷ size_slot ∷ paragraph_slot ∷ []) (λ gs. content_of line (f1 ∷ f2 ∷ gs) float)
-    (λ f3. then_slot (λ r. item (r >>= λ p. least_left (pos 0) causes.Dimension p.1 >>= λ h. choice_left (codes "par") (codes "vert") causes.UnknownWord h.1 >>= λ v. Ok ((made line f1 (integer_in f2) (bytes_eq f3 (codes "double")) p.0 h.0, v.0), v.1)))
-    (λ e. refl) places_slot (λ f. (places_at f, has_byte 33 f)) 5 m (size_slot ∷ paragraph_slot ∷ []) (λ gs. content_of line (f1 ∷ f2 ∷ f3 ∷ gs) float)
-    (λ f4. then_slot (λ r. item (r >>= λ h. choice_left (codes "par") (codes "vert") causes.UnknownWord h.1 >>= λ v. Ok ((made line f1 (integer_in f2) (bytes_eq f3 (codes "double")) (places_at f4, has_byte 33 f4) h.0, v.0), v.1)))
-    (λ e. refl) size_slot dimension_in 6 m (paragraph_slot ∷ []) (λ gs. content_of line (f1 ∷ f2 ∷ f3 ∷ f4 ∷ gs) float)
-    (λ f5. then_slot (λ r. item (r >>= λ v. Ok ((made line f1 (integer_in f2) (bytes_eq f3 (codes "double")) (places_at f4, has_byte 33 f4) (dimension_in f5), v.0), v.1)))
-    (λ e. refl) paragraph_slot (λ f. bytes_eq f (codes "vert")) 7 m [] (λ gs. content_of line (f1 ∷ f2 ∷ f3 ∷ f4 ∷ f5 ∷ gs) float)
-    (λ f6 gs. end_here 8 m gs (content_of line (f1 ∷ f2 ∷ f3 ∷ f4 ∷ f5 ∷ f6 ∷ gs) float))))))) fs
+    then_more (λ r. item (r >>= λ n. range_left (pos 1) (pos 26) causes.Class n.1 >>= λ c. choice_left (codes "single") (codes "double") causes.UnknownWord c.1 >>= λ w. places_left w.1 >>= λ p. least_left (pos 0) causes.Dimension p.1 >>= λ h. choice_left (codes "par") (codes "vert") causes.UnknownWord h.1 >>= λ v. nobreak_left k.version v.1 >>= λ b. Ok ((made k.version line n.0 c.0 w.0 p.0 h.0 b.0, v.0), b.1)))
+    (λ e. refl) name_slot (λ f. f) 2 m (λ gs. range_slot (pos 1) (pos 26) causes.Class ∷ word_slot (codes "single" ∷ codes "double" ∷ []) causes.UnknownWord ∷ places_slot ∷ size_slot ∷ paragraph_slot ∷ nobreak_slots k.version (past_one (past_one (past_one (past_one (past_one gs)))))) (λ gs. content_of k.version line gs float)
+    (λ f1. then_more (λ r. item (r >>= λ c. choice_left (codes "single") (codes "double") causes.UnknownWord c.1 >>= λ w. places_left w.1 >>= λ p. least_left (pos 0) causes.Dimension p.1 >>= λ h. choice_left (codes "par") (codes "vert") causes.UnknownWord h.1 >>= λ v. nobreak_left k.version v.1 >>= λ b. Ok ((made k.version line f1 c.0 w.0 p.0 h.0 b.0, v.0), b.1)))
+    (λ e. refl) (range_slot (pos 1) (pos 26) causes.Class) integer_in 3 m (λ gs. word_slot (codes "single" ∷ codes "double" ∷ []) causes.UnknownWord ∷ places_slot ∷ size_slot ∷ paragraph_slot ∷ nobreak_slots k.version (past_one (past_one (past_one (past_one gs))))) (λ gs. content_of k.version line (f1 ∷ gs) float)
+    (λ f2. then_more (λ r. item (r >>= λ w. places_left w.1 >>= λ p. least_left (pos 0) causes.Dimension p.1 >>= λ h. choice_left (codes "par") (codes "vert") causes.UnknownWord h.1 >>= λ v. nobreak_left k.version v.1 >>= λ b. Ok ((made k.version line f1 (integer_in f2) w.0 p.0 h.0 b.0, v.0), b.1)))
+    (λ e. refl) (word_slot (codes "single" ∷ codes "double" ∷ []) causes.UnknownWord) (λ f. bytes_eq f (codes "double")) 4 m (λ gs. places_slot ∷ size_slot ∷ paragraph_slot ∷ nobreak_slots k.version (past_one (past_one (past_one gs)))) (λ gs. content_of k.version line (f1 ∷ f2 ∷ gs) float)
+    (λ f3. then_more (λ r. item (r >>= λ p. least_left (pos 0) causes.Dimension p.1 >>= λ h. choice_left (codes "par") (codes "vert") causes.UnknownWord h.1 >>= λ v. nobreak_left k.version v.1 >>= λ b. Ok ((made k.version line f1 (integer_in f2) (bytes_eq f3 (codes "double")) p.0 h.0 b.0, v.0), b.1)))
+    (λ e. refl) places_slot (λ f. (places_at f, has_byte 33 f)) 5 m (λ gs. size_slot ∷ paragraph_slot ∷ nobreak_slots k.version (past_one (past_one gs))) (λ gs. content_of k.version line (f1 ∷ f2 ∷ f3 ∷ gs) float)
+    (λ f4. then_more (λ r. item (r >>= λ h. choice_left (codes "par") (codes "vert") causes.UnknownWord h.1 >>= λ v. nobreak_left k.version v.1 >>= λ b. Ok ((made k.version line f1 (integer_in f2) (bytes_eq f3 (codes "double")) (places_at f4, has_byte 33 f4) h.0 b.0, v.0), b.1)))
+    (λ e. refl) size_slot dimension_in 6 m (λ gs. paragraph_slot ∷ nobreak_slots k.version (past_one gs)) (λ gs. content_of k.version line (f1 ∷ f2 ∷ f3 ∷ f4 ∷ gs) float)
+    (λ f5. then_more (λ r. item (r >>= λ v. nobreak_left k.version v.1 >>= λ b. Ok ((made k.version line f1 (integer_in f2) (bytes_eq f3 (codes "double")) (places_at f4, has_byte 33 f4) (dimension_in f5) b.0, v.0), b.1)))
+    (λ e. refl) paragraph_slot (λ f. bytes_eq f (codes "vert")) 7 m (λ gs. nobreak_slots k.version gs) (λ gs. content_of k.version line (f1 ∷ f2 ∷ f3 ∷ f4 ∷ f5 ∷ gs) float)
+    (λ f6 gs. nobreak_read (λ r. item (r >>= λ b. Ok ((made k.version line f1 (integer_in f2) (bytes_eq f3 (codes "double")) (places_at f4, has_byte 33 f4) (dimension_in f5) b.0, (bytes_eq f6 (codes "vert"))), b.1))) (λ e. refl) k.version 8 m gs (λ b. contents.Item (items.Float (made k.version line f1 (integer_in f2) (bytes_eq f3 (codes "double")) (places_at f4, has_byte 33 f4) (dimension_in f5) b) (bytes_eq f6 (codes "vert"))))
+    (λ b n hs. end_here n m hs (contents.Item (items.Float (made k.version line f1 (integer_in f2) (bytes_eq f3 (codes "double")) (places_at f4, has_byte 33 f4) (dimension_in f5) b) (bytes_eq f6 (codes "vert"))))))))))) fs
 
 -- ---- glue
 
@@ -216,25 +251,27 @@ glue_slots_read k c n m (f ∷ fs) =
 
 -- ---- a marginal note
 
-abbrev margin_made : ℕ → List ℕ × ℤ × ℤ → ℤ → ℤ → Margin
-margin_made line s h d = record { line = line; name = s.0; left_height = s.1; left_depth = s.2; right_height = h; right_depth = d }
+abbrev margin_made : ℕ → List ℕ × ℤ × ℤ → ℤ → ℤ → Bool → Margin
+margin_made line s h d b = record { line = line; name = s.0; left_height = s.1; left_depth = s.2; right_height = h; right_depth = d; nobreak = b }
 
 abbrev noted : Result ((Margin × Bool) × Left) At → Result Content At
 noted r = one (λ f. contents.Item (items.Margin f.0 f.1)) r
 
 margin_slots : (k : Known) (line : ℕ) (m : Cause) (fs : List (List ℕ))
-    → one (λ f. contents.Item (items.Margin f.0 f.1)) (margin_left line (left 2 m fs)) ≡ settle (first_at 2 (value_causes m (word_slots k fs margin) fs)) (content_of line fs margin)
+    → one (λ f. contents.Item (items.Margin f.0 f.1)) (margin_left k.version line (left 2 m fs)) ≡ settle (first_at 2 (value_causes m (word_slots k fs margin) fs)) (content_of k.version line fs margin)
 unfolding margin_left choice_left least_left
 margin_slots k line m fs =
-    sized_slots (λ r. noted (r >>= λ s. least_left (pos 0) causes.Dimension s.1 >>= λ h. least_left (pos 0) causes.Dimension h.1 >>= λ d. choice_left (codes "par") (codes "vert") causes.UnknownWord d.1 >>= λ v. Ok ((margin_made line s.0 h.0 d.0, v.0), v.1)))
-    (λ e. refl) 2 m (size_slot ∷ size_slot ∷ paragraph_slot ∷ []) (λ gs. content_of line gs margin)
-    (λ f1 f2 f3. then_slot (λ r. noted (r >>= λ h. least_left (pos 0) causes.Dimension h.1 >>= λ d. choice_left (codes "par") (codes "vert") causes.UnknownWord d.1 >>= λ v. Ok ((margin_made line (f1, dimension_in f2, dimension_in f3) h.0 d.0, v.0), v.1)))
-    (λ e. refl) size_slot dimension_in 5 m (size_slot ∷ paragraph_slot ∷ []) (λ gs. content_of line (f1 ∷ f2 ∷ f3 ∷ gs) margin)
-    (λ f4. then_slot (λ r. noted (r >>= λ d. choice_left (codes "par") (codes "vert") causes.UnknownWord d.1 >>= λ v. Ok ((margin_made line (f1, dimension_in f2, dimension_in f3) (dimension_in f4) d.0, v.0), v.1)))
-    (λ e. refl) size_slot dimension_in 6 m (paragraph_slot ∷ []) (λ gs. content_of line (f1 ∷ f2 ∷ f3 ∷ f4 ∷ gs) margin)
-    (λ f5. then_slot (λ r. noted (r >>= λ v. Ok ((margin_made line (f1, dimension_in f2, dimension_in f3) (dimension_in f4) (dimension_in f5), v.0), v.1)))
-    (λ e. refl) paragraph_slot (λ f. bytes_eq f (codes "vert")) 7 m [] (λ gs. content_of line (f1 ∷ f2 ∷ f3 ∷ f4 ∷ f5 ∷ gs) margin)
-    (λ f6 gs. end_here 8 m gs (content_of line (f1 ∷ f2 ∷ f3 ∷ f4 ∷ f5 ∷ f6 ∷ gs) margin))))) fs
+    sized_slots (λ r. noted (r >>= λ s. least_left (pos 0) causes.Dimension s.1 >>= λ h. least_left (pos 0) causes.Dimension h.1 >>= λ d. choice_left (codes "par") (codes "vert") causes.UnknownWord d.1 >>= λ v. nobreak_left k.version v.1 >>= λ b. Ok ((margin_made line s.0 h.0 d.0 b.0, v.0), b.1)))
+    (λ e. refl) 2 m (λ gs. size_slot ∷ size_slot ∷ paragraph_slot ∷ nobreak_slots k.version (past_one (past_one (past_one gs)))) (λ gs. content_of k.version line gs margin)
+    (λ f1 f2 f3. then_more (λ r. noted (r >>= λ h. least_left (pos 0) causes.Dimension h.1 >>= λ d. choice_left (codes "par") (codes "vert") causes.UnknownWord d.1 >>= λ v. nobreak_left k.version v.1 >>= λ b. Ok ((margin_made line (f1, dimension_in f2, dimension_in f3) h.0 d.0 b.0, v.0), b.1)))
+    (λ e. refl) size_slot dimension_in 5 m (λ gs. size_slot ∷ paragraph_slot ∷ nobreak_slots k.version (past_one (past_one gs))) (λ gs. content_of k.version line (f1 ∷ f2 ∷ f3 ∷ gs) margin)
+    (λ f4. then_more (λ r. noted (r >>= λ d. choice_left (codes "par") (codes "vert") causes.UnknownWord d.1 >>= λ v. nobreak_left k.version v.1 >>= λ b. Ok ((margin_made line (f1, dimension_in f2, dimension_in f3) (dimension_in f4) d.0 b.0, v.0), b.1)))
+    (λ e. refl) size_slot dimension_in 6 m (λ gs. paragraph_slot ∷ nobreak_slots k.version (past_one gs)) (λ gs. content_of k.version line (f1 ∷ f2 ∷ f3 ∷ f4 ∷ gs) margin)
+    (λ f5. then_more (λ r. noted (r >>= λ v. nobreak_left k.version v.1 >>= λ b. Ok ((margin_made line (f1, dimension_in f2, dimension_in f3) (dimension_in f4) (dimension_in f5) b.0, v.0), b.1)))
+    (λ e. refl) paragraph_slot (λ f. bytes_eq f (codes "vert")) 7 m (λ gs. nobreak_slots k.version gs) (λ gs. content_of k.version line (f1 ∷ f2 ∷ f3 ∷ f4 ∷ f5 ∷ gs) margin)
+    (λ f6 gs. nobreak_read (λ r. noted (r >>= λ b. Ok ((margin_made line (f1, dimension_in f2, dimension_in f3) (dimension_in f4) (dimension_in f5) b.0, bytes_eq f6 (codes "vert")), b.1))) (λ e. refl) k.version 8 m gs
+    (λ b. contents.Item (items.Margin (margin_made line (f1, dimension_in f2, dimension_in f3) (dimension_in f4) (dimension_in f5) b) (bytes_eq f6 (codes "vert"))))
+    (λ b n hs. end_here n m hs (contents.Item (items.Margin (margin_made line (f1, dimension_in f2, dimension_in f3) (dimension_in f4) (dimension_in f5) b) (bytes_eq f6 (codes "vert"))))))))) fs
 
 -- ---- suppressed areas
 
@@ -243,7 +280,7 @@ mapped_twice f g (Ok x) = refl
 mapped_twice f g (Err e) = refl
 
 area_slots : (k : Known) (line : ℕ) (m : Cause) (fs : List (List ℕ))
-    → one (λ a. contents.Item (items.Suppress a)) (area_left (left 2 m fs)) ≡ settle (first_at 2 (value_causes m (word_slots k fs suppressfloats) fs)) (content_of line fs suppressfloats)
+    → one (λ a. contents.Item (items.Suppress a)) (area_left (left 2 m fs)) ≡ settle (first_at 2 (value_causes m (word_slots k fs suppressfloats) fs)) (content_of k.version line fs suppressfloats)
 unfolding area_left choice_left
 area_slots k line m [] = refl
 area_slots k line m (f ∷ fs) =
@@ -330,7 +367,7 @@ set_printed true version n m name fs = set_row version (row_of name) n m name fs
 set_printed false version n m name fs = refl
 
 set_slots_read : (k : Known) (line : ℕ) (m : Cause) (fs : List (List ℕ))
-    → finished (set_left k.version (left 2 m fs)) ≡ settle (first_at 2 (value_causes m (word_slots k fs setting) fs)) (content_of line fs setting)
+    → finished (set_left k.version (left 2 m fs)) ≡ settle (first_at 2 (value_causes m (word_slots k fs setting) fs)) (content_of k.version line fs setting)
 unfolding set_left
 set_slots_read k line m [] = refl
 set_slots_read k line m (name ∷ fs) = set_printed (list_all is_printable name) k.version 2 m name fs
@@ -341,43 +378,111 @@ mapped_then : {X Y Z : Type 0} (f : Y → Z) (h : X → Y) (r : Result (X × Lef
 mapped_then f h (Ok x) = refl
 mapped_then f h (Err e) = refl
 
-abbrev class_made : ℕ → ℤ → ℤ → ℤ → Glue → ClassLine
-class_made line n f m g = record { line = line; number = nat_abs n; factor = f; limit = m; skip = g }
+abbrev class_made : ℕ → ℤ → ℤ → ℤ → Option (Option Rule) → Glue → ClassLine
+class_made line n f m b g = record { line = line; number = nat_abs n; factor = f; limit = m; below = b; skip = g }
 
 abbrev classed : Result (ClassLine × Left) At → Result Content At
 classed r = one (λ c. contents.Class c) r
 
-class_glue : (line : ℕ) (m : Cause) (f g h : List ℕ) (fs : List (List ℕ))
-    → classed (glue_left causes.UnknownWord (left 5 m fs) >>= λ s. Ok (class_made line (integer_in f) (integer_in g) (dimension_in h) s.0, s.1))
-    ≡ settle (first_at 5 (value_causes m (glue_slots causes.UnknownWord fs) fs)) (contents.Class (class_at line (f ∷ g ∷ h ∷ fs)))
-class_glue line m f g h fs =
-    mapped_then (λ c. contents.Class c) (class_made line (integer_in f) (integer_in g) (dimension_in h)) (glue_left causes.UnknownWord (left 5 m fs))
-    ∙ glue_slots_read (λ s. contents.Class (class_made line (integer_in f) (integer_in g) (dimension_in h) s)) causes.UnknownWord 5 m fs
+-- the rest of a class of this line, number, factor and limit
+module _ (line : ℕ) (number factor limit : ℤ) (m : Cause) where
+  abbrev class_with : Option (Option Rule) → Glue → Content
+  class_with b g = contents.Class (class_made line number factor limit b g)
 
-class_slots_read : (line : ℕ) (m : Cause) (fs : List (List ℕ))
-    → classed (class_left line (left 2 m fs)) ≡ settle (first_at 2 (value_causes m (class_slots fs) fs)) (contents.Class (class_at line fs))
+  abbrev class_glued : Result (Option (Option Rule) × Left) At → Result Content At
+  class_glued r = classed (r >>= λ b. glue_left causes.UnknownWord b.1 >>= λ s. Ok (class_made line number factor limit b.0 s.0, s.1))
+
+  -- the class whose rule is read
+  abbrev class_ruled : Result (Option Rule × Left) At → Result Content At
+  class_ruled r = class_glued (mapped (λ q. Some q) r)
+
+  class_glue : (b : Option (Option Rule)) (n : ℕ) (fs : List (List ℕ))
+      → class_glued (Ok (b, left n m fs)) ≡ settle (first_at n (value_causes m (glue_slots causes.UnknownWord fs) fs)) (class_with b (glue_at fs 0))
+  class_glue b n fs =
+      mapped_then (λ c. contents.Class c) (class_made line number factor limit b) (glue_left causes.UnknownWord (left n m fs))
+      ∙ glue_slots_read (class_with b) causes.UnknownWord n m fs
+
+  class_below_kern : (n : ℕ) (a h : ℤ) (fs : List (List ℕ))
+      → class_ruled (dimension_left (left n m fs) >>= λ b. Ok (Some (record { above = a; height = h; below = b.0 }), b.1))
+      ≡ settle (first_at n (value_causes m (dimension_slot ∷ glue_slots causes.UnknownWord (past_one fs)) fs))
+      (class_with (Some (Some (record { above = a; height = h; below = dimension_at fs 0 }))) (glue_at (past_one fs) 0))
+  unfolding dimension_left
+  class_below_kern n a h [] = refl
+  class_below_kern n a h (f ∷ fs) =
+      cons_slot (λ r. class_ruled (r >>= λ b. Ok (Some (record { above = a; height = h; below = b.0 }), b.1))) (λ e. refl) dimension_slot dimension_in n m f fs
+      (value_causes m (glue_slots causes.UnknownWord fs) fs) _ (class_glue (Some (Some (record { above = a; height = h; below = dimension_in f }))) (n + 1) fs)
+
+  class_below_height : (n : ℕ) (a : ℤ) (fs : List (List ℕ))
+      → class_ruled (least_left (pos 0) causes.Parameter (left n m fs) >>= λ h. dimension_left h.1 >>= λ b. Ok (Some (record { above = a; height = h.0; below = b.0 }), b.1))
+      ≡ settle (first_at n (value_causes m (least_slot (pos 0) causes.Parameter ∷ dimension_slot ∷ glue_slots causes.UnknownWord (past_one (past_one fs))) fs))
+      (class_with (Some (Some (record { above = a; height = dimension_at fs 0; below = dimension_at fs 1 }))) (glue_at (past_one (past_one fs)) 0))
+  unfolding least_left
+  class_below_height n a [] = refl
+  class_below_height n a (f ∷ fs) =
+      cons_slot (λ r. class_ruled (r >>= λ h. dimension_left h.1 >>= λ b. Ok (Some (record { above = a; height = h.0; below = b.0 }), b.1))) (λ e. refl) (least_slot (pos 0) causes.Parameter) dimension_in n m f fs
+      (value_causes m (dimension_slot ∷ glue_slots causes.UnknownWord (past_one fs)) fs) _ (class_below_kern (n + 1) a (dimension_in f) fs)
+
+  class_rule_by : (t : Bool) (n : ℕ) (f : List ℕ) (fs : List (List ℕ))
+      → class_ruled (rule_by (left n m (f ∷ fs)) t)
+      ≡ settle (first_at n (value_causes m (if t then seen_slot ∷ glue_slots causes.UnknownWord fs else dimension_slot ∷ least_slot (pos 0) causes.Parameter ∷ dimension_slot ∷ glue_slots causes.UnknownWord (past_one (past_one fs))) (f ∷ fs)))
+      (class_with (Some (if t then None else Some (record { above = dimension_at (f ∷ fs) 0; height = dimension_at (f ∷ fs) 1; below = dimension_at (f ∷ fs) 2 }))) (glue_at (if t then fs else past_one (past_one fs)) 0))
+  unfolding drawn_left dimension_left
+  class_rule_by true n f fs =
+      skip_read class_ruled (λ e. refl) (list_all is_printable f) n f (left (n + 1) m fs) (λ l. Ok (None, l)) (value_causes m (glue_slots causes.UnknownWord fs) fs) _ (class_glue (Some None) (n + 1) fs)
+  class_rule_by false n f fs =
+      cons_slot (λ r. class_ruled (r >>= λ a. least_left (pos 0) causes.Parameter a.1 >>= λ h. dimension_left h.1 >>= λ b. Ok (Some (record { above = a.0; height = h.0; below = b.0 }), b.1))) (λ e. refl) dimension_slot dimension_in n m f fs
+      (value_causes m (least_slot (pos 0) causes.Parameter ∷ dimension_slot ∷ glue_slots causes.UnknownWord (past_one (past_one fs))) fs) _ (class_below_height (n + 1) (dimension_in f) fs)
+
+  class_rule : (n : ℕ) (fs : List (List ℕ))
+      → class_ruled (rule_left (left n m fs)) ≡ settle (first_at n (value_causes m (ruled_glue_slots fs) fs)) (class_with (Some (rule_at fs 0)) (glue_at (past_rule fs) 0))
+  unfolding rule_left drawn_left dimension_left
+  class_rule n [] = refl
+  class_rule n (f ∷ fs) = class_rule_by (bytes_eq f (codes "none")) n f fs
+
+  class_known : (t : Bool) (n : ℕ) (f : List ℕ) (fs : List (List ℕ))
+      → class_glued (below_known (left n m (f ∷ fs)) t)
+      ≡ settle (first_at n (value_causes m ((if t then seen_slot else wrong_slot causes.BadNumber) ∷ ruled_glue_slots fs) (f ∷ fs))) (class_with (Some (rule_at fs 0)) (glue_at (past_rule fs) 0))
+  class_known true n f fs =
+      skip_read class_glued (λ e. refl) (list_all is_printable f) n f (left (n + 1) m fs) (λ l. mapped (λ q. Some q) (rule_left l)) (value_causes m (ruled_glue_slots fs) fs) _ (class_rule (n + 1) fs)
+  class_known false n f fs = wrong_read class_glued (λ e. refl) (list_all is_printable f) n f (left (n + 1) m fs) causes.BadNumber (value_causes m (ruled_glue_slots fs) fs) _
+
+  class_standing_by : (version : ℕ) (t : Bool) (n : ℕ) (f : List ℕ) (fs : List (List ℕ))
+      → class_glued (below_by version (left n m (f ∷ fs)) t)
+      ≡ settle (first_at n (value_causes m (if t then below_slot version ∷ ruled_glue_slots fs else glue_slots causes.UnknownWord (f ∷ fs)) (f ∷ fs)))
+      (class_with (if t then Some (rule_at fs 0) else None) (glue_at (if t then past_rule fs else f ∷ fs) 0))
+  class_standing_by version true n f fs = class_known (nat_le 3 version) n f fs
+  class_standing_by version false n f fs = class_glue None n (f ∷ fs)
+
+  class_standing : (version n : ℕ) (fs : List (List ℕ))
+      → class_glued (below_left version (left n m fs)) ≡ settle (first_at n (value_causes m (standing_slots version fs) fs)) (class_with (below_at fs) (glue_at (past_below fs) 0))
+  unfolding below_left
+  class_standing version n [] = class_glue None n []
+  class_standing version n (f ∷ fs) = class_standing_by version (bytes_eq f (codes "below")) n f fs
+
+class_slots_read : (version line : ℕ) (m : Cause) (fs : List (List ℕ))
+    → classed (class_left version line (left 2 m fs)) ≡ settle (first_at 2 (value_causes m (class_slots version fs) fs)) (contents.Class (class_at line fs))
 unfolding class_left range_left least_left
-class_slots_read line m [] = refl
-class_slots_read line m (f ∷ fs) =
-    cons_slot (λ r. classed (r >>= λ a. range_left (pos 0) (pos 10000) causes.Parameter a.1 >>= λ b. least_left (pos 0) causes.Dimension b.1 >>= λ c. glue_left causes.UnknownWord c.1 >>= λ s. Ok (class_made line a.0 b.0 c.0 s.0, s.1)))
+class_slots_read version line m [] = refl
+class_slots_read version line m (f ∷ fs) =
+    cons_slot (λ r. classed (r >>= λ a. range_left (pos 0) (pos 10000) causes.Parameter a.1 >>= λ b. least_left (pos 0) causes.Dimension b.1 >>= λ c. below_left version c.1 >>= λ d. glue_left causes.UnknownWord d.1 >>= λ s. Ok (class_made line a.0 b.0 c.0 d.0 s.0, s.1)))
     (λ e. refl) (range_slot (pos 0) (pos 253) causes.Class) integer_in 2 m f fs
-    (value_causes m (range_slot (pos 0) (pos 10000) causes.Parameter ∷ size_slot ∷ glue_slots causes.UnknownWord (past_one (past_one fs))) fs) (contents.Class (class_at line (f ∷ fs))) (second fs)
+    (value_causes m (range_slot (pos 0) (pos 10000) causes.Parameter ∷ size_slot ∷ standing_slots version (past_one (past_one fs))) fs) (contents.Class (class_at line (f ∷ fs))) (second fs)
   where
     third : (g : List ℕ) (gs : List (List ℕ))
-        → classed (least_left (pos 0) causes.Dimension (left 4 m gs) >>= λ c. glue_left causes.UnknownWord c.1 >>= λ s. Ok (class_made line (integer_in f) (integer_in g) c.0 s.0, s.1))
-        ≡ settle (first_at 4 (value_causes m (size_slot ∷ glue_slots causes.UnknownWord (past_one gs)) gs)) (contents.Class (class_at line (f ∷ g ∷ gs)))
+        → classed (least_left (pos 0) causes.Dimension (left 4 m gs) >>= λ c. below_left version c.1 >>= λ d. glue_left causes.UnknownWord d.1 >>= λ s. Ok (class_made line (integer_in f) (integer_in g) c.0 d.0 s.0, s.1))
+        ≡ settle (first_at 4 (value_causes m (size_slot ∷ standing_slots version (past_one gs)) gs)) (contents.Class (class_at line (f ∷ g ∷ gs)))
     third g [] = refl
     third g (h ∷ hs) =
-        cons_slot (λ r. classed (r >>= λ c. glue_left causes.UnknownWord c.1 >>= λ s. Ok (class_made line (integer_in f) (integer_in g) c.0 s.0, s.1)))
-        (λ e. refl) size_slot dimension_in 4 m h hs (value_causes m (glue_slots causes.UnknownWord hs) hs) (contents.Class (class_at line (f ∷ g ∷ h ∷ hs))) (class_glue line m f g h hs)
+        cons_slot (λ r. classed (r >>= λ c. below_left version c.1 >>= λ d. glue_left causes.UnknownWord d.1 >>= λ s. Ok (class_made line (integer_in f) (integer_in g) c.0 d.0 s.0, s.1)))
+        (λ e. refl) size_slot dimension_in 4 m h hs (value_causes m (standing_slots version hs) hs) (contents.Class (class_at line (f ∷ g ∷ h ∷ hs))) (class_standing line (integer_in f) (integer_in g) (dimension_in h) m version 5 hs)
 
     second : (gs : List (List ℕ))
-        → classed (range_left (pos 0) (pos 10000) causes.Parameter (left 3 m gs) >>= λ b. least_left (pos 0) causes.Dimension b.1 >>= λ c. glue_left causes.UnknownWord c.1 >>= λ s. Ok (class_made line (integer_in f) b.0 c.0 s.0, s.1))
-        ≡ settle (first_at 3 (value_causes m (range_slot (pos 0) (pos 10000) causes.Parameter ∷ size_slot ∷ glue_slots causes.UnknownWord (past_one (past_one gs))) gs)) (contents.Class (class_at line (f ∷ gs)))
+        → classed (range_left (pos 0) (pos 10000) causes.Parameter (left 3 m gs) >>= λ b. least_left (pos 0) causes.Dimension b.1 >>= λ c. below_left version c.1 >>= λ d. glue_left causes.UnknownWord d.1 >>= λ s. Ok (class_made line (integer_in f) b.0 c.0 d.0 s.0, s.1))
+        ≡ settle (first_at 3 (value_causes m (range_slot (pos 0) (pos 10000) causes.Parameter ∷ size_slot ∷ standing_slots version (past_one (past_one gs))) gs)) (contents.Class (class_at line (f ∷ gs)))
     second [] = refl
     second (g ∷ gs) =
-        cons_slot (λ r. classed (r >>= λ b. least_left (pos 0) causes.Dimension b.1 >>= λ c. glue_left causes.UnknownWord c.1 >>= λ s. Ok (class_made line (integer_in f) b.0 c.0 s.0, s.1)))
-        (λ e. refl) (range_slot (pos 0) (pos 10000) causes.Parameter) integer_in 3 m g gs (value_causes m (size_slot ∷ glue_slots causes.UnknownWord (past_one gs)) gs) (contents.Class (class_at line (f ∷ g ∷ gs))) (third g gs)
+        cons_slot (λ r. classed (r >>= λ b. least_left (pos 0) causes.Dimension b.1 >>= λ c. below_left version c.1 >>= λ d. glue_left causes.UnknownWord d.1 >>= λ s. Ok (class_made line (integer_in f) b.0 c.0 d.0 s.0, s.1)))
+        (λ e. refl) (range_slot (pos 0) (pos 10000) causes.Parameter) integer_in 3 m g gs (value_causes m (size_slot ∷ standing_slots version (past_one gs)) gs) (contents.Class (class_at line (f ∷ g ∷ gs))) (third g gs)
 
 -- ---- a footnote
 
@@ -408,15 +513,15 @@ first-is [] = refl
 first-is (f ∷ fs) = refl
 
 pub reads : (k : Known) (line : ℕ) (fs : List (List ℕ)) (w : LineWord)
-    → finished (content_left k line w (left 2 (missing_cause w) fs)) ≡ settle (first_at 2 (value_causes (missing_cause w) (word_slots k fs w) fs)) (content_of line fs w)
+    → finished (content_left k line w (left 2 (missing_cause w) fs)) ≡ settle (first_at 2 (value_causes (missing_cause w) (word_slots k fs w) fs)) (content_of k.version line fs w)
 unfolding content_left name_left dimension_left range_left version_left
 reads k line fs header =
     one_slot (λ v. contents.Header v) (word_slot (codes "1" ∷ codes "2" ∷ codes "3" ∷ []) causes.NoHeader) version_named causes.NoHeader fs
     ∙ ap (λ f. settle (first_at 2 (value_causes causes.NoHeader (word_slots k fs header) fs)) (contents.Header (version_named f))) (first-is fs)
 reads k line fs setting = set_slots_read k line causes.MissingField fs
-reads k line fs class_line = class_slots_read line causes.MissingField fs
-reads k line fs hbox = sized_slots (one (λ s. contents.Plain (leaves.Hbox s.0 s.1 s.2))) (λ e. refl) 2 causes.MissingField [] (λ fs. content_of line fs hbox) (λ f g h fs. end_here 5 causes.MissingField fs _) fs
-reads k line fs rule = sized_slots (one (λ s. contents.Plain (leaves.Rule s.0 s.1 s.2))) (λ e. refl) 2 causes.MissingField [] (λ fs. content_of line fs rule) (λ f g h fs. end_here 5 causes.MissingField fs _) fs
+reads k line fs class_line = class_slots_read k.version line causes.MissingField fs
+reads k line fs hbox = sized_slots (one (λ s. contents.Plain (leaves.Hbox s.0 s.1 s.2))) (λ e. refl) 2 causes.MissingField (λ gs. []) (λ fs. content_of k.version line fs hbox) (λ f g h fs. end_here 5 causes.MissingField fs _) fs
+reads k line fs rule = sized_slots (one (λ s. contents.Plain (leaves.Rule s.0 s.1 s.2))) (λ e. refl) 2 causes.MissingField (λ gs. []) (λ fs. content_of k.version line fs rule) (λ f g h fs. end_here 5 causes.MissingField fs _) fs
 reads k line fs skip = glue_slots_read (λ g. contents.Plain (leaves.Skip g)) causes.UnknownWord 2 causes.MissingField fs
 reads k line fs kern = one_slot (λ w. contents.Plain (leaves.Kern w)) dimension_slot dimension_in causes.MissingField fs
 reads k line fs penalty = one_slot (λ p. contents.Plain (leaves.Penalty p)) (range_slot (negsuc 9999) (pos 10000) causes.Penalty) integer_in causes.MissingField fs
@@ -433,4 +538,5 @@ reads k line fs nopagebreak = one_slot (λ p. contents.Item (items.NoPageBreak (
 reads k line fs onecolumn = end_here 2 causes.MissingField fs (contents.Item items.OneColumn)
 reads k line fs twocolumn = end_here 2 causes.MissingField fs (contents.Item items.TwoColumn)
 reads k line fs suppressfloats = area_slots k line causes.MissingField fs
+reads k line fs page_number = one_slot (λ p. contents.Item (items.Page (nat_abs p))) (range_slot (pos 0) (pos 1000000) causes.Parameter) integer_in causes.MissingField fs
 reads k line fs end = end_here 2 causes.MissingField fs contents.End

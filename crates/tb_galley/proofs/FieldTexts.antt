@@ -103,7 +103,7 @@ pub record IsWord (k : Known) (head : List ℕ) (w : LineWord) : Type 0 where
 
 pub line_back : (p : Phase) (k : Known) (c n : ℕ) (head : List ℕ) (w : LineWord) (fs : List (List ℕ)) → IsWord k head w → AllFit (word_slots k fs w) fs → tail_length fs ≤ 200
     → first_of (place_causes p (Some w)) ≡ None → first_of (item_causes c (Some w)) ≡ None
-    → line_left p k c n (head ++ tail_text fs) ≡ Ok (Some (w, content_of n fs w))
+    → line_left p k c n (head ++ tail_text fs) ≡ Ok (Some (w, content_of k.version n fs w))
 unfolding line_left content_line
 line_back p k c n head w fs is_word fit short place fits =
     let short_line : nat_lt 255 (length (head ++ tail_text fs)) ≡ false = not_long (length (head ++ tail_text fs)) (omega (arith, length-append head (tail_text fs), length-tail_text fs, is_word.short)) in
@@ -115,7 +115,7 @@ line_back p k c n head w fs is_word fit short place fits =
     ∙ ap (λ o. settled 1 (first_of (place_causes p o)) (tt {0}) >>= λ x. settled 1 (first_of (item_causes c (Some w))) (tt {0}) >>= λ y. worded_left k (line_at n (head ∷ fs)) o) is_word.here
     ∙ ap (λ o. settled 1 o (tt {0}) >>= λ x. settled 1 (first_of (item_causes c (Some w))) (tt {0}) >>= λ y. worded_left k (line_at n (head ∷ fs)) (Some w)) place
     ∙ ap (λ o. settled 1 o (tt {0}) >>= λ y. worded_left k (line_at n (head ∷ fs)) (Some w)) fits
-    ∙ ap (λ r. said w r) (reads k n fs w ∙ ap (λ o. settle o (content_of n fs w)) (fit_none 2 (missing_cause w) (word_slots k fs w) fs fit))
+    ∙ ap (λ r. said w r) (reads k n fs w ∙ ap (λ o. settle o (content_of k.version n fs w)) (fit_none 2 (missing_cause w) (word_slots k fs w) fs fit))
   where
     not_long : (k : ℕ) → k ≤ 255 → nat_lt 255 k ≡ false
     not_long k h = grind (arith, nat_tests)
@@ -126,5 +126,5 @@ state n p c d = record { lines = n; phase = p; count = c; draft = d; first = Non
 
 pub step_back : (n : ℕ) (p : Phase) (c : ℕ) (d : Draft) (head : List ℕ) (w : LineWord) (fs : List (List ℕ)) → IsWord (known_in d) head w → AllFit (word_slots (known_in d) fs w) fs → tail_length fs ≤ 200
     → first_of (place_causes p (Some w)) ≡ None → first_of (item_causes c (Some w)) ≡ None
-    → take_said (state n p c d) (head ++ tail_text fs) ≡ state (n + 1) (next_phase p (Some w)) (count_with c (Some w)) (with_content d (n + 1) (content_of (n + 1) fs w))
+    → take_said (state n p c d) (head ++ tail_text fs) ≡ state (n + 1) (next_phase p (Some w)) (count_with c (Some w)) (with_content d (n + 1) (content_of d.version (n + 1) fs w))
 step_back n p c d head w fs is_word fit short place fits = ap (λ r. said_unless (state n p c d) r) (line_back p (known_in d) c (n + 1) head w fs is_word fit short place fits)

@@ -18,12 +18,14 @@ use Rattle.tb_text.specs.Numbers.{has_no_digit, has_unit, in_points, whole_of, i
 use Rattle.tb_param.specs.Table.{is_within, is_dimen, is_glue, is_rule}
 use Rattle.tb_galley.specs.declared.Cause.{Cause}
 use Rattle.tb_galley.specs.declared.Cause.TheVariants as causes
+use Rattle.tb_galley.specs.declared.ItemKind.TheVariants as items
+use Rattle.tb_galley.specs.declared.classes.ClassLine.{ClassLine}
 use Rattle.tb_galley.specs.declared.fields.At.{At}
 use Rattle.tb_galley.specs.Fields.{Slot, name_slot, dimension_slot, least_slot, range_slot, stretch_slot, fraction_slot, places_slot, class_slot, is_class_among, is_foot_class, slot_cause, cause_of_read, cause_unless, are_places, is_place_byte, word_slot}
 use Rattle.tb_galley.specs.Grammar.{read_or, places_at, has_byte}
-use Rattle.tb_galley.specs.FieldReader.{Left, ◌>>=◌, at_fault, settled, next_left, field_read, dimension_in, integer_in, stretch_in, fraction_in, name_left, dimension_left, stretch_left, least_left, range_left, choice_left, places_left, sized_left, float_left, margin_left, glue_left, stretch_part, plus_part, shrink_part, minus_part, minus_next, next_is_by, is_end, mapped, fraction_left, value_left, class_left, named_class, foot_left, version_left, drawn_left, rule_left, rule_by}
+use Rattle.tb_galley.specs.FieldReader.{Left, ◌>>=◌, at_fault, settled, next_left, field_read, dimension_in, integer_in, stretch_in, fraction_in, name_left, dimension_left, stretch_left, least_left, range_left, choice_left, places_left, sized_left, word_left, nobreak_by, nobreak_left, float_left, margin_left, glue_left, stretch_part, plus_part, shrink_part, minus_part, minus_next, next_is_by, is_end, mapped, fraction_left, value_left, class_left, named_class, foot_left, version_left, drawn_left, rule_left, rule_by, below_known, below_by, below_left}
 use Rattle.tb_galley.specs.Words.{Known, number_in, number_or, version_named}
-use Rattle.tb_galley.specs.Valid.{is_size, is_float, is_margin, is_class, is_version}
+use Rattle.tb_galley.specs.Valid.{is_size, is_float, is_margin, is_both, fits_kind, is_class, may_stand, is_version}
 use Rattle.tb_param.specs.declared.table.Form.{Form}
 use Rattle.tb_param.specs.declared.table.Form.TheVariants as forms
 use Rattle.tb_param.specs.declared.Value.TheVariants as values
@@ -239,36 +241,70 @@ pub degree_at_most : (v : ℤ) → is_within (pos 0) (pos 4) v ≡ true → nat_
 degree_at_most (pos n) h = grind (arith, nat_tests)
 degree_at_most (negsuc n) h = cc
 
+pub page_at_most : (v : ℤ) → is_within (pos 0) (pos 1000000) v ≡ true → nat_le (nat_abs v) 1000000 ≡ true
+page_at_most (pos n) h = grind (arith, nat_tests)
+page_at_most (negsuc n) h = cc
+
 same_number : (n : ℕ) → (n == n) ≡ true
 same_number n = grind (arith, nat_tests)
 
 abbrev pub is_float_at : ℕ → Float × Bool → Bool
 is_float_at line f = (f.0.line == line) && is_float f.0
 
-pub float_has : (line : ℕ) (l : Left) → IfOk (float_left line l) (λ x. is_float_at line x.0 ≡ true)
+or-true : (b : Bool) → (b || true) ≡ true
+or-true true = refl
+or-true false = refl
+
+both_self : (b : Bool) → is_both b b ≡ true
+both_self true = refl
+both_self false = refl
+
+nobreak_has : (version : ℕ) (l : Left) → IfOk (nobreak_left version l) (λ x. (not x.0 || (version == 3)) ≡ true)
+unfolding nobreak_left
+nobreak_has version l = by_test (version == 3) (is_end l.fields)
+  where
+    by_test : (t e : Bool) → IfOk (nobreak_by l (not t || e)) (λ x. (not x.0 || t) ≡ true)
+    by_test true true = refl
+    by_test true false = always (λ x. or-true (not x.0)) (word_left (codes "nobreak") causes.UnknownWord l)
+    by_test false e = refl
+
+-- a float of a line is in its ranges, and the version has what it has
+abbrev pub IsFloatOf : ℕ → ℕ → Float × Bool → Type 0
+IsFloatOf version line f = (is_float_at line f ≡ true) × (fits_kind version (items.Float f.0 f.1) ≡ true)
+
+pub float_has : (version line : ℕ) (l : Left) → IfOk (float_left version line l) (λ x. IsFloatOf version line x.0)
 unfolding float_left
-float_has line l =
-    then_has (λ n. is_name n.0 ≡ true) (λ x. is_float_at line x.0 ≡ true) (name_left l) _ (name_has l)
-    (λ n in_n. then_has (λ c. is_within (pos 1) (pos 26) c.0 ≡ true) (λ x. is_float_at line x.0 ≡ true) (range_left (pos 1) (pos 26) causes.Class n.1) _ (range_has (pos 1) (pos 26) causes.Class n.1)
-    (λ c in_c. bind_has (λ x. is_float_at line x.0 ≡ true) (choice_left (codes "single") (codes "double") causes.UnknownWord c.1) _
-    (λ w. then_has (λ p. has_place p.0.0 ≡ true) (λ x. is_float_at line x.0 ≡ true) (places_left w.1) _ (places_has w.1)
-    (λ p in_p. then_has (λ h. is_size h.0 ≡ true) (λ x. is_float_at line x.0 ≡ true) (least_left (pos 0) causes.Dimension p.1) _ (least_has (pos 0) causes.Dimension p.1)
-    (λ h in_h. bind_has (λ x. is_float_at line x.0 ≡ true) (choice_left (codes "par") (codes "vert") causes.UnknownWord h.1) _
-    (λ v. and_from (line == line) _ (same_number line)
-    (and_from (is_name n.0 && is_between 1 26 (nat_abs c.0) && has_place p.0.0) (is_size h.0)
-    (and_from (is_name n.0 && is_between 1 26 (nat_abs c.0)) (has_place p.0.0) (and_from (is_name n.0) (is_between 1 26 (nat_abs c.0)) in_n (class_between c.0 in_c)) in_p) in_h)))))))
+float_has version line l =
+    then_has (λ n. is_name n.0 ≡ true) (λ x. IsFloatOf version line x.0) (name_left l) _ (name_has l)
+    (λ n in_n. then_has (λ c. is_within (pos 1) (pos 26) c.0 ≡ true) (λ x. IsFloatOf version line x.0) (range_left (pos 1) (pos 26) causes.Class n.1) _ (range_has (pos 1) (pos 26) causes.Class n.1)
+    (λ c in_c. bind_has (λ x. IsFloatOf version line x.0) (choice_left (codes "single") (codes "double") causes.UnknownWord c.1) _
+    (λ w. then_has (λ p. has_place p.0.0 ≡ true) (λ x. IsFloatOf version line x.0) (places_left w.1) _ (places_has w.1)
+    (λ p in_p. then_has (λ h. is_size h.0 ≡ true) (λ x. IsFloatOf version line x.0) (least_left (pos 0) causes.Dimension p.1) _ (least_has (pos 0) causes.Dimension p.1)
+    (λ h in_h. bind_has (λ x. IsFloatOf version line x.0) (choice_left (codes "par") (codes "vert") causes.UnknownWord h.1) _
+    (λ v. then_has (λ y. (not y.0 || (version == 3)) ≡ true) (λ x. IsFloatOf version line x.0) (nobreak_left version v.1) _ (nobreak_has version v.1)
+    (λ y in_y. (
+      and_from (line == line) _ (same_number line)
+          (and_from (is_name n.0 && is_between 1 26 (nat_abs c.0) && has_place p.0.0) (is_size h.0)
+          (and_from (is_name n.0 && is_between 1 26 (nat_abs c.0)) (has_place p.0.0) (and_from (is_name n.0) (is_between 1 26 (nat_abs c.0)) in_n (class_between c.0 in_c)) in_p) in_h),
+      and_from (is_both (w.0 && (version == 3)) (w.0 && (version == 3))) (not y.0 || (version == 3)) (both_self (w.0 && (version == 3))) in_y,
+    ))))))))
 
 abbrev pub is_margin_at : ℕ → Margin × Bool → Bool
 is_margin_at line m = (m.0.line == line) && is_margin m.0
 
-pub margin_has : (line : ℕ) (l : Left) → IfOk (margin_left line l) (λ x. is_margin_at line x.0 ≡ true)
+-- a marginal note of a line is in its ranges, and the version has what it has
+abbrev pub IsMarginOf : ℕ → ℕ → Margin × Bool → Type 0
+IsMarginOf version line m = (is_margin_at line m ≡ true) × (fits_kind version (items.Margin m.0 m.1) ≡ true)
+
+pub margin_has : (version line : ℕ) (l : Left) → IfOk (margin_left version line l) (λ x. IsMarginOf version line x.0)
 unfolding margin_left
-margin_has line l =
-    then_has (λ s. is_sized s.0 ≡ true) (λ x. is_margin_at line x.0 ≡ true) (sized_left l) _ (sized_has l)
-    (λ s in_s. then_has (λ h. is_size h.0 ≡ true) (λ x. is_margin_at line x.0 ≡ true) (least_left (pos 0) causes.Dimension s.1) _ (least_has (pos 0) causes.Dimension s.1)
-    (λ h in_h. then_has (λ d. is_size d.0 ≡ true) (λ x. is_margin_at line x.0 ≡ true) (least_left (pos 0) causes.Dimension h.1) _ (least_has (pos 0) causes.Dimension h.1)
-    (λ d in_d. bind_has (λ x. is_margin_at line x.0 ≡ true) (choice_left (codes "par") (codes "vert") causes.UnknownWord d.1) _
-    (λ v. and_from (line == line) _ (same_number line) (and_from (is_sized s.0 && is_size h.0) (is_size d.0) (and_from (is_sized s.0) (is_size h.0) in_s in_h) in_d)))))
+margin_has version line l =
+    then_has (λ s. is_sized s.0 ≡ true) (λ x. IsMarginOf version line x.0) (sized_left l) _ (sized_has l)
+    (λ s in_s. then_has (λ h. is_size h.0 ≡ true) (λ x. IsMarginOf version line x.0) (least_left (pos 0) causes.Dimension s.1) _ (least_has (pos 0) causes.Dimension s.1)
+    (λ h in_h. then_has (λ d. is_size d.0 ≡ true) (λ x. IsMarginOf version line x.0) (least_left (pos 0) causes.Dimension h.1) _ (least_has (pos 0) causes.Dimension h.1)
+    (λ d in_d. bind_has (λ x. IsMarginOf version line x.0) (choice_left (codes "par") (codes "vert") causes.UnknownWord d.1) _
+    (λ v. then_has (λ y. (not y.0 || (version == 3)) ≡ true) (λ x. IsMarginOf version line x.0) (nobreak_left version v.1) _ (nobreak_has version v.1)
+    (λ y in_y. (and_from (line == line) _ (same_number line) (and_from (is_sized s.0 && is_size h.0) (is_size d.0) (and_from (is_sized s.0) (is_size h.0) in_s in_h) in_d), in_y))))))
 
 -- ---- values of parameters
 
@@ -351,15 +387,38 @@ number_at_most : (v : ℤ) → is_within (pos 0) (pos 253) v ≡ true → nat_le
 number_at_most (pos n) h = grind (arith, nat_tests)
 number_at_most (negsuc n) h = cc
 
-pub class_has : (line : ℕ) (l : Left) → IfOk (class_left line l) (λ x. is_class x.0 ≡ true)
+below_has : (version : ℕ) (l : Left) → IfOk (below_left version l) (λ x. may_stand version x.0 ≡ true)
+unfolding below_left
+below_has version l = by_word (next_is_by (codes "below") l.fields)
+  where
+    by_version : (t : Bool) → nat_le 3 version ≡ t → IfOk (below_known l t) (λ x. may_stand version x.0 ≡ true)
+    by_version true e =
+        bind_has (λ x. may_stand version x.0 ≡ true) (next_left l) (λ x. mapped (λ r. Some r) (rule_left x.1))
+        (λ x. mapped_has (λ b. may_stand version b ≡ true) (λ r. Some r) (rule_left x.1)
+        (has_more (λ y. is_rule y.0 ≡ true) (λ y. may_stand version (Some y.0) ≡ true) (rule_left x.1) (λ y h. and_from (nat_le 3 version) (is_rule y.0) e h) (rule_has x.1)))
+    by_version false e = bind_has (λ x. may_stand version x.0 ≡ true) (next_left l) (λ x. at_fault l.number causes.BadNumber) (λ x. tt)
+
+    by_word : (t : Bool) → IfOk (below_by version l t) (λ x. may_stand version x.0 ≡ true)
+    by_word true = by_version (nat_le 3 version) refl
+    by_word false = refl
+
+-- a class in its ranges that may stand where it does in a galley of the version
+abbrev pub IsClassIn : ℕ → ClassLine → Type 0
+IsClassIn version c = (is_class c ≡ true) × (may_stand version c.below ≡ true)
+
+pub class_has : (version line : ℕ) (l : Left) → IfOk (class_left version line l) (λ x. IsClassIn version x.0)
 unfolding class_left
-class_has line l =
-    then_has (λ n. is_within (pos 0) (pos 253) n.0 ≡ true) (λ x. is_class x.0 ≡ true) (range_left (pos 0) (pos 253) causes.Class l) _ (range_has (pos 0) (pos 253) causes.Class l)
-    (λ n in_n. then_has (λ f. is_within (pos 0) (pos 10000) f.0 ≡ true) (λ x. is_class x.0 ≡ true) (range_left (pos 0) (pos 10000) causes.Parameter n.1) _ (range_has (pos 0) (pos 10000) causes.Parameter n.1)
-    (λ f in_f. then_has (λ m. is_size m.0 ≡ true) (λ x. is_class x.0 ≡ true) (least_left (pos 0) causes.Dimension f.1) _ (least_has (pos 0) causes.Dimension f.1)
-    (λ m in_m. then_has (λ g. is_glue g.0 ≡ true) (λ x. is_class x.0 ≡ true) (glue_left causes.UnknownWord m.1) _ (glue_has causes.UnknownWord m.1)
-    (λ g in_g. and_from (nat_le (nat_abs n.0) 253 && is_within (pos 0) (pos 10000) f.0 && is_size m.0) (is_glue g.0)
-    (and_from (nat_le (nat_abs n.0) 253 && is_within (pos 0) (pos 10000) f.0) (is_size m.0) (and_from (nat_le (nat_abs n.0) 253) (is_within (pos 0) (pos 10000) f.0) (number_at_most n.0 in_n) in_f) in_m) in_g))))
+class_has version line l =
+    then_has (λ n. is_within (pos 0) (pos 253) n.0 ≡ true) (λ x. IsClassIn version x.0) (range_left (pos 0) (pos 253) causes.Class l) _ (range_has (pos 0) (pos 253) causes.Class l)
+    (λ n in_n. then_has (λ f. is_within (pos 0) (pos 10000) f.0 ≡ true) (λ x. IsClassIn version x.0) (range_left (pos 0) (pos 10000) causes.Parameter n.1) _ (range_has (pos 0) (pos 10000) causes.Parameter n.1)
+    (λ f in_f. then_has (λ m. is_size m.0 ≡ true) (λ x. IsClassIn version x.0) (least_left (pos 0) causes.Dimension f.1) _ (least_has (pos 0) causes.Dimension f.1)
+    (λ m in_m. then_has (λ b. may_stand version b.0 ≡ true) (λ x. IsClassIn version x.0) (below_left version m.1) _ (below_has version m.1)
+    (λ b in_b. then_has (λ g. is_glue g.0 ≡ true) (λ x. IsClassIn version x.0) (glue_left causes.UnknownWord b.1) _ (glue_has causes.UnknownWord b.1)
+    (λ g in_g. (
+      and_from (nat_le (nat_abs n.0) 253 && is_within (pos 0) (pos 10000) f.0 && is_size m.0) (is_glue g.0)
+          (and_from (nat_le (nat_abs n.0) 253 && is_within (pos 0) (pos 10000) f.0) (is_size m.0) (and_from (nat_le (nat_abs n.0) 253) (is_within (pos 0) (pos 10000) f.0) (number_at_most n.0 in_n) in_f) in_m) in_g,
+      in_b,
+    ))))))
 
 number_among : (ks : List ℕ) (r : Result ℤ TextFault) → is_foot_class ks (read_or (pos 0) r) ≡ true → is_class_among ks (number_or r) ≡ true
 number_among ks (Ok v) h = second_so (not (int_lt v (pos 0))) (is_class_among ks (nat_abs v)) h

@@ -1,5 +1,5 @@
 -- Each kind of line of the canonical text is read back.
-use Rattle.std.proofs.Common.{◌≡◌, ℕ, ◌<◌, ◌≤◌, ℤ, pos, negsuc, nat_abs, Bool, true, false, ◌&&◌, ◌||◌, ◌==◌, nat_le, List, [], ◌∷◌, ◌++◌, length, Some, None, if◌then◌else◌, refl, ap, sym, ◌∙◌, arith, append_assoc}
+use Rattle.std.proofs.Common.{◌≡◌, ℕ, ◌<◌, ◌≤◌, ℤ, pos, negsuc, nat_abs, Bool, true, false, not, ◌&&◌, ◌||◌, ◌==◌, nat_le, List, [], ◌∷◌, ◌++◌, length, Some, None, if◌then◌else◌, refl, ap, sym, subst, ◌∙◌, arith, append_assoc}
 use Rattle.std.specs.Cmp.{first_so, second_so}
 use Rattle.std.specs.Prelude.{codes, decimal, bytes_eq}
 use Rattle.std.specs.Fmt.{signed_decimal}
@@ -19,13 +19,13 @@ use Rattle.tb_galley.specs.declared.ItemKind.{ItemKind}
 use Rattle.tb_galley.specs.declared.ItemKind.TheVariants as items
 use Rattle.tb_galley.specs.declared.LeafKind.{LeafKind}
 use Rattle.tb_galley.specs.declared.LeafKind.TheVariants as leaves
-use Rattle.tb_galley.specs.Words.{LineWord, Known, hbox, rule, skip, kern, penalty, mark, note, foot, float, margin, newpage, clearpage, pagebreak, nopagebreak, onecolumn, twocolumn, suppressfloats}
-use Rattle.tb_galley.specs.Fields.{name_slot, least_slot, range_slot, word_slot, word_slots, are_places}
+use Rattle.tb_galley.specs.Words.{LineWord, Known, hbox, rule, skip, kern, penalty, mark, note, foot, float, margin, newpage, clearpage, pagebreak, nopagebreak, onecolumn, twocolumn, suppressfloats, page_number}
+use Rattle.tb_galley.specs.Fields.{name_slot, least_slot, range_slot, word_slot, word_slots, nobreak_slots, are_places}
 use Rattle.tb_galley.specs.Faults.{is_printable}
-use Rattle.tb_galley.specs.Grammar.{read_or, content_of, places_at, has_byte}
-use Rattle.tb_galley.specs.CanonicalText.{places_text, text_if, sized_text, leaf_text, paragraph_text, wide_text, float_text, margin_text, item_text}
+use Rattle.tb_galley.specs.Grammar.{read_or, is_at, content_of, places_at, has_byte}
+use Rattle.tb_galley.specs.CanonicalText.{places_text, text_if, sized_text, leaf_text, paragraph_text, ending_text, wide_text, float_text, margin_text, item_text}
 use Rattle.tb_text.specs.Fields.{and_number, and_text, line, and_count}
-use Rattle.tb_galley.specs.Valid.{is_size, is_leaf, is_float, is_margin, is_item}
+use Rattle.tb_galley.specs.Valid.{is_size, is_leaf, is_float, is_margin, is_item, is_both, fits_kind}
 use Rattle.tb_galley.proofs.FieldTexts.{IsFit, AllFit, tail_text, tail_length, nothing_more}
 use Rattle.tb_galley.proofs.SlotTexts.{ReadsAs, within_small, dimen_small, dimension_fit, size_fit, range_fit, name_text, name_fit, spelling, dimension_read, integer_read, size_small, dimen_length, glue_fields, glue_is, word_text, glue_fit, glue_short, glue_back}
 
@@ -158,11 +158,14 @@ area_fields areas.All = []
 area_fields areas.Top = codes "t" ∷ []
 area_fields areas.Bottom = codes "b" ∷ []
 
+pub nobreak_fields : Bool → List (List ℕ)
+nobreak_fields nobreak = if nobreak then codes "nobreak" ∷ [] else []
+
 abbrev float_fields : Float → Bool → List (List ℕ)
-float_fields f vert = f.name ∷ decimal f.class ∷ wide_field f.wide ∷ places_field f.bang f.places ∷ signed_decimal f.height ∷ paragraph_field vert ∷ []
+float_fields f vert = f.name ∷ decimal f.class ∷ wide_field f.wide ∷ places_field f.bang f.places ∷ signed_decimal f.height ∷ paragraph_field vert ∷ nobreak_fields f.nobreak
 
 abbrev margin_fields : Margin → Bool → List (List ℕ)
-margin_fields m vert = m.name ∷ signed_decimal m.left_height ∷ signed_decimal m.left_depth ∷ signed_decimal m.right_height ∷ signed_decimal m.right_depth ∷ paragraph_field vert ∷ []
+margin_fields m vert = m.name ∷ signed_decimal m.left_height ∷ signed_decimal m.left_depth ∷ signed_decimal m.right_height ∷ signed_decimal m.right_depth ∷ paragraph_field vert ∷ nobreak_fields m.nobreak
 
 -- the kinds of items but boxes, rules, glue, kerns, penalties and footnotes
 abbrev pub is_single : ItemKind → Bool
@@ -183,6 +186,7 @@ is_single (items.NoPageBreak k) = true
 is_single items.OneColumn = true
 is_single items.TwoColumn = true
 is_single (items.Suppress area) = true
+is_single (items.Page n) = true
 
 abbrev pub item_word : ItemKind → LineWord
 item_word (items.Hbox name h d) = hbox
@@ -202,6 +206,7 @@ item_word (items.NoPageBreak k) = nopagebreak
 item_word items.OneColumn = onecolumn
 item_word items.TwoColumn = twocolumn
 item_word (items.Suppress area) = suppressfloats
+item_word (items.Page n) = page_number
 
 abbrev pub item_fields : ItemKind → List (List ℕ)
 item_fields (items.Hbox name h d) = leaf_fields (leaves.Hbox name h d)
@@ -221,6 +226,7 @@ item_fields (items.NoPageBreak k) = decimal k ∷ []
 item_fields items.OneColumn = []
 item_fields items.TwoColumn = []
 item_fields (items.Suppress area) = area_fields area
+item_fields (items.Page n) = decimal n ∷ []
 
 -- the line of an item that is no footnote
 abbrev pub item_line : ItemKind → List ℕ
@@ -239,31 +245,38 @@ paragraph_is false = refl
 joins : (w a : List ℕ) (fs : List (List ℕ)) → (w ++ 32 ∷ a) ++ tail_text fs ≡ w ++ tail_text (a ∷ fs)
 joins w a fs = append_assoc w (32 ∷ a) (tail_text fs)
 
--- six fields, one after the other
-six : (w a b c d e f : List ℕ) → (((((w ++ 32 ∷ a) ++ 32 ∷ b) ++ 32 ∷ c) ++ 32 ∷ d) ++ 32 ∷ e) ++ 32 ∷ f ≡ w ++ tail_text (a ∷ b ∷ c ∷ d ∷ e ∷ f ∷ [])
-six w a b c d e f =
-    ap (λ t. (((((w ++ 32 ∷ a) ++ 32 ∷ b) ++ 32 ∷ c) ++ 32 ∷ d) ++ 32 ∷ e) ++ 32 ∷ t) (sym (nothing_more f))
-    ∙ joins ((((w ++ 32 ∷ a) ++ 32 ∷ b) ++ 32 ∷ c) ++ 32 ∷ d) e (f ∷ [])
-    ∙ joins (((w ++ 32 ∷ a) ++ 32 ∷ b) ++ 32 ∷ c) d (e ∷ f ∷ [])
-    ∙ joins ((w ++ 32 ∷ a) ++ 32 ∷ b) c (d ∷ e ∷ f ∷ [])
-    ∙ joins (w ++ 32 ∷ a) b (c ∷ d ∷ e ∷ f ∷ [])
-    ∙ joins w a (b ∷ c ∷ d ∷ e ∷ f ∷ [])
+nobreak_is : (nobreak : Bool) → text_if nobreak (codes " nobreak") ≡ tail_text (nobreak_fields nobreak)
+unfolding nobreak_fields
+nobreak_is true = refl
+nobreak_is false = refl
+
+-- six fields, one after the other, and others
+six : (w a b c d e f : List ℕ) (fs : List (List ℕ)) → ((((((w ++ 32 ∷ a) ++ 32 ∷ b) ++ 32 ∷ c) ++ 32 ∷ d) ++ 32 ∷ e) ++ 32 ∷ f) ++ tail_text fs ≡ w ++ tail_text (a ∷ b ∷ c ∷ d ∷ e ∷ f ∷ fs)
+six w a b c d e f fs =
+    joins (((((w ++ 32 ∷ a) ++ 32 ∷ b) ++ 32 ∷ c) ++ 32 ∷ d) ++ 32 ∷ e) f fs
+    ∙ joins ((((w ++ 32 ∷ a) ++ 32 ∷ b) ++ 32 ∷ c) ++ 32 ∷ d) e (f ∷ fs)
+    ∙ joins (((w ++ 32 ∷ a) ++ 32 ∷ b) ++ 32 ∷ c) d (e ∷ f ∷ fs)
+    ∙ joins ((w ++ 32 ∷ a) ++ 32 ∷ b) c (d ∷ e ∷ f ∷ fs)
+    ∙ joins (w ++ 32 ∷ a) b (c ∷ d ∷ e ∷ f ∷ fs)
+    ∙ joins w a (b ∷ c ∷ d ∷ e ∷ f ∷ fs)
 
 in_turn : (w a b c d e f : List ℕ) → ((w ++ ((a ++ b) ++ c)) ++ (d ++ e)) ++ f ≡ (((((w ++ a) ++ b) ++ c) ++ d) ++ e) ++ f
 in_turn w a b c d e f =
     ap (λ t. t ++ f)
     (sym (append_assoc (w ++ ((a ++ b) ++ c)) d e) ∙ ap (λ t. (t ++ d) ++ e) (sym (append_assoc w (a ++ b) c) ∙ ap (λ t. t ++ c) (sym (append_assoc w a b))))
 
-float_is : (f : Float) (vert : Bool) → float_text f ++ paragraph_text vert ≡ codes "float" ++ tail_text (float_fields f vert)
+float_is : (f : Float) (vert : Bool) → float_text f ++ ending_text vert f.nobreak ≡ codes "float" ++ tail_text (float_fields f vert)
 float_is f vert =
-    (λ i. (codes "float" ++ and_text f.name ++ and_count f.class ++ wide_is f.wide i ++ places_text f.bang f.places ++ and_number f.height) ++ paragraph_is vert i)
-    ∙ six (codes "float") f.name (decimal f.class) (wide_field f.wide) (places_field f.bang f.places) (signed_decimal f.height) (paragraph_field vert)
+    (λ i. (codes "float" ++ and_text f.name ++ and_count f.class ++ wide_is f.wide i ++ places_text f.bang f.places ++ and_number f.height) ++ (paragraph_is vert i ++ nobreak_is f.nobreak i))
+    ∙ sym (append_assoc (codes "float" ++ and_text f.name ++ and_count f.class ++ 32 ∷ wide_field f.wide ++ places_text f.bang f.places ++ and_number f.height) (32 ∷ paragraph_field vert) (tail_text (nobreak_fields f.nobreak)))
+    ∙ six (codes "float") f.name (decimal f.class) (wide_field f.wide) (places_field f.bang f.places) (signed_decimal f.height) (paragraph_field vert) (nobreak_fields f.nobreak)
 
-margin_is : (m : Margin) (vert : Bool) → margin_text m ++ paragraph_text vert ≡ codes "margin" ++ tail_text (margin_fields m vert)
+margin_is : (m : Margin) (vert : Bool) → margin_text m ++ ending_text vert m.nobreak ≡ codes "margin" ++ tail_text (margin_fields m vert)
 margin_is m vert =
-    ap (λ t. margin_text m ++ t) (paragraph_is vert)
-    ∙ in_turn (codes "margin") (and_text m.name) (and_number m.left_height) (and_number m.left_depth) (and_number m.right_height) (and_number m.right_depth) (32 ∷ paragraph_field vert)
-    ∙ six (codes "margin") m.name (signed_decimal m.left_height) (signed_decimal m.left_depth) (signed_decimal m.right_height) (signed_decimal m.right_depth) (paragraph_field vert)
+    (λ i. margin_text m ++ (paragraph_is vert i ++ nobreak_is m.nobreak i))
+    ∙ sym (append_assoc (margin_text m) (32 ∷ paragraph_field vert) (tail_text (nobreak_fields m.nobreak)))
+    ∙ ap (λ t. t ++ tail_text (nobreak_fields m.nobreak)) (in_turn (codes "margin") (and_text m.name) (and_number m.left_height) (and_number m.left_depth) (and_number m.right_height) (and_number m.right_depth) (32 ∷ paragraph_field vert))
+    ∙ six (codes "margin") m.name (signed_decimal m.left_height) (signed_decimal m.left_depth) (signed_decimal m.right_height) (signed_decimal m.right_depth) (paragraph_field vert) (nobreak_fields m.nobreak)
 
 pub item_is : (version : ℕ) (k : ItemKind) → is_single k ≡ true → item_text version k ≡ line (item_line k)
 unfolding area_fields
@@ -279,6 +292,7 @@ item_is version items.OneColumn single = refl
 item_is version items.TwoColumn single = refl
 item_is version (items.Suppress areas.All) single = refl
 item_is version (items.Suppress a) single = refl
+item_is version (items.Page n) single = ap (λ t. line (codes "page " ++ t)) (sym (nothing_more (decimal n)))
 item_is version k single = cc
 
 -- an item with this line in it
@@ -300,6 +314,7 @@ on_line_kind n (items.NoPageBreak k) = items.NoPageBreak k
 on_line_kind n items.OneColumn = items.OneColumn
 on_line_kind n items.TwoColumn = items.TwoColumn
 on_line_kind n (items.Suppress area) = items.Suppress area
+on_line_kind n (items.Page k) = items.Page k
 
 record ChoiceBack (first second : List ℕ) (choice : Bool) (f : List ℕ) : Type 0 where
   fit : IsFit (word_slot (first ∷ second ∷ []) causes.UnknownWord) f
@@ -316,14 +331,36 @@ unfolding paragraph_field
 paragraph_back true = record { fit = record { text = word_text (codes "vert") refl (omega arith); slot = refl }; short = omega arith; read = refl }
 paragraph_back false = record { fit = record { text = word_text (codes "par") refl (omega arith); slot = refl }; short = omega arith; read = refl }
 
+record NobreakBack (version : ℕ) (nobreak : Bool) (fs : List (List ℕ)) : Type 0 where
+  fit : AllFit (nobreak_slots version fs) fs
+  short : tail_length fs ≤ 8
+  read : is_at fs 0 (codes "nobreak") ≡ nobreak
+
+nobreak_back : (version : ℕ) (nobreak : Bool) → (not nobreak || (version == 3)) ≡ true → NobreakBack version nobreak (nobreak_fields nobreak)
+unfolding nobreak_fields
+nobreak_back version false good = record { fit = tt; short = omega arith; read = refl }
+nobreak_back version true good = record {
+  fit = subst (λ t. AllFit (if t then word_slot (codes "nobreak" ∷ []) causes.UnknownWord ∷ [] else []) (codes "nobreak" ∷ [])) (sym good) (record { text = word_text (codes "nobreak") refl (omega arith); slot = refl }, tt);
+  short = omega arith;
+  read = refl;
+}
+
+-- a flag that holds if another does, and only then
+both_same : (a b : Bool) → is_both a b ≡ true → b ≡ a
+both_same true b h = h
+both_same false true h = cc
+both_same false false h = refl
+
 class_within : (c : ℕ) → is_between 1 26 c ≡ true → is_within (pos 1) (pos 26) (pos c) ≡ true
 class_within c h = grind (arith, nat_tests)
 
 degree_within : (k : ℕ) → nat_le k 4 ≡ true → is_within (pos 0) (pos 4) (pos k) ≡ true
 degree_within k h = grind (arith, nat_tests)
 
-float_back : (known : Known) (f : Float) (vert : Bool) → is_float f ≡ true → ReadsAs known float (float_fields f vert) (λ n. contents.Item (items.Float (record f { line = n }) vert))
-float_back known f vert good =
+float_back : (known : Known) (f : Float) (vert : Bool) → is_float f ≡ true → fits_kind known.version (items.Float f vert) ≡ true → ReadsAs known float (float_fields f vert) (λ n. contents.Item (items.Float (record f { line = n }) vert))
+float_back known f vert good fits =
+    let ending : NobreakBack known.version f.nobreak (nobreak_fields f.nobreak) = nobreak_back known.version f.nobreak (second_so (is_both f.deep (f.wide && (known.version == 3))) (not f.nobreak || (known.version == 3)) fits) in
+    let deep : (f.wide && (known.version == 3)) ≡ f.deep = both_same f.deep (f.wide && (known.version == 3)) (first_so (is_both f.deep (f.wide && (known.version == 3))) (not f.nobreak || (known.version == 3)) fits) in
     let placing : (f.places.h || f.places.t || f.places.b || f.places.p) ≡ true = second_so (is_name f.name && is_between 1 26 f.class) (f.places.h || f.places.t || f.places.b || f.places.p) (first_so (is_name f.name && is_between 1 26 f.class && (f.places.h || f.places.t || f.places.b || f.places.p)) (is_size f.height) good) in
     let front : (is_name f.name && is_between 1 26 f.class) ≡ true = first_so (is_name f.name && is_between 1 26 f.class) (f.places.h || f.places.t || f.places.b || f.places.p) (first_so (is_name f.name && is_between 1 26 f.class && (f.places.h || f.places.t || f.places.b || f.places.p)) (is_size f.height) good) in
     let named : is_name f.name ≡ true = first_so (is_name f.name) (is_between 1 26 f.class) front in
@@ -346,13 +383,13 @@ float_back known f vert good =
               record { text = record { printable = places.printable; some = places.some }; slot = ap (λ t. if t then None else Some causes.BadPlace) places.ok },
               (
                 size_fit f.height high,
-                (paragraph.fit, tt),
+                (paragraph.fit, ending.fit),
               ),
             ),
           ),
         ),
       );
-      short = omega (arith, (name_text f.name named).short, wide.short, places.short, paragraph.short);
+      short = omega (arith, (name_text f.name named).short, wide.short, places.short, paragraph.short, ending.short);
       content = λ n. (λ i. contents.Item (items.Float (record {
         line = n;
         name = f.name;
@@ -361,11 +398,14 @@ float_back known f vert good =
         places = places.at i;
         bang = places.banged i;
         height = dimension_read f.height (size_small f.height high) i;
+        deep = (ap (λ t. t && (known.version == 3)) wide.read ∙ deep) i;
+        nobreak = ending.read i;
       }) (paragraph.read i)));
     }
 
-margin_back : (known : Known) (m : Margin) (vert : Bool) → is_margin m ≡ true → ReadsAs known margin (margin_fields m vert) (λ n. contents.Item (items.Margin (record m { line = n }) vert))
-margin_back known m vert good =
+margin_back : (known : Known) (m : Margin) (vert : Bool) → is_margin m ≡ true → fits_kind known.version (items.Margin m vert) ≡ true → ReadsAs known margin (margin_fields m vert) (λ n. contents.Item (items.Margin (record m { line = n }) vert))
+margin_back known m vert good fits =
+    let ending : NobreakBack known.version m.nobreak (nobreak_fields m.nobreak) = nobreak_back known.version m.nobreak fits in
     let front : (is_name m.name && is_size m.left_height && is_size m.left_depth && is_size m.right_height) ≡ true = first_so (is_name m.name && is_size m.left_height && is_size m.left_depth && is_size m.right_height) (is_size m.right_depth) good in
     let fourth : is_size m.right_depth ≡ true = second_so (is_name m.name && is_size m.left_height && is_size m.left_depth && is_size m.right_height) (is_size m.right_depth) good in
     let third : is_size m.right_height ≡ true = second_so (is_name m.name && is_size m.left_height && is_size m.left_depth) (is_size m.right_height) front in
@@ -378,8 +418,8 @@ margin_back known m vert good =
     let a : length (signed_decimal m.right_height) ≤ 11 = dimen_length m.right_height (size_small m.right_height third) in
     let b : length (signed_decimal m.right_depth) ≤ 11 = dimen_length m.right_depth (size_small m.right_depth fourth) in
     record {
-      fit = (sized.fit.0, (sized.fit.1.0, (sized.fit.1.1.0, (size_fit m.right_height third, (size_fit m.right_depth fourth, (paragraph.fit, tt))))));
-      short = omega (arith, sized.short, paragraph.short);
+      fit = (sized.fit.0, (sized.fit.1.0, (sized.fit.1.1.0, (size_fit m.right_height third, (size_fit m.right_depth fourth, (paragraph.fit, ending.fit))))));
+      short = omega (arith, sized.short, paragraph.short, ending.short);
       content = λ n. (λ i. contents.Item (items.Margin (record {
         line = n;
         name = m.name;
@@ -387,11 +427,12 @@ margin_back known m vert good =
         left_depth = sized.depth i;
         right_height = dimension_read m.right_height (size_small m.right_height third) i;
         right_depth = dimension_read m.right_depth (size_small m.right_depth fourth) i;
+        nobreak = ending.read i;
       }) (paragraph.read i)));
     }
 
 degree_back : (known : Known) (w : LineWord) (make : ℕ → ItemKind) (k : ℕ) → nat_le k 4 ≡ true → AllFit (word_slots known (decimal k ∷ []) w) (decimal k ∷ [])
-    → ((n : ℕ) → content_of n (decimal k ∷ []) w ≡ contents.Item (make (nat_abs (read_or (pos 0) (integer_of (decimal k)))))) → ReadsAs known w (decimal k ∷ []) (λ n. contents.Item (make k))
+    → ((n : ℕ) → content_of known.version n (decimal k ∷ []) w ≡ contents.Item (make (nat_abs (read_or (pos 0) (integer_of (decimal k)))))) → ReadsAs known w (decimal k ∷ []) (λ n. contents.Item (make k))
 degree_back known w make k good fit content =
     let small : nat_abs (pos k) ≤ 4 = within_small (pos 0) (pos 4) (pos k) 4 (omega arith) (omega arith) (degree_within k good) in
     let a : length (signed_decimal (pos k)) ≤ 11 = dimen_length (pos k) (omega arith) in
@@ -400,23 +441,38 @@ degree_back known w make k good fit content =
 degree_fit : (k : ℕ) → nat_le k 4 ≡ true → AllFit (range_slot (pos 0) (pos 4) causes.Penalty ∷ []) (decimal k ∷ [])
 degree_fit k good = (range_fit (pos 0) (pos 4) causes.Penalty (pos k) (omega arith) (omega arith) (degree_within k good), tt)
 
+-- a page number
+number_within : (k : ℕ) → nat_le k 1000000 ≡ true → is_within (pos 0) (pos 1000000) (pos k) ≡ true
+number_within k h = grind (arith, nat_tests)
+
+number_back : (known : Known) (k : ℕ) → nat_le k 1000000 ≡ true → ReadsAs known page_number (decimal k ∷ []) (λ n. contents.Item (items.Page k))
+number_back known k good =
+    let small : nat_abs (pos k) ≤ 1000000 = within_small (pos 0) (pos 1000000) (pos k) 1000000 (omega arith) (omega arith) (number_within k good) in
+    let a : length (signed_decimal (pos k)) ≤ 11 = dimen_length (pos k) (omega arith) in
+    record {
+      fit = (range_fit (pos 0) (pos 1000000) causes.Parameter (pos k) (omega arith) (omega arith) (number_within k good), tt);
+      short = omega arith;
+      content = λ n. ap (λ z. contents.Item (items.Page (nat_abs z))) (integer_read (pos k) (omega arith));
+    }
+
 named_back : (known : Known) (w : LineWord) (make : List ℕ → ItemKind) (name : List ℕ) → is_name name ≡ true → AllFit (word_slots known (name ∷ []) w) (name ∷ [])
-    → ((n : ℕ) → content_of n (name ∷ []) w ≡ contents.Item (make name)) → ReadsAs known w (name ∷ []) (λ n. contents.Item (make name))
+    → ((n : ℕ) → content_of known.version n (name ∷ []) w ≡ contents.Item (make name)) → ReadsAs known w (name ∷ []) (λ n. contents.Item (make name))
 named_back known w make name good fit content = record { fit = fit; short = omega (arith, (name_text name good).short); content = content }
 
-pub item_back : (known : Known) (m : ℕ) (k : ItemKind) → is_single k ≡ true → is_item m k ≡ true → ReadsAs known (item_word k) (item_fields k) (λ n. contents.Item (on_line_kind n k))
+pub item_back : (known : Known) (m : ℕ) (k : ItemKind) → is_single k ≡ true → is_item m k ≡ true → fits_kind known.version k ≡ true → ReadsAs known (item_word k) (item_fields k) (λ n. contents.Item (on_line_kind n k))
 unfolding area_fields
-item_back known m (items.Mark name) single good = named_back known mark (λ t. items.Mark t) name good (name_fit name good, tt) (λ n. refl)
-item_back known m (items.Note name) single good = named_back known note (λ t. items.Note t) name good (name_fit name good, tt) (λ n. refl)
-item_back known m (items.Float f vert) single good = float_back known f vert (second_so (f.line == m) (is_float f) good)
-item_back known m (items.Margin a vert) single good = margin_back known a vert (second_so (a.line == m) (is_margin a) good)
-item_back known m items.NewPage single good = record { fit = tt; short = omega arith; content = λ n. refl }
-item_back known m items.ClearPage single good = record { fit = tt; short = omega arith; content = λ n. refl }
-item_back known m (items.PageBreak k) single good = degree_back known pagebreak (λ d. items.PageBreak d) k good (degree_fit k good) (λ n. refl)
-item_back known m (items.NoPageBreak k) single good = degree_back known nopagebreak (λ d. items.NoPageBreak d) k good (degree_fit k good) (λ n. refl)
-item_back known m items.OneColumn single good = record { fit = tt; short = omega arith; content = λ n. refl }
-item_back known m items.TwoColumn single good = record { fit = tt; short = omega arith; content = λ n. refl }
-item_back known m (items.Suppress areas.All) single good = record { fit = tt; short = omega arith; content = λ n. refl }
-item_back known m (items.Suppress areas.Top) single good = record { fit = (record { text = word_text (codes "t") refl (omega arith); slot = refl }, tt); short = omega arith; content = λ n. refl }
-item_back known m (items.Suppress areas.Bottom) single good = record { fit = (record { text = word_text (codes "b") refl (omega arith); slot = refl }, tt); short = omega arith; content = λ n. refl }
-item_back known m k single good = cc
+item_back known m (items.Mark name) single good fits = named_back known mark (λ t. items.Mark t) name good (name_fit name good, tt) (λ n. refl)
+item_back known m (items.Note name) single good fits = named_back known note (λ t. items.Note t) name good (name_fit name good, tt) (λ n. refl)
+item_back known m (items.Float f vert) single good fits = float_back known f vert (second_so (f.line == m) (is_float f) good) fits
+item_back known m (items.Margin a vert) single good fits = margin_back known a vert (second_so (a.line == m) (is_margin a) good) fits
+item_back known m items.NewPage single good fits = record { fit = tt; short = omega arith; content = λ n. refl }
+item_back known m items.ClearPage single good fits = record { fit = tt; short = omega arith; content = λ n. refl }
+item_back known m (items.PageBreak k) single good fits = degree_back known pagebreak (λ d. items.PageBreak d) k good (degree_fit k good) (λ n. refl)
+item_back known m (items.NoPageBreak k) single good fits = degree_back known nopagebreak (λ d. items.NoPageBreak d) k good (degree_fit k good) (λ n. refl)
+item_back known m items.OneColumn single good fits = record { fit = tt; short = omega arith; content = λ n. refl }
+item_back known m items.TwoColumn single good fits = record { fit = tt; short = omega arith; content = λ n. refl }
+item_back known m (items.Suppress areas.All) single good fits = record { fit = tt; short = omega arith; content = λ n. refl }
+item_back known m (items.Suppress areas.Top) single good fits = record { fit = (record { text = word_text (codes "t") refl (omega arith); slot = refl }, tt); short = omega arith; content = λ n. refl }
+item_back known m (items.Suppress areas.Bottom) single good fits = record { fit = (record { text = word_text (codes "b") refl (omega arith); slot = refl }, tt); short = omega arith; content = λ n. refl }
+item_back known m (items.Page k) single good fits = number_back known k good
+item_back known m k single good fits = cc

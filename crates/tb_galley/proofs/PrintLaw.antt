@@ -304,11 +304,11 @@ galley_runs g valid =
     (sets_run g.params default_params g.version 1 (rows_for g.version) (named_kept (is_known_row g.version) rows rows_found) (all_known (is_known_row g.version) rows) (all_kept is_plain_row (is_known_row g.version) rows plain_rows)
     (all_kept (is_in_range g.params) (is_known_row g.version) rows (params_in_range g.params valid.params))) in
     let classes : Runs set (class_texts g.classes) declared =
-    classes_run g.params g.version (sets_end g) g.classes (first_version g.version g.classes valid.version) (first_so (list_all is_class g.classes) (do_classes_rise g.classes) valid.classes) (second_so (list_all is_class g.classes) (do_classes_rise g.classes) valid.classes) in
+    classes_run g.params g.version (sets_end g) g.classes (first_version g.version g.classes valid.version) (first_so (list_all is_class g.classes) (do_classes_rise g.classes) valid.classes) valid.standing (second_so (list_all is_class g.classes) (do_classes_rise g.classes) valid.classes) in
     let known : list_all (λ (i : Item). has_known_class (numbers_of (classes_in g)) i.kind) g.items ≡ true =
     subst (λ ks. list_all (λ (i : Item). has_known_class ks i.kind) g.items ≡ true) (sym (same_numbers (sets_end g + 1) g.classes)) valid.feet in
     let inner : Runs declared (item_texts g.version g.items) written =
-    items_run (front g) among_sets 0 g.params g.version (classes_in g) 0 [] g.items (has_classes g valid) refl (few_items (weight g.items) few) valid.items known in
+    items_run (front g) among_sets 0 g.params g.version (classes_in g) 0 [] g.items (has_classes g valid) refl (few_items (weight g.items) few) valid.items known valid.kinds valid.words in
     let last : Runs written (codes "end" ∷ []) done =
     end_runs (front g + weight g.items) (phase_past_items among_sets g.items) (0 + weight g.items) g.params g.version (classes_in g) 0 (numbered_items (front g + 1) g.items) (still_takes g.items) in
     then_lines start begun done (header_line g.version ∷ []) (front_lines g ++ (item_texts g.version g.items ++ codes "end" ∷ [])) (header_runs g.version which)

@@ -1,5 +1,5 @@
 -- The lines of the canonical text take the reader to the galley.
-use Rattle.std.proofs.Common.{◌≡◌, ℕ, ◌+◌, ◌≤◌, Bool, true, false, ◌&&◌, nat_le, ◌==◌, List, [], ◌∷◌, ◌++◌, length, map, Some, None, refl, ap, sym, ◌∙◌, arith, append_assoc, append-nil}
+use Rattle.std.proofs.Common.{if◌then◌else◌, ◌≡◌, ℕ, ◌+◌, ◌≤◌, Bool, true, false, ◌&&◌, nat_le, ◌==◌, List, [], ◌∷◌, ◌++◌, length, map, Some, None, refl, ap, sym, ◌∙◌, arith, append_assoc, append-nil}
 use Rattle.std.proofs.Math.Bool.{and-false}
 use Rattle.std.specs.Cmp.{first_so, second_so}
 use Rattle.std.proofs.lemmas.Bool.{and_from}
@@ -24,14 +24,14 @@ use Rattle.tb_galley.specs.declared.ItemKind.TheVariants as items
 use Rattle.tb_galley.specs.declared.Leaf.{Leaf}
 use Rattle.tb_galley.specs.declared.LeafKind.{LeafKind}
 use Rattle.tb_galley.specs.declared.LeafKind.TheVariants as leaves
-use Rattle.tb_galley.specs.Words.{LineWord, Known, word_here, header, setting, foot, endfoot, Phase, at_start, among_sets, among_items, in_foot, ended, word_of, is_item_word}
+use Rattle.tb_galley.specs.Words.{LineWord, Known, word_here, header, setting, foot, endfoot, page_number, Phase, at_start, among_sets, among_items, in_foot, ended, word_of, is_item_word}
 use Rattle.tb_galley.specs.Fields.{is_class_among, word_slots}
 use Rattle.tb_galley.specs.Faults.{place_causes, item_causes, cause_if}
 use Rattle.tb_galley.specs.Grammar.{Draft, item_kind, with_content}
 use Rattle.tb_galley.specs.Line.{first_of}
 use Rattle.tb_galley.specs.GalleyReader.{State, known_in, next_phase, count_with, take_said}
 use Rattle.tb_galley.specs.declared.classes.ClassLine.{ClassLine}
-use Rattle.tb_galley.specs.Valid.{is_leaf, is_item, weight_of, weight, is_class, has_known_class}
+use Rattle.tb_galley.specs.Valid.{is_leaf, is_item, weight_of, weight, is_class, has_known_class, fits_kind, fits_word}
 use Rattle.tb_galley.proofs.SoundLines.{drafted}
 use Rattle.tb_galley.proofs.FieldTexts.{IsText, IsWord, tail_text, line_clean, state, step_back}
 use Rattle.tb_galley.proofs.SlotTexts.{ReadsAs, spelling}
@@ -215,9 +215,10 @@ leaf_here : (known : Known) (k : LeafKind) → word_here known (Some (leaf_word 
 leaf_here known (leaves.Hbox name h d) = refl
 leaf_here known k = refl
 
-item_here : (known : Known) (k : ItemKind) → word_here known (Some (item_word k)) ≡ Some (item_word k)
-item_here known (items.Hbox name h d) = refl
-item_here known k = refl
+item_here : (known : Known) (k : ItemKind) → fits_word known.version k ≡ true → word_here known (Some (item_word k)) ≡ Some (item_word k)
+item_here known (items.Hbox name h d) fit = refl
+item_here known (items.Page n) fit = ap (λ t. if t then Some page_number else None) fit
+item_here known k fit = refl
 
 -- ---- footnotes
 
@@ -295,21 +296,21 @@ unfolding leaf_line
 plain_run n p c ps v cs e before k takes few good =
     goes_runs n p among_items c (drafted ps v cs before None e) (leaf_word k) (leaf_fields k) (λ m. contents.Plain k) few (leaf_here (known_by v cs) k) (leaf_back (known_by v cs) k good) (leaf_goes p c k takes)
 
-single_run : (n : ℕ) (p : Phase) (c : ℕ) (ps : Params) (v : ℕ) (cs : List ClassLine) (e : ℕ) (before : List Item) (line : ℕ) (k : ItemKind) → takes_items p ≡ true → c + 1 ≤ 100000 → is_single k ≡ true → is_item line k ≡ true
+single_run : (n : ℕ) (p : Phase) (c : ℕ) (ps : Params) (v : ℕ) (cs : List ClassLine) (e : ℕ) (before : List Item) (line : ℕ) (k : ItemKind) → takes_items p ≡ true → c + 1 ≤ 100000 → is_single k ≡ true → is_item line k ≡ true → fits_kind v k ≡ true → fits_word v k ≡ true
     → Runs (item_state n p c ps v cs e before) (item_line k ∷ []) (item_state (n + 1) among_items (c + 1) ps v cs e (before ++ record { line = n + 1; kind = on_line_kind (n + 1) k } ∷ []))
-single_run n p c ps v cs e before line k takes few single good =
-    goes_runs n p among_items c (drafted ps v cs before None e) (item_word k) (item_fields k) (λ m. contents.Item (on_line_kind m k)) few (item_here (known_by v cs) k) (item_back (known_by v cs) line k single good) (single_goes p c k takes single)
+single_run n p c ps v cs e before line k takes few single good kind fit =
+    goes_runs n p among_items c (drafted ps v cs before None e) (item_word k) (item_fields k) (λ m. contents.Item (on_line_kind m k)) few (item_here (known_by v cs) k fit) (item_back (known_by v cs) line k single good kind) (single_goes p c k takes single)
 
-item_run : (n : ℕ) (p : Phase) (c : ℕ) (ps : Params) (v : ℕ) (cs : List ClassLine) (e : ℕ) (before : List Item) (line : ℕ) (k : ItemKind) → HasClasses v cs → has_known_class (numbers_of cs) k ≡ true → takes_items p ≡ true → c + weight_of k ≤ 100000 → is_item line k ≡ true
+item_run : (n : ℕ) (p : Phase) (c : ℕ) (ps : Params) (v : ℕ) (cs : List ClassLine) (e : ℕ) (before : List Item) (line : ℕ) (k : ItemKind) → HasClasses v cs → has_known_class (numbers_of cs) k ≡ true → takes_items p ≡ true → c + weight_of k ≤ 100000 → is_item line k ≡ true → fits_kind v k ≡ true → fits_word v k ≡ true
     → Runs (item_state n p c ps v cs e before) (kind_lines v k) (item_state (n + weight_of k) among_items (c + weight_of k) ps v cs e (before ++ record { line = n + 1; kind = numbered_kind (n + 1) k } ∷ []))
 unfolding kind_lines numbered_kind leaf_line
-item_run n p c ps v cs e before line (items.Hbox name h d) has known takes few good = plain_run n p c ps v cs e before (leaves.Hbox name h d) takes few good
-item_run n p c ps v cs e before line (items.Rule name h d) has known takes few good = plain_run n p c ps v cs e before (leaves.Rule name h d) takes few good
-item_run n p c ps v cs e before line (items.Skip g) has known takes few good = plain_run n p c ps v cs e before (leaves.Skip g) takes few good
-item_run n p c ps v cs e before line (items.Kern w) has known takes few good = plain_run n p c ps v cs e before (leaves.Kern w) takes few good
-item_run n p c ps v cs e before line (items.Penalty k) has known takes few good = plain_run n p c ps v cs e before (leaves.Penalty k) takes few good
-item_run n p c ps v cs e before line (items.Foot class ls) has known takes few good = foot_run n p c ps v cs e before class ls has known takes few good
-item_run n p c ps v cs e before line k has known takes few good = single_run n p c ps v cs e before line k takes few refl good
+item_run n p c ps v cs e before line (items.Hbox name h d) has known takes few good kind fit = plain_run n p c ps v cs e before (leaves.Hbox name h d) takes few good
+item_run n p c ps v cs e before line (items.Rule name h d) has known takes few good kind fit = plain_run n p c ps v cs e before (leaves.Rule name h d) takes few good
+item_run n p c ps v cs e before line (items.Skip g) has known takes few good kind fit = plain_run n p c ps v cs e before (leaves.Skip g) takes few good
+item_run n p c ps v cs e before line (items.Kern w) has known takes few good kind fit = plain_run n p c ps v cs e before (leaves.Kern w) takes few good
+item_run n p c ps v cs e before line (items.Penalty k) has known takes few good kind fit = plain_run n p c ps v cs e before (leaves.Penalty k) takes few good
+item_run n p c ps v cs e before line (items.Foot class ls) has known takes few good kind fit = foot_run n p c ps v cs e before class ls has known takes few good
+item_run n p c ps v cs e before line k has known takes few good kind fit = single_run n p c ps v cs e before line k takes few refl good kind fit
 
 abbrev pub item_texts : ℕ → List Item → List (List ℕ)
 item_texts v [] = []
@@ -320,20 +321,21 @@ phase_past_items p [] = p
 phase_past_items p (i ∷ is) = among_items
 
 pub items_run : (n : ℕ) (p : Phase) (c : ℕ) (ps : Params) (v : ℕ) (cs : List ClassLine) (e : ℕ) (before is : List Item) → HasClasses v cs → takes_items p ≡ true → c + weight is ≤ 100000
-    → list_all (λ (i : Item). is_item i.line i.kind) is ≡ true → list_all (λ (i : Item). has_known_class (numbers_of cs) i.kind) is ≡ true
+    → list_all (λ (i : Item). is_item i.line i.kind) is ≡ true → list_all (λ (i : Item). has_known_class (numbers_of cs) i.kind) is ≡ true → list_all (λ (i : Item). fits_kind v i.kind) is ≡ true
+    → list_all (λ (i : Item). fits_word v i.kind) is ≡ true
     → Runs (item_state n p c ps v cs e before) (item_texts v is) (item_state (n + weight is) (phase_past_items p is) (c + weight is) ps v cs e (before ++ numbered_items (n + 1) is))
 unfolding numbered_items
-items_run n p c ps v cs e before [] has takes few good known =
+items_run n p c ps v cs e before [] has takes few good known kinds fit =
     to_state (item_state n p c ps v cs e before) (item_state n p c ps v cs e before) (item_state (n + 0) p (c + 0) ps v cs e (before ++ [])) []
     (same_items n (n + 0) p c (c + 0) ps v cs e before (before ++ []) (omega arith) (omega arith) (sym (append-nil before)))
     (no_lines (item_state n p c ps v cs e before))
-items_run n p c ps v cs e before (i ∷ is) has takes few good known =
+items_run n p c ps v cs e before (i ∷ is) has takes few good known kinds fit =
     let k : ℕ = weight_of i.kind in
     let item : Item = record { line = n + 1; kind = numbered_kind (n + 1) i.kind } in
     then_lines (item_state n p c ps v cs e before) (item_state (n + weight_of i.kind) among_items (c + weight_of i.kind) ps v cs e (before ++ item ∷ []))
     (item_state (n + weight (i ∷ is)) among_items (c + weight (i ∷ is)) ps v cs e (before ++ item ∷ numbered_items (n + 1 + weight_of i.kind) is)) (kind_lines v i.kind) (item_texts v is)
     (item_run n p c ps v cs e before i.line i.kind has (first_so (has_known_class (numbers_of cs) i.kind) (list_all (λ (j : Item). has_known_class (numbers_of cs) j.kind) is) known) takes (omega arith)
-    (first_so (is_item i.line i.kind) (list_all (λ (j : Item). is_item j.line j.kind) is) good))
+    (first_so (is_item i.line i.kind) (list_all (λ (j : Item). is_item j.line j.kind) is) good) (first_so (fits_kind v i.kind) (list_all (λ (j : Item). fits_kind v j.kind) is) kinds) (first_so (fits_word v i.kind) (list_all (λ (j : Item). fits_word v j.kind) is) fit))
     (to_state (item_state (n + weight_of i.kind) among_items (c + weight_of i.kind) ps v cs e (before ++ item ∷ []))
     (item_state (n + weight_of i.kind + weight is) (phase_past_items among_items is) (c + weight_of i.kind + weight is) ps v cs e ((before ++ item ∷ []) ++ numbered_items (n + weight_of i.kind + 1) is))
     (item_state (n + weight (i ∷ is)) among_items (c + weight (i ∷ is)) ps v cs e (before ++ item ∷ numbered_items (n + 1 + weight_of i.kind) is)) (item_texts v is)
@@ -341,7 +343,8 @@ items_run n p c ps v cs e before (i ∷ is) has takes few good known =
     ∙ same_items (n + weight_of i.kind + weight is) (n + weight (i ∷ is)) among_items (c + weight_of i.kind + weight is) (c + weight (i ∷ is)) ps v cs e ((before ++ item ∷ []) ++ numbered_items (n + weight_of i.kind + 1) is) (before ++ item ∷ numbered_items (n + 1 + weight_of i.kind) is)
     (omega arith) (omega arith) (append_assoc before (item ∷ []) (numbered_items (n + weight_of i.kind + 1) is) ∙ ap (λ m. before ++ item ∷ numbered_items m is) (omega arith)))
     (items_run (n + weight_of i.kind) among_items (c + weight_of i.kind) ps v cs e (before ++ item ∷ []) is has refl (omega arith)
-    (second_so (is_item i.line i.kind) (list_all (λ (j : Item). is_item j.line j.kind) is) good) (second_so (has_known_class (numbers_of cs) i.kind) (list_all (λ (j : Item). has_known_class (numbers_of cs) j.kind) is) known)))
+    (second_so (is_item i.line i.kind) (list_all (λ (j : Item). is_item j.line j.kind) is) good) (second_so (has_known_class (numbers_of cs) i.kind) (list_all (λ (j : Item). has_known_class (numbers_of cs) j.kind) is) known) (second_so (fits_kind v i.kind) (list_all (λ (j : Item). fits_kind v j.kind) is) kinds)
+    (second_so (fits_word v i.kind) (list_all (λ (j : Item). fits_word v j.kind) is) fit)))
   where
     still_items : (is : List Item) → phase_past_items among_items is ≡ among_items
     still_items [] = refl

@@ -154,7 +154,7 @@ set-known : (d : Draft) (n : ℕ) (fs : List (List ℕ)) (r : Option Row) → kn
 set-known d n fs None = refl
 set-known d n fs (Some r) = refl
 
-word-known : (d : Draft) (n : ℕ) (fs : List (List ℕ)) (w : LineWord) → known_in (with_content d n (content_of n fs w)) ≡ known_with (known_in d) (Some w) fs
+word-known : (d : Draft) (n : ℕ) (fs : List (List ℕ)) (w : LineWord) → known_in (with_content d n (content_of d.version n fs w)) ≡ known_with (known_in d) (Some w) fs
 word-known d n fs header = refl
 word-known d n fs setting = set-known d n fs (row_of (field_at fs 0))
 word-known d n fs class_line = λ i. record { version = d.version; classes = (map-with (class_at n fs) d.classes ∙ ap (λ k. with_number k (map (λ (x : ClassLine). x.number) d.classes)) (class-number fs)) i }

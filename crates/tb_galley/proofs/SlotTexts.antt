@@ -16,7 +16,7 @@ use Rattle.tb_param.specs.Table.{is_within, is_dimen, is_glue}
 use Rattle.tb_galley.specs.declared.Cause.{Cause}
 use Rattle.tb_galley.specs.declared.Cause.TheVariants as causes
 use Rattle.tb_galley.specs.declared.contents.Content.{Content}
-use Rattle.tb_galley.specs.Words.{LineWord, Known, header, setting, class_line, hbox, rule, skip, kern, penalty, mark, note, foot, endfoot, float, margin, newpage, clearpage, pagebreak, nopagebreak, onecolumn, twocolumn, suppressfloats, end}
+use Rattle.tb_galley.specs.Words.{LineWord, Known, header, setting, class_line, hbox, rule, skip, kern, penalty, mark, note, foot, endfoot, float, margin, newpage, clearpage, pagebreak, nopagebreak, onecolumn, twocolumn, suppressfloats, page_number, end}
 use Rattle.tb_galley.specs.Fields.{name_slot, dimension_slot, least_slot, range_slot, stretch_slot, seen_slot, cause_of_read, word_slots}
 use Rattle.tb_galley.specs.Faults.{is_printable}
 use Rattle.tb_galley.specs.Grammar.{read_or, content_of, glue_from}
@@ -171,6 +171,7 @@ spelling nopagebreak = codes "nopagebreak"
 spelling onecolumn = codes "onecolumn"
 spelling twocolumn = codes "twocolumn"
 spelling suppressfloats = codes "suppressfloats"
+spelling page_number = codes "page"
 spelling end = codes "end"
 spelling class_line = codes "class"
 
@@ -178,7 +179,7 @@ spelling class_line = codes "class"
 pub record ReadsAs (k : Known) (w : LineWord) (fs : List (List ℕ)) (says : ℕ → Content) : Type 0 where
   pub fit : AllFit (word_slots k fs w) fs
   pub short : tail_length fs ≤ 200
-  pub content : (n : ℕ) → content_of n fs w ≡ says n
+  pub content : (n : ℕ) → content_of k.version n fs w ≡ says n
 
 pub dimension_read : (z : ℤ) → nat_abs z ≤ 1073741823 → read_or (pos 0) (dimension_of (signed_decimal z)) ≡ z
 dimension_read z h = read_back (pos 0) (dimension_of (signed_decimal z)) z (dimension_back z h)

@@ -26,7 +26,7 @@ use Rattle.tb_galley.specs.Faults.{place_causes, cause_if}
 use Rattle.tb_galley.specs.Grammar.{OpenFoot, Draft, with_item, with_plain, with_foot, with_content}
 use Rattle.tb_galley.specs.Line.{first_of}
 use Rattle.tb_galley.specs.GalleyReader.{next_phase}
-use Rattle.tb_galley.specs.Valid.{is_leaf, is_item, weight_of, weight, leaf_lines, lines_of_item, named_lines, rise_from, is_class, do_classes_rise, has_known_class, fits_version, OthersDefault, is_version}
+use Rattle.tb_galley.specs.Valid.{is_leaf, is_item, weight_of, weight, leaf_lines, lines_of_item, named_lines, rise_from, is_class, do_classes_rise, do_all_stand, has_known_class, fits_kind, fits_version, fits_word, OthersDefault, is_version}
 use Rattle.tb_galley.proofs.SuitedLines.{SetsInRange}
 
 -- ---- lists that rise
@@ -108,20 +108,24 @@ abbrev is_known_foot : List ℕ → Option OpenFoot → Bool
 is_known_foot ks None = true
 is_known_foot ks (Some o) = is_class_among ks o.class
 
--- before the header the version counts as 1
-abbrev is_fresh : Phase → ℕ → Bool
-is_fresh at_start v = v == 1
-is_fresh among_sets v = true
-is_fresh among_items v = true
-is_fresh in_foot v = true
-is_fresh ended v = true
+-- before the header the version counts as 1, and there are no items
+abbrev is_fresh : Phase → ℕ → List Item → Bool
+is_fresh at_start v [] = v == 1
+is_fresh at_start v (i ∷ is) = false
+is_fresh among_sets v is = true
+is_fresh among_items v is = true
+is_fresh in_foot v is = true
+is_fresh ended v is = true
 
 -- the version knows what the draft has, and the classes of feet were declared
 pub record Classed (p : Phase) (d : Draft) : Type 0 where
   pub version : fits_version d.version d.classes ≡ true
+  pub words : list_all (λ (i : Item). fits_word d.version i.kind) d.items ≡ true
   pub others : OthersDefault d.version d.params
-  pub fresh : is_fresh p d.version ≡ true
+  pub fresh : is_fresh p d.version d.items ≡ true
+  pub kinds : list_all (λ (i : Item). fits_kind d.version i.kind) d.items ≡ true
   pub classes : (list_all is_class d.classes && do_classes_rise d.classes) ≡ true
+  pub standing : do_all_stand d.version d.classes ≡ true
   pub feet : list_all (λ (i : Item). has_known_class (numbers d.classes) i.kind) d.items ≡ true
   pub foot : is_known_foot (numbers d.classes) d.foot ≡ true
 
@@ -179,6 +183,14 @@ fits_each v (c ∷ cs) some h = cc
 header_fits : (u v : ℕ) (cs : List ClassLine) → (u == 1) ≡ true → is_version v ≡ true → fits_version u cs ≡ true → fits_version v cs ≡ true
 header_fits u v cs one some h = fits_each v cs some (subst (λ n. fits_version n cs ≡ true) (eqb-true u 1 one) h)
 
+-- classes that fit version 1 are none, and so stand where they may
+first_standing : (v : ℕ) (cs : List ClassLine) → fits_version 1 cs ≡ true → do_all_stand v cs ≡ true
+first_standing v [] h = refl
+first_standing v (c ∷ cs) h = cc
+
+header_standing : (u v : ℕ) (cs : List ClassLine) → (u == 1) ≡ true → fits_version u cs ≡ true → do_all_stand v cs ≡ true
+header_standing u v cs one h = first_standing v cs (subst (λ n. fits_version n cs ≡ true) (eqb-true u 1 one) h)
+
 -- what some version does not have, version 1 does not have
 lacks-first : (v k : ℕ) → is_version v ≡ true → nat_le k v ≡ false → nat_le k 1 ≡ false
 lacks-first v k some h = below (at_least v some)
@@ -193,6 +205,15 @@ lacks-first v k some h = below (at_least v some)
 header_others : (u v : ℕ) (ps : Params) → (u == 1) ≡ true → is_version v ≡ true → OthersDefault u ps → OthersDefault v ps
 header_others u v ps one some others field h = subst (λ n. OthersDefault n ps) (eqb-true u 1 one) others field (lacks-first v (first_version field) some h)
 
+fresh_version : (v : ℕ) (is : List Item) → is_fresh at_start v is ≡ true → (v == 1) ≡ true
+fresh_version v [] h = h
+fresh_version v (i ∷ is) h = cc
+
+-- before the header there are no items, so all of them are as they must be
+fresh_items : (u : ℕ) (is : List Item) (good : Item → Bool) → is_fresh at_start u is ≡ true → list_all good is ≡ true
+fresh_items u [] good h = refl
+fresh_items u (i ∷ is) good h = cc
+
 pub header_line : (n : ℕ) (p : Phase) (c : ℕ) (d : Draft) (v : ℕ) → is_version v ≡ true → first_of (place_causes p (Some header)) ≡ None → Sound n p c d
     → Sound (n + 1) (next_phase p (Some header)) c (record d { version = v })
 header_line n at_start c d v some place s =
@@ -202,10 +223,13 @@ header_line n at_start c d v some place s =
       items = next.items;
       leaves = next.leaves;
       classed = record {
-        version = header_fits d.version v d.classes s.classed.fresh some s.classed.version;
-        others = header_others d.version v d.params s.classed.fresh some s.classed.others;
+        version = header_fits d.version v d.classes (fresh_version d.version d.items s.classed.fresh) some s.classed.version;
+        others = header_others d.version v d.params (fresh_version d.version d.items s.classed.fresh) some s.classed.others;
+        words = fresh_items d.version d.items (λ i. fits_word v i.kind) s.classed.fresh;
         fresh = refl;
+        kinds = fresh_items d.version d.items (λ i. fits_kind v i.kind) s.classed.fresh;
         classes = s.classed.classes;
+        standing = header_standing d.version v d.classes (fresh_version d.version d.items s.classed.fresh) s.classed.version;
         feet = s.classed.feet;
         foot = s.classed.foot;
       };
@@ -268,9 +292,12 @@ set_line n among_sets c d field value place good known s =
       leaves = next.leaves;
       classed = record {
         version = s.classed.version;
+        words = s.classed.words;
         others = set_others d.version field value d.params known s.classed.others;
         fresh = refl;
+        kinds = s.classed.kinds;
         classes = s.classed.classes;
+        standing = s.classed.standing;
         feet = s.classed.feet;
         foot = s.classed.foot;
       };
@@ -295,10 +322,10 @@ more_lines xs named m n (inl e) k h =
 more_lines xs named m n (inr e) k h = subst (λ ns. Rises (xs ++ ns) n) (sym e) (rises_more_from 0 xs m n h k)
 
 -- an item of one line, with no foot open
-pub item_line : (n c : ℕ) (ps : Params) (v : ℕ) (cs : List ClassLine) (is : List Item) (e : ℕ) (k : ItemKind) → c + 1 ≤ 100000 → is_item (n + 1) k ≡ true → weight_of k ≡ 1 → has_known_class (numbers cs) k ≡ true
+pub item_line : (n c : ℕ) (ps : Params) (v : ℕ) (cs : List ClassLine) (is : List Item) (e : ℕ) (k : ItemKind) → c + 1 ≤ 100000 → is_item (n + 1) k ≡ true → weight_of k ≡ 1 → has_known_class (numbers cs) k ≡ true → fits_kind v k ≡ true → fits_word v k ≡ true
     → (lines_of_item (n + 1) k ≡ []) ⊎ (lines_of_item (n + 1) k ≡ (n + 1) ∷ [])
     → (p : Phase) → last_line p n e ≡ n + 1 → Sound n p c (drafted ps v cs is None e) → Sound (n + 1) among_items (c + 1) (with_item (drafted ps v cs is None e) (n + 1) k)
-item_line n c ps v cs is e k fits good one known named p next s =
+item_line n c ps v cs is e k fits good one known kind fit named p next s =
     let i : Item = record { line = n + 1; kind = k } in
     let heavier : weight (is ++ i ∷ []) ≡ weight is + weight_of k = weight-append is i in
     let before : Rises (named_lines is) (n + 1) = subst (λ a. Rises (named_lines is) a) next (subst (λ ns. Rises ns (last_line p n e)) (append-nil (named_lines is)) s.lines) in
@@ -307,7 +334,17 @@ item_line n c ps v cs is e k fits good one known named p next s =
       params = s.params;
       items = all_more (λ (j : Item). is_item j.line j.kind) is i s.items good;
       leaves = refl;
-      classed = record { version = s.classed.version; others = s.classed.others; fresh = refl; classes = s.classed.classes; feet = all_more (λ (j : Item). has_known_class (numbers cs) j.kind) is i s.classed.feet known; foot = refl };
+      classed = record {
+        version = s.classed.version;
+        words = all_more (λ (j : Item). fits_word v j.kind) is i s.classed.words fit;
+        others = s.classed.others;
+        fresh = refl;
+        kinds = all_more (λ (j : Item). fits_kind v j.kind) is i s.classed.kinds kind;
+        classes = s.classed.classes;
+        standing = s.classed.standing;
+        feet = all_more (λ (j : Item). has_known_class (numbers cs) j.kind) is i s.classed.feet known;
+        foot = refl;
+      };
       weight = omega arith;
       count = fits;
       phase = refl;
@@ -327,7 +364,7 @@ leaf_line n c ps v cs is o e k fits good s =
       params = s.params;
       items = s.items;
       leaves = all_more (λ (m : Leaf). is_leaf m.kind) o.leaves l s.leaves good;
-      classed = record { version = s.classed.version; others = s.classed.others; fresh = refl; classes = s.classed.classes; feet = s.classed.feet; foot = s.classed.foot };
+      classed = record { version = s.classed.version; words = s.classed.words; others = s.classed.others; fresh = refl; kinds = s.classed.kinds; classes = s.classed.classes; standing = s.classed.standing; feet = s.classed.feet; foot = s.classed.foot };
       weight = omega arith;
       count = fits;
       phase = refl;
@@ -344,7 +381,7 @@ foot_line n c ps v cs is e class fits known p next s =
       params = s.params;
       items = s.items;
       leaves = refl;
-      classed = record { version = s.classed.version; others = s.classed.others; fresh = refl; classes = s.classed.classes; feet = s.classed.feet; foot = known };
+      classed = record { version = s.classed.version; words = s.classed.words; others = s.classed.others; fresh = refl; kinds = s.classed.kinds; classes = s.classed.classes; standing = s.classed.standing; feet = s.classed.feet; foot = known };
       weight = omega arith;
       count = fits;
       phase = refl;
@@ -361,7 +398,17 @@ endfoot_line n c ps v cs is o e fits s =
       params = s.params;
       items = all_more (λ (j : Item). is_item j.line j.kind) is i s.items s.leaves;
       leaves = refl;
-      classed = record { version = s.classed.version; others = s.classed.others; fresh = refl; classes = s.classed.classes; feet = all_more (λ (j : Item). has_known_class (numbers cs) j.kind) is i s.classed.feet s.classed.foot; foot = refl };
+      classed = record {
+        version = s.classed.version;
+        words = all_more (λ (j : Item). fits_word v j.kind) is i s.classed.words refl;
+        others = s.classed.others;
+        fresh = refl;
+        kinds = all_more (λ (j : Item). fits_kind v j.kind) is i s.classed.kinds refl;
+        classes = s.classed.classes;
+        standing = s.classed.standing;
+        feet = all_more (λ (j : Item). has_known_class (numbers cs) j.kind) is i s.classed.feet s.classed.foot;
+        foot = refl;
+      };
       weight = omega arith;
       count = fits;
       phase = refl;
@@ -376,7 +423,7 @@ end_line n c ps v cs is e p next s = record {
   params = s.params;
   items = s.items;
   leaves = s.leaves;
-  classed = record { version = s.classed.version; others = s.classed.others; fresh = refl; classes = s.classed.classes; feet = s.classed.feet; foot = s.classed.foot };
+  classed = record { version = s.classed.version; words = s.classed.words; others = s.classed.others; fresh = refl; kinds = s.classed.kinds; classes = s.classed.classes; standing = s.classed.standing; feet = s.classed.feet; foot = s.classed.foot };
   weight = s.weight;
   count = s.count;
   phase = refl;

@@ -20,12 +20,12 @@ use Rattle.tb_galley.specs.Fields.{is_class_among}
 use Rattle.tb_galley.specs.declared.LeafKind.{LeafKind}
 use Rattle.tb_galley.specs.declared.LeafKind.TheVariants as leaves
 use Rattle.tb_galley.specs.declared.fields.At.{At}
-use Rattle.tb_galley.specs.Words.{LineWord, header, setting, class_line, hbox, rule, skip, kern, penalty, mark, note, foot, endfoot, float, margin, newpage, clearpage, pagebreak, nopagebreak, onecolumn, twocolumn, suppressfloats, end, Phase, at_start, among_sets, among_items, in_foot, ended, is_leaf_word, Known, word_here}
+use Rattle.tb_galley.specs.Words.{LineWord, header, setting, class_line, hbox, rule, skip, kern, penalty, mark, note, foot, endfoot, float, margin, newpage, clearpage, pagebreak, nopagebreak, onecolumn, twocolumn, suppressfloats, page_number, end, Phase, at_start, among_sets, among_items, in_foot, ended, is_leaf_word, Known, word_here}
 use Rattle.tb_galley.specs.Faults.{place_causes, item_causes, end_causes}
 use Rattle.tb_galley.specs.Grammar.{OpenFoot, Draft, item_kind, with_item, with_plain, with_foot, with_content, with_class, galley_of}
 use Rattle.tb_galley.specs.Line.{first_of, Said, line_left}
 use Rattle.tb_galley.specs.GalleyReader.{State, next_phase, item_phase, known_in, count_with, start, past_said, said_unless, said_first, take_said, end_by, verdict_by, verdict}
-use Rattle.tb_galley.specs.Valid.{is_leaf, is_item, weight_of, weight, lines_of_item, named_lines, is_class, do_classes_rise, has_known_class, fits_version, IsValid}
+use Rattle.tb_galley.specs.Valid.{is_leaf, is_item, weight_of, weight, lines_of_item, named_lines, is_class, do_classes_rise, may_stand, has_known_class, fits_kind, fits_version, IsValid, fits_word}
 use Rattle.tb_galley.proofs.SuitedLines.{is_single_word, LeafSaid, ItemSaid, Suits, SaidSuits, IfSaid, line_suits}
 use Rattle.tb_galley.proofs.WithClass.{rise-with, all-with, among-with}
 use Rattle.tb_galley.proofs.SoundLines.{Rises, numbers, Sound, drafted, past_line, fits_later, header_line, set_line, items_left, item_line, leaf_line, foot_line, endfoot_line, end_line}
@@ -45,9 +45,17 @@ leaf_item_lines n (leaves.Hbox name h d) = inr refl
 leaf_item_lines n (leaves.Rule name h d) = inr refl
 leaf_item_lines n k = inl refl
 
+leaf_item_fits : (v : ℕ) (k : LeafKind) → fits_word v (item_kind k) ≡ true
+leaf_item_fits v (leaves.Hbox name h d) = refl
+leaf_item_fits v k = refl
+
 leaf_item_class : (ks : List ℕ) (k : LeafKind) → has_known_class ks (item_kind k) ≡ true
 leaf_item_class ks (leaves.Hbox name h d) = refl
 leaf_item_class ks k = refl
+
+leaf_item_kind : (version : ℕ) (k : LeafKind) → fits_kind version (item_kind k) ≡ true
+leaf_item_kind version (leaves.Hbox name h d) = refl
+leaf_item_kind version k = refl
 
 -- whether a box may come in the phase, and whether an item may that is outside feet alone
 abbrev takes_leaves : Phase → Bool
@@ -68,18 +76,18 @@ plain_line : (n c : ℕ) (ps : Params) (v : ℕ) (cs : List ClassLine) (is : Lis
     → (p : Phase) (ft : Option OpenFoot) → takes_leaves p ≡ true → Sound n p c (drafted ps v cs is ft e)
     → Sound (n + 1) (item_phase p) (c + 1) (with_plain (drafted ps v cs is ft e) (n + 1) k ft)
 plain_line n c ps v cs is e k fits good among_sets None takes s =
-    item_line n c ps v cs is e (item_kind k) fits (leaf_item_range (n + 1) k good) (leaf_item_weight k) (leaf_item_class (numbers cs) k) (leaf_item_lines (n + 1) k) among_sets refl s
+    item_line n c ps v cs is e (item_kind k) fits (leaf_item_range (n + 1) k good) (leaf_item_weight k) (leaf_item_class (numbers cs) k) (leaf_item_kind v k) (leaf_item_fits v k) (leaf_item_lines (n + 1) k) among_sets refl s
 plain_line n c ps v cs is e k fits good among_items None takes s =
-    item_line n c ps v cs is e (item_kind k) fits (leaf_item_range (n + 1) k good) (leaf_item_weight k) (leaf_item_class (numbers cs) k) (leaf_item_lines (n + 1) k) among_items refl s
+    item_line n c ps v cs is e (item_kind k) fits (leaf_item_range (n + 1) k good) (leaf_item_weight k) (leaf_item_class (numbers cs) k) (leaf_item_kind v k) (leaf_item_fits v k) (leaf_item_lines (n + 1) k) among_items refl s
 plain_line n c ps v cs is e k fits good in_foot (Some o) takes s = leaf_line n c ps v cs is o e k fits good s
 plain_line n c ps v cs is e k fits good p ft takes s = cc
 
-single_line : (n c : ℕ) (ps : Params) (v : ℕ) (cs : List ClassLine) (is : List Item) (e : ℕ) (w : LineWord) (k : ItemKind) → c + 1 ≤ 100000 → ItemSaid (n + 1) w k
+single_line : (n c : ℕ) (ps : Params) (v : ℕ) (cs : List ClassLine) (is : List Item) (e : ℕ) (w : LineWord) (k : ItemKind) → c + 1 ≤ 100000 → ItemSaid v (n + 1) w k → fits_word v k ≡ true
     → (p : Phase) (ft : Option OpenFoot) → takes_items p ≡ true → Sound n p c (drafted ps v cs is ft e)
     → Sound (n + 1) (item_phase p) (c + 1) (with_item (drafted ps v cs is ft e) (n + 1) k)
-single_line n c ps v cs is e w k fits good among_sets None takes s = item_line n c ps v cs is e k fits good.range good.weight (good.known (numbers cs)) good.lines among_sets refl s
-single_line n c ps v cs is e w k fits good among_items None takes s = item_line n c ps v cs is e k fits good.range good.weight (good.known (numbers cs)) good.lines among_items refl s
-single_line n c ps v cs is e w k fits good p ft takes s = cc
+single_line n c ps v cs is e w k fits good fit among_sets None takes s = item_line n c ps v cs is e k fits good.range good.weight (good.known (numbers cs)) good.kinds fit good.lines among_sets refl s
+single_line n c ps v cs is e w k fits good fit among_items None takes s = item_line n c ps v cs is e k fits good.range good.weight (good.known (numbers cs)) good.kinds fit good.lines among_items refl s
+single_line n c ps v cs is e w k fits good fit p ft takes s = cc
 
 leaf_takes : (p : Phase) (w : LineWord) → is_leaf_word w ≡ true → first_of (place_causes p (Some w)) ≡ None → takes_leaves p ≡ true
 leaf_takes at_start header h k = cc
@@ -110,20 +118,21 @@ leaf_steps n p c d kern k place fits good s = plain_line n c d.params d.version 
 leaf_steps n p c d penalty k place fits good s = plain_line n c d.params d.version d.classes d.items d.end_line k (items_left c (nat_le 100000 c) refl fits) good.range p d.foot (leaf_takes p penalty refl place) s
 leaf_steps n p c d w k place fits good s = let no : is_leaf_word w ≡ true = good.word in cc
 
-single_steps : (n : ℕ) (p : Phase) (c : ℕ) (d : Draft) (w : LineWord) (k : ItemKind) → first_of (place_causes p (Some w)) ≡ None → first_of (item_causes c (Some w)) ≡ None → ItemSaid (n + 1) w k
-    → Sound n p c d → Steps n p c w (with_item d (n + 1) k)
-single_steps n p c d mark k place fits good s = single_line n c d.params d.version d.classes d.items d.end_line mark k (items_left c (nat_le 100000 c) refl fits) good p d.foot (single_takes p mark refl place) s
-single_steps n p c d note k place fits good s = single_line n c d.params d.version d.classes d.items d.end_line note k (items_left c (nat_le 100000 c) refl fits) good p d.foot (single_takes p note refl place) s
-single_steps n p c d float k place fits good s = single_line n c d.params d.version d.classes d.items d.end_line float k (items_left c (nat_le 100000 c) refl fits) good p d.foot (single_takes p float refl place) s
-single_steps n p c d margin k place fits good s = single_line n c d.params d.version d.classes d.items d.end_line margin k (items_left c (nat_le 100000 c) refl fits) good p d.foot (single_takes p margin refl place) s
-single_steps n p c d newpage k place fits good s = single_line n c d.params d.version d.classes d.items d.end_line newpage k (items_left c (nat_le 100000 c) refl fits) good p d.foot (single_takes p newpage refl place) s
-single_steps n p c d clearpage k place fits good s = single_line n c d.params d.version d.classes d.items d.end_line clearpage k (items_left c (nat_le 100000 c) refl fits) good p d.foot (single_takes p clearpage refl place) s
-single_steps n p c d pagebreak k place fits good s = single_line n c d.params d.version d.classes d.items d.end_line pagebreak k (items_left c (nat_le 100000 c) refl fits) good p d.foot (single_takes p pagebreak refl place) s
-single_steps n p c d nopagebreak k place fits good s = single_line n c d.params d.version d.classes d.items d.end_line nopagebreak k (items_left c (nat_le 100000 c) refl fits) good p d.foot (single_takes p nopagebreak refl place) s
-single_steps n p c d onecolumn k place fits good s = single_line n c d.params d.version d.classes d.items d.end_line onecolumn k (items_left c (nat_le 100000 c) refl fits) good p d.foot (single_takes p onecolumn refl place) s
-single_steps n p c d twocolumn k place fits good s = single_line n c d.params d.version d.classes d.items d.end_line twocolumn k (items_left c (nat_le 100000 c) refl fits) good p d.foot (single_takes p twocolumn refl place) s
-single_steps n p c d suppressfloats k place fits good s = single_line n c d.params d.version d.classes d.items d.end_line suppressfloats k (items_left c (nat_le 100000 c) refl fits) good p d.foot (single_takes p suppressfloats refl place) s
-single_steps n p c d w k place fits good s = let no : is_single_word w ≡ true = good.word in cc
+single_steps : (n : ℕ) (p : Phase) (c : ℕ) (d : Draft) (w : LineWord) (k : ItemKind) → first_of (place_causes p (Some w)) ≡ None → first_of (item_causes c (Some w)) ≡ None → ItemSaid d.version (n + 1) w k
+    → fits_word d.version k ≡ true → Sound n p c d → Steps n p c w (with_item d (n + 1) k)
+single_steps n p c d mark k place fits good fit s = single_line n c d.params d.version d.classes d.items d.end_line mark k (items_left c (nat_le 100000 c) refl fits) good fit p d.foot (single_takes p mark refl place) s
+single_steps n p c d note k place fits good fit s = single_line n c d.params d.version d.classes d.items d.end_line note k (items_left c (nat_le 100000 c) refl fits) good fit p d.foot (single_takes p note refl place) s
+single_steps n p c d float k place fits good fit s = single_line n c d.params d.version d.classes d.items d.end_line float k (items_left c (nat_le 100000 c) refl fits) good fit p d.foot (single_takes p float refl place) s
+single_steps n p c d margin k place fits good fit s = single_line n c d.params d.version d.classes d.items d.end_line margin k (items_left c (nat_le 100000 c) refl fits) good fit p d.foot (single_takes p margin refl place) s
+single_steps n p c d newpage k place fits good fit s = single_line n c d.params d.version d.classes d.items d.end_line newpage k (items_left c (nat_le 100000 c) refl fits) good fit p d.foot (single_takes p newpage refl place) s
+single_steps n p c d clearpage k place fits good fit s = single_line n c d.params d.version d.classes d.items d.end_line clearpage k (items_left c (nat_le 100000 c) refl fits) good fit p d.foot (single_takes p clearpage refl place) s
+single_steps n p c d pagebreak k place fits good fit s = single_line n c d.params d.version d.classes d.items d.end_line pagebreak k (items_left c (nat_le 100000 c) refl fits) good fit p d.foot (single_takes p pagebreak refl place) s
+single_steps n p c d nopagebreak k place fits good fit s = single_line n c d.params d.version d.classes d.items d.end_line nopagebreak k (items_left c (nat_le 100000 c) refl fits) good fit p d.foot (single_takes p nopagebreak refl place) s
+single_steps n p c d onecolumn k place fits good fit s = single_line n c d.params d.version d.classes d.items d.end_line onecolumn k (items_left c (nat_le 100000 c) refl fits) good fit p d.foot (single_takes p onecolumn refl place) s
+single_steps n p c d twocolumn k place fits good fit s = single_line n c d.params d.version d.classes d.items d.end_line twocolumn k (items_left c (nat_le 100000 c) refl fits) good fit p d.foot (single_takes p twocolumn refl place) s
+single_steps n p c d suppressfloats k place fits good fit s = single_line n c d.params d.version d.classes d.items d.end_line suppressfloats k (items_left c (nat_le 100000 c) refl fits) good fit p d.foot (single_takes p suppressfloats refl place) s
+single_steps n p c d page_number k place fits good fit s = single_line n c d.params d.version d.classes d.items d.end_line page_number k (items_left c (nat_le 100000 c) refl fits) good fit p d.foot (single_takes p page_number refl place) s
+single_steps n p c d w k place fits good fit s = let no : is_single_word w ≡ true = good.word in cc
 
 foot_steps : (n c : ℕ) (ps : Params) (v : ℕ) (cs : List ClassLine) (is : List Item) (e : ℕ) → (class : ℕ) → c + 1 ≤ 100000 → is_class_among (numbers cs) class ≡ true → (p : Phase) (ft : Option OpenFoot) → first_of (place_causes p (Some foot)) ≡ None
     → Sound n p c (drafted ps v cs is ft e) → Steps n p c foot (with_content (drafted ps v cs is ft e) (n + 1) (contents.Foot class))
@@ -170,9 +179,9 @@ all_known line cs (i ∷ is) h =
     (still_known line cs i.kind (first_so (has_known_class (numbers cs) i.kind) (list_all (λ (j : Item). has_known_class (numbers cs) j.kind) is) h))
     (all_known line cs is (second_so (has_known_class (numbers cs) i.kind) (list_all (λ (j : Item). has_known_class (numbers cs) j.kind) is) h))
 
-class_steps : (n c : ℕ) (ps : Params) (v : ℕ) (cs : List ClassLine) (is : List Item) (e : ℕ) (line : ClassLine) → (v == 1) ≡ false → is_class line ≡ true → (p : Phase) (ft : Option OpenFoot)
+class_steps : (n c : ℕ) (ps : Params) (v : ℕ) (cs : List ClassLine) (is : List Item) (e : ℕ) (line : ClassLine) → (v == 1) ≡ false → is_class line ≡ true → may_stand v line.below ≡ true → (p : Phase) (ft : Option OpenFoot)
     → first_of (place_causes p (Some class_line)) ≡ None → Sound n p c (drafted ps v cs is ft e) → Steps n p c class_line (drafted ps v (with_class line cs) is ft e)
-class_steps n c ps v cs is e line later good among_sets None place s =
+class_steps n c ps v cs is e line later good stands among_sets None place s =
     let next : Sound (n + 1) among_sets c (drafted ps v cs is None e) = past_line n among_sets c (drafted ps v cs is None e) s in
     record {
       params = next.params;
@@ -180,11 +189,14 @@ class_steps n c ps v cs is e line later good among_sets None place s =
       leaves = next.leaves;
       classed = record {
         version = fits_later v (with_class line cs) (later_version v cs later s.classed.version);
+        words = s.classed.words;
         others = s.classed.others;
         fresh = refl;
+        kinds = s.classed.kinds;
         classes =
-            and_from (list_all is_class (with_class line cs)) (do_classes_rise (with_class line cs)) (all-with line cs good (first_so (list_all is_class cs) (do_classes_rise cs) s.classed.classes))
+            and_from (list_all is_class (with_class line cs)) (do_classes_rise (with_class line cs)) (all-with is_class line cs good (first_so (list_all is_class cs) (do_classes_rise cs) s.classed.classes))
             (rise-with line cs (second_so (list_all is_class cs) (do_classes_rise cs) s.classed.classes));
+        standing = all-with (λ k. may_stand v k.below) line cs stands s.classed.standing;
         feet = all_known line cs is s.classed.feet;
         foot = refl;
       };
@@ -193,7 +205,7 @@ class_steps n c ps v cs is e line later good among_sets None place s =
       phase = next.phase;
       lines = next.lines;
     }
-class_steps n c ps v cs is e line later good p ft place s = cc
+class_steps n c ps v cs is e line later good stands p ft place s = cc
 
 -- a step with a word that the content fixes
 fixed_word : (p : Phase) (k : Known) (c : ℕ) (v w : LineWord) (P : LineWord → Type 0) → w ≡ v → first_of (place_causes p (Some w)) ≡ None → first_of (item_causes c (Some w)) ≡ None → word_here k (Some w) ≡ Some w
@@ -209,9 +221,9 @@ content_steps n p c d w (contents.Header version) place fits here good s =
 content_steps n p c d w (contents.Set field value) place fits here good s =
     fixed_word p (known_in d) c setting w (λ v. Steps n p c v (record d { params = with_value field value d.params })) good.0 place fits here (λ pl fi he. set_line n p c d field value pl good.1 good.2 s)
 content_steps n p c d w (contents.Class line) place fits here good s =
-    fixed_word p (known_in d) c class_line w (λ v. Steps n p c v (record d { classes = with_class line d.classes })) good.0 place fits here (λ pl fi he. class_steps n c d.params d.version d.classes d.items d.end_line line (class_version (known_in d) he) good.1 p d.foot pl s)
+    fixed_word p (known_in d) c class_line w (λ v. Steps n p c v (record d { classes = with_class line d.classes })) good.0 place fits here (λ pl fi he. class_steps n c d.params d.version d.classes d.items d.end_line line (class_version (known_in d) he) good.1 good.2 p d.foot pl s)
 content_steps n p c d w (contents.Plain k) place fits here good s = leaf_steps n p c d w k place fits good s
-content_steps n p c d w (contents.Item k) place fits here good s = single_steps n p c d w k place fits good s
+content_steps n p c d w (contents.Item k) place fits here good s = single_steps n p c d w k place fits good (good.fits (known_in d) here) s
 content_steps n p c d w (contents.Foot class) place fits here good s =
     fixed_word p (known_in d) c foot w (λ v. Steps n p c v (with_content d (n + 1) (contents.Foot class))) good.0 place fits here
     (λ pl fi he. foot_steps n c d.params d.version d.classes d.items d.end_line class (items_left c (nat_le 100000 c) refl fi) good.1 p d.foot pl s)
@@ -253,7 +265,7 @@ start_sound = record {
   params = defaults_are_in_range;
   items = refl;
   leaves = refl;
-  classed = record { version = refl; others = λ field lacks. refl; fresh = refl; classes = refl; feet = refl; foot = refl };
+  classed = record { version = refl; words = refl; others = λ field lacks. refl; fresh = refl; kinds = refl; classes = refl; standing = refl; feet = refl; foot = refl };
   weight = omega arith;
   count = omega arith;
   phase = refl;
@@ -267,10 +279,13 @@ ended_galley n c ps v cs is None e s =
     record {
       params = s.params;
       version = s.classed.version;
+      words = s.classed.words;
       others = s.classed.others;
       classes = s.classed.classes;
+      standing = s.classed.standing;
       items = s.items;
       feet = s.classed.feet;
+      kinds = s.classed.kinds;
       count = few;
       lines = subst (λ ns. Rises ns e) (append-nil (named_lines is)) s.lines;
     }

@@ -1,5 +1,5 @@
 -- What a line says suits its word and its place, and is in its ranges.
-use Rattle.std.proofs.Common.{◌≡◌, ℕ, Bool, true, false, nat_lt, nat_abs, length, List, [], ◌∷◌, Option, Some, None, Result, Ok, Err, IfOk, if◌then◌else◌, refl, sym, subst, ◌⊎◌, inl, inr, pos, negsuc}
+use Rattle.std.proofs.Common.{◌==◌, ◌≡◌, ℕ, Bool, true, false, nat_lt, nat_abs, length, List, [], ◌∷◌, Option, Some, None, Result, Ok, Err, IfOk, if◌then◌else◌, refl, sym, subst, ◌⊎◌, inl, inr, pos, negsuc}
 use Rattle.std.specs.List.{list_all}
 use Rattle.tb_node.specs.Names.{is_name}
 use Rattle.tb_text.specs.Lines.{fields_of, is_skipped}
@@ -18,14 +18,14 @@ use Rattle.tb_galley.specs.declared.ItemKind.TheVariants as items
 use Rattle.tb_galley.specs.declared.LeafKind.{LeafKind}
 use Rattle.tb_galley.specs.declared.LeafKind.TheVariants as leaves
 use Rattle.tb_galley.specs.declared.fields.At.{At}
-use Rattle.tb_galley.specs.Words.{LineWord, header, setting, class_line, hbox, rule, skip, kern, penalty, mark, note, foot, endfoot, float, margin, newpage, clearpage, pagebreak, nopagebreak, onecolumn, twocolumn, suppressfloats, end, Phase, Line, line_at, content_at, is_leaf_word, Known, word_here}
+use Rattle.tb_galley.specs.Words.{LineWord, header, setting, class_line, hbox, rule, skip, kern, penalty, mark, note, foot, endfoot, float, margin, newpage, clearpage, pagebreak, nopagebreak, onecolumn, twocolumn, suppressfloats, page_number, end, Phase, Line, line_at, content_at, is_leaf_word, Known, word_here}
 use Rattle.tb_galley.specs.Faults.{is_printable, place_causes, item_causes, missing_cause}
 use Rattle.tb_galley.specs.FieldReader.{Left, at_fault, settled, next_left, name_left, dimension_left, range_left, sized_left, glue_left, float_left, margin_left, area_left, value_left, set_by, set_left, class_left, foot_left, mapped, end_left, finished, content_left, version_left}
 use Rattle.tb_galley.specs.Line.{first_of, Said, said, worded_left, content_line, content_lines, line_left}
-use Rattle.tb_galley.specs.Valid.{is_leaf, is_item, weight_of, lines_of_item, is_class, has_known_class, is_version}
+use Rattle.tb_galley.specs.Valid.{is_leaf, is_item, weight_of, lines_of_item, is_class, may_stand, has_known_class, fits_kind, fits_word, is_version}
 use Rattle.tb_galley.specs.Fields.{is_class_among}
 use Rattle.tb_galley.proofs.SameStep.{here_cases}
-use Rattle.tb_galley.proofs.InRange.{bind_has, then_has, mapped_has, has_more, settled_has, always, is_sized, sized_has, name_has, dimension_has, range_has, glue_has, float_has, is_float_at, margin_has, is_margin_at, value_has, degree_at_most, class_has, foot_has, version_has}
+use Rattle.tb_galley.proofs.InRange.{bind_has, then_has, mapped_has, has_more, settled_has, always, is_sized, sized_has, name_has, dimension_has, range_has, glue_has, float_has, IsFloatOf, margin_has, IsMarginOf, value_has, degree_at_most, page_at_most, class_has, IsClassIn, foot_has, version_has}
 
 -- ---- what a line may say by its word
 
@@ -42,18 +42,21 @@ is_single_word nopagebreak = true
 is_single_word onecolumn = true
 is_single_word twocolumn = true
 is_single_word suppressfloats = true
+is_single_word page_number = true
 is_single_word _ = false
 
 pub record LeafSaid (w : LineWord) (k : LeafKind) : Type 0 where
   pub word : is_leaf_word w ≡ true
   pub range : is_leaf k ≡ true
 
-pub record ItemSaid (n : ℕ) (w : LineWord) (k : ItemKind) : Type 0 where
+pub record ItemSaid (version n : ℕ) (w : LineWord) (k : ItemKind) : Type 0 where
   pub word : is_single_word w ≡ true
   pub range : is_item n k ≡ true
   pub weight : weight_of k ≡ 1
   pub lines : (lines_of_item n k ≡ []) ⊎ (lines_of_item n k ≡ n ∷ [])
   pub known : (ks : List ℕ) → has_known_class ks k ≡ true
+  pub kinds : fits_kind version k ≡ true
+  pub fits : (q : Known) → word_here q (Some w) ≡ Some w → fits_word q.version k ≡ true
 
 -- setting the parameter keeps all in their ranges
 abbrev pub SetsInRange : Field → Value → Type 0
@@ -63,9 +66,9 @@ SetsInRange field value = (p : Params) → are_params p ≡ true → are_params 
 abbrev pub Suits : Known → ℕ → LineWord → Content → Type 0
 Suits k n w (contents.Header version) = (w ≡ header) × (is_version version ≡ true)
 Suits k n w (contents.Set field value) = (w ≡ setting) × SetsInRange field value × (is_known_in k.version field ≡ true)
-Suits k n w (contents.Class c) = (w ≡ class_line) × (is_class c ≡ true)
+Suits k n w (contents.Class c) = (w ≡ class_line) × (is_class c ≡ true) × (may_stand k.version c.below ≡ true)
 Suits k n w (contents.Plain l) = LeafSaid w l
-Suits k n w (contents.Item i) = ItemSaid n w i
+Suits k n w (contents.Item i) = ItemSaid k.version n w i
 Suits k n w (contents.Foot class) = (w ≡ foot) × (is_class_among k.classes class ≡ true)
 Suits k n w contents.Endfoot = w ≡ endfoot
 Suits k n w contents.End = w ≡ end
@@ -87,6 +90,14 @@ set_suits k n m l name (Some r) found =
     (has_more (λ x. fits r.form x.0 ≡ true) (λ x. Suits k n setting (contents.Set r.field x.0)) (value_left r.form l)
     (λ x good. (refl, (λ p h. stays_in_range name r x.0 p row.0 good h), row.1)) (value_has r.form l))
 
+-- where `page` is a word the galley is of version 3
+third_version : (q : Known) → word_here q (Some page_number) ≡ Some page_number → (q.version == 3) ≡ true
+third_version q h = by_test (q.version == 3) h
+  where
+    by_test : (t : Bool) → (if t then Some page_number else None) ≡ Some page_number → t ≡ true
+    by_test true h = refl
+    by_test false h = cc
+
 -- content that is made of what is read, if it suits whenever the reading is in its range
 made_has : {X : Type 0} (k : Known) (n : ℕ) (w : LineWord) (P : X → Type 0) (f : X → Content) (r : Result (X × Left) At) → IfOk r (λ x. P x.0) → ((x : X) → P x → Suits k n w (f x))
     → IfOk (mapped f r) (λ x. Suits k n w x.0)
@@ -96,25 +107,27 @@ content_suits : (k : Known) (n : ℕ) (w : LineWord) (l : Left) → IfOk (conten
 unfolding content_left set_left
 content_suits k n header l = made_has k n header (λ v. is_version v ≡ true) (λ v. contents.Header v) (version_left l) (version_has l) (λ v h. (refl, h))
 content_suits k n setting l = bind_has (λ x. Suits k n setting x.0) (next_left l) (λ x. set_by l.number x.1 (row_for k.version x.0)) (λ x. set_suits k n l.number x.1 x.0 (row_for k.version x.0) refl)
-content_suits k n class_line l = made_has k n class_line (λ c. is_class c ≡ true) (λ c. contents.Class c) (class_left n l) (class_has n l) (λ c h. (refl, h))
+content_suits k n class_line l = made_has k n class_line (λ c. IsClassIn k.version c) (λ c. contents.Class c) (class_left k.version n l) (class_has k.version n l) (λ c h. (refl, h.0, h.1))
 content_suits k n hbox l = made_has k n hbox (λ s. is_sized s ≡ true) (λ s. contents.Plain (leaves.Hbox s.0 s.1 s.2)) (sized_left l) (sized_has l) (λ s h. record { word = refl; range = h })
 content_suits k n rule l = made_has k n rule (λ s. is_sized s ≡ true) (λ s. contents.Plain (leaves.Rule s.0 s.1 s.2)) (sized_left l) (sized_has l) (λ s h. record { word = refl; range = h })
 content_suits k n skip l = made_has k n skip (λ g. is_glue g ≡ true) (λ g. contents.Plain (leaves.Skip g)) (glue_left causes.UnknownWord l) (glue_has causes.UnknownWord l) (λ g h. record { word = refl; range = h })
 content_suits k n kern l = made_has k n kern (λ v. is_dimen v ≡ true) (λ v. contents.Plain (leaves.Kern v)) (dimension_left l) (dimension_has l) (λ v h. record { word = refl; range = h })
 content_suits k n penalty l = made_has k n penalty (λ v. is_within (negsuc 9999) (pos 10000) v ≡ true) (λ v. contents.Plain (leaves.Penalty v)) (range_left (negsuc 9999) (pos 10000) causes.Penalty l) (range_has (negsuc 9999) (pos 10000) causes.Penalty l) (λ v h. record { word = refl; range = h })
-content_suits k n mark l = made_has k n mark (λ m. is_name m ≡ true) (λ m. contents.Item (items.Mark m)) (name_left l) (name_has l) (λ m h. record { word = refl; range = h; weight = refl; lines = inl refl; known = λ ks. refl })
-content_suits k n note l = made_has k n note (λ m. is_name m ≡ true) (λ m. contents.Item (items.Note m)) (name_left l) (name_has l) (λ m h. record { word = refl; range = h; weight = refl; lines = inl refl; known = λ ks. refl })
+content_suits k n mark l = made_has k n mark (λ m. is_name m ≡ true) (λ m. contents.Item (items.Mark m)) (name_left l) (name_has l) (λ m h. record { word = refl; range = h; weight = refl; lines = inl refl; known = λ ks. refl; kinds = refl; fits = λ q here. refl })
+content_suits k n note l = made_has k n note (λ m. is_name m ≡ true) (λ m. contents.Item (items.Note m)) (name_left l) (name_has l) (λ m h. record { word = refl; range = h; weight = refl; lines = inl refl; known = λ ks. refl; kinds = refl; fits = λ q here. refl })
 content_suits k n foot l = made_has k n foot (λ c. is_class_among k.classes c ≡ true) (λ c. contents.Foot c) (foot_left k l) (foot_has k l) (λ c h. (refl, h))
 content_suits k n endfoot l = refl
-content_suits k n float l = made_has k n float (λ f. is_float_at n f ≡ true) (λ f. contents.Item (items.Float f.0 f.1)) (float_left n l) (float_has n l) (λ f h. record { word = refl; range = h; weight = refl; lines = inr refl; known = λ ks. refl })
-content_suits k n margin l = made_has k n margin (λ m. is_margin_at n m ≡ true) (λ m. contents.Item (items.Margin m.0 m.1)) (margin_left n l) (margin_has n l) (λ m h. record { word = refl; range = h; weight = refl; lines = inr refl; known = λ ks. refl })
-content_suits k n newpage l = record { word = refl; range = refl; weight = refl; lines = inl refl; known = λ ks. refl }
-content_suits k n clearpage l = record { word = refl; range = refl; weight = refl; lines = inl refl; known = λ ks. refl }
-content_suits k n pagebreak l = made_has k n pagebreak (λ v. is_within (pos 0) (pos 4) v ≡ true) (λ v. contents.Item (items.PageBreak (nat_abs v))) (range_left (pos 0) (pos 4) causes.Penalty l) (range_has (pos 0) (pos 4) causes.Penalty l) (λ v h. record { word = refl; range = degree_at_most v h; weight = refl; lines = inl refl; known = λ ks. refl })
-content_suits k n nopagebreak l = made_has k n nopagebreak (λ v. is_within (pos 0) (pos 4) v ≡ true) (λ v. contents.Item (items.NoPageBreak (nat_abs v))) (range_left (pos 0) (pos 4) causes.Penalty l) (range_has (pos 0) (pos 4) causes.Penalty l) (λ v h. record { word = refl; range = degree_at_most v h; weight = refl; lines = inl refl; known = λ ks. refl })
-content_suits k n onecolumn l = record { word = refl; range = refl; weight = refl; lines = inl refl; known = λ ks. refl }
-content_suits k n twocolumn l = record { word = refl; range = refl; weight = refl; lines = inl refl; known = λ ks. refl }
-content_suits k n suppressfloats l = mapped_has (λ c. Suits k n suppressfloats c) (λ a. contents.Item (items.Suppress a)) (area_left l) (always (λ x. record { word = refl; range = refl; weight = refl; lines = inl refl; known = λ ks. refl }) (area_left l))
+content_suits k n float l = made_has k n float (λ f. IsFloatOf k.version n f) (λ f. contents.Item (items.Float f.0 f.1)) (float_left k.version n l) (float_has k.version n l) (λ f h. record { word = refl; range = h.0; weight = refl; lines = inr refl; known = λ ks. refl; kinds = h.1; fits = λ q here. refl })
+content_suits k n margin l = made_has k n margin (λ m. IsMarginOf k.version n m) (λ m. contents.Item (items.Margin m.0 m.1)) (margin_left k.version n l) (margin_has k.version n l) (λ m h. record { word = refl; range = h.0; weight = refl; lines = inr refl; known = λ ks. refl; kinds = h.1; fits = λ q here. refl })
+content_suits k n newpage l = record { word = refl; range = refl; weight = refl; lines = inl refl; known = λ ks. refl; kinds = refl; fits = λ q here. refl }
+content_suits k n clearpage l = record { word = refl; range = refl; weight = refl; lines = inl refl; known = λ ks. refl; kinds = refl; fits = λ q here. refl }
+content_suits k n pagebreak l = made_has k n pagebreak (λ v. is_within (pos 0) (pos 4) v ≡ true) (λ v. contents.Item (items.PageBreak (nat_abs v))) (range_left (pos 0) (pos 4) causes.Penalty l) (range_has (pos 0) (pos 4) causes.Penalty l) (λ v h. record { word = refl; range = degree_at_most v h; weight = refl; lines = inl refl; known = λ ks. refl; kinds = refl; fits = λ q here. refl })
+content_suits k n nopagebreak l = made_has k n nopagebreak (λ v. is_within (pos 0) (pos 4) v ≡ true) (λ v. contents.Item (items.NoPageBreak (nat_abs v))) (range_left (pos 0) (pos 4) causes.Penalty l) (range_has (pos 0) (pos 4) causes.Penalty l) (λ v h. record { word = refl; range = degree_at_most v h; weight = refl; lines = inl refl; known = λ ks. refl; kinds = refl; fits = λ q here. refl })
+content_suits k n onecolumn l = record { word = refl; range = refl; weight = refl; lines = inl refl; known = λ ks. refl; kinds = refl; fits = λ q here. refl }
+content_suits k n twocolumn l = record { word = refl; range = refl; weight = refl; lines = inl refl; known = λ ks. refl; kinds = refl; fits = λ q here. refl }
+content_suits k n suppressfloats l = mapped_has (λ c. Suits k n suppressfloats c) (λ a. contents.Item (items.Suppress a)) (area_left l) (always (λ x. record { word = refl; range = refl; weight = refl; lines = inl refl; known = λ ks. refl; kinds = refl; fits = λ q here. refl }) (area_left l))
+content_suits k n page_number l = made_has k n page_number (λ v. is_within (pos 0) (pos 1000000) v ≡ true) (λ v. contents.Item (items.Page (nat_abs v))) (range_left (pos 0) (pos 1000000) causes.Parameter l) (range_has (pos 0) (pos 1000000) causes.Parameter l)
+    (λ v h. record { word = refl; range = page_at_most v h; weight = refl; lines = inl refl; known = λ ks. refl; kinds = refl; fits = λ q here. third_version q here })
 content_suits k n end l = refl
 
 -- ---- a whole line

@@ -41,7 +41,7 @@ choice_field choices.Drop = codes "drop"
 choice_field choices.Above = codes "above"
 choice_field choices.Below = codes "below"
 
-abbrev rule_fields : Option Rule → List (List ℕ)
+abbrev pub rule_fields : Option Rule → List (List ℕ)
 rule_fields None = codes "none" ∷ []
 rule_fields (Some r) = signed_decimal r.above ∷ signed_decimal r.height ∷ signed_decimal r.below ∷ []
 
@@ -127,20 +127,23 @@ frac_back (pos n) good =
       read = λ name. ap (λ z. values.Frac z) (read_back (pos 0) (fraction_of_field (signed_decimal (pos n) ++ codes "/65536")) (pos n) back);
     }
 
--- a number is no word
-other_first : (bs : List ℕ) → list_all (λ b. not (b == 110)) bs ≡ true → bytes_eq bs (codes "none") ≡ false
-other_first [] h = refl
-other_first (b ∷ bs) h = by_first (b == 110) (first_so (not (b == 110)) (list_all (λ c. not (c == 110)) bs) h)
+-- a number is no word whose first byte is that of a letter
+other_first : (w : ℕ) (word bs : List ℕ) → list_all (λ b. not (b == w)) bs ≡ true → bytes_eq bs (w ∷ word) ≡ false
+other_first w word [] h = refl
+other_first w word (b ∷ bs) h = by_first (b == w) (first_so (not (b == w)) (list_all (λ c. not (c == w)) bs) h)
   where
-    by_first : (t : Bool) → not t ≡ true → (t && bytes_eq bs (codes "one")) ≡ false
+    by_first : (t : Bool) → not t ≡ true → (t && bytes_eq bs word) ≡ false
     by_first true k = cc
     by_first false k = refl
 
-number_no_word : (z : ℤ) → nat_abs z ≤ 1073741823 → bytes_eq (signed_decimal z) (codes "none") ≡ false
-number_no_word z small = other_first (signed_decimal z) (number_passes (λ b. not (b == 110)) no_digit refl z (omega arith))
+pub number_no_word : (w : ℕ) (word : List ℕ) → 57 < w → (z : ℤ) → nat_abs z ≤ 1073741823 → bytes_eq (signed_decimal z) (w ∷ word) ≡ false
+number_no_word w word letter z small = other_first w word (signed_decimal z) (number_passes (λ b. not (b == w)) (λ d h. no_digit w d letter h) (no_sign w letter) z (omega arith))
   where
-    no_digit : (d : ℕ) → is_digit d ≡ true → not (d == 110) ≡ true
-    no_digit d h = grind (arith, nat_tests)
+    no_digit : (w d : ℕ) → 57 < w → is_digit d ≡ true → not (d == w) ≡ true
+    no_digit w d letter h = grind (arith, nat_tests)
+
+    no_sign : (w : ℕ) → 57 < w → not (45 == w) ≡ true
+    no_sign w letter = grind (arith, nat_tests)
 
 rule_back : (r : Option Rule) → is_rule r ≡ true → FormBack forms.Rule (values.Rule r)
 unfolding value_fields
@@ -153,7 +156,7 @@ rule_back (Some r) good =
     let a : length (signed_decimal r.above) ≤ 11 = dimen_length r.above (dimen_small r.above above) in
     let h : length (signed_decimal r.height) ≤ 11 = dimen_length r.height (size_small r.height height) in
     let b : length (signed_decimal r.below) ≤ 11 = dimen_length r.below (dimen_small r.below below) in
-    let drawn : bytes_eq (signed_decimal r.above) (codes "none") ≡ false = number_no_word r.above (dimen_small r.above above) in
+    let drawn : bytes_eq (signed_decimal r.above) (codes "none") ≡ false = number_no_word 110 (codes "one") (omega arith) r.above (dimen_small r.above above) in
     record {
       fit =
           subst (λ t. AllFit (if t then seen_slot ∷ [] else drawn_slots) (rule_fields (Some r))) (sym drawn)

@@ -1,4 +1,4 @@
--- One more class among those that were declared: they stay in their ranges, they rise, and none is lost.
+-- One more class among those that were declared: what holds of each stays so, they rise, and none is lost.
 use Rattle.std.proofs.Common.{◌≡◌, ℕ, Bool, true, false, ◌||◌, ◌==◌, nat_lt, List, [], ◌∷◌, map, if◌then◌else◌, refl, ap, sym, subst, ◌∙◌, arith}
 use Rattle.std.specs.Cmp.{first_so, second_so}
 use Rattle.std.specs.List.{list_all, list_any}
@@ -7,7 +7,7 @@ use Rattle.std.proofs.lemmas.Bool.Decides.{nat_tests}
 use Rattle.tb_galley.specs.declared.classes.ClassLine.{ClassLine}
 use Rattle.tb_galley.specs.Fields.{is_class_among}
 use Rattle.tb_galley.specs.Grammar.{with_class}
-use Rattle.tb_galley.specs.Valid.{is_class, do_classes_rise}
+use Rattle.tb_galley.specs.Valid.{do_classes_rise}
 
 -- the first class has a greater number
 abbrev is_over : ℕ → List ClassLine → Bool
@@ -50,15 +50,15 @@ rise-with c (d ∷ ds) rise = by_number (c.number == d.number) (nat_lt c.number 
     by_number false true is less more = rise-cons c (d ∷ ds) less rise
     by_number false false is less more = rise-cons d (with_class c ds) (over-with d.number c ds (above c.number d.number is less) (rise-over d ds rise)) more
 
--- they are in their ranges
-pub all-with : (c : ClassLine) (cs : List ClassLine) → is_class c ≡ true → list_all is_class cs ≡ true → list_all is_class (with_class c cs) ≡ true
-all-with c [] good all = and_from (is_class c) true good refl
-all-with c (d ∷ ds) good all = by_number (c.number == d.number) (nat_lt c.number d.number) (all-with c ds good (second_so (is_class d) (list_all is_class ds) all))
+-- what holds of each of them holds of each still
+pub all-with : (p : ClassLine → Bool) (c : ClassLine) (cs : List ClassLine) → p c ≡ true → list_all p cs ≡ true → list_all p (with_class c cs) ≡ true
+all-with p c [] good all = and_from (p c) true good refl
+all-with p c (d ∷ ds) good all = by_number (c.number == d.number) (nat_lt c.number d.number) (all-with p c ds good (second_so (p d) (list_all p ds) all))
   where
-    by_number : (same less : Bool) → list_all is_class (with_class c ds) ≡ true → list_all is_class (if same then c ∷ ds else (if less then c ∷ d ∷ ds else d ∷ with_class c ds)) ≡ true
-    by_number true less more = and_from (is_class c) (list_all is_class ds) good (second_so (is_class d) (list_all is_class ds) all)
-    by_number false true more = and_from (is_class c) (list_all is_class (d ∷ ds)) good all
-    by_number false false more = and_from (is_class d) (list_all is_class (with_class c ds)) (first_so (is_class d) (list_all is_class ds) all) more
+    by_number : (same less : Bool) → list_all p (with_class c ds) ≡ true → list_all p (if same then c ∷ ds else (if less then c ∷ d ∷ ds else d ∷ with_class c ds)) ≡ true
+    by_number true less more = and_from (p c) (list_all p ds) good (second_so (p d) (list_all p ds) all)
+    by_number false true more = and_from (p c) (list_all p (d ∷ ds)) good all
+    by_number false false more = and_from (p d) (list_all p (with_class c ds)) (first_so (p d) (list_all p ds) all) more
 
 abbrev numbers : List ClassLine → List ℕ
 numbers cs = map (λ (c : ClassLine). c.number) cs

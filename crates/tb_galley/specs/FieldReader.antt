@@ -1,5 +1,5 @@
 -- Reading the fields of a line from the left: a value and what is left, or the first field at fault.
-use Rattle.std.specs.Prelude.{◌≡◌, ℕ, ℤ, pos, negsuc, ◌+◌, Bool, true, false, ◌||◌, ◌==◌, List, [], ◌∷◌, Result, Ok, Err, bytes_eq, codes, Option, Some, None, nat_abs, if◌then◌else◌}
+use Rattle.std.specs.Prelude.{◌≡◌, ℕ, nat_le, ℤ, pos, negsuc, ◌+◌, Bool, true, false, not, ◌||◌, ◌&&◌, ◌==◌, List, [], ◌∷◌, Result, Ok, Err, bytes_eq, codes, Option, Some, None, nat_abs, if◌then◌else◌}
 use Rattle.std.specs.List.{list_all}
 use Rattle.tb_scaled.specs.declared.Order.{Order}
 use Rattle.tb_scaled.specs.declared.Order.TheVariants.{Normal}
@@ -23,7 +23,7 @@ use Rattle.tb_galley.specs.declared.contents.Content.{Content}
 use Rattle.tb_galley.specs.declared.contents.Content.TheVariants as contents
 use Rattle.tb_galley.specs.declared.ItemKind.TheVariants as items
 use Rattle.tb_galley.specs.declared.LeafKind.TheVariants as leaves
-use Rattle.tb_galley.specs.Words.{LineWord, header, setting, class_line, hbox, rule, skip, kern, penalty, mark, note, foot, endfoot, float, margin, newpage, clearpage, pagebreak, nopagebreak, onecolumn, twocolumn, suppressfloats, end, Known, number_in, version_named}
+use Rattle.tb_galley.specs.Words.{LineWord, header, setting, class_line, hbox, rule, skip, kern, penalty, mark, note, foot, endfoot, float, margin, newpage, clearpage, pagebreak, nopagebreak, onecolumn, twocolumn, suppressfloats, page_number, end, Known, number_in, version_named}
 use Rattle.tb_galley.specs.declared.Cause.{Cause}
 use Rattle.tb_galley.specs.declared.Cause.TheVariants as causes
 use Rattle.tb_galley.specs.declared.fields.At.{At}
@@ -141,6 +141,10 @@ range_left low high c l = field_read (range_slot low high c) integer_in l
 unfoldable pub choice_left : List ℕ → List ℕ → Cause → Left → Result (Bool × Left) At
 choice_left first second c l = field_read (word_slot (first ∷ second ∷ []) c) (λ f. bytes_eq f second) l
 
+-- this word
+unfoldable pub word_left : List ℕ → Cause → Left → Result (Bool × Left) At
+word_left text c l = field_read (word_slot (text ∷ []) c) (λ f. bytes_eq f text) l
+
 -- the version of a galley
 unfoldable pub version_left : Left → Result (ℕ × Left) At
 version_left l = field_read (word_slot (codes "1" ∷ codes "2" ∷ codes "3" ∷ []) causes.NoHeader) version_named l
@@ -210,25 +214,36 @@ abbrev pub mapped : {X Y : Type 0} → (X → Y) → Result (X × Left) At → R
 mapped f (Ok x) = Ok (f x.0, x.1)
 mapped f (Err e) = Err e
 
--- a float, and whether it is between paragraphs
-unfoldable pub float_left : ℕ → Left → Result ((Float × Bool) × Left) At
-float_left line l = do
+-- no `nobreak` if it may not be there or the line ends
+abbrev pub nobreak_by : Left → Bool → Result (Bool × Left) At
+nobreak_by l true = Ok (false, l)
+nobreak_by l false = word_left (codes "nobreak") causes.UnknownWord l
+
+-- whether `nobreak` is there, which may be from version 3 on
+unfoldable pub nobreak_left : ℕ → Left → Result (Bool × Left) At
+nobreak_left version l = nobreak_by l (not (version == 3) || is_end l.fields)
+
+-- a float in a galley of this version, and whether it is between paragraphs
+unfoldable pub float_left : ℕ → ℕ → Left → Result ((Float × Bool) × Left) At
+float_left version line l = do
   n ← name_left l
   c ← range_left (pos 1) (pos 26) causes.Class n.1
   w ← choice_left (codes "single") (codes "double") causes.UnknownWord c.1
   p ← places_left w.1
   h ← least_left (pos 0) causes.Dimension p.1
   v ← choice_left (codes "par") (codes "vert") causes.UnknownWord h.1
-  Ok ((record { line = line; name = n.0; class = nat_abs c.0; wide = w.0; places = p.0.0; bang = p.0.1; height = h.0 }, v.0), v.1)
+  b ← nobreak_left version v.1
+  Ok ((record { line = line; name = n.0; class = nat_abs c.0; wide = w.0; places = p.0.0; bang = p.0.1; height = h.0; deep = w.0 && (version == 3); nobreak = b.0 }, v.0), b.1)
 
--- a marginal note, and whether it is between paragraphs
-unfoldable pub margin_left : ℕ → Left → Result ((Margin × Bool) × Left) At
-margin_left line l = do
+-- a marginal note in a galley of this version, and whether it is between paragraphs
+unfoldable pub margin_left : ℕ → ℕ → Left → Result ((Margin × Bool) × Left) At
+margin_left version line l = do
   s ← sized_left l
   h ← least_left (pos 0) causes.Dimension s.1
   d ← least_left (pos 0) causes.Dimension h.1
   v ← choice_left (codes "par") (codes "vert") causes.UnknownWord d.1
-  Ok ((record { line = line; name = s.0.0; left_height = s.0.1; left_depth = s.0.2; right_height = h.0; right_depth = d.0 }, v.0), v.1)
+  b ← nobreak_left version v.1
+  Ok ((record { line = line; name = s.0.0; left_height = s.0.1; left_depth = s.0.2; right_height = h.0; right_depth = d.0; nobreak = b.0 }, v.0), b.1)
 
 -- all areas if the line ends, else the area that is named
 abbrev pub area_by : Left → Bool → Result (Area × Left) At
@@ -269,14 +284,29 @@ value_left forms.Rule l = mapped (λ r. values.Rule r) (rule_left l)
 value_left forms.FootDepth l = mapped (λ b. values.Word (if b then Drop else Keep)) (choice_left (codes "keep") (codes "drop") causes.WrongForm l)
 value_left forms.FootPlace l = mapped (λ b. values.Word (if b then Below else Above)) (choice_left (codes "above") (codes "below") causes.WrongForm l)
 
--- a class: its number, factor, limit and glue
-unfoldable pub class_left : ℕ → Left → Result (ClassLine × Left) At
-class_left line l = do
+-- the rule after `below`, from version 3 on; before, the word is no number
+abbrev pub below_known : Left → Bool → Result (Option (Option Rule) × Left) At
+below_known l true = next_left l >>= λ x. mapped (λ r. Some r) (rule_left x.1)
+below_known l false = next_left l >>= λ x. at_fault l.number causes.BadNumber
+
+-- nothing, if `below` is not next
+abbrev pub below_by : ℕ → Left → Bool → Result (Option (Option Rule) × Left) At
+below_by version l true = below_known l (nat_le 3 version)
+below_by version l false = Ok (None, l)
+
+-- whether a class stands below footnotes, and with which rule
+unfoldable pub below_left : ℕ → Left → Result (Option (Option Rule) × Left) At
+below_left version l = below_by version l (next_is_by (codes "below") l.fields)
+
+-- a class: its number, factor and limit, whether it stands below footnotes, and its glue
+unfoldable pub class_left : ℕ → ℕ → Left → Result (ClassLine × Left) At
+class_left version line l = do
   n ← range_left (pos 0) (pos 253) causes.Class l
   f ← range_left (pos 0) (pos 10000) causes.Parameter n.1
   m ← least_left (pos 0) causes.Dimension f.1
-  g ← glue_left causes.UnknownWord m.1
-  Ok (record { line = line; number = nat_abs n.0; factor = f.0; limit = m.0; skip = g.0 }, g.1)
+  b ← below_left version m.1
+  g ← glue_left causes.UnknownWord b.1
+  Ok (record { line = line; number = nat_abs n.0; factor = f.0; limit = m.0; below = b.0; skip = g.0 }, g.1)
 
 -- the class that a footnote names, if one may be named and the line has not ended
 abbrev pub named_class : List ℕ → Left → Bool → Result (ℕ × Left) At
@@ -302,7 +332,7 @@ set_left version l = do
 unfoldable pub content_left : Known → ℕ → LineWord → Left → Result (Content × Left) At
 content_left k n header l = mapped (λ v. contents.Header v) (version_left l)
 content_left k n setting l = set_left k.version l
-content_left k n class_line l = mapped (λ c. contents.Class c) (class_left n l)
+content_left k n class_line l = mapped (λ c. contents.Class c) (class_left k.version n l)
 content_left k n hbox l = mapped (λ s. contents.Plain (leaves.Hbox s.0 s.1 s.2)) (sized_left l)
 content_left k n rule l = mapped (λ s. contents.Plain (leaves.Rule s.0 s.1 s.2)) (sized_left l)
 content_left k n skip l = mapped (λ g. contents.Plain (leaves.Skip g)) (glue_left causes.UnknownWord l)
@@ -312,8 +342,8 @@ content_left k n mark l = mapped (λ m. contents.Item (items.Mark m)) (name_left
 content_left k n note l = mapped (λ m. contents.Item (items.Note m)) (name_left l)
 content_left k n foot l = mapped (λ c. contents.Foot c) (foot_left k l)
 content_left k n endfoot l = Ok (contents.Endfoot, l)
-content_left k n float l = mapped (λ f. contents.Item (items.Float f.0 f.1)) (float_left n l)
-content_left k n margin l = mapped (λ m. contents.Item (items.Margin m.0 m.1)) (margin_left n l)
+content_left k n float l = mapped (λ f. contents.Item (items.Float f.0 f.1)) (float_left k.version n l)
+content_left k n margin l = mapped (λ m. contents.Item (items.Margin m.0 m.1)) (margin_left k.version n l)
 content_left k n newpage l = Ok (contents.Item items.NewPage, l)
 content_left k n clearpage l = Ok (contents.Item items.ClearPage, l)
 content_left k n pagebreak l = mapped (λ k. contents.Item (items.PageBreak (nat_abs k))) (range_left (pos 0) (pos 4) causes.Penalty l)
@@ -321,4 +351,5 @@ content_left k n nopagebreak l = mapped (λ k. contents.Item (items.NoPageBreak 
 content_left k n onecolumn l = Ok (contents.Item items.OneColumn, l)
 content_left k n twocolumn l = Ok (contents.Item items.TwoColumn, l)
 content_left k n suppressfloats l = mapped (λ a. contents.Item (items.Suppress a)) (area_left l)
+content_left k n page_number l = mapped (λ k. contents.Item (items.Page (nat_abs k))) (range_left (pos 0) (pos 1000000) causes.Parameter l)
 content_left k n end l = Ok (contents.End, l)

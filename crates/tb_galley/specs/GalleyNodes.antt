@@ -76,6 +76,7 @@ item_kinds p two (items.NoPageBreak n) = plain (pen (break_strength n)) ∷ []
 item_kinds p two items.OneColumn = clearpage_kinds ++ act (acts.Columns (Bool.false)) ∷ []
 item_kinds p two items.TwoColumn = clearpage_kinds ++ act (acts.Columns (Bool.true)) ∷ []
 item_kinds p two (items.Suppress area) = act (acts.Suppress area) ∷ []
+item_kinds p two (items.Page n) = act (acts.Page n) ∷ []
 
 -- whether there are two columns after an item
 abbrev pub two_after : Bool → ItemKind → Bool

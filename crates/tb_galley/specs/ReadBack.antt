@@ -32,6 +32,7 @@ unnumbered_kind (items.NoPageBreak k) = items.NoPageBreak k
 unnumbered_kind items.OneColumn = items.OneColumn
 unnumbered_kind items.TwoColumn = items.TwoColumn
 unnumbered_kind (items.Suppress area) = items.Suppress area
+unnumbered_kind (items.Page n) = items.Page n
 
 -- an item without its line
 abbrev pub unnumbered_item : Item → Item

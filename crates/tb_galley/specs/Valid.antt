@@ -1,5 +1,5 @@
 -- Galleys whose values are in their ranges.
-use Rattle.std.specs.Prelude.{◌≡◌, ℕ, ◌+◌, ℤ, pos, neg_ℤ, Bool, true, false, ◌&&◌, ◌||◌, ◌==◌, nat_le, nat_lt, IsTrue, List, [], ◌∷◌, ◌++◌, length, map}
+use Rattle.std.specs.Prelude.{◌≡◌, ℕ, ◌+◌, ℤ, pos, neg_ℤ, Bool, true, false, not, ◌&&◌, ◌||◌, ◌==◌, nat_le, nat_lt, IsTrue, List, [], ◌∷◌, ◌++◌, length, map, Option, Some, None}
 use Rattle.std.specs.List.{list_all}
 use Rattle.tb_scaled.specs.Scaled.{max_dimen}
 use Rattle.tb_node.specs.Names.{is_name, is_between}
@@ -8,9 +8,10 @@ use Rattle.tb_node.specs.declared.Margin.{Margin}
 unfoldable pub use Rattle.tb_param.specs.Ranges.{are_params}
 use Rattle.tb_param.specs.Defaults.{default_params}
 use Rattle.tb_param.specs.Fields.{value_of}
-use Rattle.tb_param.specs.Table.{is_within, is_dimen, is_glue, is_known_in}
+use Rattle.tb_param.specs.Table.{is_within, is_dimen, is_glue, is_rule, is_known_in}
 use Rattle.tb_param.specs.declared.fields.Field.{Field}
 use Rattle.tb_param.specs.declared.Params.{Params}
+use Rattle.tb_param.specs.declared.Rule.{Rule}
 pub use Rattle.tb_galley.specs.Classes.{do_classes_rise}
 use Rattle.tb_galley.specs.Fields.{is_class_among}
 use Rattle.tb_galley.specs.declared.classes.ClassLine.{ClassLine}
@@ -61,6 +62,7 @@ is_item n (items.NoPageBreak k) = nat_le k 4
 is_item n items.OneColumn = true
 is_item n items.TwoColumn = true
 is_item n (items.Suppress area) = true
+is_item n (items.Page k) = nat_le k 1000000
 
 -- how many lines of items an item counts for
 abbrev pub weight_of : ItemKind → ℕ
@@ -102,10 +104,30 @@ rise_from n (m ∷ ms) = nat_lt n m && rise_from m ms
 abbrev pub is_class : ClassLine → Bool
 is_class c = nat_le c.number 253 && is_within (pos 0) (pos 10000) c.factor && is_size c.limit && is_glue c.skip
 
+-- a class may stand below footnotes from version 3 on, with a rule in its range
+abbrev pub may_stand : ℕ → Option (Option Rule) → Bool
+may_stand version None = true
+may_stand version (Some r) = nat_le 3 version && is_rule r
+
+-- each class may stand where it does
+abbrev pub do_all_stand : ℕ → List ClassLine → Bool
+do_all_stand version cs = list_all (λ c. may_stand version c.below) cs
+
 -- the class of a footnote is 254 or one of these; other items have none
 abbrev pub has_known_class : List ℕ → ItemKind → Bool
 has_known_class ks (items.Foot class ls) = is_class_among ks class
 has_known_class ks _ = true
+
+-- both hold or neither does
+abbrev pub is_both : Bool → Bool → Bool
+is_both true b = b
+is_both false b = not b
+
+-- `nobreak` is there from version 3 on, and a double float has a depth from then on
+abbrev pub fits_kind : ℕ → ItemKind → Bool
+fits_kind version (items.Float f vert) = is_both f.deep (f.wide && (version == 3)) && (not f.nobreak || (version == 3))
+fits_kind version (items.Margin m vert) = not m.nobreak || (version == 3)
+fits_kind version _ = true
 
 -- a version of the galley
 abbrev pub is_version : ℕ → Bool
@@ -116,17 +138,25 @@ abbrev pub fits_version : ℕ → List ClassLine → Bool
 fits_version version [] = is_version version
 fits_version version (c ∷ cs) = (version == 2) || (version == 3)
 
+-- a galley of version 3 alone sets the page number
+abbrev pub fits_word : ℕ → ItemKind → Bool
+fits_word version (items.Page k) = version == 3
+fits_word version _ = true
+
 -- each parameter that a galley of the version does not have has its default
 abbrev pub OthersDefault : ℕ → Params → Type 0
 OthersDefault version p = (field : Field) → is_known_in version field ≡ false → value_of field p ≡ value_of field default_params
 
--- all values are in their ranges, the version has what the galley has, the parameters that it does not have have their defaults, each footnote's class is declared, the items are not too many, and the lines rise
+-- all values are in their ranges, the version has what the galley has, the parameters that it does not have have their defaults, classes stand where they may, each footnote's class is declared, floats and notes are as the version has them, the items are not too many, and the lines rise
 pub record IsValid (g : Galley) : Type 0 where
   pub params : IsTrue (are_params g.params)
   pub others : OthersDefault g.version g.params
   pub version : IsTrue (fits_version g.version g.classes)
+  pub words : IsTrue (list_all (λ n. fits_word g.version n.kind) g.items)
   pub classes : IsTrue (list_all is_class g.classes && do_classes_rise g.classes)
+  pub standing : IsTrue (do_all_stand g.version g.classes)
   pub items : IsTrue (list_all (λ n. is_item n.line n.kind) g.items)
   pub feet : IsTrue (list_all (λ n. has_known_class (map (λ c. c.number) g.classes) n.kind) g.items)
+  pub kinds : IsTrue (list_all (λ n. fits_kind g.version n.kind) g.items)
   pub count : IsTrue (nat_le (weight g.items) 100000)
   pub lines : IsTrue (rise_from 0 (named_lines g.items ++ g.end_line ∷ []))

@@ -5,7 +5,7 @@ ghost use Rattle.tb_galley.specs.ReadBack.{ReadsBack};
 ghost use Rattle.tb_galley.specs.Valid.{IsValid};
 ghost use Rattle.tb_param.specs.TableRows.{row_seen};
 ghost use Rattle.tb_param.specs.Table.{is_known_in};
-ghost use Rattle.tb_galley.specs.CanonicalText.{unit_text, plus_text, minus_text, glue_text, choice_text, rule_text, value_text, set_lines, text_if, places_text, wide_text, box_text, leaf_text, leaf_lines, paragraph_text, header_text, class_text, class_lines, foot_text, float_text, margin_text, sides_text, pair_text, area_text, item_text, item_lines, printed};
+ghost use Rattle.tb_galley.specs.CanonicalText.{unit_text, plus_text, minus_text, glue_text, choice_text, rule_text, value_text, set_lines, text_if, places_text, wide_text, box_text, leaf_text, leaf_lines, paragraph_text, ending_text, header_text, below_text, class_amounts, class_text, class_lines, foot_text, float_text, margin_text, sides_text, pair_text, area_text, item_text, item_lines, printed};
 ghost use Rattle.tb_text.specs.Fields.{and_count, line};
 
 use crate::{ClassLine, Galley, Item, ItemKind, Leaf, LeafKind};
@@ -298,8 +298,14 @@ fn put_plain_pair(out: &mut Vec<u8>, height: u64, depth: u64) -> Result<(), Allo
 fn put_degree(out: &mut Vec<u8>, word: &[u8], degree: u8) -> Result<(), AllocError>
     ensures { OnOk result (out.new.items ≡ out.old.items ++ line (word.now ++ and_count degree)) }
 {
+    put_number(out, word, u32::from(degree))
+}
+
+fn put_number(out: &mut Vec<u8>, word: &[u8], number: u32) -> Result<(), AllocError>
+    ensures { OnOk result (out.new.items ≡ out.old.items ++ line (word.now ++ and_count number)) }
+{
     put(out, word)?;
-    put_count(out, u64::from(degree))?;
+    put_count(out, u64::from(number))?;
     put(out, b"\n")
 }
 
@@ -316,6 +322,14 @@ fn paragraph(vert: bool) -> &'static [u8]
     ensures { result.now ≡ paragraph_text vert }
 {
     if vert { b" vert" } else { b" par" }
+}
+
+// The last fields of a float and of a marginal note.
+fn put_ending(out: &mut Vec<u8>, vert: bool, nobreak: bool) -> Result<(), AllocError>
+    ensures { OnOk result (out.new.items ≡ out.old.items ++ ending_text vert nobreak) }
+{
+    put(out, paragraph(vert))?;
+    put_if(out, nobreak, b" nobreak")
 }
 
 fn area(area: Area) -> &'static [u8]
@@ -347,13 +361,30 @@ fn header(version: u8) -> &'static [u8]
     }
 }
 
-fn put_class(out: &mut Vec<u8>, class: &ClassLine) -> Result<(), AllocError>
-    ensures { OnOk result (out.new.items ≡ out.old.items ++ class_text class.now) }
+fn put_below(out: &mut Vec<u8>, below: Option<Option<Rule>>) -> Result<(), AllocError>
+    ensures { OnOk result (out.new.items ≡ out.old.items ++ below_text below) }
+{
+    let Some(rule) = below else {
+        return Ok(());
+    };
+    put(out, b" below")?;
+    put_rule(out, rule)
+}
+
+fn put_class_amounts(out: &mut Vec<u8>, class: &ClassLine) -> Result<(), AllocError>
+    ensures { OnOk result (out.new.items ≡ out.old.items ++ class_amounts class.now) }
 {
     put(out, b"class")?;
     put_count(out, u64::from(class.number))?;
     put_amount(out, class.factor)?;
-    put_amount(out, class.limit)?;
+    put_amount(out, class.limit)
+}
+
+fn put_class(out: &mut Vec<u8>, class: &ClassLine) -> Result<(), AllocError>
+    ensures { OnOk result (out.new.items ≡ out.old.items ++ class_text class.now) }
+{
+    put_class_amounts(out, class)?;
+    put_below(out, class.below)?;
     put_glue(out, &class.skip)
 }
 
@@ -436,12 +467,12 @@ fn put_item(out: &mut Vec<u8>, version: u8, item: &ItemKind) -> Result<(), Alloc
         }
         ItemKind::Float { float, vert } => {
             put_float(out, float)?;
-            put(out, paragraph(*vert))?;
+            put_ending(out, *vert, float.nobreak)?;
             put(out, b"\n")
         }
         ItemKind::Margin { margin, vert } => {
             put_margin(out, margin)?;
-            put(out, paragraph(*vert))?;
+            put_ending(out, *vert, margin.nobreak)?;
             put(out, b"\n")
         }
         ItemKind::NewPage => put(out, b"newpage\n"),
@@ -451,6 +482,7 @@ fn put_item(out: &mut Vec<u8>, version: u8, item: &ItemKind) -> Result<(), Alloc
         ItemKind::OneColumn => put(out, b"onecolumn\n"),
         ItemKind::TwoColumn => put(out, b"twocolumn\n"),
         ItemKind::Suppress(kept) => put_line(out, b"suppressfloats", area(*kept)),
+        ItemKind::Page(number) => put_number(out, b"page", *number),
     }
 }
 

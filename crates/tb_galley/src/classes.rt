@@ -3,9 +3,10 @@
 use crate::vectors::push_at;
 use std::alloc::{AllocError, Global};
 use std::marker::Model;
+use tb_param::Rule;
 use tb_scaled::Glue;
 
-/// A class of insertions that a galley of version 2 declares.
+/// A class of insertions that a galley declares, from version 2 on.
 #[derive(Clone, Copy)]
 pub struct ClassLine {
     /// The number of its line, from 1.
@@ -16,6 +17,8 @@ pub struct ClassLine {
     pub factor: i64,
     /// The greatest height of its insertions on a page, in sp; from 0 to 1073741823.
     pub limit: i64,
+    /// Whether its insertions stand below the footnotes, and under which rule, if there is one; from version 3 on.
+    pub below: Option<Option<Rule>>,
     /// The glue above its insertions.
     pub skip: Glue,
 }

@@ -1,6 +1,6 @@
 //! What a content line says.
 ghost use Rattle.tb_galley.specs.GalleyReader.{known_in};
-ghost use Rattle.tb_galley.specs.FieldReader.{left_of, Gives, float_left, margin_left, area_left, value_left, set_left, class_left, foot_left, content_left};
+ghost use Rattle.tb_galley.specs.FieldReader.{left_of, Gives, nobreak_left, float_left, margin_left, area_left, value_left, set_left, class_left, foot_left, content_left};
 
 use crate::draft::Draft;
 use crate::fields::{At, Fields};
@@ -29,9 +29,20 @@ pub enum Content {
     End,
 }
 
+// Whether `nobreak` is there, which may be from version 3 on.
+#[tactic(auto, unfolding(crate::specs::FieldReader::nobreak_left))]
+fn nobreak(version: u8, fields: &mut Fields<'_>) -> Result<bool, At>
+    ensures { Gives result (left_of fields.new) (nobreak_left version (left_of fields.old)) }
+{
+    if version != 3 || fields.is_at_end() {
+        return Ok(false);
+    }
+    fields.word(b"nobreak", Cause::UnknownWord)
+}
+
 #[tactic(auto, unfolding(crate::specs::FieldReader::float_left))]
-fn float(line: u32, fields: &mut Fields<'_>) -> Result<(Float, bool), At>
-    ensures { Gives result (left_of fields.new) (float_left line (left_of fields.old)) }
+fn float(version: u8, line: u32, fields: &mut Fields<'_>) -> Result<(Float, bool), At>
+    ensures { Gives result (left_of fields.new) (float_left version line (left_of fields.old)) }
 {
     let name = fields.name()?;
     let class = fields.integer_within(1, 26, Cause::Class)?;
@@ -39,6 +50,7 @@ fn float(line: u32, fields: &mut Fields<'_>) -> Result<(Float, bool), At>
     let (places, bang) = fields.places()?;
     let height = fields.dimension_from(0, Cause::Dimension)?;
     let vert = fields.choice(b"par", b"vert", Cause::UnknownWord)?;
+    let nobreak = nobreak(version, fields)?;
     Ok((
         Float {
             line,
@@ -48,19 +60,22 @@ fn float(line: u32, fields: &mut Fields<'_>) -> Result<(Float, bool), At>
             places,
             bang,
             height,
+            deep: wide && version == 3,
+            nobreak,
         },
         vert,
     ))
 }
 
 #[tactic(auto, unfolding(crate::specs::FieldReader::margin_left))]
-fn margin(line: u32, fields: &mut Fields<'_>) -> Result<(Margin, bool), At>
-    ensures { Gives result (left_of fields.new) (margin_left line (left_of fields.old)) }
+fn margin(version: u8, line: u32, fields: &mut Fields<'_>) -> Result<(Margin, bool), At>
+    ensures { Gives result (left_of fields.new) (margin_left version line (left_of fields.old)) }
 {
     let (name, left_height, left_depth) = fields.sized()?;
     let right_height = fields.dimension_from(0, Cause::Dimension)?;
     let right_depth = fields.dimension_from(0, Cause::Dimension)?;
     let vert = fields.choice(b"par", b"vert", Cause::UnknownWord)?;
+    let nobreak = nobreak(version, fields)?;
     Ok((
         Margin {
             line,
@@ -69,6 +84,7 @@ fn margin(line: u32, fields: &mut Fields<'_>) -> Result<(Margin, bool), At>
             left_depth,
             right_height,
             right_depth,
+            nobreak,
         },
         vert,
     ))
@@ -139,18 +155,20 @@ pub(crate) fn set(version: u8, fields: &mut Fields<'_>) -> Result<Content, At>
 }
 
 #[tactic(auto, unfolding(crate::specs::FieldReader::class_left))]
-fn class(line: u32, fields: &mut Fields<'_>) -> Result<ClassLine, At>
-    ensures { Gives result (left_of fields.new) (class_left line (left_of fields.old)) }
+fn class(version: u8, line: u32, fields: &mut Fields<'_>) -> Result<ClassLine, At>
+    ensures { Gives result (left_of fields.new) (class_left version line (left_of fields.old)) }
 {
     let number = fields.integer_within(0, 253, Cause::Class)?;
     let factor = fields.integer_within(0, 10_000, Cause::Parameter)?;
     let limit = fields.dimension_from(0, Cause::Dimension)?;
+    let below = fields.below(version)?;
     let skip = fields.glue(Cause::UnknownWord)?;
     Ok(ClassLine {
         line,
         number: number as u8,
         factor,
         limit,
+        below,
         skip,
     })
 }
@@ -180,7 +198,7 @@ pub(crate) fn read_content(
             version: fields.version()?,
         }),
         Word::Setting => set(draft.version, fields),
-        Word::Class => Ok(Content::Class(class(line, fields)?)),
+        Word::Class => Ok(Content::Class(class(draft.version, line, fields)?)),
         Word::Hbox => {
             let (name, height, depth) = fields.sized()?;
             Ok(Content::Plain(LeafKind::Hbox {
@@ -210,11 +228,11 @@ pub(crate) fn read_content(
         }),
         Word::Endfoot => Ok(Content::Endfoot),
         Word::Float => {
-            let (float, vert) = float(line, fields)?;
+            let (float, vert) = float(draft.version, line, fields)?;
             Ok(Content::Item(ItemKind::Float { float, vert }))
         }
         Word::Margin => {
-            let (margin, vert) = margin(line, fields)?;
+            let (margin, vert) = margin(draft.version, line, fields)?;
             Ok(Content::Item(ItemKind::Margin { margin, vert }))
         }
         Word::Newpage => Ok(Content::Item(ItemKind::NewPage)),
@@ -230,6 +248,10 @@ pub(crate) fn read_content(
         Word::Onecolumn => Ok(Content::Item(ItemKind::OneColumn)),
         Word::Twocolumn => Ok(Content::Item(ItemKind::TwoColumn)),
         Word::Suppressfloats => Ok(Content::Item(ItemKind::Suppress(area(fields)?))),
+        Word::Page => {
+            let number = fields.integer_within(0, 1_000_000, Cause::Parameter)?;
+            Ok(Content::Item(ItemKind::Page(number as u32)))
+        }
         Word::End => Ok(Content::End),
     }
 }

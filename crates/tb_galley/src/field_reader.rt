@@ -5,7 +5,7 @@ ghost use Rattle.tb_galley.specs.Faults.{is_printable};
 ghost use Rattle.tb_galley.specs.Fields.{text_cause, are_places, is_place_byte, is_foot_class, class_slot};
 ghost use Rattle.tb_galley.specs.Words.{number_in};
 ghost use Rattle.tb_galley.specs.Grammar.{has_byte, places_at};
-ghost use Rattle.tb_galley.specs.FieldReader.{left_of, Gives, GivesBy, next_left, end_left, field_read, dimension_left, stretch_left, least_left, range_left, stretch_part, shrink_part, glue_left, next_is_by, is_end, fraction_left, choice_left, version_left, places_left, sized_left, name_left};
+ghost use Rattle.tb_galley.specs.FieldReader.{left_of, Gives, GivesBy, next_left, end_left, field_read, dimension_left, stretch_left, least_left, range_left, stretch_part, shrink_part, glue_left, next_is_by, is_end, fraction_left, choice_left, word_left, version_left, places_left, sized_left, name_left};
 ghost use Rattle.tb_text.specs.Lines.{begins_with};
 
 use crate::fields::{At, Fields};
@@ -355,6 +355,23 @@ impl<'a> Fields<'a> {
             Ok(true)
         } else if field == first {
             Ok(false)
+        } else {
+            Err(At {
+                field: number,
+                cause,
+            })
+        }
+    }
+
+    /// This word: true, since any other is a fault.
+    #[tactic(auto, unfolding(crate::specs::FieldReader::word_left))]
+    pub fn word(&mut self, text: &[u8], cause: Cause) -> Result<bool, At>
+        ensures { Gives result (left_of self.new) (word_left text.now cause (left_of self.old)) }
+    {
+        let number = self.number;
+        let field = self.next()?;
+        if field == text {
+            Ok(true)
         } else {
             Err(At {
                 field: number,

@@ -59,6 +59,14 @@ pub(crate) fn after_none(line: &[u8]) -> Option<&[u8]>
     after_word(b"none", line)
 }
 
+/// What follows the first field of a line, if that is `below`.
+pub(crate) fn after_below(line: &[u8]) -> Option<&[u8]>
+    ensures fields { MatchOption result (next_is_by (codes "below") (fields_of line.now) ≡ false) (λ r. fields_of line.now ≡ codes "below" ∷ fields_of r.now) }
+    ensures shorter { MatchOption result (0 ≤ length line.now) (λ r. length r.now < length line.now) }
+{
+    after_word(b"below", line)
+}
+
 /// Whether a line begins with a space.
 pub(crate) fn begins_with_space(line: &[u8]) -> bool
     ensures { result ≡ begins_with 32 line.now }

@@ -172,7 +172,7 @@ fn finds_the_first_fault(rt: HostRuntime) -> Result<(), Fail> {
 // Each cause that version 2 adds, and what version 1 says of the same.
 #[test]
 fn finds_faults_of_versions(rt: HostRuntime) -> Result<(), Fail> {
-    let rows: [(&[u8], u32, u32, &[u8]); 54] = [
+    let rows: [(&[u8], u32, u32, &[u8]); 59] = [
         (b"galley 2\nend", 0, 0, b"none"),
         (b"galley 02\nend", 1, 2, b"NoHeader"),
         (b"galley 2 x", 1, 3, b"ExtraField"),
@@ -245,6 +245,12 @@ fn finds_faults_of_versions(rt: HostRuntime) -> Result<(), Fail> {
         ),
         (b"galley 1\nset release", 2, 2, b"UnknownParameter"),
         (b"galley 1\nset release 2013 x", 2, 2, b"UnknownParameter"),
+        // the page number
+        (b"galley 3\npage 0\npage 1000000\nend", 0, 0, b"none"),
+        (b"galley 3\npage 1000001", 2, 2, b"Parameter"),
+        (b"galley 3\npage -1", 2, 2, b"Parameter"),
+        (b"galley 2\npage 1", 2, 1, b"UnknownWord"),
+        (b"galley 3\nfoot\npage 1", 3, 1, b"NotInFoot"),
     ];
     for (text, line, field, cause) in rows {
         assert!(rt; first_fault(rt.alloc(), text) == (line, field, cause));
@@ -349,7 +355,7 @@ fn canonical(alloc: Global, text: &[u8]) -> Result<Vec<u8>, Fail> {
 
 #[test]
 fn prints_the_canonical_text(rt: HostRuntime) -> Result<(), Fail> {
-    let rows: [(&[u8], &[u8], &[u8]); 10] = [
+    let rows: [(&[u8], &[u8], &[u8]); 11] = [
         (b"galley 1\nend", b"galley 1\n", b"end\n"),
         (b"galley 2\nend", b"galley 2\n", b"set release 2015\nend\n"),
         (
@@ -361,6 +367,11 @@ fn prints_the_canonical_text(rt: HostRuntime) -> Result<(), Fail> {
             b"galley 3\nend",
             b"galley 3\n",
             b"set release 2015\nset texttop 0 plus 0 minus 0\nset textbottom 0 plus 0 minus 0\nset footrule -196608 26214 170394\nset toprule none\nset bottomrule none\nset dblrule none\nset footdepth keep\nset footfill 0 plus 0 minus 0\nset footplace above\nend\n",
+        ),
+        (
+            b"galley 3\npage 07\npage 1000000\nend",
+            b"galley 3\n",
+            b"set release 2015\nset texttop 0 plus 0 minus 0\nset textbottom 0 plus 0 minus 0\nset footrule -196608 26214 170394\nset toprule none\nset bottomrule none\nset dblrule none\nset footdepth keep\nset footfill 0 plus 0 minus 0\nset footplace above\npage 7\npage 1000000\nend\n",
         ),
         (
             b"galley 3\nset footplace below\nset footfill 0 plus 1fil\nset footdepth drop\nset dblrule 1pt 0 -1\nset toprule 1 2 3\nset toprule none\nset footrule +0 1pt -2\nset texttop 1\nclass 3 1000 1 0\nfoot\nendfoot\nend",

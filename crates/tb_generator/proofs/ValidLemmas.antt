@@ -14,7 +14,7 @@ use Rattle.tb_param.specs.declared.fields.Field.TheVariants as fields
 use Rattle.tb_galley.specs.declared.Item.{Item}
 use Rattle.tb_galley.specs.declared.ItemKind.{ItemKind}
 use Rattle.tb_galley.specs.declared.ItemKind.TheVariants as items
-use Rattle.tb_galley.specs.Valid.{is_item, is_size, weight_of, weight, lines_of_item, named_lines, rise_from, has_known_class, OthersDefault, IsValid}
+use Rattle.tb_galley.specs.Valid.{is_item, is_size, weight_of, weight, lines_of_item, named_lines, rise_from, has_known_class, fits_word, fits_kind, OthersDefault, IsValid}
 use Rattle.tb_generator.specs.GeneratedGalleys.{next_seed, made_box, made_foot, made_float, made_by, made_item, made_items, made_params, generated, tbp, htp}
 use Rattle.tb_generator.proofs.NameLemmas.{named}
 
@@ -42,6 +42,8 @@ itself n = grind (arith, nat_tests)
 record IsMade (k : ℕ) (i : ItemKind) : Type 0 where
   good : is_item k i ≡ true
   known : has_known_class [] i ≡ true
+  fits : fits_word 1 i ≡ true
+  kind : fits_kind 1 i ≡ true
   light : weight_of i + 2 * (k % 2) ≤ 3
   rises : (j : ℕ) (rest : List ℕ) → j < k → ((i : ℕ) → i ≤ k → rise_from i rest ≡ true) → rise_from j (lines_of_item k i ++ rest) ≡ true
 
@@ -55,18 +57,22 @@ box_made : (k : ℕ) → k ≤ 40000 → IsMade k (made_box k)
 box_made k few = record {
   good = and_from _ _ (and_from _ _ (named 98 k refl few) refl) refl;
   known = refl;
+  fits = refl;
+  kind = refl;
   light = omega arith;
   rises = λ j rest low later. one-line j k rest low later;
 }
 
 module _ (k : ℕ) (few : k ≤ 40000) (even : k % 2 ≡ 0) where
   glue_made : IsMade k (items.Skip (glue_points 3 1 0))
-  glue_made = record { good = refl; known = refl; light = omega arith; rises = λ j rest low later. no-line j k rest low later }
+  glue_made = record { good = refl; known = refl; fits = refl; kind = refl; light = omega arith; rises = λ j rest low later. no-line j k rest low later }
 
   foot_made : IsMade k (made_foot k)
   foot_made = record {
     good = and_from _ _ (and_from _ _ (and_from _ _ (named 102 k refl few) refl) refl) refl;
     known = refl;
+    fits = refl;
+    kind = refl;
     light = omega arith;
     rises = λ j rest low later. one-line j k rest low later;
   }
@@ -75,6 +81,8 @@ module _ (k : ℕ) (few : k ≤ 40000) (even : k % 2 ≡ 0) where
   float_made class places height c p low = record {
     good = and_from _ _ (itself k) (and_from _ _ (and_from _ _ (and_from _ _ (named 120 k refl few) c) p) (small height low));
     known = refl;
+    fits = refl;
+    kind = refl;
     light = omega arith;
     rises = λ j rest lower later. one-line j k rest lower later;
   }
@@ -105,6 +113,14 @@ feet_known : (m k s : ℕ) → k + m ≤ 40001 → list_all (λ (n : Item). has_
 feet_known zero k s few = refl
 feet_known (suc m) k s few = and_from _ _ (made k (next_seed s) (omega arith)).known (feet_known m (k + 1) (next_seed s) (omega arith))
 
+words_known : (m k s : ℕ) → k + m ≤ 40001 → list_all (λ (n : Item). fits_word 1 n.kind) (made_items m k s) ≡ true
+words_known zero k s few = refl
+words_known (suc m) k s few = and_from _ _ (made k (next_seed s) (omega arith)).fits (words_known m (k + 1) (next_seed s) (omega arith))
+
+kinds_fit : (m k s : ℕ) → k + m ≤ 40001 → list_all (λ (n : Item). fits_kind 1 n.kind) (made_items m k s) ≡ true
+kinds_fit zero k s few = refl
+kinds_fit (suc m) k s few = and_from _ _ (made k (next_seed s) (omega arith)).kind (kinds_fit m (k + 1) (next_seed s) (omega arith))
+
 items_light : (m k s : ℕ) → k + m ≤ 40001 → weight (made_items m k s) + k % 2 ≤ 2 * m + 1
 items_light zero k s few = omega arith
 items_light (suc m) k s few =
@@ -127,9 +143,12 @@ generated_valid n few = record {
   params = params_valid;
   others = others_default;
   version = refl;
+  words = words_known n 1 n (omega arith);
   classes = refl;
+  standing = refl;
   items = items_good n 1 n (omega arith);
   feet = feet_known n 1 n (omega arith);
+  kinds = kinds_fit n 1 n (omega arith);
   count = let light = items_light n 1 n (omega arith) in fits (weight (made_items n 1 n)) (omega (arith, light));
   lines = subst (λ z. rise_from 0 (named_lines (made_items n 1 n) ++ z ∷ []) ≡ true) last (items_rise n 1 n 0 (omega arith) (omega arith));
 }

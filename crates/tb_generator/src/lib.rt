@@ -284,6 +284,8 @@ fn made_float(k: u32, class: u8, places: Places, height: u32) -> ItemKind
         places,
         bang: false,
         height: i64::from(height) * POINT,
+        deep: false,
+        nobreak: false,
     };
     ItemKind::Float {
         float,

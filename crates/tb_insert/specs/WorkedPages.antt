@@ -1,5 +1,5 @@
 -- The worked pages of the tests.
-use Rattle.std.specs.Prelude.{◌≡◌, ℕ, ℤ, pos, List, [], ◌∷◌, map, take, Some}
+use Rattle.std.specs.Prelude.{◌≡◌, ℕ, ℤ, pos, List, [], ◌∷◌, map, take, Some, None}
 use Rattle.std.specs.FinMap.{get}
 use Rattle.tb_scaled.specs.declared.Order.TheVariants.{Normal}
 use Rattle.tb_scaled.specs.Scaled.{max_dimen}
@@ -37,11 +37,11 @@ single_node = worked_box (pos 600000) ∷ []
 
 -- class 254: at most 500000 sp go on a page, under a skip of 12000 plus 3000 minus 2000
 abbrev pub footnotes : Class
-footnotes = record { number = 254; factor = pos 1000; limit = pos 500000; skip = record { width = pos 12000; stretch = pos 3000; order = Normal; shrink = pos 2000 } }
+footnotes = record { number = 254; factor = pos 1000; limit = pos 500000; below = None; skip = record { width = pos 12000; stretch = pos 3000; order = Normal; shrink = pos 2000 } }
 
 -- class 253: a half of each height counts
 abbrev pub figures : Class
-figures = record { number = 253; factor = pos 500; limit = max_dimen; skip = fixed_glue (pos 0) }
+figures = record { number = 253; factor = pos 500; limit = max_dimen; below = None; skip = fixed_glue (pos 0) }
 
 -- both classes; the second has 40000 sp in its box
 abbrev pub worked_classes : List ClassBox

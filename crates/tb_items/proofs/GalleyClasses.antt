@@ -1,5 +1,5 @@
 -- The classes of a valid galley: their numbers rise, and their amounts fit.
-use Rattle.std.proofs.Common.{◌≡◌, refl, ap, ℕ, ◌<◌, ◌≤◌, ℤ, pos, Bool, true, false, ◌&&◌, ◌||◌, ◌==◌, nat_lt, nat_le, List, [], ◌∷◌, ◌++◌, map, arith}
+use Rattle.std.proofs.Common.{◌≡◌, refl, ap, ℕ, ◌<◌, ◌≤◌, ℤ, pos, Bool, true, false, ◌&&◌, ◌||◌, ◌==◌, nat_lt, nat_le, List, [], ◌∷◌, ◌++◌, map, arith, Option, Some, None, unwrap_or}
 use Rattle.std.specs.Cmp.{first_so, second_so}
 use Rattle.std.specs.Prelude.{IsTrue}
 use Rattle.std.specs.List.{list_all}
@@ -8,13 +8,16 @@ use Rattle.std.proofs.lemmas.Bool.Decides.{nat_tests}
 use Rattle.std.proofs.lemmas.Bool.{ltb-true}
 use Rattle.tb_scaled.specs.Amount.{IsAmount}
 use Rattle.tb_param.specs.declared.Params.{Params}
-use Rattle.tb_param.specs.Table.{is_within, is_dimen, is_glue}
+use Rattle.tb_param.specs.declared.Rule.{Rule}
+use Rattle.tb_param.specs.Table.{is_within, is_dimen, is_glue, is_rule}
 use Rattle.tb_insert.specs.declared.Class.{Class}
 use Rattle.tb_insert.specs.Arrival.{ClassFits}
 use Rattle.tb_builder.specs.Ownership.{has_class, ClassesFit}
+use Rattle.tb_column.specs.Ranges.{IsSizedRule}
+use Rattle.tb_column.proofs.RangeLemmas.{rule-sized}
 use Rattle.tb_galley.specs.declared.ClassLine.{ClassLine}
 use Rattle.tb_galley.specs.declared.Galley.{Galley}
-use Rattle.tb_galley.specs.Valid.{is_class, is_size, do_classes_rise, IsValid}
+use Rattle.tb_galley.specs.Valid.{is_class, is_size, do_classes_rise, IsValid, may_stand}
 use Rattle.tb_items.specs.Classes.{foot_class, class_of, classes_of}
 
 -- ---- the numbers rise
@@ -106,3 +109,8 @@ module _ (p : Params) (foot : ClassFits (foot_class p)) where
 pub classes-fit : (g : Galley) → IsValid g → ClassFits (foot_class g.params) → ClassesFit (classes_of g)
 classes-fit g v foot =
     lines-fit g.params foot g.classes (first_so (list_all is_class g.classes) (do_classes_rise g.classes) v.classes) (second_so (list_all is_class g.classes) (do_classes_rise g.classes) v.classes)
+
+-- the rule of a class that stands below footnotes has its amounts in their ranges
+pub standing-rule : (version : ℕ) (b : Option (Option Rule)) → IsTrue (may_stand version b) → IsSizedRule (unwrap_or b None)
+standing-rule version None h = tt
+standing-rule version (Some r) h = rule-sized r (second_so (nat_le 3 version) (is_rule r) h)

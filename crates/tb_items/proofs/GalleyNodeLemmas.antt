@@ -4,6 +4,7 @@ use Rattle.std.specs.Cmp.{first_so, second_so}
 use Rattle.std.specs.Prelude.{All, IsTrue, ◌&&◌, ◌||◌, ◌==◌, if◌then◌else◌}
 use Rattle.std.specs.List.{list_all, AllByRecursion}
 use Rattle.std.proofs.lemmas.Int.{ints}
+use Rattle.std.proofs.lemmas.Bool.Decides.{nat_tests}
 use Rattle.std.proofs.lemmas.List.{length-map}
 use Rattle.std.proofs.lemmas.List.Elements.{All-nil, All-head, All-tail, All-append, All-from_recursion}
 use Rattle.tb_scaled.specs.Glue.{filling_glue}
@@ -102,6 +103,7 @@ module _ (cs : List Class) where
     item-are two l (items.NoPageBreak n) v i = let s = strength-served n in ((s.sized, tt, s.high), tt)
     item-are two l items.OneColumn v i = clear-then (act (acts.Columns false) ∷ []) ((tt, tt, tt), tt)
     item-are two l items.TwoColumn v i = clear-then (act (acts.Columns true) ∷ []) ((tt, tt, tt), tt)
+    item-are two l (items.Page n) v i = let small : n ≤ 1000000 = grind (arith, nat_tests, v) in ((tt, tt, small), tt)
     item-are two l k v i = ((tt, tt, tt), tt)
 
     items-are : (two : Bool) (ns : List Item) → IsTrue (list_all (λ (n : Item). is_item n.line n.kind) ns) → AreItems cs ns → All (IsGalleyNode cs) (item_nodes p two ns)

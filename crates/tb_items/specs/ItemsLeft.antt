@@ -71,6 +71,7 @@ ends_batch (items.NoPageBreak n) = true
 ends_batch items.OneColumn = true
 ends_batch items.TwoColumn = true
 ends_batch (items.Suppress area) = false
+ends_batch (items.Page n) = false
 
 -- the last of the items is such an item
 abbrev pub are_ended : List Item → Bool

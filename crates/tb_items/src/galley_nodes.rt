@@ -134,6 +134,7 @@ pub fn put_item(
         ItemKind::OneColumn => put_columns(store, builder, line, false),
         ItemKind::TwoColumn => put_columns(store, builder, line, true),
         ItemKind::Suppress(area) => put_suppressing(store, builder, line, *area),
+        ItemKind::Page(number) => put_page_number(store, builder, line, *number),
     }
 }
 
@@ -400,6 +401,20 @@ fn put_suppressing(
     ensures { OnOk result (Waits (lone line (Kind.Act (Act.Suppress area)) ∷ []) builder.old store.old builder.new store.new) }
 {
     put_act(store, builder, line, Act::Suppress(area))
+}
+
+// The page number is set.
+#[inline(never)]
+fn put_page_number(
+    store: &mut Lists<Node>,
+    builder: &mut Builder,
+    line: u32,
+    number: u32,
+) -> Result<(), AllocError>
+    requires can { CanTake builder.old store.old }
+    ensures { OnOk result (Waits (lone line (Kind.Act (Act.Page number)) ∷ []) builder.old store.old builder.new store.new) }
+{
+    put_act(store, builder, line, Act::Page(number))
 }
 
 // The act of a float or a marginal note, and the two firings that place it: at the first the page so far is held, and the

@@ -48,7 +48,7 @@ fn ends_batch(kind: &ItemKind) -> bool
 {
     !matches!(
         kind,
-        ItemKind::Kern(_) | ItemKind::Float { .. } | ItemKind::Suppress(_)
+        ItemKind::Kern(_) | ItemKind::Float { .. } | ItemKind::Suppress(_) | ItemKind::Page(_)
     )
 }
 

@@ -7,7 +7,7 @@ use Rattle.tb_galley.specs.declared.ItemKind.{ItemKind}
 use Rattle.tb_galley.specs.declared.ItemKind.TheVariants as items
 use Rattle.tb_galley.specs.declared.Galley.{Galley}
 use Rattle.tb_galley.specs.GalleyNodes.{two_after}
-use Rattle.tb_galley.specs.Valid.{IsValid, is_item, has_known_class, weight, lines_of_item, named_lines, rise_from}
+use Rattle.tb_galley.specs.Valid.{IsValid, is_item, has_known_class, fits_kind, weight, lines_of_item, named_lines, rise_from, fits_word}
 use Rattle.tb_report.specs.declared.Totals.{Totals}
 use Rattle.tb_steps.specs.Run.{Run, run_of}
 use Rattle.tb_plans.specs.Plans.{break_before, broken, with_breaks}
@@ -69,9 +69,12 @@ plans-are-valid g plan v few = record {
   params = v.params;
   others = v.others;
   version = v.version;
+  words = subst IsTrue (sym (all-broken (λ n. fits_word g.version n.kind) (λ n. refl) 0 g.items plan)) v.words;
   classes = v.classes;
+  standing = v.standing;
   items = subst IsTrue (sym (all-broken (λ n. is_item n.line n.kind) (λ n. refl) 0 g.items plan)) v.items;
   feet = subst IsTrue (sym (all-broken (λ n. has_known_class (map (λ c. c.number) g.classes) n.kind) (λ n. refl) 0 g.items plan)) v.feet;
+  kinds = subst IsTrue (sym (all-broken (λ n. fits_kind g.version n.kind) (λ n. refl) 0 g.items plan)) v.kinds;
   count = few;
   lines = subst (λ l. IsTrue (rise_from 0 (l ++ g.end_line ∷ []))) (sym (named-broken 0 g.items plan)) v.lines;
 }

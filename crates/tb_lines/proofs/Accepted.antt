@@ -43,7 +43,7 @@ use Rattle.tb_lines.specs.Accepted.{IsAccepted}
 use Rattle.tb_lines.specs.ValidText.{IsValidItem, IsValidParagraph, IsValidText}
 use Rattle.tb_lines.proofs.LeastOf.{solutions_least}
 use Rattle.tb_lines.proofs.ValidTexts.{reading_valid}
-use Rattle.tb_lines.proofs.GalleyLines.{items_of, text_of_items, paragraphs_items, paragraphs_text_is, IsPlain, all_good, all_known, plain_weight, plain_length, IsSmallSize, AreSmallLines, paragraphs_plain}
+use Rattle.tb_lines.proofs.GalleyLines.{items_of, text_of_items, paragraphs_items, paragraphs_text_is, IsPlain, all_good, all_known, all_kinds, all_words, plain_weight, plain_length, IsSmallSize, AreSmallLines, paragraphs_plain}
 
 -- ---- a text of plain items
 
@@ -74,7 +74,7 @@ bare_read ks plain few =
     let is = items_of ks in
     let w : weight is ≡ length ks = plain_weight ks plain in
     let inner : Runs (item_state 1 among_sets 0 default_params 1 [] 0 []) (item_texts 1 is) (item_state (1 + weight is) (phase_past_items among_sets is) (0 + weight is) default_params 1 [] 0 (numbered_items 2 is)) =
-    items_run 1 among_sets 0 default_params 1 [] 0 [] is no_classes refl (omega arith) (all_good ks plain) (all_known ks plain) in
+    items_run 1 among_sets 0 default_params 1 [] 0 [] is no_classes refl (omega arith) (all_good ks plain) (all_known ks plain) (all_kinds ks plain) (all_words ks plain) in
     let last : Runs (item_state (1 + weight is) (phase_past_items among_sets is) (0 + weight is) default_params 1 [] 0 (numbered_items 2 is)) (codes "end" ∷ []) (item_state (1 + weight is + 1) ended (0 + weight is) default_params 1 [] (1 + weight is + 1) (numbered_items 2 is)) =
     end_runs (1 + weight is) (phase_past_items among_sets is) (0 + weight is) default_params 0 (numbered_items 2 is) (still_takes is) in
     let runs : Runs start (bare_lines ks) (item_state (1 + weight is + 1) ended (0 + weight is) default_params 1 [] (1 + weight is + 1) (numbered_items 2 is)) =

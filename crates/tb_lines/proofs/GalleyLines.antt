@@ -16,7 +16,7 @@ use Rattle.tb_param.specs.Table.{is_dimen}
 use Rattle.tb_galley.specs.declared.Item.{Item}
 use Rattle.tb_galley.specs.declared.ItemKind.{ItemKind}
 use Rattle.tb_galley.specs.declared.ItemKind.TheVariants as items
-use Rattle.tb_galley.specs.Valid.{is_size, is_item, weight_of, weight, has_known_class}
+use Rattle.tb_galley.specs.Valid.{is_size, is_item, weight_of, weight, has_known_class, fits_kind, fits_word}
 use Rattle.tb_galley.proofs.FieldTexts.{tail_text, tail_length, length-tail_text}
 use Rattle.tb_galley.proofs.SlotTexts.{dimen_length}
 use Rattle.tb_galley.proofs.PrintRuns.{kind_lines, item_texts}
@@ -139,6 +139,8 @@ paragraphs_text_is ps above (p ∷ pars) (s ∷ ss) =
 pub record IsPlain (k : ItemKind) : Type 0 where
   pub good : is_item 0 k ≡ true
   pub known : has_known_class [] k ≡ true
+  pub kind : fits_kind 1 k ≡ true
+  pub word : fits_word 1 k ≡ true
   pub one : weight_of k ≡ 1
   pub short : length (text_of_items (k ∷ [])) ≤ 100
 
@@ -156,6 +158,8 @@ unfolding kind_lines
 glue_plain w h = record {
   good = and_from (is_dimen (pos w) && true) true (and_from (is_dimen (pos w)) true (within w h) refl) refl;
   known = refl;
+  kind = refl;
+  word = refl;
   one = refl;
   short =
       let l : length (signed_decimal (pos w)) ≤ 11 = dimen_length (pos w) h in
@@ -168,6 +172,8 @@ unfolding kind_lines
 penalty_plain p h = record {
   good = grind (arith, nat_tests, ints);
   known = refl;
+  kind = refl;
+  word = refl;
   one = refl;
   short = let l : length (signed_decimal (pos p)) ≤ 11 = dimen_length (pos p) (omega arith) in one_length (items.Penalty (pos p)) (codes "penalty") (signed_decimal (pos p) ∷ []) 100 refl (omega arith);
 }
@@ -211,6 +217,8 @@ box_plain name k s named few high deep = record {
       and_from (is_name (name ++ codes "." ++ decimal k) && is_size (pos s.height)) (is_size (pos s.depth))
       (and_from (is_name (name ++ codes "." ++ decimal k)) (is_size (pos s.height)) (line_name name k named few) (size_within s.height high)) (size_within s.depth deep);
   known = refl;
+  kind = refl;
+  word = refl;
   one = refl;
   short =
       let n = name_length name k named few in
@@ -228,6 +236,14 @@ all_good (k ∷ ks) h = and_from (is_item 0 k) (list_all (λ (i : Item). is_item
 pub all_known : (ks : List ItemKind) → AllByRecursion IsPlain ks → list_all (λ (i : Item). has_known_class [] i.kind) (items_of ks) ≡ true
 all_known [] h = refl
 all_known (k ∷ ks) h = and_from (has_known_class [] k) (list_all (λ (i : Item). has_known_class [] i.kind) (items_of ks)) h.0.known (all_known ks h.1)
+
+pub all_kinds : (ks : List ItemKind) → AllByRecursion IsPlain ks → list_all (λ (i : Item). fits_kind 1 i.kind) (items_of ks) ≡ true
+all_kinds [] h = refl
+all_kinds (k ∷ ks) h = and_from (fits_kind 1 k) (list_all (λ (i : Item). fits_kind 1 i.kind) (items_of ks)) h.0.kind (all_kinds ks h.1)
+
+pub all_words : (ks : List ItemKind) → AllByRecursion IsPlain ks → list_all (λ (i : Item). fits_word 1 i.kind) (items_of ks) ≡ true
+all_words [] h = refl
+all_words (k ∷ ks) h = and_from (fits_word 1 k) (list_all (λ (i : Item). fits_word 1 i.kind) (items_of ks)) h.0.word (all_words ks h.1)
 
 pub plain_weight : (ks : List ItemKind) → AllByRecursion IsPlain ks → weight (items_of ks) ≡ length ks
 plain_weight [] h = refl

@@ -104,6 +104,7 @@ fn acts_of(kind: &ItemKind) -> u64
         ItemKind::OneColumn => 1,
         ItemKind::TwoColumn => 1,
         ItemKind::Suppress(_) => 1,
+        ItemKind::Page(_) => 1,
         _ => 0,
     }
 }

@@ -94,12 +94,14 @@ fn makeup_classes(alloc: Global, p: &Params) -> Result<Vec<Class>, AllocError>
         number: TOP_FLOATS,
         factor: 1000,
         limit: MAX_DIMEN,
+        below: None,
         skip: fixed(0),
     })?;
     classes.push(Class {
         number: FOOTNOTES,
         factor: 1000,
         limit: p.footlimit,
+        below: None,
         skip: p.skipfootins,
     })?;
     Ok(classes)

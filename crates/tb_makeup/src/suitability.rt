@@ -7,7 +7,7 @@ use tb_galley::{Galley, Item, ItemKind};
 use tb_node::FOOTNOTES;
 
 /// The line of the first item that the page makeup does not serve, if there is one: a marginal note, a change of columns, a
-/// suppressed area, or an insertion of another class than that of footnotes.
+/// suppressed area, a page number, or an insertion of another class than that of footnotes.
 pub fn first_unsuited(galley: &Galley) -> Option<u32>
     ensures { result ≡ first_unsuited galley.now }
 {
@@ -35,6 +35,7 @@ fn is_suited(kind: &ItemKind) -> bool
         ItemKind::OneColumn => false,
         ItemKind::TwoColumn => false,
         ItemKind::Suppress(_) => false,
+        ItemKind::Page(_) => false,
         _ => true,
     }
 }

@@ -20,7 +20,7 @@ use tb_scaled::Glue;
 /// A name of 1 to 63 bytes: letters, digits, `.`, `_` and `-`, the first a letter or a digit.
 #[derive(Clone, Copy)]
 pub struct Name {
-    len: usize,
+    len: u8,
     // The bytes past the name's end are 0.
     bytes: [u8; 63],
 }
@@ -48,7 +48,7 @@ impl Name {
     pub fn as_bytes(&self) -> &[u8]
         ensures { result.now ≡ self.now }
     {
-        &self.bytes[..self.len]
+        &self.bytes[..usize::from(self.len)]
     }
 }
 
@@ -180,8 +180,13 @@ pub struct Float {
     pub places: Places,
     /// Whether it overrides the limits of the areas.
     pub bang: bool,
-    /// Its height; its depth is 0.
+    /// Its height.
     pub height: i64,
+    /// Whether its box has a depth of 1 sp, as that of a double float has from version 3 of the galley on; else its depth
+    /// is 0 (ltfloat.dtx, \@endfloatbox).
+    pub deep: bool,
+    /// Whether no page may end at the place where it came, as below a heading (ltoutput.dtx, \@specialoutput).
+    pub nobreak: bool,
 }
 
 /// A marginal note as the galley gives it: one box for each side.
@@ -199,6 +204,8 @@ pub struct Margin {
     pub right_height: i64,
     /// The depth of the right box.
     pub right_depth: i64,
+    /// Whether no page may end at the place where it came, as below a heading (ltoutput.dtx, \@specialoutput).
+    pub nobreak: bool,
 }
 
 /// What the output routine does when the page builder reaches it.
@@ -215,6 +222,8 @@ pub enum Act {
         /// Whether there are two.
         two: bool,
     },
+    /// Sets the page number, which is at most 1000000.
+    Page(u32),
 }
 
 /// The kinds of node.

@@ -16,7 +16,7 @@ pub fn name_of(bytes: &[u8]) -> Option<Name>
     let mut name = [0; 63];
     name[..bytes.len()].copy_from_slice(bytes);
     Some(Name {
-        len: bytes.len(),
+        len: bytes.len() as u8,
         bytes: name,
     })
 }

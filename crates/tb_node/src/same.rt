@@ -28,6 +28,8 @@ impl Float {
             && self.class == other.class
             && self.wide == other.wide
             && self.bang == other.bang
+            && self.deep == other.deep
+            && self.nobreak == other.nobreak
             && same_places(self.places, other.places)
             && self.name.is_same(&other.name)
     }
@@ -43,6 +45,7 @@ impl Margin {
             && self.left_depth == other.left_depth
             && self.right_height == other.right_height
             && self.right_depth == other.right_depth
+            && self.nobreak == other.nobreak
             && self.name.is_same(&other.name)
     }
 }
@@ -57,6 +60,7 @@ impl Act {
             (Act::TakeMargin(a), Act::TakeMargin(b)) => a.is_same(b),
             (Act::Suppress(a), Act::Suppress(b)) => same_areas(*a, *b),
             (Act::Columns { two: a }, Act::Columns { two: b }) => *a == *b,
+            (Act::Page(a), Act::Page(b)) => *a == *b,
             _ => false,
         }
     }

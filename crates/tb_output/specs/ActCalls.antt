@@ -1,5 +1,5 @@
 -- What the machine does at an act, against the definition of an act.
-use Rattle.std.specs.Prelude.{◌≡◌, ◌≤◌, ◌<◌, ◌+◌, ℕ, ℤ, Bool, true, false, ◌&&◌, List, [], ◌∷◌, ◌++◌, map, Option, None, if◌then◌else◌}
+use Rattle.std.specs.Prelude.{◌≡◌, ◌≤◌, ◌<◌, ◌+◌, ℕ, ℤ, Bool, true, false, not, ◌&&◌, List, [], ◌∷◌, ◌++◌, map, Option, None, if◌then◌else◌}
 use Rattle.tb_scaled.specs.Scaled.{min_ℤ}
 use Rattle.tb_pool.specs.Lists.{Lists}
 use Rattle.tb_node.specs.declared.Act.{Act}
@@ -49,6 +49,7 @@ abbrev pub line_of : Act → ℕ
 line_of (acts.Take f) = f.line
 line_of (acts.TakeMargin m) = m.line
 line_of (acts.Suppress area) = 0
+line_of (acts.Page n) = 0
 line_of (acts.Columns two) = 0
 
 -- the list of a first column that waits, if the act changes the columns
@@ -56,6 +57,7 @@ abbrev pub dropped_lists : Act → Option Column → List ℕ
 dropped_lists (acts.Take f) left = []
 dropped_lists (acts.TakeMargin m) left = []
 dropped_lists (acts.Suppress area) left = []
+dropped_lists (acts.Page n) left = []
 dropped_lists (acts.Columns two) left = left_lists left
 
 -- a list that is not the machine's before is not its afterwards
@@ -64,9 +66,9 @@ TakesNoList m now = (q : ℕ) → IsNoneOf q (machine_lists m) → IsNoneOf q (m
 
 -- ---- the machine after each act
 
--- a float as it is taken if a page is this high
-abbrev pub clipped : ℤ → Bool → Float → Float
-clipped height two f = record f { height = min_ℤ f.height height; wide = f.wide && two }
+-- a float as it is taken in one column or two
+abbrev pub clipped : Params → Bool → Float → Float
+clipped p two f = record f { height = min_ℤ f.height p.textheight; wide = f.wide && two; deep = f.deep && two && not (has_second p) }
 
 -- a float that was taken is in the pool, without a mark
 abbrev pub taken_into : Params → Float → FloatPool → FloatPool
@@ -78,7 +80,7 @@ taken_into p f v = record v {
 -- a float was taken, with a warning if it is higher than a page
 abbrev pub with_float : Float → MachineView → MachineView
 with_float f m = record m {
-  pool = taken_into m.params (clipped m.params.textheight m.two_columns f) m.pool;
+  pool = taken_into m.params (clipped m.params m.two_columns f) m.pool;
   events = m.events ++ warnings_sent (large_warning m.params f);
 }
 
@@ -93,6 +95,10 @@ with_suppressed area m = record m { suppress = suppressed m.suppress area }
 -- the columns changed, and a first column that waited is dropped
 abbrev pub with_columns : Bool → MachineView → MachineView
 with_columns two m = record m { two_columns = two; first_column = true; left_column = None; suppress = no_suppress }
+
+-- the next page has this number
+abbrev pub with_page_number : ℕ → MachineView → MachineView
+with_page_number n m = record m { number = n }
 
 -- the pool had room for this many boxes, and the machine is the next one; if no float was chosen, none is
 pub record HasTaken (boxes : ℕ) (m next now : MachineView) : Type 0 where

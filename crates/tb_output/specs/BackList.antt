@@ -51,6 +51,10 @@ interline_by n (Some g) = made_node (kinds.Skip (negated_glue g)) ∷ made_node 
 abbrev pub interline_list : ℤ → List Node → List Node
 interline_list n ns = interline_by n (last_glue ns)
 
+-- the same; where no page may end, a penalty of 10000 alone
+abbrev pub between_list : ℤ → Bool → List Node → List Node
+between_list n nobreak ns = if nobreak then made_node (kinds.Pen (pos 10000)) ∷ [] else interline_list n ns
+
 -- a float in the text, from between paragraphs or within one
 abbrev pub here_list : Params → Bool → Float → List Node
 here_list p vert f =

@@ -1,5 +1,5 @@
 -- The output routine's machine as contracts see it.
-use Rattle.std.specs.Prelude.{◌≡◌, ◌≤◌, ℕ, suc, ℤ, pos, ◌≤ℤ◌, nat_abs, Bool, true, false, List, [], ◌∷◌, ◌++◌, map, Option, Some, None, IsSome}
+use Rattle.std.specs.Prelude.{◌≡◌, ◌≤◌, ◌+◌, ℕ, suc, ℤ, pos, ◌≤ℤ◌, nat_abs, Bool, true, false, List, [], ◌∷◌, ◌++◌, map, Option, Some, None, unwrap_or, IsSome}
 use Rattle.std.specs.List.{AllByRecursion}
 use Rattle.tb_pool.specs.Lists.{Lists, list_at}
 use Rattle.tb_node.specs.declared.Node.{Node}
@@ -22,7 +22,7 @@ use Rattle.tb_column.specs.StoredColumns.{column_shown}
 use Rattle.tb_sheet.specs.StoredSheets.{sent_shown, sent_lists, IsPageSent}
 use Rattle.tb_column.specs.Notes.{AreDistinct}
 use Rattle.tb_column.specs.Page.{IsPageList, IsPageColumn}
-use Rattle.tb_column.specs.Ranges.{IsSizedGlue, AreColumnParams}
+use Rattle.tb_column.specs.Ranges.{IsSizedGlue, IsSizedRule, AreColumnParams}
 use Rattle.tb_output.specs.declared.RunFault.{RunFault}
 use Rattle.tb_output.specs.State.{State, no_suppress}
 
@@ -32,6 +32,7 @@ pub record MachineView : Type 0 where
   pub classes : List Class
   pub goal : ℤ
   pub page : ℕ
+  pub number : ℕ
   pub dead_cycles : ℕ
   pub held_page : ℕ
   pub held_room : ℤ
@@ -51,6 +52,7 @@ first_view p cs held_page = record {
   classes = cs;
   goal = p.textheight;
   page = 1;
+  number = 1;
   dead_cycles = 0;
   held_page = held_page;
   held_room = pos 0;
@@ -84,6 +86,7 @@ state_shown store boxes waiting m = record {
   first_column = m.first_column;
   left_column = left_shown store m.left_column;
   page = m.page;
+  number = m.number;
   dead_cycles = m.dead_cycles;
   note_bottom = m.note_bottom;
   suppress = m.suppress;
@@ -146,12 +149,12 @@ pub record AreOutputParams (p : Params) : Type 0 where
   pub maxpages : IsLimit p.maxpages
   pub pool : IsPoolSize p.pool
 
--- the numbers of the classes rise strictly from this one on, and the amounts of their glue are dimensions
+-- the numbers of the classes rise strictly from this one on, and the amounts of their glue and their rules are dimensions
 abbrev pub AreClassesFrom : ℕ → List Class → Type 0
 AreClassesFrom k [] = Unit {0}
-AreClassesFrom k (c ∷ cs) = (k ≤ c.number) × IsSizedGlue c.skip × AreClassesFrom (suc c.number) cs
+AreClassesFrom k (c ∷ cs) = (k ≤ c.number) × IsSizedGlue c.skip × AreClassesFrom (suc c.number) cs × IsSizedRule (unwrap_or c.below None)
 
--- the parameters, the classes and the page's number are in their ranges, the pool is as large as the parameters say and chooses no float,
+-- the parameters, the classes, the count of pages and the page number are in their ranges, the pool is as large as the parameters say and chooses no float,
 -- a second column has a first one, the room of the held page is known, and the machine's lists may be on pages, no two of them the same
 pub record IsMachine (m : MachineView) (store : Lists Node) : Type 0 where
   pub params : AreOutputParams m.params
@@ -159,6 +162,7 @@ pub record IsMachine (m : MachineView) (store : Lists Node) : Type 0 where
   pub goal : IsGoal m.goal
   pub first : 1 ≤ m.page
   pub last : m.page ≤ 4194305
+  pub numbered : m.number ≤ m.page + 1000000
   pub pool : pos m.pool.size ≡ m.params.pool
   pub unmarked : HasNoMarks m.pool
   pub left : m.first_column ≡ false → IsSome m.left_column

@@ -47,7 +47,7 @@ is_crowded p room = int_lt room (p.baselineskip +ℤ int_div p.baselineskip (pos
 -- the column is left blank; if it is a second one, so is the one after it
 abbrev pub leave_column : Work → Work
 leave_column w =
-    puts (if w.state.two_columns && not w.state.first_column then blank_column ++ blank_column else blank_column) (sends (warned (warnings.Floats w.state.page)) w)
+    puts (if w.state.two_columns && not w.state.first_column then blank_column ++ blank_column else blank_column) (sends (warned (warnings.Floats w.state.number)) w)
 
 -- the goal is the room of the column, unless that is too little; then the column stays blank, and the goal as it was
 abbrev pub goal_by : Params → ℤ → Work → Work

@@ -20,7 +20,7 @@ with_warning w m = record m { events = m.events ++ events.Warn w ∷ [] }
 
 -- the machine after this page was shipped
 abbrev pub shipped_machine : Sheet → MachineView → MachineView
-shipped_machine sheet m = record m { events = m.events ++ events.Ship m.page sheet ∷ []; page = m.page + 1; dead_cycles = 0 }
+shipped_machine sheet m = record m { events = m.events ++ events.Ship m.number sheet ∷ []; page = m.page + 1; number = m.number + 1; dead_cycles = 0 }
 
 -- fewer than `maxpages` pages were shipped before, and this one was shipped
 pub record HasShipped (sheet : Sheet) (m now : MachineView) : Type 0 where

@@ -14,7 +14,7 @@ use Rattle.tb_output.specs.FloatMoves.{place_double}
 -- a page is shipped, below the page limit
 abbrev pub ship_now : PlainSheet → Work → Work
 ship_now sheet w =
-    sends (shipped w.state.page sheet) (record w { state = record w.state { page = w.state.page + 1; dead_cycles = 0 } })
+    sends (shipped w.state.number sheet) (record w { state = record w.state { page = w.state.page + 1; number = w.state.number + 1; dead_cycles = 0 } })
 
 -- a page is shipped, or the page limit is met
 abbrev pub ship : Params → PlainSheet → Work → Work

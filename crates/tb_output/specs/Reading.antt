@@ -21,6 +21,7 @@ use Rattle.tb_output.specs.Firing.{state_in, fired_in}
 abbrev pub standing_of : MachineView → Standing
 standing_of m = record {
   page = m.page;
+  number = m.number;
   two_columns = m.two_columns;
   first_column = m.first_column;
   suppress = m.suppress;

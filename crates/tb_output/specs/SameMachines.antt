@@ -13,6 +13,7 @@ pub record ShowSame (s : Lists Node) (m : MachineView) (t : Lists Node) (n : Mac
   pub two_columns : m.two_columns ≡ n.two_columns
   pub first_column : m.first_column ≡ n.first_column
   pub page : m.page ≡ n.page
+  pub number : m.number ≡ n.number
   pub dead_cycles : m.dead_cycles ≡ n.dead_cycles
   pub note_bottom : m.note_bottom ≡ n.note_bottom
   pub suppress : m.suppress ≡ n.suppress

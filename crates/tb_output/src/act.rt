@@ -1,7 +1,7 @@
-//! What the routine does at an act: a float or a marginal note is taken, floats are kept out of an area, or the columns
-//! change (LaTeX, \@xfloat, \marginpar, \suppressfloats and \twocolumn).
+//! What the routine does at an act: a float or a marginal note is taken, floats are kept out of an area, the columns
+//! change, or the page number is set (LaTeX, \@xfloat, \marginpar, \suppressfloats and \twocolumn).
 
-ghost use Rattle.std.specs.Prelude.{◌≡◌, ◌<◌, ◌&&◌, pos, List, OnOk, OnErr, IfErr, IsErr, option_to_list};
+ghost use Rattle.std.specs.Prelude.{◌≡◌, ◌<◌, ◌&&◌, not, pos, List, OnOk, OnErr, IfErr, IsErr, option_to_list};
 ghost use Rattle.tb_pool.specs.Lists.{Lists as ListMap};
 ghost use Rattle.tb_node.specs.declared.Node.{Node as NodeValue};
 ghost use Rattle.tb_node.specs.PlainNodes.{PlainNode};
@@ -16,7 +16,7 @@ ghost use Rattle.tb_output.specs.Act.{full, large_warning, suppressed};
 ghost use Rattle.tb_sheet.specs.ApartLists.{AreNoneOf};
 ghost use Rattle.tb_output.specs.Machine.{AreOutputParams, IsMachine, machine_lists};
 ghost use Rattle.tb_sheet.specs.Asked.{IsSizedAct};
-ghost use Rattle.tb_output.specs.ActCalls.{IsActed, acted_in, line_of, TakesNoList, dropped_lists, HasTaken, HasNoRoom, clipped, taken_into, with_float, with_note, with_suppressed, with_columns};
+ghost use Rattle.tb_output.specs.ActCalls.{IsActed, acted_in, line_of, TakesNoList, dropped_lists, HasTaken, HasNoRoom, clipped, taken_into, with_float, with_note, with_suppressed, with_columns, with_page_number};
 
 use crate::Machine;
 use crate::state::no_suppress;
@@ -61,6 +61,10 @@ impl Machine {
                 self.begin_columns(two);
                 Ok(())
             }
+            Act::Page(number) => {
+                self.set_number(number);
+                Ok(())
+            }
         }
     }
 
@@ -84,7 +88,7 @@ impl Machine {
         ensures err { IfErr result (λ e. HasNoRoom 1 e.live self.old self.new) }
     {
         let warning = large(&f, &self.params);
-        let taken = clipped(&f, self.params.textheight, self.two_columns);
+        let taken = clipped(&f, &self.params, self.two_columns);
         take_into(&mut self.pool, &self.params, taken)?;
         self.events.warn(warning);
         Ok(())
@@ -105,6 +109,13 @@ impl Machine {
         ensures { self.new ≡ with_suppressed area self.old }
     {
         self.suppress = suppressed(self.suppress, area);
+    }
+
+    // The next page has this number.
+    fn set_number(&mut self, number: u32)
+        ensures { self.new ≡ with_page_number number self.old }
+    {
+        self.number = u64::from(number);
     }
 
     // Begins one column or two, and drops a first column that waits.
@@ -160,18 +171,26 @@ fn large(f: &Float, p: &Params) -> Option<Warn>
     })
 }
 
-// A float as it is taken: no higher than a page, and single in one column.
-fn clipped(f: &Float, textheight: i64, two_columns: bool) -> Float
+// A float as it is taken: no higher than a page, and single in one column; only a double float of release 2015 has a depth.
+fn clipped(f: &Float, p: &Params, two_columns: bool) -> Float
     requires float { IsExtent f.now.height }
-    requires page { IsExtent textheight }
-    ensures value { result ≡ clipped textheight two_columns f.now }
+    requires page { IsExtent p.now.textheight }
+    ensures value { result ≡ clipped p.now two_columns f.now }
     ensures extent { IsExtent result.height }
 {
     Float {
-        height: lesser(f.height, textheight),
+        height: lesser(f.height, p.textheight),
         wide: f.wide && two_columns,
+        deep: keeps_depth(f.deep, two_columns, p.has_second()),
         ..*f
     }
+}
+
+// Whether a float that may have a depth has one: in two columns, if the release has no second list.
+fn keeps_depth(deep: bool, two_columns: bool, second: bool) -> bool
+    ensures { result ≡ (deep && two_columns && not second) }
+{
+    deep && two_columns && !second
 }
 
 fn lesser(a: i64, b: i64) -> i64

@@ -1,17 +1,18 @@
 //! What is put at the end of the list that goes back.
 
-ghost use Rattle.std.specs.Prelude.{◌≡◌, ◌≤◌, ◌+◌, ◌++◌, take, if◌then◌else◌, OnOk, OnErr};
+ghost use Rattle.std.specs.Prelude.{◌≡◌, ◌≤◌, ◌+◌, ◌++◌, ◌∷◌, [], pos, take, if◌then◌else◌, OnOk, OnErr};
 ghost use Rattle.std.specs.FinMap.{remove};
 ghost use Rattle.tb_pool.specs.Lists.{IsLive, list_at, with_list};
 ghost use Rattle.tb_node.specs.Fit.{IsSizedNode};
 ghost use Rattle.std.specs.Prelude.{All};
-ghost use Rattle.tb_output.specs.BackList.{clear_list, blank_clear_list, blank_list, interline_list, last_glue, glue_of_kind};
+ghost use Rattle.tb_column.specs.FloatColumns.{made_node};
+ghost use Rattle.tb_output.specs.BackList.{clear_list, blank_clear_list, blank_list, interline_list, between_list, last_glue, glue_of_kind};
 
 use std::alloc::AllocError;
 use tb_column::push_made;
 use tb_node::{CLEAR_PENALTY, Kind, Node, What};
 use tb_pool::{ListId, Lists};
-use tb_scaled::{EJECT_PENALTY, Glue, filling_glue, negate};
+use tb_scaled::{EJECT_PENALTY, Glue, INF_PENALTY, filling_glue, negate};
 
 /// An empty box of no size.
 const BLANK_BOX: Kind = Kind::Hbox {
@@ -121,13 +122,9 @@ fn last_glue(store: &Lists<Node>, l: ListId) -> Option<Glue>
     }
 }
 
-/// Puts a penalty at the end of a list; after glue it acts as if before that glue. If there is no memory, all lists are
-/// as before (ltoutput.dtx, \@addtocurcol and \vadjust).
-pub(crate) fn push_interline(
-    store: &mut Lists<Node>,
-    l: ListId,
-    penalty: i64,
-) -> Result<(), AllocError>
+// Puts a penalty at the end of a list; after glue it acts as if before that glue. If there is no memory, all lists are
+// as before (ltoutput.dtx, \@addtocurcol and \vadjust).
+fn push_interline(store: &mut Lists<Node>, l: ListId, penalty: i64) -> Result<(), AllocError>
     requires live { IsLive store.old l }
     requires sized { All IsSizedNode (list_at store.old l) }
     ensures ok { OnOk result (store.new.lists ≡ with_list store.old l (list_at store.old l ++ interline_list penalty (list_at store.old l))) }
@@ -143,6 +140,37 @@ pub(crate) fn push_interline(
         None => push_made(store, l, Kind::Pen(penalty)),
     }
     Ok(())
+}
+
+// Puts a penalty of 10000 at the end of a list. If there is no memory, all lists are as before.
+fn push_nobreak(store: &mut Lists<Node>, l: ListId) -> Result<(), AllocError>
+    requires live { IsLive store.old l }
+    ensures ok { OnOk result (store.new.lists ≡ with_list store.old l (list_at store.old l ++ made_node (Kind.Pen (pos 10000)) ∷ [])) }
+    ensures err { OnErr result (store.new.lists ≡ store.old.lists) }
+{
+    store.reserve(1)?;
+    push_made(store, l, Kind::Pen(INF_PENALTY));
+    Ok(())
+}
+
+/// Puts a penalty at the end of a list as [`push_interline`] does; where no page may end, one of 10000 alone. If there is
+/// no memory, all lists are as before (ltoutput.dtx, \@specialoutput).
+pub(crate) fn push_between(
+    store: &mut Lists<Node>,
+    l: ListId,
+    penalty: i64,
+    nobreak: bool,
+) -> Result<(), AllocError>
+    requires live { IsLive store.old l }
+    requires sized { All IsSizedNode (list_at store.old l) }
+    ensures ok { OnOk result (store.new.lists ≡ with_list store.old l (list_at store.old l ++ between_list penalty nobreak (list_at store.old l))) }
+    ensures err { OnErr result (store.new.lists ≡ store.old.lists) }
+{
+    if nobreak {
+        push_nobreak(store, l)
+    } else {
+        push_interline(store, l, penalty)
+    }
 }
 
 // The glue that a node is, if its width is not 0.

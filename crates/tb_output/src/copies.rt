@@ -20,6 +20,7 @@ impl Machine {
             classes,
             goal: self.goal,
             page: self.page,
+            number: self.number,
             dead_cycles: self.dead_cycles,
             held_page: self.held_page,
             held_room: self.held_room,

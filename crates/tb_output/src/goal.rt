@@ -107,10 +107,10 @@ impl Machine {
 
     // Warns that floats leave too little of the next page. If there is no memory, all is as before.
     fn warn_floats(&mut self) -> Result<(), AllocError>
-        ensures ok { OnOk result (self.new ≡ with_warning (Warn.Floats self.old.page) self.old) }
+        ensures ok { OnOk result (self.new ≡ with_warning (Warn.Floats self.old.number) self.old) }
         ensures err { OnErr result (self.new ≡ self.old) }
     {
-        let page = self.page;
+        let page = self.number;
         self.warn(Warn::Floats { page })
     }
 }

@@ -49,7 +49,7 @@ impl Machine {
         let at = place_note(
             m,
             &self.params,
-            self.page,
+            self.number,
             self.two_columns,
             self.first_column,
             size.height,
@@ -59,7 +59,7 @@ impl Machine {
         self.set_note_bottom(at.bottom);
         self.warn_moved(m.name, &at)?;
         push_note(store, m, &at, size.depth, back)?;
-        self.put_interline(store, back)
+        self.put_interline(store, m.nobreak, back)
     }
 
     // The two boxes of a marginal note leave the pool.

@@ -117,6 +117,7 @@ fn take_class(
     b.take_box(store, class.number, list);
     Ok(Some(NoteBox {
         class: class.number,
+        below: class.below,
         skip: class.skip,
         list,
     }))

@@ -1,6 +1,6 @@
 //! Pages are shipped: of one column, of two, or of wide floats.
 
-ghost use Rattle.std.specs.Prelude.{◌≡◌, ◌≤◌, pos, ◌+ℤ◌, ◌-ℤ◌, ◌==◌, if◌then◌else◌, ◌∷◌, [], false, Some, IsSome, OnOk, OnErr, IfOk, IfErr, IsTrue, MatchBool};
+ghost use Rattle.std.specs.Prelude.{◌≡◌, ◌≤◌, pos, ◌+◌, ◌+ℤ◌, ◌-ℤ◌, ◌==◌, if◌then◌else◌, ◌∷◌, [], false, Some, IsSome, OnOk, OnErr, IfOk, IfErr, IsTrue, MatchBool};
 ghost use Rattle.tb_scaled.specs.Amount.{IsAmount};
 ghost use Rattle.tb_pool.specs.Frame.{IsNoneOf};
 ghost use Rattle.tb_node.specs.PlainNodes.{plain_list};
@@ -14,7 +14,7 @@ ghost use Rattle.tb_column.specs.StoredColumns.{column_shown};
 ghost use Rattle.tb_column.specs.Page.{IsPageList, IsPageColumn};
 ghost use Rattle.tb_column.specs.Ranges.{IsSizedRule, AreColumnParams};
 ghost use Rattle.tb_column.specs.ColumnChanges.{IsOpened};
-ghost use Rattle.tb_sheet.specs.Sheet.{rule_room, pair_top};
+ghost use Rattle.tb_sheet.specs.Sheet.{rule_room, deep_count, pair_top};
 ghost use Rattle.tb_output.specs.Pages.{wide_wanted, all_wide_pages, ship_pair};
 ghost use Rattle.tb_output.specs.Machine.{machine_lists, AreOutputParams, IsMachine};
 ghost use Rattle.tb_output.specs.FiringWork.{shows, IsCutShort, Does};
@@ -26,9 +26,9 @@ use crate::state::pool_size;
 use crate::{Machine, RunFault};
 use std::alloc::AllocError;
 use tb_column::{Column, pair_tops};
-use tb_float::{Part, share_of};
+use tb_float::{Part, Pool, share_of};
 use tb_fpage::choose;
-use tb_node::Node;
+use tb_node::{Float, Node};
 use tb_param::{Params, Rule, exceeds};
 use tb_pool::{ListId, Lists};
 use tb_sheet::{Sent, Sheet};
@@ -56,14 +56,16 @@ fn rule_room(above: i64, height: i64, below: i64) -> i64
     above + height + below
 }
 
-// How far a rule of this room goes below what a column of this height leaves of a page.
-fn below_rule(page: i64, column: i64, room: i64) -> i64
+// How far a rule of this room goes below what a column of this height leaves of a page, if this many wide floats have a
+// depth of 1 sp.
+fn below_rule(page: i64, column: i64, room: i64, deep: usize) -> i64
     requires page { IsExtent page }
     requires column { IsWithin 35184372088832 column }
     requires room { IsWithin 4294967296 room }
-    ensures { result ≡ (page -ℤ column) +ℤ room }
+    requires few { deep ≤ 4096 }
+    ensures { result ≡ ((page -ℤ column) +ℤ room) +ℤ pos deep }
 {
-    page - column + room
+    page - column + room + deep as i64
 }
 
 // The rule under this many wide floats: none if there are none.
@@ -74,27 +76,51 @@ fn rule_under(doubles: usize, rule: Option<Rule>) -> Option<Rule>
     if doubles == 0 { None } else { rule }
 }
 
-// Where two columns of this height begin on a page of this one, below the rule under its wide floats.
-fn place_below(page: i64, column: i64, rule: Option<Rule>) -> i64
+// Where two columns of this height begin on a page of this one, below the rule under its wide floats, of which this many
+// have a depth.
+fn place_below(page: i64, column: i64, rule: Option<Rule>, deep: usize) -> i64
     requires page { IsExtent page }
     requires column { IsWithin 35184372088832 column }
     requires rule { IsSizedRule rule }
-    ensures { result ≡ (page -ℤ column) +ℤ rule_room rule }
+    requires few { deep ≤ 4096 }
+    ensures { result ≡ ((page -ℤ column) +ℤ rule_room rule) +ℤ pos deep }
 {
     match rule {
-        None => below_rule(page, column, 0),
+        None => below_rule(page, column, 0, deep),
         Some(rule) => {
             let room = rule_room(rule.above, rule.height, rule.below);
-            below_rule(page, column, room)
+            below_rule(page, column, room, deep)
         }
     }
 }
 
+// How many of the wide floats above two columns have a depth.
+fn deep_doubles(pool: &Pool) -> usize
+    ensures value { result ≡ deep_count pool.now.lists.double }
+    ensures few { result ≤ 4096 }
+{
+    let _few = pool.len(Part::Double);
+    let mut count = 0;
+    for entry in pool.entries(Part::Double) {
+        count = with_depth(count, entry.float());
+    }
+    count
+}
+
+// One more if the float has a depth.
+fn with_depth(count: usize, f: &Float) -> usize
+    requires { count ≤ 4096 }
+    ensures { result ≡ count + (if f.now.deep then 1 else 0) }
+{
+    if f.deep { count + 1 } else { count }
+}
+
 impl Machine {
-    /// Ships a page, unless `maxpages` allows no more.
+    /// Ships a page with its number, unless `maxpages` allows no more.
     pub(crate) fn ship(&mut self, sheet: Sheet) -> Result<(), RunFault>
         requires first { 1 ≤ self.old.page }
         requires last { self.old.page ≤ 4194305 }
+        requires numbered { self.old.number ≤ self.old.page + 1000000 }
         ensures ok { OnOk result (HasShipped sheet self.old self.new) }
         ensures err { IfErr result (λ e. HasNotShipped e self.old self.new) }
     {
@@ -104,10 +130,11 @@ impl Machine {
             });
         }
         self.events.push(Sent::Ship {
-            page: self.page,
+            page: self.number,
             sheet,
         })?;
         self.page += 1;
+        self.number += 1;
         self.dead_cycles = 0;
         Ok(())
     }
@@ -153,14 +180,16 @@ impl Machine {
         }
     }
 
-    // How far below the top of a page its two columns begin: below the wide floats, their rule and their glue.
+    // How far below the top of a page its two columns begin: below the wide floats with their depths, their rule and their
+    // glue.
     fn pair_place(&self) -> i64
         requires { AreColumnParams self.now.params }
         ensures { result ≡ pair_top self.now.params self.now.pool.lists }
     {
         let height = self.pool.column_height(&self.params);
         let rule = rule_under(self.pool.len(Part::Double), self.params.dblrule);
-        place_below(self.params.textheight, height, rule)
+        let deep = deep_doubles(&self.pool);
+        place_below(self.params.textheight, height, rule, deep)
     }
 
     // Puts the wide floats of a page into a list; they leave the pool. If there is no memory, all is as before.

@@ -32,8 +32,10 @@ use tb_scaled::{difference, sum};
 /// How the machine stands between two firings, apart from its floats.
 #[derive(Clone, Copy)]
 pub struct Standing {
-    /// The number of the page that is being made.
+    /// How many pages were shipped, and one.
     pub page: u64,
+    /// The number of the page that is being made.
+    pub number: u64,
     /// Whether there are two columns.
     pub two_columns: bool,
     /// Whether the first of two columns is being made; true in one column.
@@ -84,6 +86,7 @@ impl Machine {
     {
         Standing {
             page: self.page,
+            number: self.number,
             two_columns: self.two_columns,
             first_column: self.first_column,
             suppress: self.suppress,

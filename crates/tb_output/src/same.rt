@@ -34,9 +34,10 @@ impl Machine {
 
     // Whether the numbers of two machines are the same. They differ most often.
     fn numbers_same(&self, other: &Machine) -> bool
-        ensures { IsTrue result ↔ ((self.now.page ≡ other.now.page) × (self.now.dead_cycles ≡ other.now.dead_cycles) × (self.now.goal ≡ other.now.goal) × (self.now.note_bottom ≡ other.now.note_bottom)) }
+        ensures { IsTrue result ↔ ((self.now.page ≡ other.now.page) × (self.now.number ≡ other.now.number) × (self.now.dead_cycles ≡ other.now.dead_cycles) × (self.now.goal ≡ other.now.goal) × (self.now.note_bottom ≡ other.now.note_bottom)) }
     {
         self.page == other.page
+            && self.number == other.number
             && self.dead_cycles == other.dead_cycles
             && self.goal == other.goal
             && self.note_bottom == other.note_bottom

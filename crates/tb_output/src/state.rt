@@ -94,6 +94,7 @@ fn with_held_page(
         classes: known,
         goal: p.textheight,
         page: 1,
+        number: 1,
         dead_cycles: 0,
         held_page,
         held_room: 0,

@@ -19,12 +19,12 @@ ghost use Rattle.tb_output.specs.Firing.{IsReach};
 ghost use Rattle.tb_output.specs.FloatMoves.{joined_to};
 ghost use Rattle.tb_output.specs.FiringParts.{IsColumnPart, IsAreaPart, HasDeferred, place_of, without_first, first_placed, float_placed, float_decided};
 
-use crate::back_list::push_interline;
+use crate::back_list::push_between;
 use crate::texts::TextSize;
 use crate::{Machine, RunFault};
 use std::alloc::AllocError;
 use tb_area::add_current;
-use tb_column::push_made;
+use tb_column::{float_depth, push_made};
 use tb_float::{Entry, Part};
 use tb_node::{Float, Kind, Node, Places, What, Where};
 use tb_param::Params;
@@ -54,8 +54,8 @@ impl Machine {
         match self.first_current() {
             Some(Entry::Float(f)) => self.place_float(store, &f, vert, size.page, back),
             Some(Entry::Left(m)) => self.place_margin(store, &m, size, back),
-            Some(Entry::Right(_)) => self.put_interline(store, back),
-            None => self.put_interline(store, back),
+            Some(Entry::Right(_)) => self.put_interline(store, false, back),
+            None => self.put_interline(store, false, back),
         }
     }
 
@@ -70,19 +70,20 @@ impl Machine {
         }
     }
 
-    /// The interline penalty goes back.
+    /// The interline penalty goes back; where no page may end, one of 10000 alone.
     pub(crate) fn put_interline(
         &self,
         store: &mut Lists<Node>,
+        nobreak: bool,
         back: ListId,
     ) -> Result<(), RunFault>
         requires machine { IsMachine self.now store.old }
         requires back { IsBack back self.now store.old }
-        ensures ok { OnOk result (Does (shows_back back self.now store.old) (shows_back back self.now store.new) (puts_interline self.now.params)) }
-        ensures err { IfErr result (λ e. Does (shows_back back self.now store.old) (IsCutShort e self.now store.new) (puts_interline self.now.params)) }
+        ensures ok { OnOk result (Does (shows_back back self.now store.old) (shows_back back self.now store.new) (puts_interline self.now.params nobreak)) }
+        ensures err { IfErr result (λ e. Does (shows_back back self.now store.old) (IsCutShort e self.now store.new) (puts_interline self.now.params nobreak)) }
         ensures keeps { KeepsBack back [] self.now self.now store.old store.new }
     {
-        push_interline(store, back, self.params.interlinepenalty)?;
+        push_between(store, back, self.params.interlinepenalty, nobreak)?;
         Ok(())
     }
 
@@ -152,7 +153,7 @@ impl Machine {
         ensures keeps { KeepsBack back [] self.old self.new store.old store.new }
     {
         self.move_first(Part::Here);
-        self.put_interline(store, back)?;
+        self.put_interline(store, f.nobreak, back)?;
         push_here(store, &self.params, f, vert, back)?;
         Ok(())
     }
@@ -174,7 +175,7 @@ impl Machine {
         ensures keeps { KeepsBack back [] self.old self.new store.old store.new }
     {
         self.move_first(to);
-        self.put_interline(store, back)
+        self.put_interline(store, f.nobreak, back)
     }
 
     // The float waits. One that may go only into the text may go to the top from now on, with a warning.
@@ -187,7 +188,7 @@ impl Machine {
         ensures keeps { KeepsBack back [] self.old self.new store.old store.new }
     {
         self.defer_first(f)?;
-        self.put_interline(store, back)
+        self.put_interline(store, f.nobreak, back)
     }
 
     // The float joins those that wait. If there is no memory, all is as before.
@@ -264,7 +265,7 @@ fn penalty_kind(p: &Params) -> Kind
     Kind::Pen(p.interlinepenalty)
 }
 
-// The box of a float in the text; it has no depth.
+// The box of a float in the text.
 fn float_kind(f: &Float) -> Kind
     ensures { made_node result ≡ float_box Where.Here f.now }
 {
@@ -276,7 +277,7 @@ fn float_kind(f: &Float) -> Kind
             item: f.line,
         },
         height: f.height,
-        depth: 0,
+        depth: float_depth(f),
     }
 }
 

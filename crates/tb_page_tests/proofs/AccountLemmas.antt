@@ -1,5 +1,5 @@
 -- Worked pages with insertions of class 254: what the arrival of an insertion requires, and what holds after it.
-use Rattle.std.proofs.Common.{◌≡◌, refl, sym, subst, ◌∙◌, ap, ℕ, ◌<◌, ◌≤◌, ℤ, pos, Bool, true, false, List, [], ◌∷◌, ◌++◌, length, Some, is_some, unwrap_or, arith}
+use Rattle.std.proofs.Common.{◌≡◌, refl, sym, subst, ◌∙◌, ap, ℕ, ◌<◌, ◌≤◌, ℤ, pos, Bool, true, false, List, [], ◌∷◌, ◌++◌, length, Some, is_some, unwrap_or, arith, None}
 use Rattle.std.specs.Prelude.{◌==◌, ◌||◌, ◌≤ℤ◌, map, All}
 use Rattle.std.specs.FinMap.{get}
 use Rattle.std.proofs.lemmas.Bool.{true≢false, eqb-true}
@@ -35,7 +35,7 @@ use Rattle.tb_insert.proofs.TermLemmas.{skipped, sums-other, scan_plain, arrive_
 
 -- class 254 without a skip, and its number alone
 abbrev pub only_class : ℤ → Class
-only_class limit = record { number = 254; factor = pos 1000; limit = limit; skip = fixed_glue (pos 0) }
+only_class limit = record { number = 254; factor = pos 1000; limit = limit; below = None; skip = fixed_glue (pos 0) }
 
 abbrev pub only_classes : ℤ → List ClassBox
 only_classes limit = boxed (only_class limit) (pos 0) ∷ []

@@ -58,7 +58,7 @@ module _ (p : Params) (h : AreMakeupParams p) where
   top_sized : IsSizedClass top_class
   top_sized = record { factor = record { low = omega (arith, ints); high = omega (arith, ints) }; width = nothing; stretch = nothing; shrink = nothing }
 
-  foot_sized : IsSizedClass (record { number = 254; factor = pos 1000; limit = p.footlimit; skip = p.skipfootins })
+  foot_sized : IsSizedClass (record { number = 254; factor = pos 1000; limit = p.footlimit; below = None; skip = p.skipfootins })
   foot_sized = record { factor = record { low = omega (arith, ints); high = omega (arith, ints) }; width = h.skipfootins.width; stretch = h.skipfootins.stretch; shrink = h.skipfootins.shrink }
 
   pub classes_fit : ClassesFit (makeup_classes p)

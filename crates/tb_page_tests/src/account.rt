@@ -1,6 +1,6 @@
 //! The insertions of two worked pages, counted one by one. Heights are in sp.
 
-ghost use Rattle.std.specs.Prelude.{◌≡◌, pos};
+ghost use Rattle.std.specs.Prelude.{◌≡◌, pos, None};
 ghost use Rattle.tb_scaled.specs.Glue.{fixed_glue};
 ghost use Rattle.tb_insert.specs.WorkedPages.{worked_box, worked_glue};
 
@@ -34,12 +34,13 @@ pub(crate) fn no_glue() -> Node
 
 // Class 254: each height counts whole, and there is no skip.
 fn footnotes(limit: i64) -> Class
-    ensures { result ≡ record { number = 254; factor = pos 1000; limit = limit; skip = fixed_glue (pos 0) } }
+    ensures { result ≡ record { number = 254; factor = pos 1000; limit = limit; below = None; skip = fixed_glue (pos 0) } }
 {
     Class {
         number: 254,
         factor: 1000,
         limit,
+        below: None,
         skip: fixed(0),
     }
 }

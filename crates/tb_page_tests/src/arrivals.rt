@@ -56,6 +56,7 @@ fn footnotes() -> Class
         number: 254,
         factor: 1000,
         limit: 500000,
+        below: None,
         skip: Glue {
             width: 12000,
             stretch: 3000,
@@ -73,6 +74,7 @@ fn figures() -> Class
         number: 253,
         factor: 500,
         limit: 1073741823,
+        below: None,
         skip: fixed(0),
     }
 }

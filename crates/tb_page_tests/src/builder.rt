@@ -38,6 +38,7 @@ fn open(alloc: Global, limit: i64, goal: i64) -> Result<Paged, AllocError>
         number: 254,
         factor: 1000,
         limit,
+        below: None,
         skip: fixed(0),
     };
     let builder = new_builder(alloc, &mut store, &[class])?;

@@ -52,12 +52,14 @@ fn classes(p: &Params) -> [Class; 2]
             number: 253,
             factor: 1000,
             limit: MAX_DIMEN,
+            below: None,
             skip: fixed(0),
         },
         Class {
             number: 254,
             factor: 1000,
             limit: p.footlimit,
+            below: None,
             skip: p.skipfootins,
         },
     ]
@@ -210,6 +212,8 @@ fn float(height: i64) -> Result<Float, Fail>
         },
         bang: false,
         height,
+        deep: false,
+        nobreak: false,
     })
 }
 

@@ -131,6 +131,7 @@ put-weight : (v : Weight) (p : Params) (s : PageSums) (a : Act) → NoMargin v �
 put-weight v p s (acts.Take f) none = taken-weight v p s f
 put-weight v p s (acts.TakeMargin m) none = sym (none m.line)
 put-weight v p s (acts.Suppress area) none = refl
+put-weight v p s (acts.Page n) none = refl
 put-weight v p s (acts.Columns two) none = refl
 
 abbrev ActWeighs : Weight → AtAct → List PlainNode → Type 0

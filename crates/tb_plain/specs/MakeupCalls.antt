@@ -49,6 +49,7 @@ abbrev pub IsTake : Act → Type 0
 IsTake (acts.Take f) = IsExtent f.height
 IsTake (acts.TakeMargin m) = ⊥
 IsTake (acts.Suppress area) = ⊥
+IsTake (acts.Page n) = ⊥
 IsTake (acts.Columns two) = ⊥
 
 -- the builder can take a list before all that waits: the last event was not the try of a stop, its page does not end with a kern, and it has the

@@ -55,7 +55,7 @@ pub record MakeupState : Type 0 where
 
 -- the class of top floats and that of the footnotes
 abbrev pub makeup_classes : Params → List Class
-makeup_classes p = top_class ∷ record { number = 254; factor = pos 1000; limit = p.footlimit; skip = p.skipfootins } ∷ []
+makeup_classes p = top_class ∷ record { number = 254; factor = pos 1000; limit = p.footlimit; below = None; skip = p.skipfootins } ∷ []
 
 -- both boxes void
 abbrev pub void_boxes : List Boxed

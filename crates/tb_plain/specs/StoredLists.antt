@@ -1,5 +1,5 @@
 -- What the calls of the page makeup put into lists, as a store holds it.
-use Rattle.std.specs.Prelude.{◌≡◌, ◌≢◌, ℕ, ℤ, pos, negsuc, neg_ℤ, Bool, ◌&&◌, ◌||◌, List, [], ◌∷◌, ◌++◌, map, None, Some, int_le, int_lt, nat_lt, if◌then◌else◌}
+use Rattle.std.specs.Prelude.{◌≡◌, ◌≢◌, ℕ, ℤ, pos, negsuc, neg_ℤ, Bool, false, ◌&&◌, ◌||◌, List, [], ◌∷◌, ◌++◌, map, None, Some, int_le, int_lt, nat_lt, if◌then◌else◌}
 use Rattle.std.specs.FinMap.{get}
 use Rattle.tb_scaled.specs.Glue.{filling_glue}
 use Rattle.tb_scaled.specs.Scaled.{max_dimen}
@@ -39,17 +39,21 @@ nodes_at ways.Here p f = here_nodes p f
 nodes_at ways.Top p f = top_insertion (top_leaves p f) ∷ []
 nodes_at ways.Page p f = top_insertion (page_leaves p f) ∷ []
 
+-- a float without a depth: here each is as wide as a column
+abbrev pub flat : Float → Float
+flat f = record f { deep = false }
+
 -- a float in the text, between glue
 abbrev pub here_list : Params → Float → List Node
-here_list p f = made_node (kinds.Skip p.intextsep) ∷ float_box places.Here f ∷ made_node (kinds.Pen (negsuc 199)) ∷ made_node (kinds.Skip p.intextsep) ∷ []
+here_list p f = made_node (kinds.Skip p.intextsep) ∷ float_box places.Here (flat f) ∷ made_node (kinds.Pen (negsuc 199)) ∷ made_node (kinds.Skip p.intextsep) ∷ []
 
 -- a float at the top of a page, with glue below
 abbrev pub top_list : Params → Float → List Node
-top_list p f = made_node (kinds.Pen (pos 100)) ∷ float_box places.Top f ∷ made_node (kinds.Pen (pos 10000)) ∷ made_node (kinds.Skip p.intextsep) ∷ []
+top_list p f = made_node (kinds.Pen (pos 100)) ∷ float_box places.Top (flat f) ∷ made_node (kinds.Pen (pos 10000)) ∷ made_node (kinds.Skip p.intextsep) ∷ []
 
 -- a float that has a page of its own, as high as the text
 abbrev pub page_list : Params → Float → List Node
-page_list p f = made_node (kinds.Pen (pos 100)) ∷ float_box places.Page (record f { height = p.textheight }) ∷ []
+page_list p f = made_node (kinds.Pen (pos 100)) ∷ float_box places.Page (record f { height = p.textheight; deep = false }) ∷ []
 
 -- an insertion of the class of top floats, with the list of this id
 abbrev pub top_node : ℕ → ℤ → Node

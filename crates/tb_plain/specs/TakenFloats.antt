@@ -1,5 +1,5 @@
 -- A float is taken: it goes into the text, or becomes an insertion at the top of a page or a page of its own.
-use Rattle.std.specs.Prelude.{ℤ, pos, negsuc, ◌+ℤ◌, ◌-ℤ◌, ◌||◌, List, [], ◌∷◌, map, int_lt, if◌then◌else◌}
+use Rattle.std.specs.Prelude.{ℤ, pos, negsuc, ◌+ℤ◌, ◌-ℤ◌, ◌||◌, List, [], ◌∷◌, map, int_lt, if◌then◌else◌, None}
 use Rattle.tb_scaled.specs.Glue.{fixed_glue}
 use Rattle.tb_scaled.specs.Scaled.{max_dimen}
 use Rattle.tb_node.specs.declared.Act.{Act}
@@ -16,7 +16,7 @@ use Rattle.tb_builder.specs.declared.PageSums.{PageSums}
 
 -- the class of floats that go to the top of a page
 abbrev pub top_class : Class
-top_class = record { number = 253; factor = pos 1000; limit = max_dimen; skip = fixed_glue (pos 0) }
+top_class = record { number = 253; factor = pos 1000; limit = max_dimen; below = None; skip = fixed_glue (pos 0) }
 
 -- the box of a float at a place, of this height
 abbrev pub float_matter : Where → Float → ℤ → Matter
@@ -71,4 +71,5 @@ abbrev pub act_nodes : Params → PageSums → Act → List PlainNode
 act_nodes p s (acts.Take f) = taken_nodes p s f
 act_nodes p s (acts.TakeMargin m) = []
 act_nodes p s (acts.Suppress area) = []
+act_nodes p s (acts.Page n) = []
 act_nodes p s (acts.Columns two) = []

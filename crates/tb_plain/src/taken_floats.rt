@@ -143,8 +143,9 @@ fn push_here(store: &mut Lists<Node>, l: ListId, p: &Params, f: &Float)
     requires room { 4 ≤ store.old.spare }
     ensures lists { store.new.lists ≡ with_list store.old l (list_at store.old l ++ here_list p.now f.now) }
 {
+    let flat = Float { deep: false, ..*f };
     push_made(store, l, Kind::Skip(p.intextsep));
-    push_float(store, l, Where::Here, f);
+    push_float(store, l, Where::Here, &flat);
     push_made(store, l, Kind::Pen(-200));
     push_made(store, l, Kind::Skip(p.intextsep));
 }
@@ -219,8 +220,9 @@ fn push_top(store: &mut Lists<Node>, l: ListId, p: &Params, f: &Float)
     ensures lists { store.new.lists ≡ with_list store.old l (list_at store.old l ++ top_list p.now f.now) }
     ensures spare { store.new.spare + 4 ≡ store.old.spare }
 {
+    let flat = Float { deep: false, ..*f };
     push_made(store, l, Kind::Pen(100));
-    push_float(store, l, Where::Top, f);
+    push_float(store, l, Where::Top, &flat);
     push_made(store, l, Kind::Pen(INF_PENALTY));
     push_made(store, l, Kind::Skip(p.intextsep));
 }
@@ -233,6 +235,7 @@ fn push_page(store: &mut Lists<Node>, l: ListId, p: &Params, f: &Float)
 {
     let high = Float {
         height: p.textheight,
+        deep: false,
         ..*f
     };
     push_made(store, l, Kind::Pen(100));

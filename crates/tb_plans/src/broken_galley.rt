@@ -131,6 +131,7 @@ fn copied_kind(alloc: Global, kind: &ItemKind) -> Result<ItemKind, AllocError>
         ItemKind::OneColumn => ItemKind::OneColumn,
         ItemKind::TwoColumn => ItemKind::TwoColumn,
         ItemKind::Suppress(area) => ItemKind::Suppress(*area),
+        ItemKind::Page(number) => ItemKind::Page(*number),
     })
 }
 

@@ -14,14 +14,15 @@ use Rattle.tb_insert.specs.Terms.{Terms}
 use Rattle.tb_insert.specs.Account.{terms_after}
 use Rattle.tb_sheet.specs.Sheet.{PlainSent, warned}
 use Rattle.tb_sheet.specs.declared.Warn.{Warn}
+use Rattle.tb_builder.specs.declared.Ask.{Ask}
 use Rattle.tb_builder.specs.declared.Try.{Try}
 use Rattle.tb_builder.specs.Reach.{Reached, acted, tried, Reach, also_reached, page_place, reach_at, reach_node, reach_from, stopped_at, laid_out}
 use Rattle.tb_builder.specs.FiredPages.{reach_of, fired_of, frozen_for}
-use Rattle.tb_output.specs.State.{State, Recorded, ask_of, emptied}
+use Rattle.tb_output.specs.State.{State, Recorded, emptied}
 use Rattle.tb_output.specs.Act.{Acted, went, full, act_on}
 use Rattle.tb_output.specs.Output.{out}
 use Rattle.tb_items.specs.RunEvents.{RunEvent, offered, sent}
-use Rattle.tb_steps.specs.Run.{End, done, dead_cycles, page_limit, node_limit, Progress, progress_by, progress, Step, ends, goes_on, step_events, held_count, after_firing, fire, after_progress, step}
+use Rattle.tb_steps.specs.Run.{End, done, dead_cycles, page_limit, node_limit, Progress, progress_by, progress, Step, ends, goes_on, step_events, held_count, after_firing, fire, after_progress, step, ask_for}
 use Rattle.tb_rate.specs.Rating.{IsTried}
 use Rattle.tb_rate.specs.Tries.{later_champion, champion_or, last_champion}
 
@@ -160,26 +161,26 @@ module _ (es : List RunEvent) (rs qs : List Recorded) (h : AreTried es) where
   either-tried true fired e k = k
   either-tried false fired e k = h
 
-fire-tried : (p : Params) (w : Reach) (q : Progress) → AreTried q.events → AreTried (step_events (fire p w q))
-fire-tried p w q h =
+fire-tried : (p : Params) (a : Ask) (w : Reach) (q : Progress) → AreTried q.events → AreTried (step_events (fire p a w q))
+fire-tried p a w q h =
     let s = q.state in
-    let x = out p s (fired_of (ask_of p s) s.classes s.boxes w) in
+    let x = out p s (fired_of a s.classes s.boxes w) in
     either-tried q.events q.records q.records h (int_lt (pos s.dead_cycles) p.maxdeadcycles) (after_firing p q.events q.records x) (dead_cycles s.dead_cycles)
     (firing-by q.events (q.records ++ x.records) [] h x.sent x.refused (int_lt p.maxnodes (pos (held_count x.state))) (page_limit (pred x.state.page)) (node_limit (held_count x.state)) x.state)
 
-fault-tried : (p : Params) (w : Reach) (q : Progress) → AreTried q.events → (o : Option (ℕ × ℕ)) → AreTried (step_events (after_progress p w q o))
-fault-tried p w q h None = either-tried q.events q.records (q.records ++ emptied q.state.floats ∷ []) h w.fires (fire p w q) (done w.passed) (fire-tried p w q h)
-fault-tried p w q h (Some f) = h
+fault-tried : (p : Params) (a : Ask) (w : Reach) (q : Progress) → AreTried q.events → (o : Option (ℕ × ℕ)) → AreTried (step_events (after_progress p a w q o))
+fault-tried p a w q h None = either-tried q.events q.records (q.records ++ emptied q.state.floats ∷ []) h w.fires (fire p a w q) (done w.passed) (fire-tried p a w q h)
+fault-tried p a w q h (Some f) = h
 
 -- each place that is tried in a step
 pub step-tried : (p : Params) (s : State) → AreTried (step_events (step p s))
 unfolding step
 step-tried p s =
-    let ask = ask_of p s in
+    let ask = ask_for p s in
     let w = reach_of ask s.classes s.boxes [] s.waiting in
     let q = progress p w.reached awful_bad s in
     let places = reached-places ask.max_depth (terms_after (frozen_for ask s.classes s.boxes)) [] (laid_out ask.top_skip [] s.waiting) in
-    fault-tried p w q (progress-tried p w.reached places awful_bad s) q.fault
+    fault-tried p ask w q (progress-tried p w.reached places awful_bad s) q.fault
 
 -- ---- the break
 

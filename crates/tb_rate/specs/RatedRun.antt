@@ -16,7 +16,7 @@ use Rattle.tb_rate.specs.declared.Rating.{Rating}
 use Rattle.tb_rate.specs.declared.PlacePenalty.{PlacePenalty}
 use Rattle.tb_rate.specs.Places.{place_penalties}
 use Rattle.tb_rate.specs.Rating.{rating}
-use Rattle.tb_rate.specs.Tries.{last_champion}
+use Rattle.tb_rate.specs.Tries.{last_champion, first_number}
 
 -- ---- a step
 
@@ -39,10 +39,10 @@ abbrev pub feet_first : List Item → ℕ
 feet_first [] = 0
 feet_first (n ∷ ns) = if is_foot n.kind then suc (feet_first ns) else 0
 
--- the rating of the column that a step from this state put out; a step that ends the run puts out none, or one that does not count
+-- the rating of the column that a step from this state put out, which is on the first page that the step shipped, or on the page that is made after it; a step that ends the run puts out none, or one that does not count
 abbrev pub rating_by : Params → List PlacePenalty → State → Step → Option Rating
 rating_by p places s (ends es rs e) = None
-rating_by p places s (goes_on es rs t) = rating p places s.page (last_champion es) (floats_waiting t.floats) (insertions_first t.waiting)
+rating_by p places s (goes_on es rs t) = rating p places (first_number t.number es) (last_champion es) (floats_waiting t.floats) (insertions_first t.waiting)
 
 -- the rating of the step from a state
 abbrev pub step_rating : Params → List PlacePenalty → State → Option Rating

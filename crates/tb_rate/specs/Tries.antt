@@ -1,9 +1,11 @@
--- The place at which a page broke, among what happened while it was made.
-use Rattle.std.specs.Prelude.{List, [], ◌∷◌, Option, Some, None, if◌then◌else◌}
+-- The place at which a page broke, and the number of the page, among what happened while it was made.
+use Rattle.std.specs.Prelude.{ℕ, List, [], ◌∷◌, Option, Some, None, if◌then◌else◌}
 use Rattle.tb_builder.specs.declared.Try.{Try}
 use Rattle.tb_items.specs.declared.happenings.Happening.{Happening}
 use Rattle.tb_items.specs.declared.happenings.Happening.TheVariants as happenings
 use Rattle.tb_items.specs.RunEvents.{RunEvent, offered, sent}
+use Rattle.tb_sheet.specs.declared.Sent.TheVariants as sents
+use Rattle.tb_sheet.specs.Sheet.{warned, shipped}
 
 -- a place, if it is the best so far, or else this one
 abbrev pub later_champion : Option Try → Try → Option Try
@@ -28,3 +30,25 @@ champion_after best (happenings.Sent e) = best
 abbrev pub champion_among : Option Try → List Happening → Option Try
 champion_among best [] = best
 champion_among best (h ∷ hs) = champion_among (champion_after best h) hs
+
+-- the number of the first page that was shipped among events, or this one if none was
+abbrev pub first_number : ℕ → List RunEvent → ℕ
+first_number n [] = n
+first_number n (offered t ∷ es) = first_number n es
+first_number n (sent (warned w) ∷ es) = first_number n es
+first_number n (sent (shipped number sheet) ∷ es) = number
+
+-- the number of the page, if what happened is that one was shipped
+abbrev pub number_in : Happening → Option ℕ
+number_in (happenings.Sent (sents.Ship page sheet)) = Some page
+number_in h = None
+
+-- a number, or else this one
+abbrev pub number_or : ℕ → Option ℕ → ℕ
+number_or n None = n
+number_or n (Some page) = page
+
+-- the number of the first page that was shipped among what happened, or this one
+abbrev pub number_among : ℕ → List Happening → ℕ
+number_among n [] = n
+number_among n (h ∷ hs) = number_or (number_among n hs) (number_in h)

@@ -16,7 +16,7 @@ pub use crate::lines::{put_demerits, put_rating};
 pub use crate::places::place_penalties;
 pub use crate::ratings::rate;
 pub use crate::rows::check_demerits;
-pub use crate::tries::last_champion;
+pub use crate::tries::{first_number, last_champion};
 
 /// A text column that the page builder filled, and what it costs.
 #[derive(Clone, Copy, Debug, PartialEq, Eq)]

@@ -58,7 +58,7 @@ no-glue w h = record { width = h; stretch = record { low = omega (arith, ints); 
 
 pub classes-rise : AreClassesFrom 0 scene_classes
 classes-rise =
-    (omega arith, no-glue (pos 4) (record { low = omega (arith, ints); high = omega (arith, ints) }), (omega arith, no-glue (pos 0) (record { low = omega (arith, ints); high = omega (arith, ints) }), tt))
+    (omega arith, no-glue (pos 4) (record { low = omega (arith, ints); high = omega (arith, ints) }), (omega arith, no-glue (pos 0) (record { low = omega (arith, ints); high = omega (arith, ints) }), tt, tt), tt)
 
 pub classes-fit : ClassesFit scene_classes
 classes-fit = (
@@ -83,6 +83,7 @@ without-event m e store is = record {
     goal = is.machine.goal;
     first = is.machine.first;
     last = is.machine.last;
+    numbered = is.machine.numbered;
     pool = is.machine.pool;
     unmarked = is.machine.unmarked;
     left = is.machine.left;
@@ -107,6 +108,7 @@ pub acted-classes : (store : Lists Node) (boxes : List Boxed) (waiting : List Pl
 acted-classes store boxes waiting m now (acts.Take f) h = taken-classes _ _ _ _ _ _ store boxes waiting m now refl h
 acted-classes store boxes waiting m now (acts.TakeMargin n) h = taken-classes _ _ _ _ _ _ store boxes waiting m now refl h
 acted-classes store boxes waiting m now (acts.Suppress area) h = ap (λ (v : State). v.classes) h.state
+acted-classes store boxes waiting m now (acts.Page n) h = ap (λ (v : State). v.classes) h.state
 acted-classes store boxes waiting m now (acts.Columns two) h = ap (λ (v : State). v.classes) h.state
 
 -- ---- a page over a builder that holds nothing

@@ -1,5 +1,5 @@
 -- The machines of worked firings.
-use Rattle.std.specs.Prelude.{◌≡◌, ◌≤◌, ℕ, ℤ, pos, ◌≤ℤ◌, List, [], ◌∷◌, length}
+use Rattle.std.specs.Prelude.{◌≡◌, ◌≤◌, ℕ, ℤ, pos, ◌≤ℤ◌, List, [], ◌∷◌, length, None}
 use Rattle.std.specs.FinMap.{get}
 use Rattle.tb_pool.specs.Lists.{Lists, IsLive, list_at}
 use Rattle.tb_node.specs.declared.Node.{Node}
@@ -16,8 +16,8 @@ use Rattle.tb_output.specs.Firing.{IsReach}
 -- class 3 with glue of width 4 above it, and footnotes with none
 abbrev pub scene_classes : List Class
 scene_classes =
-    record { number = 3; factor = pos 1000; limit = pos 1000; skip = fixed_glue (pos 4) }
-    ∷ record { number = 254; factor = pos 1000; limit = pos 1000; skip = fixed_glue (pos 0) } ∷ []
+    record { number = 3; factor = pos 1000; limit = pos 1000; below = None; skip = fixed_glue (pos 4) }
+    ∷ record { number = 254; factor = pos 1000; limit = pos 1000; below = None; skip = fixed_glue (pos 0) } ∷ []
 
 -- a machine that serves them
 pub record IsScene (m : MachineView) (store : Lists Node) : Type 0 where

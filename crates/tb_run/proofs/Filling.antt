@@ -4,6 +4,8 @@ pub mod ActedStates
 pub mod ActingLemmas
 pub mod ComingPages
 pub mod ComingLemmas
+pub mod AskLemmas
+pub mod AskedCalls
 pub mod MoreLemmas
 pub mod FillingLemmas
 pub mod FiringLemmas

@@ -16,7 +16,7 @@ use Rattle.tb_builder.specs.PageEvents.{fired_room}
 use Rattle.tb_sheet.specs.declared.Sent.{Sent}
 use Rattle.tb_sheet.specs.Sheet.{PlainSent}
 use Rattle.tb_output.specs.declared.RunFault.TheVariants as faults
-use Rattle.tb_output.specs.State.{State, ask_of, Recorded}
+use Rattle.tb_output.specs.State.{State, Recorded}
 use Rattle.tb_output.specs.Output.{out}
 use Rattle.tb_output.specs.Machine.{state_shown, events_shown}
 use Rattle.tb_output.specs.Firing.{CanFire, fired_in}
@@ -30,7 +30,7 @@ use Rattle.tb_run.specs.declared.routine.Ending.{Ending}
 use Rattle.tb_run.specs.declared.routine.Ending.TheVariants as endings
 use Rattle.tb_run.specs.declared.routine.Filled.{Filled}
 use Rattle.tb_run.specs.declared.routine.Filled.TheVariants as filled
-use Rattle.tb_steps.specs.Run.{Progress, progress, step, firing_step}
+use Rattle.tb_steps.specs.Run.{Progress, progress, ask_for, step, firing_step}
 use Rattle.tb_steps.specs.Runnable.{AreRunnable, AreRunClasses}
 use Rattle.tb_run.specs.ServedStates.{notes_left, IsServedPage}
 use Rattle.tb_run.specs.Routine.{built_in, held_in, state_of, IsConsistent, EndsAs}
@@ -43,15 +43,15 @@ sent_happenings es = map (λ e. happenings.Sent e) es
 
 -- what is reached of the page
 abbrev pub reach_in : Params → State → Reach
-reach_in p s = reach_of (ask_of p s) s.classes s.boxes [] s.waiting
+reach_in p s = reach_of (ask_for p s) s.classes s.boxes [] s.waiting
 
 -- the state after the acts of the page, their events and records, and the place where the pool was full
 abbrev pub progress_in : Params → State → Progress
 progress_in p s = progress p (reach_in p s).reached awful_bad s
 
--- the page that fires in that state, if one does
+-- the page that fires in that state, if one does; it was made for what was asked before its first box, rule or insertion
 abbrev pub page_in : Params → State → Fired
-page_in p s = let q = progress_in p s in fired_of (ask_of p q.state) q.state.classes q.state.boxes (reach_in p s)
+page_in p s = let q = progress_in p s in fired_of (ask_for p s) q.state.classes q.state.boxes (reach_in p s)
 
 -- what the firing of a page sends, if it is allowed
 abbrev pub sent_by : Params → State → Fired → List PlainSent

@@ -20,6 +20,7 @@ abbrev pub act_notes : Act → ℕ
 act_notes (acts.Take f) = 0
 act_notes (acts.TakeMargin m) = 1
 act_notes (acts.Suppress area) = 0
+act_notes (acts.Page n) = 0
 act_notes (acts.Columns two) = 0
 
 -- how many marginal notes a node takes

@@ -17,6 +17,7 @@ fn foot_class(p: &Params) -> Class
         number: FOOTNOTES,
         factor: 1000,
         limit: p.footlimit,
+        below: None,
         skip: p.skipfootins,
     }
 }
@@ -29,6 +30,7 @@ fn class_of(line: &ClassLine) -> Class
         number: line.number,
         factor: line.factor,
         limit: line.limit,
+        below: line.below,
         skip: line.skip,
     }
 }

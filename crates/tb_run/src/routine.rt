@@ -107,6 +107,7 @@ fn line_of(act: &Act) -> u32
         Act::Take(float) => float.line,
         Act::TakeMargin(margin) => margin.line,
         Act::Suppress(_) => 0,
+        Act::Page(_) => 0,
         Act::Columns { two: _ } => 0,
     }
 }
@@ -362,8 +363,9 @@ impl<'a> Routine<'a> {
         requires empty { happened.old.items ≡ [] }
         ensures { IfOk result (λ o. Fills wanted self.old o self.new happened.new.items) }
     {
-        let ask = self.machine.ask();
         'next: loop {
+            // The builder keeps what it is asked at the first box, rule or insertion; an act before that may change it.
+            let ask = self.machine.ask();
             match self.next_event(wanted, &ask)? {
                 Event::Try(tried) => note_try(happened, wanted, tried)?,
                 Event::Act(act) => {

@@ -8,9 +8,9 @@ use std::alloc::Global;
 use std::process::Abort;
 use std::test::Fail;
 use tb_worked_rows::{
-    BEST_ROWS, COLUMN_END_ROWS, COLUMN_ROWS, FLOAT_ROWS, INPUT, MODE_ROWS, ModeRow, NONE,
-    RATE_ROWS, REPORT, ROWS, Row, VERSION_ROWS, WHY_ROWS, long_galley, long_report, run_by, run_on,
-    run_with, words_of,
+    BEST_ROWS, COLUMN_END_ROWS, COLUMN_ROWS, FLOAT_ROWS, HEADING_ROWS, INPUT, MODE_ROWS, ModeRow,
+    NONE, PAGE_NUMBER_ROWS, RATE_ROWS, REPORT, ROWS, Row, VERSION_ROWS, WHY_ROWS, long_galley,
+    long_report, run_by, run_on, run_with, words_of,
 };
 
 // Runs each row on an input that is read by pieces of this size, and says where it differs.
@@ -35,7 +35,8 @@ fn rows_give_what_they_say(rt: HostRuntime) -> Result<(), Fail> {
 
 #[test]
 fn rows_of_version_3_give_what_they_say(rt: HostRuntime) -> Result<(), Fail> {
-    check(&rt, rt.alloc(), &COLUMN_END_ROWS, 50)
+    check(&rt, rt.alloc(), &COLUMN_END_ROWS, 50)?;
+    check(&rt, rt.alloc(), &PAGE_NUMBER_ROWS, 50)
 }
 
 #[test]
@@ -84,6 +85,11 @@ fn check_modes(rt: &impl Abort, alloc: Global, rows: &[ModeRow]) -> Result<(), F
 #[test]
 fn modes_give_what_they_say(rt: HostRuntime) -> Result<(), Fail> {
     check_modes(&rt, rt.alloc(), &MODE_ROWS)
+}
+
+#[test]
+fn no_page_ends_below_a_heading(rt: HostRuntime) -> Result<(), Fail> {
+    check_modes(&rt, rt.alloc(), &HEADING_ROWS)
 }
 
 #[test]

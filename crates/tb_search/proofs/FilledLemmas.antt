@@ -33,7 +33,7 @@ use Rattle.tb_run.proofs.ServedAgain.ServedOut.{out-served}
 use Rattle.tb_rate.specs.declared.PlacePenalty.{PlacePenalty}
 use Rattle.tb_rate.specs.Rating.{rating}
 use Rattle.tb_rate.specs.RatedRun.{demerits_if, floats_waiting, insertions_first}
-use Rattle.tb_rate.specs.Tries.{last_champion}
+use Rattle.tb_rate.specs.Tries.{last_champion, first_number}
 use Rattle.tb_best.specs.PlanDemerits.{reach_in, unlimited_step}
 use Rattle.tb_best.specs.ItemsAhead.{state_with}
 use Rattle.tb_best.proofs.FiredMore.{fired_with}
@@ -155,7 +155,7 @@ module _ (b : Branch) (h : IsBranch b) (q : Routine) (page : Page) (hs : List Ha
           demerits =
               value
               ∙ ap (λ es. demerits_if (rating p places 0 (last_champion es) (floats_waiting (state_of d).floats) (insertions_first (state_of d).waiting))) (events-are b.routine q page hs f d g new k)
-              ∙ page-any p places 0 s.page (floats_waiting (state_of d).floats) (insertions_first (state_of d).waiting) (last_champion es);
+              ∙ page-any p places 0 (first_number (state_of d).number es) (floats_waiting (state_of d).floats) (insertions_first (state_of d).waiting) (last_champion es);
           low = low;
           high = high;
           branch = fired-branch;

@@ -17,7 +17,7 @@ use Rattle.tb_items.specs.declared.happenings.Happening.{Happening}
 use Rattle.tb_items.specs.Happenings.{events_of, noted}
 use Rattle.tb_items.specs.RunEvents.{RunEvent, offered, sent}
 use Rattle.tb_items.proofs.HappenedLemmas.{events-append}
-use Rattle.tb_steps.specs.Run.{dead_cycles, page_limit, Progress, Step, ends, goes_on, step_events, step}
+use Rattle.tb_steps.specs.Run.{dead_cycles, page_limit, Progress, Step, ends, goes_on, step_events, step, ask_for}
 use Rattle.tb_run.specs.declared.routine.Routine.{Routine}
 use Rattle.tb_run.specs.Routine.{held_in, state_of}
 use Rattle.tb_run.specs.FilledPages.{sent_happenings, progress_in, fired_whole, IsFiring}
@@ -84,8 +84,8 @@ module _ (r q : Routine) (page : Page) (hs : List Happening) (h : IsFiring true 
   unlimited-is : unlimited_step p s ≡ firing_from q.machine.params so_far.events so_far.records (state_of q) (fired_whole q page)
   unfolding unlimited_step
   unlimited-is =
-      ap (unlimited_progress p (reach_in p s) so_far) h.fires.none
-      ∙ then-step (reach_in p s).fires (unlimited_fire p (reach_in p s) so_far) _ h.fires.fires
+      ap (unlimited_progress p (ask_for p s) (reach_in p s) so_far) h.fires.none
+      ∙ then-step (reach_in p s).fires (unlimited_fire p (ask_for p s) (reach_in p s) so_far) _ h.fires.fires
       ∙ (λ i. firing_from p so_far.events so_far.records (sym h.filled.state i) (sym h.fires.fired i))
       ∙ from-same p so_far.events so_far.records q.store s.boxes (held_in q).boxes s.waiting (held_in q).waiting q.machine (fired_whole q page)
       ∙ ap (λ x. firing_from x so_far.events so_far.records (state_of q) (fired_whole q page)) (sym h.filled.params)

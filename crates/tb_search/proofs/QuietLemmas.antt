@@ -7,7 +7,7 @@ use Rattle.tb_output.specs.declared.RunFault.{RunFault}
 use Rattle.tb_output.specs.declared.RunFault.TheVariants as faults
 use Rattle.tb_output.specs.State.{State, emptied}
 use Rattle.tb_items.specs.declared.happenings.Happening.{Happening}
-use Rattle.tb_steps.specs.Run.{done, pool_full, Progress, Step, ends, goes_on, fire, after_progress, step}
+use Rattle.tb_steps.specs.Run.{done, pool_full, Progress, Step, ends, goes_on, fire, after_progress, step, ask_for}
 use Rattle.tb_run.specs.declared.routine.Routine.{Routine}
 use Rattle.tb_run.specs.declared.routine.Ending.{Ending}
 use Rattle.tb_run.specs.declared.routine.Ending.TheVariants as endings
@@ -60,19 +60,19 @@ module _ (r q : Routine) (e : Ending) (hs : List Happening) (h : IsFilledLast tr
 
   over-step : so_far.fault ≡ None → step p s ≡ over
   unfolding step
-  over-step none = ap (after_progress p (reach_in p s) so_far) none ∙ else-step (reach_in p s).fires (fire p (reach_in p s) so_far) over (h.none none)
+  over-step none = ap (after_progress p (ask_for p s) (reach_in p s) so_far) none ∙ else-step (reach_in p s).fires (fire p (ask_for p s) (reach_in p s) so_far) over (h.none none)
 
   over-unlimited : so_far.fault ≡ None → unlimited_step p s ≡ over
   unfolding unlimited_step
-  over-unlimited none = ap (unlimited_progress p (reach_in p s) so_far) none ∙ else-step (reach_in p s).fires (unlimited_fire p (reach_in p s) so_far) over (h.none none)
+  over-unlimited none = ap (unlimited_progress p (ask_for p s) (reach_in p s) so_far) none ∙ else-step (reach_in p s).fires (unlimited_fire p (ask_for p s) (reach_in p s) so_far) over (h.none none)
 
   full-step : (x : ℕ × ℕ) → so_far.fault ≡ Some x → step p s ≡ full x
   unfolding step
-  full-step x some = ap (after_progress p (reach_in p s) so_far) some
+  full-step x some = ap (after_progress p (ask_for p s) (reach_in p s) so_far) some
 
   full-unlimited : (x : ℕ × ℕ) → so_far.fault ≡ Some x → unlimited_step p s ≡ full x
   unfolding unlimited_step
-  full-unlimited x some = ap (unlimited_progress p (reach_in p s) so_far) some
+  full-unlimited x some = ap (unlimited_progress p (ask_for p s) (reach_in p s) so_far) some
 
   -- the run ended well
   pub is-quiet : e ≡ endings.Done → IsQuiet p s

@@ -58,9 +58,6 @@ const BOUNDS: u32 = 40;
 /// one whose breaks, read from the last, are the greatest. `greedy` are the demerits of the galley without breaks put in.
 ///
 /// It fails if the search comes to too many states or to one that holds too many nodes, or if memory runs out.
-//
-// A way with more demerits than a bound is not gone on. Low bounds leave most ways out, so they are tried first: a plan within
-// the bound is the best of all.
 pub fn best_breaks(alloc: Global, galley: &Galley, greedy: i128) -> Result<BestPlan, BestFault>
     requires valid { IsValid galley.now }
     requires sum { plan_demerits galley.now [] ≡ Some greedy }
@@ -69,6 +66,8 @@ pub fn best_breaks(alloc: Global, galley: &Galley, greedy: i128) -> Result<BestP
 
     ensures best { IfOk result (λ b. IsBest galley.now b.places.items b.demerits) }
 {
+    // A way with more demerits than a bound is not gone on. Low bounds leave most ways out, so they are tried first: a plan
+    // within the bound is the best of all.
     let mut bound = FIRST_BOUND;
     'bounds: for _ in 0..BOUNDS {
         if bound < greedy {

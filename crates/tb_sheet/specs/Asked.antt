@@ -1,5 +1,5 @@
 -- What the nodes of a page ask of an output routine: the penalties of its firings, and acts (ltoutput.dtx, \@specialoutput).
-use Rattle.std.specs.Prelude.{ℤ, negsuc}
+use Rattle.std.specs.Prelude.{ℤ, negsuc, ◌≤◌}
 use Rattle.tb_node.specs.declared.Act.{Act}
 use Rattle.tb_node.specs.declared.Act.TheVariants as acts
 use Rattle.tb_node.specs.Fit.{IsExtent}
@@ -27,3 +27,4 @@ IsSizedAct (acts.Take f) = IsExtent f.height
 IsSizedAct (acts.TakeMargin m) = IsSizedMargin m
 IsSizedAct (acts.Suppress area) = Unit {0}
 IsSizedAct (acts.Columns two) = Unit {0}
+IsSizedAct (acts.Page n) = n ≤ 1000000

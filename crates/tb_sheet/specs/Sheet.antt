@@ -1,5 +1,6 @@
 -- What is shipped, and what else the output routine sends out.
-use Rattle.std.specs.Prelude.{ℕ, ℤ, pos, ◌+ℤ◌, ◌-ℤ◌, ◌==◌, List, length, Option, Some, None, if◌then◌else◌}
+use Rattle.std.specs.Prelude.{ℕ, ℤ, pos, ◌+◌, ◌+ℤ◌, ◌-ℤ◌, ◌==◌, List, [], ◌∷◌, length, Option, Some, None, if◌then◌else◌}
+use Rattle.tb_node.specs.declared.Float.{Float}
 use Rattle.tb_node.specs.PlainNodes.{PlainNode}
 use Rattle.tb_param.specs.declared.Params.{Params}
 use Rattle.tb_param.specs.declared.Rule.{Rule}
@@ -24,9 +25,14 @@ abbrev pub rule_room : Option Rule → ℤ
 rule_room None = pos 0
 rule_room (Some r) = r.above +ℤ r.height +ℤ r.below
 
--- where two columns begin: below the double floats, their rule and their glue
+-- how many of these floats have a depth
+abbrev pub deep_count : List Float → ℕ
+deep_count [] = 0
+deep_count (f ∷ fs) = (if f.deep then 1 else 0) + deep_count fs
+
+-- where two columns begin: below the double floats with their depths, their rule and their glue
 abbrev pub pair_top : Params → FloatLists → ℤ
-pair_top p l = (p.textheight -ℤ column_height_of p l) +ℤ (if length l.double == 0 then pos 0 else rule_room p.dblrule)
+pair_top p l = ((p.textheight -ℤ column_height_of p l) +ℤ (if length l.double == 0 then pos 0 else rule_room p.dblrule)) +ℤ pos (deep_count l.double)
 
 -- a page of two columns, under the double floats
 abbrev pub pair_sheet : Params → FloatLists → PlainColumn → PlainColumn → PlainSheet

@@ -1,10 +1,11 @@
 -- Whole runs.
 use Rattle.std.specs.Prelude.{ℕ, zero, suc, pred, ℤ, pos, nat_abs, ◌+◌, ◌*◌, ◌-◌, List, [], ◌∷◌, ◌++◌, map, Option, Some, None, int_lt, if◌then◌else◌}
 use Rattle.tb_scaled.specs.Scaled.{awful_bad, min_ℤ}
-use Rattle.tb_node.specs.PlainNodes.{PlainNode}
+use Rattle.tb_node.specs.PlainNodes.{hbox, rule, PlainKind, plain, ins, act, PlainNode}
 use Rattle.tb_param.specs.declared.Params.{Params}
 use Rattle.tb_galley.specs.declared.Galley.{Galley}
 use Rattle.tb_galley.specs.GalleyNodes.{expanded}
+use Rattle.tb_builder.specs.declared.Ask.{Ask}
 use Rattle.tb_builder.specs.Reach.{Reached, acted, tried, Reach, try_of}
 use Rattle.tb_builder.specs.Contents.{node_count, box_count}
 use Rattle.tb_builder.specs.FiredPages.{Fired, reach_of, fired_of}
@@ -53,6 +54,34 @@ progress p [] least s = record { state = s; events = []; records = []; fault = N
 progress p (acted a ∷ rs) least s = progress_by (λ s'. progress p rs least s') s (act_on p s a)
 progress p (tried line b ∷ rs) least s = after_events (offered (try_of line b least) ∷ []) [] (progress p rs (min_ℤ least b.cost) s)
 
+-- ---- what a page is made for
+
+-- the state after an act, and after those that follow it; an act at which the pool is full ends them
+abbrev pub led_by : (State → State) → State → Acted → State
+led_by later s (went s' ws rs) = later s'
+led_by later s (full line live) = s
+
+-- the state after the acts from this node on; a box, a rule or an insertion ends them
+abbrev pub led_past : Params → (State → State) → State → PlainKind → State
+led_past p later s (plain (hbox what h d)) = s
+led_past p later s (plain (rule name h d)) = s
+led_past p later s (plain m) = later s
+led_past p later s (ins i) = s
+led_past p later s (act a) = led_by later s (act_on p s a)
+
+-- the state after the acts of these nodes that come before their first box, rule or insertion
+abbrev pub led_through : Params → List PlainNode → State → State
+led_through p [] s = s
+led_through p (n ∷ ns) s = led_past p (λ s'. led_through p ns s') s n.kind
+
+-- the state after the acts of the waiting nodes that come before their first box, rule or insertion
+abbrev pub led : Params → State → State
+led p s = led_through p s.waiting s
+
+-- what the page of a state is made for: what is asked once those acts are done (TeX: The Program §987)
+abbrev pub ask_for : Params → State → Ask
+ask_for p s = ask_of p (led p s)
+
 -- ---- one page and the firing after it
 
 -- a step that ends the run, or after which it goes on; each with its events and records
@@ -84,22 +113,22 @@ firing_step p es rs s f =
     let fired = after_firing p es rs (out p s f) in
     if int_lt (pos s.dead_cycles) p.maxdeadcycles then fired else ends es rs (dead_cycles s.dead_cycles)
 
--- the firing of the page that is reached
-abbrev pub fire : Params → Reach → Progress → Step
-fire p w q = firing_step p q.events q.records q.state (fired_of (ask_of p q.state) q.state.classes q.state.boxes w)
+-- the firing of the page that is reached, which was made for this
+abbrev pub fire : Params → Ask → Reach → Progress → Step
+fire p a w q = firing_step p q.events q.records q.state (fired_of a q.state.classes q.state.boxes w)
 
 -- a step by the progress of its page: it ends at a full pool, fires, or is done when nothing fires
-abbrev pub after_progress : Params → Reach → Progress → Option (ℕ × ℕ) → Step
-after_progress p w q None = let fired = fire p w q in if w.fires then fired else ends q.events (q.records ++ emptied q.state.floats ∷ []) (done w.passed)
-after_progress p w q (Some f) = ends q.events q.records (pool_full f.0 f.1)
+abbrev pub after_progress : Params → Ask → Reach → Progress → Option (ℕ × ℕ) → Step
+after_progress p a w q None = let fired = fire p a w q in if w.fires then fired else ends q.events (q.records ++ emptied q.state.floats ∷ []) (done w.passed)
+after_progress p a w q (Some f) = ends q.events q.records (pool_full f.0 f.1)
 
--- a step by what is reached
-abbrev pub step_of : Params → State → Reach → Step
-step_of p s w = let q = progress p w.reached awful_bad s in after_progress p w q q.fault
+-- a step by what its page is made for and what is reached of it
+abbrev pub step_of : Params → State → Ask → Reach → Step
+step_of p s a w = let q = progress p w.reached awful_bad s in after_progress p a w q q.fault
 
 -- one step of a run: a page and its firing
 unfoldable pub step : Params → State → Step
-step p s = step_of p s (reach_of (ask_of p s) s.classes s.boxes [] s.waiting)
+step p s = step_of p s (ask_for p s) (reach_of (ask_for p s) s.classes s.boxes [] s.waiting)
 
 -- ---- the run
 

@@ -3,8 +3,10 @@ mod Texts
 pub mod WorkedRows
 pub mod FloatRowLemmas
 pub mod ColumnRowLemmas
+pub mod ColumnEndRowLemmas
 pub mod VersionRowLemmas
 pub mod RateRowLemmas
+pub mod BestRowLemmas
 pub mod WhyRowLemmas
 pub mod WhyWideRowLemmas
 pub mod LinesRowLemmas

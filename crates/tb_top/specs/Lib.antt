@@ -16,8 +16,10 @@ pub mod Refusal
 pub mod Rows
 pub mod FloatRows
 pub mod ColumnRows
+pub mod ColumnEndRows
 pub mod VersionRows
 pub mod RateRows
+pub mod BestRows
 pub mod WhyRows
 pub mod WhyWideRows
 pub mod LinesRows

@@ -18,7 +18,7 @@ ghost use Rattle.tb_rate.specs.Rating.{rating, IsTried};
 ghost use Rattle.tb_rate.specs.RatedRun.{demerits, demerits_if, demerits_of_state, floats_waiting, insertions_first, rated_of_state, rated_run};
 ghost use Rattle.tb_best.specs.BestLines.{broken_columns};
 ghost use Rattle.tb_rate.specs.RatingLines.{rating_lines};
-ghost use Rattle.tb_rate.specs.Tries.{last_champion};
+ghost use Rattle.tb_rate.specs.Tries.{last_champion, first_number};
 ghost use Rattle.tb_top.specs.Pages.{end_fault, IsNoCycleFault, RefusesText};
 ghost use Rattle.tb_top.specs.Report.{all_lines, event_lines};
 ghost use Rattle.tb_top.specs.RatedReport.{rated_report, rated_text};
@@ -39,8 +39,8 @@ use tb_node::Node;
 use tb_param::Params;
 use tb_pool::Lists;
 use tb_rate::{
-    PlacePenalty, Rating, insertions_first, last_champion, place_penalties, put_demerits,
-    put_rating, rate,
+    PlacePenalty, Rating, first_number, insertions_first, last_champion, place_penalties,
+    put_demerits, put_rating, rate,
 };
 use tb_report::{HEADER, Totals, end_text, put_sent};
 use tb_run::{Ending, Routine};
@@ -141,9 +141,8 @@ fn run_on<K: Sink>(
         return finish(alloc, routine, &totals, demerits, ending, out);
     }
     'firing: loop {
-        let page = totals.pages + 1;
         let ending = routine.turn(true, &mut happened)?;
-        let rating = rating_of(params, places, page, routine, &happened, ending);
+        let rating = rating_of(params, places, routine, &happened, ending);
         send(
             &routine.store,
             &happened,
@@ -165,7 +164,6 @@ fn run_on<K: Sink>(
 fn rating_of(
     params: &Params,
     places: &[PlacePenalty],
-    page: u64,
     routine: &Routine<'_>,
     happened: &[Happening],
     ending: Option<Ending>,
@@ -173,7 +171,7 @@ fn rating_of(
     requires ready { IfNone ending (IsReady routine.now) }
     requires tried { IfSome (last_champion (events_of routine.now.store happened.now)) IsTried }
     requires mild { AllByRecursion IsMildPlace places.now }
-    ensures value { result ≡ unless_ended ending (rating params.now places.now page (last_champion (events_of routine.now.store happened.now)) (floats_waiting (state_of routine.now).floats) (insertions_first (state_of routine.now).waiting)) }
+    ensures value { result ≡ unless_ended ending (rating params.now places.now (first_number (state_of routine.now).number (events_of routine.now.store happened.now)) (last_champion (events_of routine.now.store happened.now)) (floats_waiting (state_of routine.now).floats) (insertions_first (state_of routine.now).waiting)) }
     ensures range { IfSome result IsRated }
 {
     if let Some(_) = ending {
@@ -181,6 +179,7 @@ fn rating_of(
     }
     let held = insertions_first(&routine.store, routine.builder.waiting(), &routine.left);
     let waiting = routine.machine.floats_waiting();
+    let page = first_number(happened, routine.machine.standing().number);
     rate(params, places, page, last_champion(happened), waiting, held)
 }
 

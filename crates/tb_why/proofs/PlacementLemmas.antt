@@ -162,7 +162,7 @@ ship-records p sheet w = by_refused w.refused (int_lt p.maxpages (pos w.state.pa
     by_refused : (t u : Bool) → (if t then w else (if u then record w { refused = true } else ship_now sheet w)).records ≡ w.records
     by_refused true u = refl
     by_refused false true = refl
-    by_refused false false = sends-records (shipped w.state.page sheet) (record w { state = record w.state { page = w.state.page + 1; dead_cycles = 0 } })
+    by_refused false false = sends-records (shipped w.state.number sheet) (record w { state = record w.state { page = w.state.page + 1; number = w.state.number + 1; dead_cycles = 0 } })
 
 column-quiet : (c : PlainColumn) (w : Work) → placements_of (records_also (output c) w).records ≡ placements_of w.records
 column-quiet c w = by_refused w.refused
@@ -423,7 +423,7 @@ note-records m at w = by_moved at.moved
 note-told : (p : Params) (height depth : ℤ) (m : Margin) (es : List Entry) (w : Work) →
     Tells w (note_at p height depth m (record w.state.floats { current = es }) w) (unless_over w (tales (Firing.note_tale p height m w.state ∷ [])))
 note-told p height depth m es w =
-    let at = placed_note p w.state.page w.state.two_columns w.state.first_column height w.state.note_bottom m in
+    let at = placed_note p w.state.number w.state.two_columns w.state.first_column height w.state.note_bottom m in
     quiet w (note_goes p depth m (record w.state.floats { current = es }) w at) (unless_over w (tales (Firing.note_tale p height m w.state ∷ [])))
     (note-records m at (with_note_bottom at.bottom (with_floats (record w.state.floats { current = es }) w)))
     (over_none w.refused (tales (Firing.note_tale p height m w.state ∷ [])) refl)
@@ -442,8 +442,8 @@ first-told p vert height depth page_height (entries.Float f ∷ es) w =
     by_over false = refl
 first-told p vert height depth page_height (entries.Left m ∷ []) w = note-told p height depth m [] w
 first-told p vert height depth page_height (entries.Left m ∷ e ∷ es) w = note-told p height depth m es w
-first-told p vert height depth page_height (entries.Right m ∷ es) w = quiet w (puts_interline p w) (unless_over w []) refl (over_none w.refused [] refl)
-first-told p vert height depth page_height [] w = quiet w (puts_interline p w) (unless_over w []) refl (over_none w.refused [] refl)
+first-told p vert height depth page_height (entries.Right m ∷ es) w = quiet w (puts_interline p false w) (unless_over w []) refl (over_none w.refused [] refl)
+first-told p vert height depth page_height [] w = quiet w (puts_interline p false w) (unless_over w []) refl (over_none w.refused [] refl)
 
 text_float-told : (p : Params) (vert : Bool) (body : List PlainNode) (w : Work) → Tells w (float_or_note p vert body w) (Firing.text_float_pieces p body w)
 text_float-told p vert body w =
@@ -472,7 +472,7 @@ goal-records p n w = by_hold (is_int n hold_penalty) (is_crowded p (Rattle.tb_fl
   where
     by_hold : (a b : Bool) → (if a then Rattle.tb_output.specs.Output.with_goal Rattle.tb_scaled.specs.Scaled.max_dimen w else (if b then leave_column w else Rattle.tb_output.specs.Output.with_goal (Rattle.tb_float.specs.Rooms.column_room_of p w.state.floats) w)).records ≡ w.records
     by_hold true b = refl
-    by_hold false true = sends-records (warned (warnings.Floats w.state.page)) w
+    by_hold false true = sends-records (warned (warnings.Floats w.state.number)) w
     by_hold false false = refl
 
 -- the placements that a firing records are those that are told, in their order

@@ -7,13 +7,14 @@ use Rattle.tb_param.specs.declared.Params.{Params}
 use Rattle.tb_node.specs.declared.Float.{Float}
 use Rattle.tb_galley.specs.declared.Galley.{Galley}
 use Rattle.tb_galley.specs.GalleyNodes.{expanded}
+use Rattle.tb_builder.specs.declared.Ask.{Ask}
 use Rattle.tb_builder.specs.FiredPages.{Fired, reach_of, fired_of}
 use Rattle.tb_builder.specs.Reach.{Reach}
 use Rattle.tb_sheet.specs.Sheet.{PlainSent}
-use Rattle.tb_output.specs.State.{State, Recorded, emptied, first_state, ask_of}
+use Rattle.tb_output.specs.State.{State, Recorded, emptied, first_state}
 use Rattle.tb_output.specs.Output.{out}
 use Rattle.tb_items.specs.RunEvents.{RunEvent, sent}
-use Rattle.tb_steps.specs.Run.{End, done, dead_cycles, page_limit, node_limit, Progress, progress, Step, ends, goes_on, step, step_of, after_progress, fire, firing_step, after_firing, Run, run_by, run_from, run_of, firings_left, held_count, step_events}
+use Rattle.tb_steps.specs.Run.{End, done, dead_cycles, page_limit, node_limit, Progress, progress, Step, ends, goes_on, step, step_of, after_progress, fire, firing_step, after_firing, Run, run_by, run_from, run_of, firings_left, held_count, step_events, ask_for}
 use Rattle.tb_items.specs.Classes.{classes_of}
 use Rattle.tb_told.specs.declared.Tale.{Tale}
 use Rattle.tb_told.specs.declared.Piece.{Piece}
@@ -76,26 +77,26 @@ reach_by : (fires : Bool) (fired : Step) (x : List RunEvent) (rs : List Recorded
 reach_by true fired x rs e shown is = is
 reach_by false fired x rs e shown is = sym (append-nil _)
 
-fault_by : (p : Params) (w : Reach) (q : Progress) (o : Option (ℕ × ℕ)) → step_events (after_progress p w q o) ≡ q.events ++ happened_among (fired_shown p w q o)
-fault_by p w q None =
-    let f = fired_of (ask_of p q.state) q.state.classes q.state.boxes w in
-    reach_by w.fires (fire p w q) q.events (q.records ++ emptied q.state.floats ∷ []) (done w.passed) (firing_shown p q.state f) (firing_happens p q.events q.records q.state f)
-fault_by p w q (Some f) = sym (append-nil _)
+fault_by : (p : Params) (a : Ask) (w : Reach) (q : Progress) (o : Option (ℕ × ℕ)) → step_events (after_progress p a w q o) ≡ q.events ++ happened_among (fired_shown p a w q o)
+fault_by p a w q None =
+    let f = fired_of a q.state.classes q.state.boxes w in
+    reach_by w.fires (fire p a w q) q.events (q.records ++ emptied q.state.floats ∷ []) (done w.passed) (firing_shown p q.state f) (firing_happens p q.events q.records q.state f)
+fault_by p a w q (Some f) = sym (append-nil _)
 
-by_reach : (p : Params) (s : State) (w : Reach) → happened_among (shown_by p s w) ≡ step_events (step_of p s w)
-by_reach p s w =
+by_reach : (p : Params) (s : State) (a : Ask) (w : Reach) → happened_among (shown_by p s a w) ≡ step_events (step_of p s a w)
+by_reach p s a w =
     let q = progress p w.reached awful_bad s in
     let waits = wait_tales s q.state in
-    let fired = fired_shown p w q q.fault in
+    let fired = fired_shown p a w q q.fault in
     happened_append (all_happen q.events) (waits ++ fired)
     ∙ ap (λ es. es ++ happened_among (waits ++ fired)) (happened_all q.events)
     ∙ ap (λ es. q.events ++ es) (happened_append waits fired ∙ ap (λ es. es ++ happened_among fired) (happened_tales _ (drop (length s.floats.second) q.state.floats.second)))
-    ∙ sym (fault_by p w q q.fault)
+    ∙ sym (fault_by p a w q q.fault)
 
 -- without what is told, what is shown of a step are its events
 pub step_happens : (p : Params) (s : State) → happened_among (step_shown p s) ≡ step_events (step p s)
 unfolding step_shown step
-step_happens p s = by_reach p s (reach_of (ask_of p s) s.classes s.boxes [] s.waiting)
+step_happens p s = by_reach p s (ask_for p s) (reach_of (ask_for p s) s.classes s.boxes [] s.waiting)
 
 -- ---- the run
 

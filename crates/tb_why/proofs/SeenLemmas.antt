@@ -61,6 +61,7 @@ abbrev seen_at : State → Bool → Seen.Seen
 seen_at s over = record {
   floats = s.floats;
   page = s.page;
+  number = s.number;
   two_columns = s.two_columns;
   first_column = s.first_column;
   suppress = s.suppress;
@@ -179,10 +180,10 @@ ship-seen p sheet w = by_refused w.refused (int_lt p.maxpages (pos w.state.page)
     v : Seen.Seen
     v = Seen.seen_of w
 
-    by_refused : (t u : Bool) → Seen.seen_of (if t then w else (if u then record w { refused = true } else Pages.ship_now sheet w)) ≡ (if t then v else (if u then record v { over = true } else record v { page = v.page + 1 }))
+    by_refused : (t u : Bool) → Seen.seen_of (if t then w else (if u then record w { refused = true } else Pages.ship_now sheet w)) ≡ (if t then v else (if u then record v { over = true } else record v { page = v.page + 1; number = v.number + 1 }))
     by_refused true u = refl
     by_refused false true = refl
-    by_refused false false = sends-seen (shipped w.state.page sheet) (record w { state = record w.state { page = w.state.page + 1; dead_cycles = 0 } })
+    by_refused false false = sends-seen (shipped w.state.number sheet) (record w { state = record w.state { page = w.state.page + 1; number = w.state.number + 1; dead_cycles = 0 } })
 
 wide_page-seen : (p : Params) (cs : List Choice) (w : Work) → Seen.seen_of (Pages.ship_wide p cs w) ≡ Seen.wide_page_seen p cs (Seen.seen_of w)
 wide_page-seen p cs w = ship-seen p (wide (wide_floats_column p p.textheight (chosen_floats cs))) (with_floats (with_wide_waiting p (left_floats cs) w.state.floats) w)

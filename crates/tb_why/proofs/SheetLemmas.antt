@@ -6,6 +6,7 @@ use Rattle.tb_scaled.specs.Scaled.{awful_bad, eject_penalty}
 use Rattle.tb_node.specs.declared.Float.{Float}
 use Rattle.tb_node.specs.declared.Where.TheVariants as places
 use Rattle.tb_param.specs.declared.Params.{Params}
+use Rattle.tb_builder.specs.declared.Ask.{Ask}
 use Rattle.tb_builder.specs.FiredPages.{Fired, reach_of, fired_of}
 use Rattle.tb_builder.specs.Reach.{Reach}
 use Rattle.tb_float.specs.declared.Entry.{Entry}
@@ -20,13 +21,13 @@ use Rattle.tb_fpage.specs.Company.{Choice, left_floats}
 use Rattle.tb_sheet.specs.Asked.{clear_penalty, par_penalty, vert_penalty}
 use Rattle.tb_sheet.specs.Sheet.{PlainSent}
 use Rattle.tb_output.specs.declared.reading.Reading.{Reading}
-use Rattle.tb_output.specs.State.{State, begun, ask_of}
+use Rattle.tb_output.specs.State.{State, begun}
 use Rattle.tb_output.specs.Pages.{wide_wanted}
 use Rattle.tb_output.specs.Columns.{single_wanted}
 use Rattle.tb_output.specs.Clear.{deferred_again, double_again}
 use Rattle.tb_output.specs.Output.{is_int, after_page, out}
 use Rattle.tb_items.specs.RunEvents.{RunEvent}
-use Rattle.tb_steps.specs.Run.{Progress, progress}
+use Rattle.tb_steps.specs.Run.{Progress, progress, ask_for}
 use Rattle.tb_told.specs.declared.Spot.{Spot}
 use Rattle.tb_told.specs.declared.Tale.{Tale}
 use Rattle.tb_told.specs.declared.Tale.TheVariants.{Waits, Decides, Begins, InColumn, Back, Stands, PutOut}
@@ -150,7 +151,7 @@ module _ (p : Params) where
       u = seen_with v false two first
 
       by_limit : (t : Bool) → int_lt p.maxpages (pos v.page) ≡ t →
-          Spends u (if t then record u { over = true } else record u { page = v.page + 1 }) (Says PutOut ∷ (if t then [] else NextSent ∷ []))
+          Spends u (if t then record u { over = true } else record u { page = v.page + 1; number = v.number + 1 }) (Says PutOut ∷ (if t then [] else NextSent ∷ []))
       by_limit true e = let k = some-left two first in record { few = omega (arith, k) }
       by_limit false e = let k = up-to v.page p.maxpages e in record { few = omega (arith, k) }
 
@@ -164,7 +165,7 @@ module _ (p : Params) where
       u = seen_with v false true false
 
       by_limit : (t : Bool) → int_lt p.maxpages (pos v.page) ≡ t →
-          Spends u (Seen.without_double_seen (if t then record u { over = true } else record u { page = v.page + 1 })) (Says PutOut ∷ (if t then [] else NextSent ∷ []))
+          Spends u (Seen.without_double_seen (if t then record u { over = true } else record u { page = v.page + 1; number = v.number + 1 })) (Says PutOut ∷ (if t then [] else NextSent ∷ []))
       by_limit true e = record { few = omega arith }
       by_limit false e = let k = up-to v.page p.maxpages e in record { few = omega (arith, k) }
 
@@ -344,16 +345,17 @@ woven-sheets n (NextSent ∷ ps) (e ∷ es) = let a = woven-sheets n ps es in om
 pub step-few : (p : Params) (s : State) (n : ℕ) → sheets_of n (step_shown p s) ≤ n + (2 * nat_abs p.maxpages + 4)
 unfolding step_shown
 step-few p s n =
-    let w = reach_of (ask_of p s) s.classes s.boxes [] s.waiting in
+    let made = ask_for p s in
+    let w = reach_of made s.classes s.boxes [] s.waiting in
     let q = progress p w.reached awful_bad s in
-    let fired = by_fault w q q.fault in
+    let fired = by_fault made w q q.fault in
     let events = all_happen q.events in
     let waits = wait_tales s q.state in
-    let a = sheets-join n events (waits ++ fired_shown p w q q.fault) in
-    let b = sheets-join n waits (fired_shown p w q q.fault) in
+    let a = sheets-join n events (waits ++ fired_shown p made w q q.fault) in
+    let b = sheets-join n waits (fired_shown p made w q q.fault) in
     let c = happen-sheets n q.events in
     let d = wait-sheets n q.state (drop (length s.floats.second) q.state.floats.second) in
-    subst (λ k. k ≤ n + (2 * nat_abs p.maxpages + 4)) (sym (a ∙ ap (λ k. sheets_of k (waits ++ fired_shown p w q q.fault)) c ∙ b ∙ ap (λ k. sheets_of k (fired_shown p w q q.fault)) d)) fired
+    subst (λ k. k ≤ n + (2 * nat_abs p.maxpages + 4)) (sym (a ∙ ap (λ k. sheets_of k (waits ++ fired_shown p made w q q.fault)) c ∙ b ∙ ap (λ k. sheets_of k (fired_shown p made w q q.fault)) d)) fired
   where
     allowed : (t : Bool) (u : State) (f : Fired) → sheets_of n (if t then all_shown (woven (firing_pieces p u f) (out p u f).sent) else []) ≤ n + (2 * nat_abs p.maxpages + 4)
     allowed true u f = let e = woven-sheets n (firing_pieces p u f) (out p u f).sent in let few = firing-few p u f in omega (arith, e, few)
@@ -363,6 +365,6 @@ step-few p s n =
     by_fires true u f = allowed (int_lt (pos u.dead_cycles) p.maxdeadcycles) u f
     by_fires false u f = omega arith
 
-    by_fault : (w : Reach) (q : Progress) (o : Option (ℕ × ℕ)) → sheets_of n (fired_shown p w q o) ≤ n + (2 * nat_abs p.maxpages + 4)
-    by_fault w q None = by_fires w.fires q.state (fired_of (ask_of p q.state) q.state.classes q.state.boxes w)
-    by_fault w q (Some f) = omega arith
+    by_fault : (a : Ask) (w : Reach) (q : Progress) (o : Option (ℕ × ℕ)) → sheets_of n (fired_shown p a w q o) ≤ n + (2 * nat_abs p.maxpages + 4)
+    by_fault a w q None = by_fires w.fires q.state (fired_of a q.state.classes q.state.boxes w)
+    by_fault a w q (Some f) = omega arith

@@ -16,7 +16,7 @@ use Rattle.tb_output.specs.Output.{out}
 use Rattle.tb_output.specs.Machine.{MachineView, state_shown}
 use Rattle.tb_items.specs.declared.happenings.Happening.{Happening}
 use Rattle.tb_items.specs.Happenings.{IsPage, ArePages}
-use Rattle.tb_steps.specs.Run.{Progress}
+use Rattle.tb_steps.specs.Run.{Progress, ask_for}
 use Rattle.tb_run.specs.declared.routine.Routine.{Routine}
 use Rattle.tb_run.specs.declared.routine.Ending.{Ending}
 use Rattle.tb_run.specs.Routine.{held_in, state_of}
@@ -69,7 +69,7 @@ module _ (r q : Routine) (hs : List Happening) (filled : IsFilled true r q hs) w
       ∙ (λ i. (happens-shown store hs ∙ ap all_happen (filled.events store ∙ all-noted w.events)) i ++ (waits-shown store (spot_in q.machine) (drop waited q.machine.pool.lists.second) ∙ sym waits-are) i)
 
   -- with what is shown of the firing, it is what is shown of the step
-  step-is : (store : Lists Node) (more : List Shown) → fired_shown p (reach_in p s) w w.fault ≡ more → all_shown_of store (filled_shown waited q.machine hs) ++ more ≡ step_shown p s
+  step-is : (store : Lists Node) (more : List Shown) → fired_shown p (ask_for p s) (reach_in p s) w w.fault ≡ more → all_shown_of store (filled_shown waited q.machine hs) ++ more ≡ step_shown p s
   unfolding step_shown
   step-is store more is =
       ap (λ xs. xs ++ more) (filled-is store)
@@ -88,7 +88,7 @@ module _ (r q : Routine) (e : Ending) (hs : List Happening) (h : IsFilledLast tr
   abbrev done-so-far : Progress
   done-so-far = progress_in start-params (state_of r)
 
-  none-fired : (o : Option (ℕ × ℕ)) → (o ≡ None → (reach_in start-params (state_of r)).fires ≡ false) → fired_shown start-params (reach_in start-params (state_of r)) done-so-far o ≡ []
+  none-fired : (o : Option (ℕ × ℕ)) → (o ≡ None → (reach_in start-params (state_of r)).fires ≡ false) → fired_shown start-params (ask_for start-params (state_of r)) (reach_in start-params (state_of r)) done-so-far o ≡ []
   none-fired None f = else-list (reach_in start-params (state_of r)).fires _ (f refl)
   none-fired (Some x) f = refl
 
@@ -112,9 +112,9 @@ module _ (r q : Routine) (page : Page) (hs : List Happening) (h : IsFiring true 
   abbrev own-page : Progress
   own-page = progress_in own-params (state_of r)
 
-  fired-is : fired_shown own-params (reach_in own-params (state_of r)) own-page own-page.fault ≡ firing_shown q.machine.params (state_of q) (fired_whole q page)
+  fired-is : fired_shown own-params (ask_for own-params (state_of r)) (reach_in own-params (state_of r)) own-page own-page.fault ≡ firing_shown q.machine.params (state_of q) (fired_whole q page)
   fired-is =
-      ap (fired_shown own-params (reach_in own-params (state_of r)) own-page) h.fires.none
+      ap (fired_shown own-params (ask_for own-params (state_of r)) (reach_in own-params (state_of r)) own-page) h.fires.none
       ∙ then-list (reach_in own-params (state_of r)).fires _ h.fires.fires
       ∙ (λ i. firing_shown own-params (sym h.filled.state i) (sym h.fires.fired i))
       ∙ firing-same own-params q.store (state_of r).boxes (held_in q).boxes (state_of r).waiting (held_in q).waiting q.machine (fired_whole q page)

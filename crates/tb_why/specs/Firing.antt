@@ -38,7 +38,7 @@ use Rattle.tb_told.specs.Tales.{tales, decisions, column_tales, back_tales, stan
 
 -- where a state stands
 abbrev pub spot_of : State → Spot
-spot_of s = record { page = s.page; second = s.two_columns && not s.first_column }
+spot_of s = record { page = s.number; second = s.two_columns && not s.first_column }
 
 -- nothing is told once the page limit was met
 abbrev pub unless_over : Work → List Piece → List Piece
@@ -171,7 +171,7 @@ clear_pieces p body w = clear_pieces_by p body w (footnotes w.state)
 -- a note goes to its place
 abbrev pub note_tale : Params → ℤ → Margin → State → Tale
 note_tale p height m s =
-    Beside (spot_of s) m height s.note_bottom (placed_note p s.page s.two_columns s.first_column height s.note_bottom m)
+    Beside (spot_of s) m height s.note_bottom (placed_note p s.number s.two_columns s.first_column height s.note_bottom m)
 
 -- the first float or note of the current list, after a list of this height without its depth; with its insertions the page
 -- is `page_height` high

@@ -33,11 +33,12 @@ use Rattle.tb_told.specs.AreaTold.{told_call}
 use Rattle.tb_told.specs.Filled.{filled_pieces, none_suppressed, doubled_pieces}
 use Rattle.tb_told.specs.Tales.{tales, decisions, column_tales, back_tales}
 
--- what the tales of a firing depend on: the floats, the page and the column that are being made, the suppress flags, how far
+-- what the tales of a firing depend on: the floats, the count of pages, the number of the page and the column that are being made, the suppress flags, how far
 -- down marginal notes reach, and whether the page limit was met
 pub record Seen : Type 0 where
   pub floats : FloatLists
   pub page : ℕ
+  pub number : ℕ
   pub two_columns : Bool
   pub first_column : Bool
   pub suppress : Suppress
@@ -49,6 +50,7 @@ abbrev pub seen_of : Work → Seen
 seen_of w = record {
   floats = w.state.floats;
   page = w.state.page;
+  number = w.state.number;
   two_columns = w.state.two_columns;
   first_column = w.state.first_column;
   suppress = w.state.suppress;
@@ -67,7 +69,7 @@ reading_of s f =
 
 -- where it stands
 abbrev pub spot_seen : Seen → Spot
-spot_seen v = record { page = v.page; second = v.two_columns && not v.first_column }
+spot_seen v = record { page = v.number; second = v.two_columns && not v.first_column }
 
 -- nothing is told once the page limit was met
 abbrev pub told_unless : Bool → List Piece → List Piece
@@ -97,7 +99,7 @@ fill_double_seen p v = with_lists (doubled (wide_part p) p none_suppressed [] (w
 
 -- ---- pages
 
--- the number of the page is beyond the page limit
+-- the page limit is met
 abbrev pub is_last : Params → Seen → Bool
 is_last p v = int_lt p.maxpages (pos v.page)
 
@@ -107,7 +109,7 @@ ship_told p v = told_unless v.over (if is_last p v then [] else NextSent ∷ [])
 
 -- the next page is made, or the page limit is met
 abbrev pub ship_seen : Params → Seen → Seen
-ship_seen p v = if v.over then v else (if is_last p v then record v { over = true } else record v { page = v.page + 1 })
+ship_seen p v = if v.over then v else (if is_last p v then record v { over = true } else record v { page = v.page + 1; number = v.number + 1 })
 
 -- a column or a wide page is put out
 abbrev pub put_told : Seen → List Piece
@@ -292,7 +294,7 @@ clear_told p here r v = if r.has_notes then text_told p here v else clear_floats
 -- a note goes to its place
 abbrev pub note_seen : Params → ℤ → Margin → Seen → Tale
 note_seen p height m v =
-    Beside (spot_seen v) m height v.note_bottom (placed_note p v.page v.two_columns v.first_column height v.note_bottom m)
+    Beside (spot_seen v) m height v.note_bottom (placed_note p v.number v.two_columns v.first_column height v.note_bottom m)
 
 -- the first float or note of the current list
 abbrev pub first_seen : Params → ℤ → ℤ → List Entry → Seen → List Tale

@@ -28,7 +28,7 @@ all_waits spot fs = map (λ f. showings.Tells (Waits spot f)) fs
 
 -- where the machine stands
 abbrev pub spot_in : MachineView → Spot
-spot_in m = record { page = m.page; second = m.two_columns && not m.first_column }
+spot_in m = record { page = m.number; second = m.two_columns && not m.first_column }
 
 -- the wide floats of release 2014 that wait, behind the first ones
 abbrev pub waits_from : ℕ → MachineView → List Showing
@@ -45,6 +45,7 @@ abbrev pub seen_in : MachineView → Seen
 seen_in m = record {
   floats = m.pool.lists;
   page = m.page;
+  number = m.number;
   two_columns = m.two_columns;
   first_column = m.first_column;
   suppress = m.suppress;

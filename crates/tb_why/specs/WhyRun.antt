@@ -4,12 +4,13 @@ use Rattle.tb_scaled.specs.Scaled.{awful_bad}
 use Rattle.tb_param.specs.declared.Params.{Params}
 use Rattle.tb_galley.specs.declared.Galley.{Galley}
 use Rattle.tb_galley.specs.GalleyNodes.{expanded}
+use Rattle.tb_builder.specs.declared.Ask.{Ask}
 use Rattle.tb_builder.specs.FiredPages.{Fired, reach_of, fired_of}
 use Rattle.tb_builder.specs.Reach.{Reach}
-use Rattle.tb_output.specs.State.{State, first_state, ask_of}
+use Rattle.tb_output.specs.State.{State, first_state}
 use Rattle.tb_output.specs.Output.{out}
 use Rattle.tb_items.specs.RunEvents.{RunEvent, sent}
-use Rattle.tb_steps.specs.Run.{Progress, progress, Step, ends, goes_on, step, firings_left, held_count}
+use Rattle.tb_steps.specs.Run.{Progress, progress, Step, ends, goes_on, step, firings_left, held_count, ask_for}
 use Rattle.tb_items.specs.Classes.{classes_of}
 use Rattle.tb_told.specs.declared.Tale.{Tale}
 use Rattle.tb_told.specs.declared.Tale.TheVariants.{Waits}
@@ -56,20 +57,20 @@ abbrev pub firing_shown : Params → State → Fired → List Shown
 firing_shown p s f =
     if int_lt (pos s.dead_cycles) p.maxdeadcycles then all_shown (woven (firing_pieces p s f) (out p s f).sent) else []
 
--- the firing of the page that is reached, if one fires
-abbrev pub fired_shown : Params → Reach → Progress → Option (ℕ × ℕ) → List Shown
-fired_shown p w q None = if w.fires then firing_shown p q.state (fired_of (ask_of p q.state) q.state.classes q.state.boxes w) else []
-fired_shown p w q (Some f) = []
+-- the firing of the page that is reached, which was made for this, if one fires
+abbrev pub fired_shown : Params → Ask → Reach → Progress → Option (ℕ × ℕ) → List Shown
+fired_shown p a w q None = if w.fires then firing_shown p q.state (fired_of a q.state.classes q.state.boxes w) else []
+fired_shown p a w q (Some f) = []
 
--- a step by what is reached: what happens while the page is filled, the wide floats that wait from now on, and the firing
-abbrev pub shown_by : Params → State → Reach → List Shown
-shown_by p s w =
+-- a step by what its page is made for and what is reached of it: what happens while the page is filled, the wide floats that wait from now on, and the firing
+abbrev pub shown_by : Params → State → Ask → Reach → List Shown
+shown_by p s a w =
     let q = progress p w.reached awful_bad s in
-    all_happen q.events ++ (wait_tales s q.state ++ fired_shown p w q q.fault)
+    all_happen q.events ++ (wait_tales s q.state ++ fired_shown p a w q q.fault)
 
 -- one step of a run with what is told of it
 unfoldable pub step_shown : Params → State → List Shown
-step_shown p s = shown_by p s (reach_of (ask_of p s) s.classes s.boxes [] s.waiting)
+step_shown p s = shown_by p s (ask_for p s) (reach_of (ask_for p s) s.classes s.boxes [] s.waiting)
 
 -- ---- the run
 

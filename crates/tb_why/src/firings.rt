@@ -1,6 +1,6 @@
 //! What is told of the firing of a page that the routine has filled.
 
-ghost use Rattle.std.specs.Prelude.{◌≡◌, IfOk};
+ghost use Rattle.std.specs.Prelude.{◌≡◌, ◌≤◌, ◌+◌, IfOk};
 ghost use Rattle.tb_float.specs.Pool.{HasNoMarks};
 ghost use Rattle.tb_run.specs.FilledPages.{CanServe};
 ghost use Rattle.tb_why.specs.ShownTurns.{pieces_in, seen_in};
@@ -43,12 +43,14 @@ pub(crate) fn told_pieces(
 
 // What is seen of the machine before it fires, with a copy of its floats. Fails only if memory runs out.
 fn seen_before(alloc: Global, machine: &Machine) -> Result<Seen, AllocError>
-    requires { HasNoMarks machine.now.pool }
+    requires unmarked { HasNoMarks machine.now.pool }
+    requires numbered { machine.now.number ≤ machine.now.page + 1000000 }
     ensures { IfOk result (λ v. v ≡ seen_in machine.now) }
 {
     let standing = machine.standing();
     Ok(Seen {
         page: standing.page,
+        number: standing.number,
         two_columns: standing.two_columns,
         first_column: standing.first_column,
         suppress: standing.suppress,

@@ -30,8 +30,10 @@ use tb_float::{Pool, Suppress};
 /// What the tales of a firing depend on. It is made before the firing, with a copy of the floats, and goes its steps.
 #[derive(Drop)]
 pub struct Seen {
-    /// The number of the page that is being made.
+    /// How many pages were shipped, and one.
     pub page: u64,
+    /// The number of the page that is being made.
+    pub number: u64,
     /// Whether pages have two columns.
     pub two_columns: bool,
     /// Whether the next column is the first of two.
@@ -47,6 +49,7 @@ pub struct Seen {
 }
 
 impl Model for Seen {
+    ghost use Rattle.std.specs.Prelude.{◌≤◌, ◌+◌};
     ghost use Rattle.tb_float.specs.Pool.{HasNoMarks};
     ghost use Rattle.tb_why.specs.Seen.{Seen as SeenFloats};
 
@@ -55,6 +58,7 @@ impl Model for Seen {
     ghost view = { λ v. record {
       floats = v.pool.lists;
       page = v.page;
+      number = v.number;
       two_columns = v.two_columns;
       first_column = v.first_column;
       suppress = v.suppress;
@@ -62,5 +66,5 @@ impl Model for Seen {
       over = v.over;
     } };
 
-    ghost invariant = { λ v. HasNoMarks v.pool };
+    ghost invariant = { λ v. HasNoMarks v.pool × (v.number ≤ v.page + 1000000) };
 }

@@ -40,7 +40,7 @@ impl Seen {
         ensures { result ≡ spot_seen self.now }
     {
         Spot {
-            page: self.page,
+            page: self.number,
             second: self.two_columns && !self.first_column,
         }
     }
@@ -191,9 +191,10 @@ impl Seen {
     // The next page is made.
     fn next_page(&mut self)
         requires { self.old.page ≤ 4194304 }
-        ensures { self.new ≡ record self.old { page = self.old.page + 1 } }
+        ensures { self.new ≡ record self.old { page = self.old.page + 1; number = self.old.number + 1 } }
     {
         self.page += 1;
+        self.number += 1;
     }
 
     /// The page of two columns has taken the floats above them, and the next column is the first.
@@ -286,7 +287,7 @@ impl Seen {
         let placed = place_note(
             m,
             p,
-            self.page,
+            self.number,
             self.two_columns,
             self.first_column,
             height,

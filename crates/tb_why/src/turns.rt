@@ -87,7 +87,7 @@ fn spot(machine: &Machine) -> Spot
 {
     let standing = machine.standing();
     Spot {
-        page: standing.page,
+        page: standing.number,
         second: standing.two_columns && !standing.first_column,
     }
 }

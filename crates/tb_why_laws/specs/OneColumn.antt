@@ -1,4 +1,4 @@
--- In one column a float lands as many pages behind that of its call as sheets count for its reasons.
+-- In one column, where no item sets the page number, a float lands as many pages behind that of its call as sheets count for its reasons.
 use Rattle.std.specs.Prelude.{◌≡◌, ⊤, ℕ, ◌+◌, Option, Some, None}
 use Rattle.std.specs.List.{AllByRecursion}
 use Rattle.tb_galley.specs.declared.Item.{Item}
@@ -10,9 +10,10 @@ use Rattle.tb_story.specs.Story.{StoryView}
 use Rattle.tb_why.specs.SummaryLaws.{times_of}
 use Rattle.tb_why_laws.specs.WholeRuns.{summary_of}
 
--- the item does not change to two columns
+-- the item does not change to two columns, and does not set the page number
 abbrev pub IsSingleItem : ItemKind → Type 0
 IsSingleItem items.TwoColumn = ⊥
+IsSingleItem (items.Page n) = ⊥
 IsSingleItem k = ⊤
 
 -- no item of the galley does
@@ -28,6 +29,6 @@ IsPageOf page (Some landed) = page ≡ landed
 abbrev pub LandsInTime : StoryView → Type 0
 LandsInTime s = IsPageOf (s.called + times_of s) s.landed
 
--- in the summary of each valid galley of one column each float that landed did so
+-- in the summary of each valid galley of one column whose page numbers go on each float that landed did so
 abbrev pub OneColumnFloatsLandInTime : Type 0
 OneColumnFloatsLandInTime = (g : Galley) → IsValid g → HasOneColumn g → AllByRecursion LandsInTime (summary_of g).stories

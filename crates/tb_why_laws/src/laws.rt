@@ -16,7 +16,7 @@ pub fn times_of_runs_are_sheets()
     ensures { TimesAreSheets }
 {}
 
-/// In the summary of the run of a valid galley without an item `twocolumn`, each float that landed did so as many pages behind
+/// In the summary of the run of a valid galley without items `twocolumn` and `page`, each float that landed did so as many pages behind
 /// the page of its call as its times add up to.
 pub fn one_column_floats_land_in_time()
     ensures { OneColumnFloatsLandInTime }

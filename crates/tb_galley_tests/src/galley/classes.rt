@@ -13,6 +13,7 @@ fn class_line(number: u8) -> ClassLine {
         number,
         factor: 1000,
         limit: 5,
+        below: None,
         skip: Glue {
             width: 1,
             stretch: 2,

@@ -6,7 +6,7 @@ use std::test::Fail;
 // Each cause that version 3 adds, and what the versions before it say of the same.
 #[test]
 fn finds_faults_of_rules(rt: HostRuntime) -> Result<(), Fail> {
-    let rows: [(&[u8], u32, u32, &[u8]); 43] = [
+    let rows: [(&[u8], u32, u32, &[u8]); 52] = [
         (b"galley 3\nend", 0, 0, b"none"),
         (b"galley 03\nend", 1, 2, b"NoHeader"),
         (b"galley 3 x", 1, 3, b"ExtraField"),
@@ -57,6 +57,21 @@ fn finds_faults_of_rules(rt: HostRuntime) -> Result<(), Fail> {
             b"Dimension",
         ),
         (b"galley 3\nset footrule 2 \xff 1", 2, 4, b"NotAscii"),
+        // classes below the footnotes
+        (b"galley 3\nclass 3 0 0 below none 0\nend", 0, 0, b"none"),
+        (b"galley 3\nclass 3 0 0 below -2 1 1 2\nend", 0, 0, b"none"),
+        (b"galley 3\nclass 3 0 0 below -2 -1 1 2", 2, 7, b"Parameter"),
+        (b"galley 3\nclass 3 0 0 below", 2, 6, b"MissingField"),
+        (b"galley 3\nclass 3 0 0 below none", 2, 7, b"MissingField"),
+        (b"galley 3\nclass 3 0 0 below -2 1 1", 2, 9, b"MissingField"),
+        (
+            b"galley 3\nclass 3 0 0 below none 1 2",
+            2,
+            8,
+            b"UnknownWord",
+        ),
+        (b"galley 3\nclass 3 0 0 above none 1", 2, 5, b"BadNumber"),
+        (b"galley 2\nclass 3 0 0 below none 1", 2, 5, b"BadNumber"),
         // words and glue
         (
             b"galley 3\nset footdepth drop\nset footdepth keep\nend",
@@ -96,10 +111,10 @@ fn finds_faults_of_rules(rt: HostRuntime) -> Result<(), Fail> {
         (b"galley 2\nset footdepth keep", 2, 2, b"UnknownParameter"),
         (b"galley 2\nset footfill 0", 2, 2, b"UnknownParameter"),
         (b"galley 1\nset footplace above", 2, 2, b"UnknownParameter"),
+        (b"galley 2\npage 7", 2, 1, b"UnknownWord"),
         // and no version has these words
         (b"galley 3\nhead T 30", 2, 1, b"UnknownWord"),
         (b"galley 3\nenlarge 5", 2, 1, b"UnknownWord"),
-        (b"galley 3\npage 7", 2, 1, b"UnknownWord"),
     ];
     for (text, line, field, cause) in rows {
         assert!(rt; first_fault(rt.alloc(), text) == (line, field, cause));

@@ -1,5 +1,5 @@
 -- The lines of the floats of a kind, in their order in lists, columns, pages and events.
-use Rattle.std.proofs.Common.{◌≡◌, refl, sym, ◌∙◌, ap, ℕ, ◌==◌, ℤ, Bool, true, false, cond, List, [], ◌∷◌, ◌++◌, map, length, Option, Some, None, append_assoc, append-nil}
+use Rattle.std.proofs.Common.{◌≡◌, refl, sym, ◌∙◌, ap, ℕ, ◌==◌, ℤ, Bool, true, false, cond, List, [], ◌∷◌, ◌++◌, map, length, Option, Some, None, append_assoc, append-nil, unwrap_or}
 use Rattle.std.specs.Prelude.{◌&&◌, if◌then◌else◌}
 use Rattle.std.specs.List.{AllByRecursion}
 use Rattle.tb_scaled.specs.declared.Glue.{Glue}
@@ -23,7 +23,7 @@ use Rattle.tb_area.proofs.OrderLemmas.{fill-order, double-order}
 use Rattle.tb_fpage.specs.declared.Wanted.{Wanted}
 use Rattle.tb_fpage.specs.Company.{Choice, company, chosen_floats, left_floats}
 use Rattle.tb_fpage.proofs.LawLemmas.{order-company}
-use Rattle.tb_column.specs.Column.{Notes, is_no_glue, glue_if_any, rule_if_any, kern_if_any, is_below, foot_kern, feet_above, class_below, PlainColumn, floats_with, floats_above, floats_below, notes_below, notes_among, text_above_feet, with_feet, with_bottoms, with_below, text_nodes, closing_glue, text_column, floats_after, floats_column}
+use Rattle.tb_column.specs.Column.{Notes, is_no_glue, glue_if_any, rule_if_any, kern_if_any, is_below, foot_kern, feet_above, above_class, class_below, PlainColumn, floats_with, floats_above, floats_below, notes_below, notes_among, text_above_feet, with_feet, with_bottoms, with_below, text_nodes, closing_glue, text_column, floats_after, floats_column}
 use Rattle.tb_column.proofs.ColumnParts.{among-have}
 use Rattle.tb_sheet.specs.Sheet.{PlainSheet, PlainSent, warned, shipped, one, wide, two}
 
@@ -257,9 +257,9 @@ feet-lines k p kern =
 class_below-lines : (k : FloatKind) (p : Params) (kern : Option ℤ) (n : Notes) → AreFloatless k n.inner → class_lines k (class_below p kern n) ≡ []
 class_below-lines k p kern n h = by_class (n.class == 254)
   where
-    by_class : (t : Bool) → class_lines k (if t then feet_above p kern ++ map leaf_node n.inner else made (skip n.skip) ∷ map leaf_node n.inner) ≡ []
+    by_class : (t : Bool) → class_lines k (if t then feet_above p kern ++ map leaf_node n.inner else above_class n.skip n.below ++ map leaf_node n.inner) ≡ []
     by_class true = lines-back k (feet_above p kern) (map leaf_node n.inner) (feet-lines k p kern) ∙ leaves-lines k n.inner h
-    by_class false = leaves-lines k n.inner h
+    by_class false = lines-back k (above_class n.skip n.below) (map leaf_node n.inner) (across-lines k Footnotes (unwrap_or n.below None)) ∙ leaves-lines k n.inner h
 
 notes_below-lines : (k : FloatKind) (p : Params) (kern : Option ℤ) (ns : List Notes) → NotesFloatless k ns → class_lines k (notes_below p kern ns) ≡ []
 notes_below-lines k p kern [] h = refl

@@ -92,6 +92,10 @@ interline-light : (k : FloatKind) (n : ℤ) (o : Option Glue) → int_le n eject
 interline-light k n None calm = (record { takes = refl; does = refl; feet = (tt, tt); endless = (calm-endless n calm, tt) }, refl)
 interline-light k n (Some g) calm = (record { takes = refl; does = refl; feet = (tt, (tt, (tt, tt))); endless = (refl, (calm-endless n calm, (refl, tt))) }, refl)
 
+between-light : (k : FloatKind) (n : ℤ) (nobreak : Bool) (ns : List PlainNode) → int_le n eject_penalty ≡ false → AreLight k (Text.penalty_between n nobreak ns) × (class_lines k (Text.penalty_between n nobreak ns) ≡ [])
+between-light k n true ns calm = (record { takes = refl; does = refl; feet = (tt, tt); endless = (refl, tt) }, refl)
+between-light k n false ns calm = interline-light k n (Text.glue_at_end (last_or (plain (pen n)) (map (λ (m : PlainNode). m.kind) ns))) calm
+
 here-light : (k : FloatKind) (p : Params) (vert : Bool) (f : Float) → int_le p.interlinepenalty eject_penalty ≡ false → AreLight k (Text.here_nodes p vert f) × (class_lines k (Text.here_nodes p vert f) ≡ line_if (is_of k f.class f.line) f.line)
 here-light k p true f calm = (record { takes = refl; does = refl; feet = (tt, (tt, (tt, (tt, (tt, tt))))); endless = (refl, (refl, (calm-endless p.interlinepenalty calm, (refl, (refl, tt))))) }, append-nil (line_if (is_of k f.class f.line) f.line))
 here-light k p false f calm = (record { takes = refl; does = refl; feet = (tt, (tt, (tt, (tt, tt)))); endless = (refl, (refl, (calm-endless p.interlinepenalty calm, (refl, tt)))) }, append-nil (line_if (is_of k f.class f.line) f.line))
@@ -280,10 +284,10 @@ module _ (k : FloatKind) (Known : ℕ → Type 0) (takes past : List ℕ) (old :
 
   module _ (p : Params) (calm : int_le p.interlinepenalty eject_penalty ≡ false) (text : List ℕ) where
     -- the penalty between lines follows
-    interline-gone : (a c : Work) → c.put_back ≡ a.put_back → c.state.held_page ≡ a.state.held_page → c.state.boxes ≡ a.state.boxes → Ordered k Known takes past old text c → Gone k Known takes past old text a (Text.puts_interline p c)
-    interline-gone a c e held boxes h =
-        let more = Text.penalty_after p.interlinepenalty c.put_back in
-        let x = interline-light k p.interlinepenalty (Text.glue_at_end (last_or (plain (pen p.interlinepenalty)) (map (λ (m : PlainNode). m.kind) c.put_back))) calm in
+    interline-gone : (nobreak : Bool) (a c : Work) → c.put_back ≡ a.put_back → c.state.held_page ≡ a.state.held_page → c.state.boxes ≡ a.state.boxes → Ordered k Known takes past old text c → Gone k Known takes past old text a (Text.puts_interline p nobreak c)
+    interline-gone nobreak a c e held boxes h =
+        let more = Text.penalty_between p.interlinepenalty nobreak c.put_back in
+        let x = between-light k p.interlinepenalty nobreak c.put_back calm in
         record {
           more = more;
           put = ap (λ ns. ns ++ more) e;
@@ -332,24 +336,24 @@ module _ (k : FloatKind) (Known : ℕ → Type 0) (takes past : List ℕ) (old :
           by_places true = warned-ordered text (warnings.Ht f.name) (FloatMoves.place_float p places.Deferred (Text.with_top f) left w) w_ok (deferred-ordered (Text.with_top f) refl refl)
           by_places false = deferred-ordered f refl refl
 
-      deferred-gone : Gone k Known takes past old text w (Text.puts_interline p (Text.defer p f left w))
-      deferred-gone = let s = defer-stays p f left w in interline-gone w (Text.defer p f left w) s.put_back s.held s.boxes defer-ordered
+      deferred-gone : Gone k Known takes past old text w (Text.puts_interline p f.nobreak (Text.defer p f left w))
+      deferred-gone = let s = defer-stays p f left w in interline-gone f.nobreak w (Text.defer p f left w) s.put_back s.held s.boxes defer-ordered
 
       goes-gone : (vert : Bool) (place : Where) → PassesNone l l.deferred f place → Gone k Known takes past old text w (Text.float_goes p vert f left w place)
       goes-gone vert places.Top n =
           let s = stays (place_float-step p (no_law p) places.Top f left w tt) in
-          interline-gone w (FloatMoves.place_float p places.Top f left w) s.put_back s.held s.boxes (top-ordered n.0 n.1 n.2)
+          interline-gone f.nobreak w (FloatMoves.place_float p places.Top f left w) s.put_back s.held s.boxes (top-ordered n.0 n.1 n.2)
       goes-gone vert places.Bottom n =
           let s = stays (place_float-step p (no_law p) places.Bottom f left w tt) in
-          interline-gone w (FloatMoves.place_float p places.Bottom f left w) s.put_back s.held s.boxes (bottom-ordered n)
+          interline-gone f.nobreak w (FloatMoves.place_float p places.Bottom f left w) s.put_back s.held s.boxes (bottom-ordered n)
       goes-gone vert places.Page n = absurd n
       goes-gone vert places.Double n = deferred-gone
       goes-gone vert places.Deferred n = deferred-gone
       goes-gone vert places.Here n =
           let v = FloatMoves.place_float p places.Here f left w in
           let s = stays (place_float-step p (no_law p) places.Here f left w tt) in
-          let line = Text.penalty_after p.interlinepenalty v.put_back in
-          let x = interline-light k p.interlinepenalty (Text.glue_at_end (last_or (plain (pen p.interlinepenalty)) (map (λ (m : PlainNode). m.kind) v.put_back))) calm in
+          let line = Text.penalty_between p.interlinepenalty f.nobreak v.put_back in
+          let x = between-light k p.interlinepenalty f.nobreak v.put_back calm in
           let y = here-light k p vert f calm in
           record {
             more = line ++ Text.here_nodes p vert f;
@@ -369,10 +373,10 @@ module _ (k : FloatKind) (Known : ℕ → Type 0) (takes past : List ℕ) (old :
         a_ordered : Ordered k Known takes past old text a
         a_ordered = recurrent text (past ++ sent_lines k w.sent) (old ++ w.records) w.state.floats w.state.two_columns w.state.first_column w.state.left_column es e h
 
-        gone : (c : Work) → c.put_back ≡ w.put_back → c.state.held_page ≡ w.state.held_page → c.state.boxes ≡ w.state.boxes → Ordered k Known takes past old text c → Gone k Known takes past old text w (Text.puts_interline p (puts (Text.note_nodes depth m at) c))
+        gone : (c : Work) → c.put_back ≡ w.put_back → c.state.held_page ≡ w.state.held_page → c.state.boxes ≡ w.state.boxes → Ordered k Known takes past old text c → Gone k Known takes past old text w (Text.puts_interline p m.nobreak (puts (Text.note_nodes depth m at) c))
         gone c q held boxes o =
             let ns = Text.note_nodes depth m at in
-            let g = interline-gone (puts ns c) (puts ns c) refl refl refl o in
+            let g = interline-gone m.nobreak (puts ns c) (puts ns c) refl refl refl o in
             record {
               more = ns ++ g.more;
               put = g.put ∙ append_assoc c.put_back ns g.more ∙ ap (λ x. x ++ (ns ++ g.more)) q;
@@ -382,7 +386,7 @@ module _ (k : FloatKind) (Known : ℕ → Type 0) (takes past : List ℕ) (old :
               stays_boxes = g.stays_boxes ∙ boxes;
             }
 
-        by_moved : (t : Bool) → Gone k Known takes past old text w (Text.puts_interline p (puts (Text.note_nodes depth m at) (if t then sends (warned (warnings.Moved m.name at.shift)) a else a)))
+        by_moved : (t : Bool) → Gone k Known takes past old text w (Text.puts_interline p m.nobreak (puts (Text.note_nodes depth m at) (if t then sends (warned (warnings.Moved m.name at.shift)) a else a)))
         by_moved true =
             let s = sends-stays (warned (warnings.Moved m.name at.shift)) a in
             gone (sends (warned (warnings.Moved m.name at.shift)) a) s.put_back s.held s.boxes (warned-ordered text (warnings.Moved m.name at.shift) a ok a_ordered)
@@ -393,8 +397,8 @@ module _ (k : FloatKind) (Known : ℕ → Type 0) (takes past : List ℕ) (old :
         goes-gone f es w e ok h vert (current_place p w.state.floats w.state.suppress page_height f) (current-laws p w.state.floats w.state.suppress page_height f).order
     first-gone vert height depth page_height (entries.Left m ∷ []) w e pairs ok h = absurd pairs
     first-gone vert height depth page_height (entries.Left m ∷ entries.Right n ∷ es) w e pairs ok h =
-        note-gone depth m es w (placed_note p w.state.page w.state.two_columns w.state.first_column height w.state.note_bottom m) ok (ap floats_among (sym e)) h
+        note-gone depth m es w (placed_note p w.state.number w.state.two_columns w.state.first_column height w.state.note_bottom m) ok (ap floats_among (sym e)) h
     first-gone vert height depth page_height (entries.Left m ∷ entries.Float f ∷ es) w e pairs ok h = absurd pairs
     first-gone vert height depth page_height (entries.Left m ∷ entries.Left n ∷ es) w e pairs ok h = absurd pairs
     first-gone vert height depth page_height (entries.Right m ∷ es) w e pairs ok h = absurd pairs
-    first-gone vert height depth page_height [] w e pairs ok h = interline-gone w w refl refl refl h
+    first-gone vert height depth page_height [] w e pairs ok h = interline-gone false w w refl refl refl h

@@ -22,7 +22,7 @@ use Rattle.tb_float.specs.declared.Entry.TheVariants as entries
 use Rattle.tb_float.specs.Lists.{FloatLists, floats_among, live_count}
 use Rattle.tb_column.specs.Column.{PlainColumn}
 use Rattle.tb_sheet.specs.Sheet.{warned}
-use Rattle.tb_output.specs.State.{State, Work, Recorded, emptied, ask_of}
+use Rattle.tb_output.specs.State.{State, Work, Recorded, emptied}
 use Rattle.tb_output.specs.Act.{Acted, went, full, act_on, lists_with_taken, taken_float}
 use Rattle.tb_output.specs.Output
 use Rattle.tb_sheet.specs.Asked
@@ -47,7 +47,7 @@ use Rattle.tb_laws.proofs.DeadCycles.CycleBreaks.{true-false}
 use Rattle.tb_laws.proofs.NothingLost.ClosingRuns.{progressed, acts-after, fired_closes, StepCloses, step-closes}
 use Rattle.tb_node.specs.declared.Float.{Float}
 use Rattle.tb_laws.proofs.ClassesRise.OutOrder.{IsOnSide, Suits, InOrder, FiresInOrder, out-order}
-use Rattle.tb_steps.specs.Run.{Run, done, dead_cycles, page_limit, node_limit, Progress, progress_by, progress, Step, ends, goes_on, held_count, after_firing, fire, after_progress, step, run_by, run_from}
+use Rattle.tb_steps.specs.Run.{Run, done, dead_cycles, page_limit, node_limit, Progress, progress_by, progress, Step, ends, goes_on, held_count, after_firing, fire, after_progress, step, run_by, run_from, ask_for}
 use Rattle.tb_items.specs.RunEvents.{sent}
 use Rattle.tb_laws.specs.Laws.{IsEmptied, EndsDone}
 use Rattle.tb_laws.proofs.NothingLost.RunWeights.{After, progress-adds, Kept, page_of, cut, cut_feet, cut_stands, StepWeighs, step-weighs}
@@ -278,6 +278,7 @@ module _ (k : FloatKind) (Known : ℕ → Type 0) (p : Params) (r : IsReleased k
         u,
       ))
   act-order takes ds rs s (acts.Suppress area) h u = λ m. (subst (λ x. StateOrder takes x s) (sym (append-nil rs)) h, u)
+  act-order takes ds rs s (acts.Page n) h u = λ m. (subst (λ x. StateOrder takes x s) (sym (append-nil rs)) h, u)
   act-order takes ds rs s (acts.Columns two) h u =
       λ m. (
         order-quietly k Known text past takes rs (emptied s.floats ∷ []) s.floats two true None (tt, tt)
@@ -379,17 +380,17 @@ module _ (k : FloatKind) (Known : ℕ → Type 0) (p : Params) (released : IsRel
 
   fire-order : (q : Progress) → events_lines k q.events ≡ [] → After nothing_weighs (acted_weight nothing_weighs (page_of p s).reached) s q.state
       → (AllByRecursion IsEmptied q.records → (takes : List ℕ) (all : List Act) → take_lines k s.waiting ≡ acts_lines k (acted_of (page_of p s).reached) ++ takes → deeds s.waiting ≡ acted_of (page_of p s).reached ++ all → Order k Known (class_lines k s.held_page ++ class_lines k s.waiting) takes past (old ++ q.records) q.state.floats q.state.two_columns q.state.first_column q.state.left_column × Suits k q.state.two_columns all)
-      → (out p q.state (fired_of (ask_of p q.state) q.state.classes q.state.boxes (page_of p s))).state.two_columns ≡ q.state.two_columns → StepOrder k Known past old (fire p (page_of p s) q)
+      → (out p q.state (fired_of (ask_for p s) q.state.classes q.state.boxes (page_of p s))).state.two_columns ≡ q.state.two_columns → StepOrder k Known past old (fire p (ask_for p s) (page_of p s) q)
   fire-order q none after order columns = by_cycles (int_lt (pos q.state.dead_cycles) p.maxdeadcycles)
     where
       z : Frozen
-      z = frozen_for (ask_of p q.state) (q.state.classes) q.state.boxes
+      z = frozen_for (ask_for p s) (q.state.classes) q.state.boxes
 
       f : Fired
-      f = fired_of (ask_of p q.state) (q.state.classes) q.state.boxes (page_of p s)
+      f = fired_of (ask_for p s) (q.state.classes) q.state.boxes (page_of p s)
 
       o : Work
-      o = out p q.state (fired_of (ask_of p q.state) (q.state.classes) q.state.boxes (page_of p s))
+      o = out p q.state (fired_of (ask_for p s) (q.state.classes) q.state.boxes (page_of p s))
 
       all : Work → Type 0
       all c = AllByRecursion IsEmptied (q.records ++ c.records) → InOrder k Known (past ++ events_lines k (q.events ++ map sent c.sent)) (old ++ (q.records ++ c.records)) c.state
@@ -399,11 +400,11 @@ module _ (k : FloatKind) (Known : ℕ → Type 0) (p : Params) (released : IsRel
           subst (λ x. InOrder k Known (past ++ x) (old ++ (q.records ++ c.records)) c.state) (sym (events-lines-append k q.events (map sent c.sent) ∙ ap (λ l. l ++ events_lines k (map sent c.sent)) none ∙ sent-events-lines k c.sent))
           (subst (λ x. InOrder k Known (past ++ sent_lines k c.sent) x c.state) (append_assoc old q.records c.records) (i (all-front IsEmptied q.records c.records e)))
 
-      in_order : (out p q.state (fired_of (ask_of p q.state) (q.state.classes) q.state.boxes (page_of p s))).refused ≡ false → AllByRecursion IsEmptied q.records
-          → InOrder k Known (past ++ sent_lines k (out p q.state (fired_of (ask_of p q.state) (q.state.classes) q.state.boxes (page_of p s))).sent) ((old ++ q.records) ++ (out p q.state (fired_of (ask_of p q.state) (q.state.classes) q.state.boxes (page_of p s))).records) (out p q.state (fired_of (ask_of p q.state) (q.state.classes) q.state.boxes (page_of p s))).state
+      in_order : (out p q.state (fired_of (ask_for p s) (q.state.classes) q.state.boxes (page_of p s))).refused ≡ false → AllByRecursion IsEmptied q.records
+          → InOrder k Known (past ++ sent_lines k (out p q.state (fired_of (ask_for p s) (q.state.classes) q.state.boxes (page_of p s))).sent) ((old ++ q.records) ++ (out p q.state (fired_of (ask_for p s) (q.state.classes) q.state.boxes (page_of p s))).records) (out p q.state (fired_of (ask_for p s) (q.state.classes) q.state.boxes (page_of p s))).state
       in_order r e =
-          let zz = frozen_for (ask_of p q.state) (q.state.classes) q.state.boxes in
-          out-order k Known past (old ++ q.records) p released calm q.state (fired_of (ask_of p q.state) (q.state.classes) q.state.boxes (page_of p s))
+          let zz = frozen_for (ask_for p s) (q.state.classes) q.state.boxes in
+          out-order k Known past (old ++ q.records) p released calm q.state (fired_of (ask_for p s) (q.state.classes) q.state.boxes (page_of p s))
           (let x = order e _ _ (lines q.state after zz).takes (lines q.state after zz).does in fires-in-order q.state after zz (old ++ q.records) x.0 x.1) r columns
 
       by_nodes : (c : Work) (u : Bool) → (AllByRecursion IsEmptied q.records → InOrder k Known (past ++ sent_lines k c.sent) ((old ++ q.records) ++ c.records) c.state)
@@ -416,8 +417,8 @@ module _ (k : FloatKind) (Known : ℕ → Type 0) (p : Params) (released : IsRel
       by_refused c true r i = λ d e. absurd d
       by_refused c false r i = by_nodes c (int_lt p.maxnodes (pos (held_count c.state))) (i r)
 
-      by_cycles : (u : Bool) → StepOrder k Known past old (if u then after_firing p q.events q.records (out p q.state (fired_of (ask_of p q.state) (q.state.classes) q.state.boxes (page_of p s))) else ends q.events q.records (dead_cycles q.state.dead_cycles))
-      by_cycles true = by_refused (out p q.state (fired_of (ask_of p q.state) (q.state.classes) q.state.boxes (page_of p s))) (out p q.state (fired_of (ask_of p q.state) (q.state.classes) q.state.boxes (page_of p s))).refused refl in_order
+      by_cycles : (u : Bool) → StepOrder k Known past old (if u then after_firing p q.events q.records (out p q.state (fired_of (ask_for p s) (q.state.classes) q.state.boxes (page_of p s))) else ends q.events q.records (dead_cycles q.state.dead_cycles))
+      by_cycles true = by_refused (out p q.state (fired_of (ask_for p s) (q.state.classes) q.state.boxes (page_of p s))) (out p q.state (fired_of (ask_for p s) (q.state.classes) q.state.boxes (page_of p s))).refused refl in_order
       by_cycles false = λ d e. absurd d
 
   -- a step keeps the class in order, and at the end all is in order that has shipped
@@ -434,8 +435,8 @@ module _ (k : FloatKind) (Known : ℕ → Type 0) (p : Params) (released : IsRel
           progress-order k Known p released (class_lines k s.held_page ++ class_lines k s.waiting) past takes all (page_of p s).reached awful_bad old s e f
           (subst (λ x. Order k Known (class_lines k s.held_page ++ class_lines k s.waiting) x past old s.floats s.two_columns s.first_column s.left_column) same h.ordered) (subst (Suits k s.two_columns) deeds_same h.suits)
 
-      columns : (progress p (page_of p s).reached awful_bad s).fault ≡ None → (out p (progress p (page_of p s).reached awful_bad s).state (fired_of (ask_of p (progress p (page_of p s).reached awful_bad s).state) (progress p (page_of p s).reached awful_bad s).state.classes (progress p (page_of p s).reached awful_bad s).state.boxes (page_of p s))).state.two_columns ≡ (progress p (page_of p s).reached awful_bad s).state.two_columns
-      columns f = (fired_closes p calm s kept closing (progress p (page_of p s).reached awful_bad s).state (acts-after p calm s kept closing f) ((progressed p calm s kept closing).after f) (frozen_for (ask_of p (progress p (page_of p s).reached awful_bad s).state) (progress p (page_of p s).reached awful_bad s).state.classes (progress p (page_of p s).reached awful_bad s).state.boxes)).1
+      columns : (progress p (page_of p s).reached awful_bad s).fault ≡ None → (out p (progress p (page_of p s).reached awful_bad s).state (fired_of (ask_for p s) (progress p (page_of p s).reached awful_bad s).state.classes (progress p (page_of p s).reached awful_bad s).state.boxes (page_of p s))).state.two_columns ≡ (progress p (page_of p s).reached awful_bad s).state.two_columns
+      columns f = (fired_closes p calm s kept closing (progress p (page_of p s).reached awful_bad s).state (acts-after p calm s kept closing f) ((progressed p calm s kept closing).after f) (frozen_for (ask_for p s) (progress p (page_of p s).reached awful_bad s).state.classes (progress p (page_of p s).reached awful_bad s).state.boxes)).1
 
       after : (progress p (page_of p s).reached awful_bad s).fault ≡ None → After nothing_weighs (acted_weight nothing_weighs (page_of p s).reached) s (progress p (page_of p s).reached awful_bad s).state
       after f = (progress-adds nothing_weighs p (page_of p s).reached awful_bad s kept.sound (nothing-fits s.left_column (acted_of (page_of p s).reached))).after f
@@ -448,11 +449,11 @@ module _ (k : FloatKind) (Known : ℕ → Type 0) (p : Params) (released : IsRel
           (subst (λ x. RunOrder k Known x ((old ++ r.records) ++ emptied r.state.floats ∷ [])) (sym (append-nil past) ∙ ap (λ l. past ++ l) (sym none)) (record { order = rises-front Known _ past _ o.order; known = o.known }))
 
       by_firing : (u : Bool) → (page_of p s).fires ≡ u → (progress p (page_of p s).reached awful_bad s).fault ≡ None
-          → StepOrder k Known past old (if u then fire p (page_of p s) (progress p (page_of p s).reached awful_bad s) else ends (progress p (page_of p s).reached awful_bad s).events ((progress p (page_of p s).reached awful_bad s).records ++ emptied (progress p (page_of p s).reached awful_bad s).state.floats ∷ []) (done (page_of p s).passed))
+          → StepOrder k Known past old (if u then fire p (ask_for p s) (page_of p s) (progress p (page_of p s).reached awful_bad s) else ends (progress p (page_of p s).reached awful_bad s).events ((progress p (page_of p s).reached awful_bad s).records ++ emptied (progress p (page_of p s).reached awful_bad s).state.floats ∷ []) (done (page_of p s).passed))
       by_firing true u f = fire-order (progress p (page_of p s).reached awful_bad s) (progress-lines k p (page_of p s).reached awful_bad s) (after f) (ordered f) (columns f)
       by_firing false u f = λ d e. done_order (progress p (page_of p s).reached awful_bad s) (progress-lines k p (page_of p s).reached awful_bad s) (λ m takes same. (ordered f m takes (deeds (page_of p s).beyond) same (all-done k p.topskip s.waiting (page_of p s) page_cut h.early h.feet)).0) (all-taken k p.topskip s.waiting (page_of p s) page_cut h.early h.feet (page_cut.ended u)) e
 
-      by_fault : (o : Option (ℕ × ℕ)) → (progress p (page_of p s).reached awful_bad s).fault ≡ o → StepOrder k Known past old (after_progress p (page_of p s) (progress p (page_of p s).reached awful_bad s) o)
+      by_fault : (o : Option (ℕ × ℕ)) → (progress p (page_of p s).reached awful_bad s).fault ≡ o → StepOrder k Known past old (after_progress p (ask_for p s) (page_of p s) (progress p (page_of p s).reached awful_bad s) o)
       by_fault None f = by_firing (page_of p s).fires refl f
       by_fault (Some y) f = λ d e. absurd d
 

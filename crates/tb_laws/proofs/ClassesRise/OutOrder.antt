@@ -47,6 +47,7 @@ Suits k t [] = Unit {0}
 Suits k t (acts.Take f ∷ ds) = (is_of k f.class f.line ≡ true → IsOnSide k.side (f.wide && t)) × Suits k t ds
 Suits k t (acts.TakeMargin m ∷ ds) = Suits k t ds
 Suits k t (acts.Suppress area ∷ ds) = Suits k t ds
+Suits k t (acts.Page n ∷ ds) = Suits k t ds
 Suits k t (acts.Columns now ∷ ds) = Suits k now ds
 
 -- ---- the invariant between firings
@@ -295,13 +296,13 @@ module _ (k : FloatKind) (Known : ℕ → Type 0) (takes past : List ℕ) (old :
   goal-kept : (g : ℤ) (w : Work) → Settled k Known takes past old rest w → Settled k Known takes past old rest (Output.with_goal g w)
   goal-kept g w s = record { ordered = s.ordered; early = s.early; none_taken = s.none_taken; none_done = s.none_done; feet = s.feet; held = s.held; boxes = s.boxes }
 
-  told-kept : (p : Params) (w : Work) → w.refused ≡ false → Settled k Known takes past old rest w → Settled k Known takes past old rest (sends (warned (warnings.Floats w.state.page)) w)
+  told-kept : (p : Params) (w : Work) → w.refused ≡ false → Settled k Known takes past old rest w → Settled k Known takes past old rest (sends (warned (warnings.Floats w.state.number)) w)
   told-kept p w ok s =
-      let c = sends (warned (warnings.Floats w.state.page)) w in
-      let x = sends-stays (warned (warnings.Floats w.state.page)) w in
+      let c = sends (warned (warnings.Floats w.state.number)) w in
+      let x = sends-stays (warned (warnings.Floats w.state.number)) w in
       record {
         ordered = subst (λ t. Ordered k Known takes past old t c) (ap (λ ns. class_lines k ns ++ (class_lines k w.put_back ++ class_lines k rest)) (sym x.held) ∙ ap (λ ns. class_lines k c.state.held_page ++ (class_lines k ns ++ class_lines k rest)) (sym x.put_back))
-            (warned-ordered k Known takes past old (class_lines k w.state.held_page ++ (class_lines k w.put_back ++ class_lines k rest)) (warnings.Floats w.state.page) w ok s.ordered);
+            (warned-ordered k Known takes past old (class_lines k w.state.held_page ++ (class_lines k w.put_back ++ class_lines k rest)) (warnings.Floats w.state.number) w ok s.ordered);
         early = subst (λ ns. AreEarly k (ns ++ rest)) (sym x.put_back) s.early;
         none_taken = ap (take_lines k) x.put_back ∙ s.none_taken;
         none_done = ap (deeds) x.put_back ∙ s.none_done;
@@ -333,7 +334,7 @@ module _ (k : FloatKind) (Known : ℕ → Type 0) (takes past : List ℕ) (old :
       crowded : Settled k Known takes past old rest (Output.leave_column w)
       crowded =
           let x = blank-light (w.state.two_columns && not w.state.first_column) in
-          blank-kept (if w.state.two_columns && not w.state.first_column then Output.blank_column ++ Output.blank_column else Output.blank_column) (sends (warned (warnings.Floats w.state.page)) w) x.0 x.1 (told-kept p w ok s)
+          blank-kept (if w.state.two_columns && not w.state.first_column then Output.blank_column ++ Output.blank_column else Output.blank_column) (sends (warned (warnings.Floats w.state.number)) w) x.0 x.1 (told-kept p w ok s)
 
       by_room : (t : Bool) → Settled k Known takes past old rest (if t then Output.leave_column w else Output.with_goal (column_room_of p w.state.floats) w)
       by_room true = crowded

@@ -37,9 +37,9 @@ records-now r w e = ap (λ t. if t then w else record w { records = w.records ++
 pub sends-now : (e : PlainSent) (w : Work) → w.refused ≡ false → sends e w ≡ record w { sent = w.sent ++ e ∷ [] }
 sends-now e w h = ap (λ t. if t then w else record w { sent = w.sent ++ e ∷ [] }) h
 
-pub ship-is : (p : Params) (sheet : PlainSheet) (w : Work) → (Pages.ship p sheet w).refused ≡ false → Pages.ship p sheet w ≡ record w { state = record w.state { page = w.state.page + 1; dead_cycles = 0 }; sent = w.sent ++ shipped w.state.page sheet ∷ [] }
+pub ship-is : (p : Params) (sheet : PlainSheet) (w : Work) → (Pages.ship p sheet w).refused ≡ false → Pages.ship p sheet w ≡ record w { state = record w.state { page = w.state.page + 1; number = w.state.number + 1; dead_cycles = 0 }; sent = w.sent ++ shipped w.state.number sheet ∷ [] }
 ship-is p sheet w ok =
-    by-ship (λ v. v.refused ≡ false → v ≡ record w { state = record w.state { page = w.state.page + 1; dead_cycles = 0 }; sent = w.sent ++ shipped w.state.page sheet ∷ [] }) p sheet w
+    by-ship (λ v. v.refused ≡ false → v ≡ record w { state = record w.state { page = w.state.page + 1; number = w.state.number + 1; dead_cycles = 0 }; sent = w.sent ++ shipped w.state.number sheet ∷ [] }) p sheet w
     (λ r k. absurd (both_ways w.refused k r)) (λ r k. cc) (λ r e k. refl) ok
 
 -- ---- a firing at work
@@ -54,8 +54,8 @@ module _ (k : FloatKind) (Known : ℕ → Type 0) (text takes past : List ℕ) (
       subst (λ x. InHand [] x) (sym (ship-is p sheet w ok))
       (subst (λ b. Spread k Known text takes b (old ++ w.records) [] w.state.floats w.state.two_columns w.state.first_column w.state.left_column) (sent_more sheet w) h)
     where
-      sent_more : (sheet : PlainSheet) (w : Work) → (past ++ sent_lines k w.sent) ++ sheet_lines k sheet ≡ past ++ sent_lines k (w.sent ++ shipped w.state.page sheet ∷ [])
-      sent_more sheet w = append_assoc past (sent_lines k w.sent) (sheet_lines k sheet) ∙ ap (λ y. past ++ (sent_lines k w.sent ++ y)) (sym (append-nil (sheet_lines k sheet))) ∙ ap (λ y. past ++ y) (sym (sent-append k w.sent (shipped w.state.page sheet ∷ [])))
+      sent_more : (sheet : PlainSheet) (w : Work) → (past ++ sent_lines k w.sent) ++ sheet_lines k sheet ≡ past ++ sent_lines k (w.sent ++ shipped w.state.number sheet ∷ [])
+      sent_more sheet w = append_assoc past (sent_lines k w.sent) (sheet_lines k sheet) ∙ ap (λ y. past ++ (sent_lines k w.sent ++ y)) (sym (append-nil (sheet_lines k sheet))) ∙ ap (λ y. past ++ y) (sym (sent-append k w.sent (shipped w.state.number sheet ∷ [])))
 
   -- ---- wide pages
 
@@ -130,8 +130,8 @@ module _ (k : FloatKind) (Known : ℕ → Type 0) (text takes past : List ℕ) (
         two = ap (λ (x : Work). x.state.two_columns) e ∙ t;
       }))
     where
-      more : (sheet : PlainSheet) (w : Work) (ys : List ℕ) → sheet_lines k sheet ≡ ys → (past ++ sent_lines k w.sent) ++ ys ≡ past ++ sent_lines k (w.sent ++ shipped w.state.page sheet ∷ [])
-      more sheet w ys e = append_assoc past (sent_lines k w.sent) ys ∙ ap (λ y. past ++ (sent_lines k w.sent ++ y)) (sym e ∙ sym (append-nil (sheet_lines k sheet))) ∙ ap (λ y. past ++ y) (sym (sent-append k w.sent (shipped w.state.page sheet ∷ [])))
+      more : (sheet : PlainSheet) (w : Work) (ys : List ℕ) → sheet_lines k sheet ≡ ys → (past ++ sent_lines k w.sent) ++ ys ≡ past ++ sent_lines k (w.sent ++ shipped w.state.number sheet ∷ [])
+      more sheet w ys e = append_assoc past (sent_lines k w.sent) ys ∙ ap (λ y. past ++ (sent_lines k w.sent ++ y)) (sym e ∙ sym (append-nil (sheet_lines k sheet))) ∙ ap (λ y. past ++ y) (sym (sent-append k w.sent (shipped w.state.number sheet ∷ [])))
 
   -- ---- a column
 

@@ -55,6 +55,7 @@ ActsClose o [] = Unit {0}
 ActsClose o (acts.Take f ∷ ds) = ActsClose false ds
 ActsClose o (acts.TakeMargin m ∷ ds) = ActsClose false ds
 ActsClose o (acts.Suppress area ∷ ds) = ActsClose o ds
+ActsClose o (acts.Page n ∷ ds) = ActsClose o ds
 ActsClose o (acts.Columns two ∷ ds) = (o ≡ true) × ActsClose o ds
 
 -- each float and note that is taken is owed a firing
@@ -63,6 +64,7 @@ owed_acts z n [] = n
 owed_acts z n (acts.Take f ∷ ds) = owed_acts z (owed_after z f.wide n) ds
 owed_acts z n (acts.TakeMargin m ∷ ds) = owed_acts z (suc n) ds
 owed_acts z n (acts.Suppress area ∷ ds) = owed_acts z n ds
+owed_acts z n (acts.Page number ∷ ds) = owed_acts z n ds
 owed_acts z n (acts.Columns two ∷ ds) = owed_acts (turned z two) n ds
 
 -- how floats are taken after the acts
@@ -71,6 +73,7 @@ ways_acts z [] = z
 ways_acts z (acts.Take f ∷ ds) = ways_acts z ds
 ways_acts z (acts.TakeMargin m ∷ ds) = ways_acts z ds
 ways_acts z (acts.Suppress area ∷ ds) = ways_acts z ds
+ways_acts z (acts.Page n ∷ ds) = ways_acts z ds
 ways_acts z (acts.Columns two ∷ ds) = ways_acts (turned z two) ds
 
 abbrev pub AllStill : List Act → Type 0
@@ -86,6 +89,7 @@ node-owed z n (ins i) ns h l = h z n
 node-owed z n (act (acts.Take f)) ns h l = h z (owed_after z f.wide n)
 node-owed z n (act (acts.TakeMargin m)) ns h l = h z (suc n)
 node-owed z n (act (acts.Suppress area)) ns h l = h z n
+node-owed z n (act (acts.Page number)) ns h l = h z n
 node-owed z n (act (acts.Columns two)) ns h l = h (turned z two) n
 
 all-owed : (z : Ways) (n : ℕ) (ns : List PlainNode) → owed_all z n (tokens ns) ≡ owed_acts z n (acts_of ns)
@@ -110,6 +114,7 @@ weaker [] h = tt
 weaker (acts.Take f ∷ ds) h = h
 weaker (acts.TakeMargin m ∷ ds) h = h
 weaker (acts.Suppress area ∷ ds) h = weaker ds h
+weaker (acts.Page n ∷ ds) h = weaker ds h
 weaker (acts.Columns two ∷ ds) h = never h.0
 
 acts-any : (o : Bool) (ds : List Act) → ActsClose false ds → ActsClose o ds
@@ -130,6 +135,7 @@ node-acts (ins i) l ns xs h z n o p c = acts-any o (acts_of ns) (h z n false c)
 node-acts (act (acts.Take f)) l ns xs h z n o p c = h z (owed_after z f.wide n) false c
 node-acts (act (acts.TakeMargin m)) l ns xs h z n o p c = h z (suc n) false c
 node-acts (act (acts.Suppress area)) l ns xs h z n o p c = h z n o c
+node-acts (act (acts.Page number)) l ns xs h z n o p c = h z n o c
 node-acts (act (acts.Columns two)) l ns xs h z n o p c = (c.0, h (turned z two) n o c.1)
 
 front-acts : (ns : List PlainNode) (ys : List Token) (z : Ways) (n : ℕ) (o : Bool) → AllByRecursion Passed (tokens ns) → Closes z n o (tokens ns ++ ys) → ActsClose o (acts_of ns)

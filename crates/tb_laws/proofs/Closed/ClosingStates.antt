@@ -86,9 +86,9 @@ goal-told p n w =
     told_if w (Output.is_int n Asked.hold_penalty) (Output.with_goal max_dimen w) (Output.goal_by p (column_room_of p w.state.floats) w) (with_goal-told max_dimen w)
     (told_if w (Output.is_crowded p (column_room_of p w.state.floats)) (Output.leave_column w) (Output.with_goal (column_room_of p w.state.floats) w) (crowded (w.state.two_columns && not w.state.first_column)) (with_goal-told (column_room_of p w.state.floats) w))
   where
-    crowded : (t : Bool) → Told w (puts (if t then Output.blank_column ++ Output.blank_column else Output.blank_column) (sends (warned (warnings.Floats w.state.page)) w))
-    crowded true = warned-told (warned (warnings.Floats w.state.page)) (Output.blank_column ++ Output.blank_column) w (tt, (tt, (tt, (tt, tt))))
-    crowded false = warned-told (warned (warnings.Floats w.state.page)) Output.blank_column w (tt, (tt, tt))
+    crowded : (t : Bool) → Told w (puts (if t then Output.blank_column ++ Output.blank_column else Output.blank_column) (sends (warned (warnings.Floats w.state.number)) w))
+    crowded true = warned-told (warned (warnings.Floats w.state.number)) (Output.blank_column ++ Output.blank_column) w (tt, (tt, (tt, (tt, tt))))
+    crowded false = warned-told (warned (warnings.Floats w.state.number)) Output.blank_column w (tt, (tt, tt))
 
 -- ---- held insertions
 

@@ -192,6 +192,7 @@ abbrev pub act_token : Act → Token
 act_token (acts.Take f) = taking f.wide
 act_token (acts.TakeMargin m) = taking false
 act_token (acts.Suppress area) = quiet
+act_token (acts.Page n) = quiet
 act_token (acts.Columns two) = changing two
 
 abbrev pub kind_token : PlainKind → Token

@@ -118,14 +118,14 @@ goal-puts ks t b k p n w = puts_if ks t b p w (Output.is_int n Asked.hold_penalt
     room = column_room_of p w.state.floats
 
     told : Work
-    told = sends (warned (warnings.Floats w.state.page)) w
+    told = sends (warned (warnings.Floats w.state.number)) w
 
     columns : (u : Bool) → Extends ks t b (if u then Output.blank_column ++ Output.blank_column else Output.blank_column)
     columns true = extends-both ks t b Output.blank_column Output.blank_column (blank-extends ks t b k) (blank-extends ks t b k)
     columns false = blank-extends ks t b k
 
     crowded : Puts ks t b w (Output.leave_column w)
-    crowded = joined ks t b p w told (Output.leave_column w) (sends-put ks t b (warned (warnings.Floats w.state.page)) w) (extended ks t b (if w.state.two_columns && not w.state.first_column then Output.blank_column ++ Output.blank_column else Output.blank_column) told (columns (w.state.two_columns && not w.state.first_column)))
+    crowded = joined ks t b p w told (Output.leave_column w) (sends-put ks t b (warned (warnings.Floats w.state.number)) w) (extended ks t b (if w.state.two_columns && not w.state.first_column then Output.blank_column ++ Output.blank_column else Output.blank_column) told (columns (w.state.two_columns && not w.state.first_column)))
 
 -- steady nodes may be put back if a page is not held and what follows is well formed after many boxes
 steady-stands : (xs ys : List Sort) → AllByRecursion Steady xs → Stands many false ys → Stands many false (xs ++ ys)
@@ -152,8 +152,16 @@ module _ (ks : List ℕ) (p : Params) (calm : int_le p.interlinepenalty eject_pe
   penalty-class None = (tt, tt)
   penalty-class (Some g) = (tt, (tt, (tt, tt)))
 
-  interline-puts : (a w : Work) → Puts ks many false a w → Puts ks many false a (Text.puts_interline p w)
-  interline-puts a w t = joined ks many false p a w (Text.puts_interline p w) t (extended ks many false (Text.penalty_after p.interlinepenalty w.put_back) w (steady-extends ks (Text.penalty_after p.interlinepenalty w.put_back) (penalty-steady (Text.glue_at_end (last_or (plain (pen p.interlinepenalty)) (map (λ m. m.kind) w.put_back)))) (penalty-class (Text.glue_at_end (last_or (plain (pen p.interlinepenalty)) (map (λ m. m.kind) w.put_back))))))
+  pub between-steady : (nobreak : Bool) (ns : List PlainNode) → AllByRecursion Steady (sorts (Text.penalty_between p.interlinepenalty nobreak ns))
+  between-steady true ns = (tt, tt)
+  between-steady false ns = penalty-steady (Text.glue_at_end (last_or (plain (pen p.interlinepenalty)) (map (λ m. m.kind) ns)))
+
+  between-class : (nobreak : Bool) (ns : List PlainNode) → AllOfClass ks (Text.penalty_between p.interlinepenalty nobreak ns)
+  between-class true ns = (tt, tt)
+  between-class false ns = penalty-class (Text.glue_at_end (last_or (plain (pen p.interlinepenalty)) (map (λ m. m.kind) ns)))
+
+  interline-puts : (nobreak : Bool) (a w : Work) → Puts ks many false a w → Puts ks many false a (Text.puts_interline p nobreak w)
+  interline-puts nobreak a w t = joined ks many false p a w (Text.puts_interline p nobreak w) t (extended ks many false (Text.penalty_between p.interlinepenalty nobreak w.put_back) w (steady-extends ks (Text.penalty_between p.interlinepenalty nobreak w.put_back) (between-steady nobreak w.put_back) (between-class nobreak w.put_back)))
 
   pub here-steady : (vert : Bool) (f : Float) → AllByRecursion Steady (sorts (Text.here_nodes p vert f))
   here-steady true f = (tt, (tt, (rw calm tt, (tt, (tt, tt)))))
@@ -166,18 +174,18 @@ module _ (ks : List ℕ) (p : Params) (calm : int_le p.interlinepenalty eject_pe
   goes-puts : (vert : Bool) (f : Float) (left : FloatLists) (w : Work) (place : Where) → Puts ks many false w (Text.float_goes p vert f left w place)
   goes-puts vert f left w places.Here =
       let a = FloatMoves.place_float p places.Here f left w in
-      let b = Text.puts_interline p a in
-      joined ks many false p w b (Text.float_goes p vert f left w places.Here) (interline-puts w a (column-puts ks many false (place_float-step p (no_law p) places.Here f left w tt))) (extended ks many false (Text.here_nodes p vert f) b (steady-extends ks (Text.here_nodes p vert f) (here-steady vert f) (here-class vert f)))
-  goes-puts vert f left w places.Top = interline-puts w _ (column-puts ks many false (place_float-step p (no_law p) places.Top f left w tt))
-  goes-puts vert f left w places.Bottom = interline-puts w _ (column-puts ks many false (place_float-step p (no_law p) places.Bottom f left w tt))
-  goes-puts vert f left w place = interline-puts w _ (stays-put ks many false (defer-stays p f left w) (continues-defer p f left w))
+      let b = Text.puts_interline p f.nobreak a in
+      joined ks many false p w b (Text.float_goes p vert f left w places.Here) (interline-puts f.nobreak w a (column-puts ks many false (place_float-step p (no_law p) places.Here f left w tt))) (extended ks many false (Text.here_nodes p vert f) b (steady-extends ks (Text.here_nodes p vert f) (here-steady vert f) (here-class vert f)))
+  goes-puts vert f left w places.Top = interline-puts f.nobreak w _ (column-puts ks many false (place_float-step p (no_law p) places.Top f left w tt))
+  goes-puts vert f left w places.Bottom = interline-puts f.nobreak w _ (column-puts ks many false (place_float-step p (no_law p) places.Bottom f left w tt))
+  goes-puts vert f left w place = interline-puts f.nobreak w _ (stays-put ks many false (defer-stays p f left w) (continues-defer p f left w))
 
   note-puts : (depth : ℤ) (m : Margin) (left : FloatLists) (w : Work) (at : Placed) → Puts ks many false w (Text.note_goes p depth m left w at)
   note-puts depth m left w at =
       let a = Text.with_note_bottom at.bottom (with_floats left w) in
       let b = Text.moved_warning m at a in
       let c = puts (Text.note_nodes depth m at) b in
-      interline-puts w c
+      interline-puts m.nobreak w c
       (joined ks many false p w a c (same ks many false refl refl refl)
       (joined ks many false p a b c (puts_if ks many false p a at.moved (sends (warned (warnings.Moved m.name at.shift)) a) a (sends-put ks many false (warned (warnings.Moved m.name at.shift)) a) (same ks many false refl refl refl)) (extended ks many false (Text.note_nodes depth m at) b (steady-extends ks (Text.note_nodes depth m at) (tt, (tt, (tt, tt))) (tt, (tt, (tt, tt)))))))
 
@@ -185,8 +193,8 @@ module _ (ks : List ℕ) (p : Params) (calm : int_le p.interlinepenalty eject_pe
   first-puts vert height depth page_height (entries.Float f ∷ es) w = goes-puts vert f _ w _
   first-puts vert height depth page_height (entries.Left m ∷ []) w = note-puts depth m _ w _
   first-puts vert height depth page_height (entries.Left m ∷ e ∷ es) w = note-puts depth m _ w _
-  first-puts vert height depth page_height (entries.Right m ∷ es) w = interline-puts w w (same ks many false refl refl refl)
-  first-puts vert height depth page_height [] w = interline-puts w w (same ks many false refl refl refl)
+  first-puts vert height depth page_height (entries.Right m ∷ es) w = interline-puts false w w (same ks many false refl refl refl)
+  first-puts vert height depth page_height [] w = interline-puts false w w (same ks many false refl refl refl)
 
   pub notes-steady : (ns : List Notes) → AllByRecursion Steady (sorts (Text.notes_nodes p ns))
   notes-steady [] = tt

@@ -23,7 +23,7 @@ use Rattle.tb_output.specs.Text
 use Rattle.tb_laws.proofs.NothingLost.StateWeights.{Paired}
 use Rattle.tb_laws.proofs.Closed.SortLemmas.{Steady, sorts, sorts-append}
 use Rattle.tb_laws.proofs.Closed.PlaceLemmas.{AllSteady}
-use Rattle.tb_laws.proofs.Closed.PutLemmas.{penalty-steady, here-steady, notes-steady}
+use Rattle.tb_laws.proofs.Closed.PutLemmas.{between-steady, here-steady, notes-steady}
 use Rattle.tb_laws.proofs.DeadCycles.BoxesFirst.{HasReal, real-left, real-right}
 use Rattle.tb_laws.proofs.Closed.SparedLists.{Single, moved}
 
@@ -120,29 +120,29 @@ defer-serves p f es w = by_places (Text.only_here f)
     by_places false = deferred-serves p f es w
 
 module _ (p : Params) (calm : int_le p.interlinepenalty eject_penalty ≡ false) where
-  interline-writes : (w : Work) → Writes w (Text.puts_interline p w)
-  interline-writes w = puts-writes (Text.penalty_after p.interlinepenalty w.put_back) w (penalty-steady [] p calm (Text.glue_at_end (last_or (plain (pen p.interlinepenalty)) (map (λ m. m.kind) w.put_back))))
+  interline-writes : (nobreak : Bool) (w : Work) → Writes w (Text.puts_interline p nobreak w)
+  interline-writes nobreak w = puts-writes (Text.penalty_between p.interlinepenalty nobreak w.put_back) w (between-steady [] p calm nobreak w.put_back)
 
-  after-steady : (w : Work) → AllSteady (Text.penalty_after p.interlinepenalty w.put_back)
-  after-steady w = penalty-steady [] p calm (Text.glue_at_end (last_or (plain (pen p.interlinepenalty)) (map (λ m. m.kind) w.put_back)))
+  after-steady : (nobreak : Bool) (w : Work) → AllSteady (Text.penalty_between p.interlinepenalty nobreak w.put_back)
+  after-steady nobreak w = between-steady [] p calm nobreak w.put_back
 
   -- a float that goes into the text
-  here-now : (vert : Bool) (f : Float) (es : List Entry) (w : Work) (t : Bool) → Served es w (puts (Text.here_nodes p vert f) (Text.puts_interline p (moved p places.Here f (left_of es w) w t)))
+  here-now : (vert : Bool) (f : Float) (es : List Entry) (w : Work) (t : Bool) → Served es w (puts (Text.here_nodes p vert f) (Text.puts_interline p f.nobreak (moved p places.Here f (left_of es w) w t)))
   here-now vert f es w true =
-      let ms = Text.penalty_after p.interlinepenalty w.put_back in
-      record { columns = refl; current = refl; single = λ h. h; ns = ms ++ Text.here_nodes p vert f; back = append_assoc w.put_back ms (Text.here_nodes p vert f); steady = steady-both ms (Text.here_nodes p vert f) (after-steady w) (here-steady [] p calm vert f); here = inr (subst HasReal (sym (sorts-append ms (Text.here_nodes p vert f))) (real-right (sorts ms) (sorts (Text.here_nodes p vert f)) tt)) }
+      let ms = Text.penalty_between p.interlinepenalty f.nobreak w.put_back in
+      record { columns = refl; current = refl; single = λ h. h; ns = ms ++ Text.here_nodes p vert f; back = append_assoc w.put_back ms (Text.here_nodes p vert f); steady = steady-both ms (Text.here_nodes p vert f) (after-steady f.nobreak w) (here-steady [] p calm vert f); here = inr (subst HasReal (sym (sorts-append ms (Text.here_nodes p vert f))) (real-right (sorts ms) (sorts (Text.here_nodes p vert f)) tt)) }
   here-now vert f es w false =
-      let ms = Text.penalty_after p.interlinepenalty w.put_back in
-      record { columns = refl; current = refl; single = λ h. h; ns = ms ++ Text.here_nodes p vert f; back = append_assoc w.put_back ms (Text.here_nodes p vert f); steady = steady-both ms (Text.here_nodes p vert f) (after-steady w) (here-steady [] p calm vert f); here = inr (subst HasReal (sym (sorts-append ms (Text.here_nodes p vert f))) (real-right (sorts ms) (sorts (Text.here_nodes p vert f)) tt)) }
+      let ms = Text.penalty_between p.interlinepenalty f.nobreak w.put_back in
+      record { columns = refl; current = refl; single = λ h. h; ns = ms ++ Text.here_nodes p vert f; back = append_assoc w.put_back ms (Text.here_nodes p vert f); steady = steady-both ms (Text.here_nodes p vert f) (after-steady f.nobreak w) (here-steady [] p calm vert f); here = inr (subst HasReal (sym (sorts-append ms (Text.here_nodes p vert f))) (real-right (sorts ms) (sorts (Text.here_nodes p vert f)) tt)) }
 
-  then_interline : (es : List Entry) (w c : Work) → Served es w c → Served es w (Text.puts_interline p c)
-  then_interline es w c x = then_writes es w c (Text.puts_interline p c) x (interline-writes c)
+  then_interline : (nobreak : Bool) (es : List Entry) (w c : Work) → Served es w c → Served es w (Text.puts_interline p nobreak c)
+  then_interline nobreak es w c x = then_writes es w c (Text.puts_interline p nobreak c) x (interline-writes nobreak c)
 
   goes-serves : (vert : Bool) (f : Float) (es : List Entry) (w : Work) (place : Where) → Served es w (Text.float_goes p vert f (left_of es w) w place)
   goes-serves vert f es w places.Here = here-now vert f es w w.refused
-  goes-serves vert f es w places.Top = then_interline es w _ (top-serves p f es w w.refused)
-  goes-serves vert f es w places.Bottom = then_interline es w _ (bottom-serves p f es w w.refused)
-  goes-serves vert f es w place = then_interline es w _ (defer-serves p f es w)
+  goes-serves vert f es w places.Top = then_interline f.nobreak es w _ (top-serves p f es w w.refused)
+  goes-serves vert f es w places.Bottom = then_interline f.nobreak es w _ (bottom-serves p f es w w.refused)
+  goes-serves vert f es w place = then_interline f.nobreak es w _ (defer-serves p f es w)
 
   -- a note goes into the text
   note-serves : (depth : ℤ) (m : Margin) (es : List Entry) (w : Work) (at : Placed) → Served es w (Text.note_goes p depth m (left_of es w) w at)
@@ -152,7 +152,7 @@ module _ (p : Params) (calm : int_le p.interlinepenalty eject_penalty ≡ false)
       let c = puts (Text.note_nodes depth m at) b in
       let x : Served es w a = record { columns = refl; current = refl; single = λ h. h; ns = []; back = sym (append-nil w.put_back); steady = tt; here = inl refl } in
       let y : Writes a b = writes_if a at.moved (sends (warned (warnings.Moved m.name at.shift)) a) a (sends-writes _ a) (nothing a a refl refl refl) in
-      then_interline es w c (then_writes es w b c (then_writes es w a b x y) (puts-writes (Text.note_nodes depth m at) b (tt, (tt, (tt, tt)))))
+      then_interline m.nobreak es w c (then_writes es w b c (then_writes es w a b x y) (puts-writes (Text.note_nodes depth m at) b (tt, (tt, (tt, tt)))))
 
   -- the first of the current list is served
   pub record FirstServed (w c : Work) : Type 0 where
@@ -183,7 +183,7 @@ module _ (p : Params) (calm : int_le p.interlinepenalty eject_penalty ≡ false)
       no-more (entries.Float f) es = omega arith
       no-more x es = omega arith
   first-serves vert height depth page_height (entries.Right m ∷ es) w q e = absurd q
-  first-serves vert height depth page_height [] w q e = kept-fewer w _ (interline-writes w) e
+  first-serves vert height depth page_height [] w q e = kept-fewer w _ (interline-writes false w) e
 
   -- the firing for a float or note: its page's list, with the held page before it, goes back
   pub record Serves (w c : Work) (before : List PlainNode) : Type 0 where

@@ -47,6 +47,7 @@ abbrev pub EmptyAt : State → Act → Type 0
 EmptyAt s (acts.Take f) = Unit {0}
 EmptyAt s (acts.TakeMargin m) = Unit {0}
 EmptyAt s (acts.Suppress area) = Unit {0}
+EmptyAt s (acts.Page n) = Unit {0}
 EmptyAt s (acts.Columns two) = way_floats s.floats ≡ 0
 
 -- the state after acts that cost so much
@@ -56,18 +57,17 @@ pub record Acts (p : Params) (n : ℕ) (s t : State) : Type 0 where
   pub boxes : t.boxes ≡ s.boxes
   pub classes : t.classes ≡ s.classes
   pub cycles : t.dead_cycles ≡ s.dead_cycles
-  pub goal : t.goal ≡ s.goal
   pub floats : FloatsFit p s → FloatsFit p t
   pub way : 2 * way_floats t.floats ≤ 2 * way_floats s.floats + n
   pub second : IsSecond s → IsSecond t ⊎ (2 * way_floats t.floats + 1 ≤ 2 * way_floats s.floats + n)
 
 pub no-acts : (p : Params) (s : State) → Acts p 0 s s
-no-acts p s = record { waiting = refl; held = refl; boxes = refl; classes = refl; cycles = refl; goal = refl; floats = λ h. h; way = omega arith; second = λ h. inl h }
+no-acts p s = record { waiting = refl; held = refl; boxes = refl; classes = refl; cycles = refl; floats = λ h. h; way = omega arith; second = λ h. inl h }
 
--- an act changes the floats, the columns and what is suppressed, and nothing beside
-acts-of : {fl : FloatLists} {two first : Bool} {left : Option PlainColumn} {x : Suppress} (p : Params) (n : ℕ) (s : State)
-    → (let t : State = record s { floats = fl; two_columns = two; first_column = first; left_column = left; suppress = x } in (FloatsFit p s → FloatsFit p t) → 2 * way_floats fl ≤ 2 * way_floats s.floats + n → (IsSecond s → IsSecond t ⊎ (2 * way_floats fl + 1 ≤ 2 * way_floats s.floats + n)) → Acts p n s t)
-acts-of p n s floats way second = record { waiting = refl; held = refl; boxes = refl; classes = refl; cycles = refl; goal = refl; floats = floats; way = way; second = second }
+-- an act changes the floats, the columns, what is suppressed and the page number, and nothing beside
+acts-of : {fl : FloatLists} {two first : Bool} {left : Option PlainColumn} {x : Suppress} {number : ℕ} (p : Params) (n : ℕ) (s : State)
+    → (let t : State = record s { floats = fl; two_columns = two; first_column = first; left_column = left; suppress = x; number = number } in (FloatsFit p s → FloatsFit p t) → 2 * way_floats fl ≤ 2 * way_floats s.floats + n → (IsSecond s → IsSecond t ⊎ (2 * way_floats fl + 1 ≤ 2 * way_floats s.floats + n)) → Acts p n s t)
+acts-of p n s floats way second = record { waiting = refl; held = refl; boxes = refl; classes = refl; cycles = refl; floats = floats; way = way; second = second }
 
 pub acts-then : (p : Params) (i j : ℕ) (s t u : State) → Acts p i s t → Acts p j t u → Acts p (i + j) s u
 acts-then p i j s t u x y = record {
@@ -76,7 +76,6 @@ acts-then p i j s t u x y = record {
   boxes = y.boxes ∙ x.boxes;
   classes = y.classes ∙ x.classes;
   cycles = y.cycles ∙ x.cycles;
-  goal = y.goal ∙ x.goal;
   floats = λ h. y.floats (x.floats h);
   way = sums (way_floats s.floats) (way_floats t.floats) (way_floats u.floats) x.way y.way;
   second = λ h. by_first (x.second h);
@@ -190,6 +189,7 @@ act-acts p s (acts.TakeMargin m) h =
       double = record { wide = x.double.wide; none = x.double.none };
     }) (omega arith) (λ x. inl (record { columns = x.columns; first = x.first })))
 act-acts p s (acts.Suppress area) h = acts-of p 0 s (λ x. record { fit = x.fit; current = x.current; single = x.single; double = record { wide = x.double.wide; none = x.double.none }; sides = x.sides; narrow = x.narrow }) (omega arith) (λ x. inl (record { columns = x.columns; first = x.first }))
+act-acts p s (acts.Page n) h = acts-of p 0 s (λ x. record { fit = x.fit; current = x.current; single = x.single; double = record { wide = x.double.wide; none = x.double.none }; sides = x.sides; narrow = x.narrow }) (omega arith) (λ x. inl (record { columns = x.columns; first = x.first }))
 act-acts p s (acts.Columns two) h =
     let none : NoneWait s.floats = none-left s.floats (waits (waiting_floats s.floats) (current_floats s.floats.current) h) in
     acts-of p 1 s (λ x. record {

@@ -48,6 +48,7 @@ closing-changes p o s [] e c = tt
 closing-changes p o s (acts.Take f ∷ ds) e c = (tt, went-by (λ t. ChangesEmpty p t ds) (int_le p.pool (pos (live_count s.floats))) _ _ _ _ _ (closing-changes p false _ ds (λ h. cc) c))
 closing-changes p o s (acts.TakeMargin m ∷ ds) e c = (tt, went-by (λ t. ChangesEmpty p t ds) (int_lt p.pool (pos (live_count s.floats + 2))) _ _ _ _ _ (closing-changes p false _ ds (λ h. cc) c))
 closing-changes p o s (acts.Suppress area ∷ ds) e c = (tt, closing-changes p o _ ds e c)
+closing-changes p o s (acts.Page n ∷ ds) e c = (tt, closing-changes p o _ ds e c)
 closing-changes p o s (acts.Columns two ∷ ds) e c = (none-way s.floats (e c.0), closing-changes p o _ ds e c.1)
 
 -- ---- the ranges of the parameters

@@ -1,10 +1,10 @@
 -- What is known of the page that fires, from what waited before it.
-use Rattle.std.proofs.Common.{◌≡◌, refl, sym, ◌∙◌, ap, subst, ℕ, zero, suc, ℤ, pos, ◌+◌, ◌≤◌, Bool, true, false, List, [], ◌∷◌, ◌++◌, take, drop, length, arith}
+use Rattle.std.proofs.Common.{◌≡◌, refl, sym, ◌∙◌, ap, subst, ℕ, zero, suc, ℤ, pos, ◌+◌, ◌≤◌, Bool, true, false, List, [], ◌∷◌, ◌++◌, take, drop, length, arith, append_assoc}
 use Rattle.std.specs.Prelude.{◌≤ℤ◌, ◌-◌, int_le, if◌then◌else◌}
 use Rattle.std.proofs.lemmas.Int.{ints}
 use Rattle.tb_scaled.specs.Scaled.{eject_penalty, inf_penalty}
 use Rattle.tb_node.specs.declared.What.TheVariants as what
-use Rattle.tb_node.specs.PlainNodes.{PlainNode, made, whatsit, blank_box, pen, without_acts}
+use Rattle.tb_node.specs.PlainNodes.{hbox, rule, skip, kerned, pen, mark, note, whatsit, PlainKind, plain, ins, act, PlainNode, made, blank_box, without_acts}
 use Rattle.tb_break.specs.PageTop.{pruned_nodes}
 use Rattle.tb_param.specs.declared.Params.{Params}
 use Rattle.tb_insert.specs.Account.{terms_after, Frozen, labelled}
@@ -13,9 +13,11 @@ use Rattle.tb_builder.specs.FiredPages.{Fired, page_break, fired_by, fired_of, f
 use Rattle.tb_builder.proofs.FiredPages.PageWeights.{AllOfClass, labelled-class}
 use Rattle.tb_builder.proofs.Cutting.CutLemmas.{acted_of, CutAt, reach-cut, cut-class, class-pruned, held-ins}
 use Rattle.tb_builder.proofs.FiredPages.HeldLemmas.{GivesNone, none-labelled}
-use Rattle.tb_laws.proofs.PageBreaks.FittingFired.{Fitted, FiresAt, fitted-fires, break_at}
+use Rattle.tb_laws.proofs.PageBreaks.FittingFired.{Topmost, AllTopmost, Fitted, FiresAt, fitted-fires, flat_box, break_at}
 use Rattle.tb_laws.proofs.PageBreaks.PausedPages.{Paused, paused-ordinary}
-use Rattle.tb_output.specs.State.{State, ask_of, notes_in, footnotes, has_floats}
+use Rattle.tb_steps.proofs.LedLemmas.{led-actless}
+use Rattle.tb_output.specs.State.{State, notes_in, footnotes, has_floats}
+use Rattle.tb_steps.specs.Run.{led_through, led, ask_for}
 use Rattle.tb_output.specs.Text
 use Rattle.tb_output.specs.Clear
 use Rattle.tb_output.specs.Output
@@ -40,6 +42,26 @@ take-free (suc k) (n ∷ ns) h =
     let r : wait_cost (take k ns) ≡ 0 = take-free k ns (omega arith) in
     omega arith
 
+-- no act comes before a page that fits
+fitted-led : (p : Params) (q : ℤ) (tail ns : List PlainNode) (s : State) → Fitted q tail ns → led_through p ns s ≡ s
+fitted-led p q tail ns s h = ap (λ xs. led_through p xs s) (h.whole ∙ append_assoc h.top (flat_box h.box_line h.what ∷ h.behind) (break_at h.line q ∷ tail)) ∙ topmost-led h.top h.vanish
+  where
+    by_kind : (l : ℕ) (k : PlainKind) (xs ys : List PlainNode) → led_through p (xs ++ ys) s ≡ s → Topmost k → led_through p (record { line = l; kind = k } ∷ xs ++ ys) s ≡ s
+    by_kind l (plain (hbox a b d)) xs ys e t = refl
+    by_kind l (plain (rule a b d)) xs ys e t = refl
+    by_kind l (plain (skip a)) xs ys e t = e
+    by_kind l (plain (kerned a)) xs ys e t = e
+    by_kind l (plain (pen a)) xs ys e t = e
+    by_kind l (plain (mark a)) xs ys e t = e
+    by_kind l (plain (note a)) xs ys e t = e
+    by_kind l (plain whatsit) xs ys e t = e
+    by_kind l (ins i) xs ys e t = refl
+    by_kind l (act a) xs ys e t = absurd t
+
+    topmost-led : (top : List PlainNode) → AllTopmost top → led_through p (top ++ (flat_box h.box_line h.what ∷ h.behind ++ break_at h.line q ∷ tail)) s ≡ s
+    topmost-led [] v = refl
+    topmost-led (n ∷ ns) v = by_kind n.line n.kind ns (flat_box h.box_line h.what ∷ h.behind ++ break_at h.line q ∷ tail) (topmost-led ns v.1) v.0
+
 is-special : (q : ℤ) → Output.is_int q Asked.clear_penalty ≡ true → int_le eject_penalty q ≡ false
 is-special q h = grind (arith, ints, h)
 
@@ -51,7 +73,7 @@ module _ (p : Params) (s : State) (kept : Kept s) (ended : Ended false s.waiting
   k = (page_break (page_of p s)).place
 
   pub cut : CutAt [] (pruned_nodes p.topskip s.waiting) w
-  cut = reach-cut (ask_of p s).max_depth (terms_after (frozen_for (ask_of p s) s.classes s.boxes)) [] (pruned_nodes p.topskip s.waiting)
+  cut = reach-cut (ask_for p s).max_depth (terms_after (frozen_for (ask_for p s) s.classes s.boxes)) [] (pruned_nodes p.topskip s.waiting)
 
   feet : AllOfClass (class_numbers s.classes) (take k w.passed) × AllOfClass (class_numbers s.classes) (with_spent_break (drop k w.passed ++ w.beyond))
   feet = cut-class (class_numbers s.classes) k (pruned_nodes p.topskip s.waiting) w cut (class-pruned (class_numbers s.classes) p.topskip s.waiting kept.placed.feet)
@@ -92,12 +114,16 @@ module _ (p : Params) (s : State) (kept : Kept s) (ended : Ended false s.waiting
   phase-ends second h e = cc
   phase-ends ending h e = paused-ends h.1
 
-  pub limit-deep : pos 0 ≤ℤ p.maxdepth → pos 0 ≤ℤ (ask_of p s).max_depth
-  limit-deep deep = by_bottom (has_floats s.floats.bottom)
+  pub limit-deep : pos 0 ≤ℤ p.maxdepth → pos 0 ≤ℤ (ask_for p s).max_depth
+  limit-deep deep = by_bottom (has_floats (led p s).floats.bottom)
     where
       by_bottom : (b : Bool) → pos 0 ≤ℤ (if b then pos 0 else p.maxdepth)
       by_bottom true = grind (arith, ints)
       by_bottom false = deep
+
+  -- if no act is reached, the page is made for what is asked now
+  pub same-led : acted_of w.reached ≡ [] → led p s ≡ s
+  same-led quiet = led-actless p (ask_for p s).max_depth (terms_after (frozen_for (ask_for p s) s.classes s.boxes)) p.topskip [] s.waiting s quiet
 
   -- ---- the page that fires, in a state with the same boxes and held page
 
@@ -163,10 +189,12 @@ module _ (p : Params) (s : State) (kept : Kept s) (ended : Ended false s.waiting
 
   module _ (low : pos 0 ≤ℤ p.topskip) (room : p.topskip ≤ℤ p.textheight) (deep : pos 0 ≤ℤ p.maxdepth) where
     abbrev fired : Fired
-    fired = fired_of (ask_of p s) s.classes s.boxes w
+    fired = fired_of (ask_for p s) s.classes s.boxes w
 
     fits : (q : ℤ) (tail : List PlainNode) → int_le q eject_penalty ≡ true → s.goal ≡ p.textheight → Fitted q tail s.waiting → FiresAt q tail s.boxes w fired
-    fits q tail f g h = fitted-fires s.goal (ask_of p s).max_depth p.topskip q _ (limit-deep deep) f low (subst (λ (x : ℤ). p.topskip ≤ℤ x) (sym g) room) s.waiting tail h s.boxes
+    fits q tail f g h =
+        let e : (ask_for p s).goal ≡ p.textheight = (ap (λ (t : State). t.goal) (fitted-led p q tail s.waiting s h) ∙ g) in
+        fitted-fires (ask_for p s).goal (ask_for p s).max_depth p.topskip q _ (limit-deep deep) f low (subst (λ (x : ℤ). p.topskip ≤ℤ x) (sym e) room) s.waiting tail h s.boxes
 
     -- behind a blank column the clear's page fits
     behind-blank : (line : ℕ) (rest : List PlainNode) → Fitted Asked.clear_penalty rest (break_at line inf_penalty ∷ made whatsit ∷ made blank_box ∷ made (pen Asked.clear_penalty) ∷ rest)
@@ -197,7 +225,7 @@ module _ (p : Params) (s : State) (kept : Kept s) (ended : Ended false s.waiting
     }
       where
         z : Frozen
-        z = frozen_for (ask_of p s) s.classes s.boxes
+        z = frozen_for (ask_for p s) s.classes s.boxes
 
         by_halted : (x : Kind) → Holds p s a x → x ≡ halted → int_le eject_penalty fired.penalty ≡ true
         by_halted halted h e = paused-ends h.1

@@ -13,14 +13,14 @@ use Rattle.tb_builder.specs.Reach.{Reached, acted, tried}
 use Rattle.tb_builder.specs.FiredPages.{Fired, fired_of}
 use Rattle.tb_builder.proofs.Cutting.CutLemmas.{acted_of}
 use Rattle.tb_column.specs.Column.{PlainColumn}
-use Rattle.tb_output.specs.State.{State, emptied, ask_of, Work}
+use Rattle.tb_output.specs.State.{State, emptied, Work}
 use Rattle.tb_output.specs.Act.{Acted, went, full, act_on}
 use Rattle.tb_output.specs.Output.{out}
 use Rattle.tb_laws.proofs.NothingLost.StateWeights.{left_weight}
 use Rattle.tb_laws.proofs.DeadCycles.WaitCosts.{act_cost, acts_cost}
 use Rattle.tb_laws.proofs.DeadCycles.EndedLemmas.{Ended}
 use Rattle.tb_laws.proofs.DeadCycles.ActCosts.{EmptyAt, Acts, no-acts, acts-then, ActActs, act-acts}
-use Rattle.tb_steps.specs.Run.{Run, End, done, pool_full, dead_cycles, page_limit, node_limit, Progress, progress_by, progress, Step, ends, goes_on, held_count, after_firing, fire, after_progress, step, run_by, run_from}
+use Rattle.tb_steps.specs.Run.{Run, End, done, pool_full, dead_cycles, page_limit, node_limit, Progress, progress_by, progress, Step, ends, goes_on, held_count, after_firing, fire, after_progress, step, run_by, run_from, ask_for}
 use Rattle.tb_items.specs.RunEvents.{sent}
 use Rattle.tb_laws.proofs.NothingLost.RunWeights.{Kept, page_of, StepWeighs, step-weighs, ActFits, ActsFit}
 
@@ -99,7 +99,7 @@ fits-nothing o (a ∷ ds) = (by_act a, fits-nothing o ds)
 
 -- the page of a state, fired in the state after its acts
 abbrev pub page_fired : Params → State → State → Fired
-page_fired p s t = fired_of (ask_of p t) t.classes t.boxes (page_of p s)
+page_fired p s t = fired_of (ask_for p s) t.classes t.boxes (page_of p s)
 
 -- the firing after the acts of a page keeps this bound, and each clear behind its box
 abbrev pub Goes : Params → (State → Type 0) → Type 0
@@ -146,7 +146,7 @@ module _ (p : Params) (calm : int_le p.interlinepenalty eject_penalty ≡ false)
       q = progress p (page_of p s).reached awful_bad s
 
       o : Work
-      o = out p q.state (fired_of (ask_of p q.state) q.state.classes q.state.boxes (page_of p s))
+      o = out p q.state (fired_of (ask_for p s) q.state.classes q.state.boxes (page_of p s))
 
       by_nodes : q.fault ≡ None → o.refused ≡ false → (u : Bool) → StepBound (if u then ends (q.events ++ map sent o.sent) (q.records ++ o.records) (node_limit (held_count o.state)) else goes_on (q.events ++ map sent o.sent) (q.records ++ o.records) o.state)
       by_nodes f r true = tt
@@ -160,11 +160,11 @@ module _ (p : Params) (calm : int_le p.interlinepenalty eject_penalty ≡ false)
       by_cycles f true = by_refused f o.refused refl
       by_cycles f false = subst (λ (n : ℕ). n ≤ top) (sym (progress-acts p (page_of p s).reached awful_bad s e f).cycles) (few s c.bounded)
 
-      by_firing : q.fault ≡ None → (u : Bool) → StepBound (if u then fire p (page_of p s) q else ends q.events (q.records ++ emptied q.state.floats ∷ []) (done (page_of p s).passed))
+      by_firing : q.fault ≡ None → (u : Bool) → StepBound (if u then fire p (ask_for p s) (page_of p s) q else ends q.events (q.records ++ emptied q.state.floats ∷ []) (done (page_of p s).passed))
       by_firing f true = by_cycles f (int_lt (pos q.state.dead_cycles) p.maxdeadcycles)
       by_firing f false = tt
 
-      by_fault : (x : Option (ℕ × ℕ)) → q.fault ≡ x → StepBound (after_progress p (page_of p s) q x)
+      by_fault : (x : Option (ℕ × ℕ)) → q.fault ≡ x → StepBound (after_progress p (ask_for p s) (page_of p s) q x)
       by_fault None f = by_firing f (page_of p s).fires
       by_fault (Some x) f = tt
 

@@ -153,7 +153,7 @@ goal-out p n w = by_hold (Output.is_int n Asked.hold_penalty) refl
     room = column_room_of p w.state.floats
 
     told : Bool → Work
-    told t = if t then w else record w { sent = w.sent ++ warned (warnings.Floats w.state.page) ∷ [] }
+    told t = if t then w else record w { sent = w.sent ++ warned (warnings.Floats w.state.number) ∷ [] }
 
     held : Output.is_int n Asked.hold_penalty ≡ true → GoalOut p n w (Output.with_goal max_dimen w)
     held h = record { refused = refl; floats = refl; columns = refl; first = refl; cycles = refl; boxes = refl; blanks = []; back = sym (append-nil w.put_back); idle = tt; cost = refl; quiet = λ k. let no : ⊥ = grind (arith, h, k) in absurd no }
@@ -167,7 +167,7 @@ goal-out p n w = by_hold (Output.is_int n Asked.hold_penalty) refl
         never : {X : Type 0} → w.state.floats.top ≡ [] → w.state.floats.bottom ≡ [] → w.state.floats.double ≡ [] → X
         never a b c = let no : true ≡ false = sym h ∙ not-crowded p (column_room_of p w.state.floats) (full-room p w.state.floats a b c) in cc
 
-        by_columns : (t u : Bool) → GoalOut p n w (record (if u then w else record w { sent = w.sent ++ warned (warnings.Floats w.state.page) ∷ [] }) { put_back = (if u then w else record w { sent = w.sent ++ warned (warnings.Floats w.state.page) ∷ [] }).put_back ++ (if t then Output.blank_column ++ Output.blank_column else Output.blank_column) })
+        by_columns : (t u : Bool) → GoalOut p n w (record (if u then w else record w { sent = w.sent ++ warned (warnings.Floats w.state.number) ∷ [] }) { put_back = (if u then w else record w { sent = w.sent ++ warned (warnings.Floats w.state.number) ∷ [] }).put_back ++ (if t then Output.blank_column ++ Output.blank_column else Output.blank_column) })
         by_columns true true = record { refused = refl; floats = refl; columns = refl; first = refl; cycles = refl; boxes = refl; blanks = Output.blank_column ++ Output.blank_column; back = refl; idle = (tt, (tt, (tt, (tt, tt)))); cost = refl; quiet = λ k a b c. never a b c }
         by_columns false true = record { refused = refl; floats = refl; columns = refl; first = refl; cycles = refl; boxes = refl; blanks = Output.blank_column; back = refl; idle = (tt, (tt, tt)); cost = refl; quiet = λ k a b c. never a b c }
         by_columns true false = record { refused = refl; floats = refl; columns = refl; first = refl; cycles = refl; boxes = refl; blanks = Output.blank_column ++ Output.blank_column; back = refl; idle = (tt, (tt, (tt, (tt, tt)))); cost = refl; quiet = λ k a b c. never a b c }

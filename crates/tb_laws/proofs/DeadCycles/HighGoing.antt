@@ -6,7 +6,8 @@ use Rattle.tb_param.specs.declared.Params.{Params}
 use Rattle.tb_insert.specs.Account.{Frozen}
 use Rattle.tb_builder.specs.FiredPages.{Fired, frozen_for}
 use Rattle.tb_builder.proofs.Cutting.CutLemmas.{acted_of}
-use Rattle.tb_output.specs.State.{State, ask_of, footnotes}
+use Rattle.tb_output.specs.State.{State, footnotes}
+use Rattle.tb_steps.specs.Run.{ask_for}
 use Rattle.tb_output.specs.Output
 use Rattle.tb_sheet.specs.Asked
 use Rattle.tb_laws.proofs.Closed.Sorts.{pen_sort, sorts}
@@ -45,7 +46,7 @@ module _ (p : Params) (m : ℕ) (calm : int_le p.interlinepenalty eject_penalty 
     total x = wait_cost (page x).rest + sort_cost (pen_sort (page x).penalty)
 
     abbrev frozen : State → Frozen
-    frozen x = frozen_for (ask_of p x) x.classes x.boxes
+    frozen x = frozen_for (ask_for p s) x.classes x.boxes
 
     abbrev acts : ℕ
     acts = acts_cost (acted_of (page_of p s).reached)
@@ -55,7 +56,7 @@ module _ (p : Params) (m : ℕ) (calm : int_le p.interlinepenalty eject_penalty 
     closed-goes z x holds unguarded going bound r =
         let weight : total t + 2 * way_floats t.floats ≤ m + 3 * 0 = sums (total t) (way_floats t.floats) (way_floats s.floats) (wait_cost s.waiting) (acts_cost (acted_of (page_of p s).reached)) b.again (reached-cost p s kept ended) a.way b.weight z in
         let fires : FiresHigh p t (total t) 0 x (page t) = record {
-          well = any-well p s kept ended t a.classes a.boxes a.held (frozen_for (ask_of p t) t.classes t.boxes) 0 any (phase_of x) (λ i. cc) (λ i. cc) (λ i. cc) (λ i. absurd (no-end x going i)) tt;
+          well = any-well p s kept ended t a.classes a.boxes a.held (frozen_for (ask_for p s) t.classes t.boxes) 0 any (phase_of x) (λ i. cc) (λ i. cc) (λ i. cc) (λ i. absurd (no-end x going i)) tt;
           spaced = rest-spaced p s kept ended b.spaced;
           behind = λ c. behind-spaced p s kept ended b.spaced c;
           guard = λ i c v. unguarded i;
@@ -102,7 +103,7 @@ module _ (p : Params) (m : ℕ) (calm : int_le p.interlinepenalty eject_penalty 
         let weight : total s + 2 * way_floats s.floats ≤ m + 3 * b.again = sums (total s) (way_floats s.floats) (wait_cost s.waiting) (acts_cost (acted_of (page_of p s).reached)) b.again (reached-cost p s kept ended) b.weight in
         let bound : s.dead_cycles + total s + 2 * way_floats s.floats + stage_cost b.stage ≤ m + 3 + 3 * b.again = sums-with s.dead_cycles (total s) (way_floats s.floats) (wait_cost s.waiting) (acts_cost (acted_of (page_of p s).reached)) b.again (stage_cost b.stage) (reached-cost p s kept ended) b.bound in
         let fires : FiresHigh p s (total s) b.again b.stage (page s) = record {
-          well = phase-well p s kept ended s refl refl refl (frozen_for (ask_of p s) s.classes s.boxes) b.again (phase_of b.stage) (phase-holds p s b.again b.stage b.holds) b.region;
+          well = phase-well p s kept ended s refl refl refl (frozen_for (ask_for p s) s.classes s.boxes) b.again (phase_of b.stage) (phase-holds p s b.again b.stage b.holds) b.region;
           spaced = rest-spaced p s kept ended b.spaced;
           behind = λ c. behind-spaced p s kept ended b.spaced c;
           guard = by_guard b.stage b.holds;
@@ -116,7 +117,7 @@ module _ (p : Params) (m : ℕ) (calm : int_le p.interlinepenalty eject_penalty 
         sums-with d x y w n g q h i = omega arith
 
         by_guard : (x : Stage) → StageHolds p s b.again x → x ≡ guarded → Output.is_int (page s).penalty Asked.clear_penalty ≡ true → footnotes (record s { boxes = (page s).boxes }) ≡ [] → ⊥
-        by_guard guarded h i c v = no-clear p s kept ended deep base high n (subst (λ (x : ℕ). Again x (sorts s.waiting)) e b.region) h.goal h.spaced (frozen_for (ask_of p s) s.classes s.boxes) c v
+        by_guard guarded h i c v = no-clear p s kept ended deep base high n (subst (λ (x : ℕ). Again x (sorts s.waiting)) e b.region) h.goal h.spaced (frozen_for (ask_for p s) s.classes s.boxes) c v
         by_guard x h i c v = cc
 
     high-firing : Going t

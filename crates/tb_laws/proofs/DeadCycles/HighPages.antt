@@ -13,7 +13,8 @@ use Rattle.tb_builder.specs.FiredPages.{penalty_at, with_spent_break}
 use Rattle.tb_builder.proofs.Cutting.CutLemmas.{acts_of}
 use Rattle.tb_laws.proofs.PageBreaks.FittingFired.{flat_box, break_at}
 use Rattle.tb_laws.proofs.PageBreaks.GuardedPages.{HasFirst, TopShape, pruned-shape, high-breaks}
-use Rattle.tb_output.specs.State.{State, ask_of, footnotes}
+use Rattle.tb_output.specs.State.{State, footnotes}
+use Rattle.tb_steps.specs.Run.{ask_for}
 use Rattle.tb_output.specs.Output
 use Rattle.tb_sheet.specs.Asked
 use Rattle.tb_laws.proofs.Closed.Sorts.{sorts}
@@ -23,7 +24,7 @@ use Rattle.tb_laws.proofs.DeadCycles.EndedLemmas.{Ended}
 use Rattle.tb_laws.proofs.DeadCycles.SpacedLemmas.{Spaced, spaced-pruned, spaced-acts, spaced-behind, spaced-spent, spaced-clear}
 use Rattle.tb_laws.proofs.Closed.ClearPages.{OneFlat}
 use Rattle.tb_laws.proofs.NothingLost.RunWeights.{Kept}
-use Rattle.tb_laws.proofs.DeadCycles.CyclePages.{w, k, cut, none-reached, limit-deep, page, none-there, flat}
+use Rattle.tb_laws.proofs.DeadCycles.CyclePages.{w, k, cut, none-reached, limit-deep, page, none-there, flat, same-led}
 
 -- ---- lists without acts and insertions
 
@@ -145,9 +146,13 @@ module _ (p : Params) (s : State) (kept : Kept s) (ended : Ended false s.waiting
         by_list [] h = let no : false ≡ true = h.1.1.0 refl in cc
         by_list (x ∷ ls) h = tt
 
+    -- no act is reached, so the page is made for the goal of the state
+    asked-goal : (ask_for p s).goal ≡ p.textheight
+    asked-goal = ap (λ (t : State). t.goal) (same-led p s kept ended (none-reached p s kept ended n again)) ∙ goal
+
     -- so the page breaks before its top glue, and the clear is behind that
     place : i ≡ length top.lasting
-    place = high-breaks s.goal (ask_of p s).max_depth p.topskip Asked.clear_penalty _ (limit-deep p s kept ended deep) refl (subst (λ (x : ℤ). pos 0 ≤ℤ x) (sym goal) base) (subst (λ (x : ℤ). x <ℤ p.topskip) (sym goal) high) s.waiting top.lasting top.line one.line what.Blank at.line at.tail top.all has-first shaped
+    place = high-breaks (ask_for p s).goal (ask_for p s).max_depth p.topskip Asked.clear_penalty _ (limit-deep p s kept ended deep) refl (subst (λ (x : ℤ). pos 0 ≤ℤ x) (sym asked-goal) base) (subst (λ (x : ℤ). x <ℤ p.topskip) (sym asked-goal) high) s.waiting top.lasting top.line one.line what.Blank at.line at.tail top.all has-first shaped
 
     longer : length before ≡ length top.lasting + 2
     longer = ap length (body ∙ ap (λ ns. ns ++ flat_box one.line what.Blank ∷ []) top.whole ∙ append_assoc top.lasting (record { line = top.line; kind = plain (skip (top_glue p.topskip (pos 0))) } ∷ []) (flat_box one.line what.Blank ∷ [])) ∙ length-append top.lasting (record { line = top.line; kind = plain (skip (top_glue p.topskip (pos 0))) } ∷ flat_box one.line what.Blank ∷ [])

@@ -5,7 +5,8 @@ use Rattle.tb_scaled.specs.Scaled.{eject_penalty}
 use Rattle.tb_param.specs.declared.Params.{Params}
 use Rattle.tb_builder.specs.FiredPages.{Fired, frozen_for}
 use Rattle.tb_builder.proofs.Cutting.CutLemmas.{acted_of}
-use Rattle.tb_output.specs.State.{State, ask_of}
+use Rattle.tb_output.specs.State.{State}
+use Rattle.tb_steps.specs.Run.{ask_for}
 use Rattle.tb_output.specs.Output.{out}
 use Rattle.tb_laws.proofs.Closed.Sorts.{pen_sort, sorts}
 use Rattle.tb_laws.proofs.DeadCycles.AgainLemmas.{Again}
@@ -44,7 +45,7 @@ module _ (p : Params) (m : ℕ) (calm : int_le p.interlinepenalty eject_penalty 
     -- if no clear of the routine is to come
     closed-goes : b.again ≡ 0 → (phase : Phase) → PhaseHolds t phase → (phase ≡ ending → ⊥) → t.dead_cycles + total t + 2 * way_floats t.floats + 0 + phase_cost phase ≤ m + 2 + 2 * 0 → Going t
     closed-goes z phase at going bound r =
-        let well = closed-well p s kept ended t a.classes a.boxes a.held (frozen_for (ask_of p t) t.classes t.boxes) 0 phase refl going tt in
+        let well = closed-well p s kept ended t a.classes a.boxes a.held (frozen_for (ask_for p s) t.classes t.boxes) 0 phase refl going tt in
         let weight : total t + 2 * way_floats t.floats + 0 ≤ m + 2 * 0 = sums (total t) (way_floats t.floats) (way_floats s.floats) (wait_cost s.waiting) (acts_cost (acted_of (page_of p s).reached)) (credit b.kind) b.again (reached-cost p s kept ended) a.way b.weight z in
         (out-bounded p m t (total t) 0 closed phase (page t) calm refl at (a.floats b.floats) weight bound well r, out-ended p m t (total t) 0 closed phase (page t) calm refl at (a.floats b.floats) weight bound well (rest-ended p s kept ended))
       where

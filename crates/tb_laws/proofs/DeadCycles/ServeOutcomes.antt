@@ -102,8 +102,12 @@ module _ (P : Float → Type 0) (topped : (f : Float) → P f → P (Text.with_t
   penalty-free None = rw calm refl
   penalty-free (Some g) = rw calm refl
 
-  served-interline : (w : Work) → Served P w (Text.puts_interline p w)
-  served-interline w = served-puts (Text.penalty_after p.interlinepenalty w.put_back) w (penalty-free (Text.glue_at_end (last_or (plain (pen p.interlinepenalty)) (map (λ m. m.kind) w.put_back))))
+  between-free : (nobreak : Bool) (ns : List PlainNode) → wait_cost (Text.penalty_between p.interlinepenalty nobreak ns) ≡ 0
+  between-free true ns = refl
+  between-free false ns = penalty-free (Text.glue_at_end (last_or (plain (pen p.interlinepenalty)) (map (λ m. m.kind) ns)))
+
+  served-interline : (nobreak : Bool) (w : Work) → Served P w (Text.puts_interline p nobreak w)
+  served-interline nobreak w = served-puts (Text.penalty_between p.interlinepenalty nobreak w.put_back) w (between-free nobreak w.put_back)
 
   -- ---- a float
 
@@ -235,7 +239,7 @@ module _ (P : Float → Type 0) (topped : (f : Float) → P f → P (Text.with_t
   served-text (stands_here vert f w) n = (tt, served-puts (Text.here_nodes p vert f) w (here-free vert f))
   served-text (takes_note height m es at w e i) n = (tt, served-note m es at w e)
   served-text (stands_beside depth m at w) n = (tt, served-puts (Text.note_nodes depth m at) w refl)
-  served-text (puts_penalty h w) n = (n, served-interline w)
+  served-text (puts_penalty nobreak h w) n = (n, served-interline nobreak w)
   served-text (warns h e w) n = (n, served-sends (warned e) w)
 
   served-first : (vert : Bool) (height depth page_height : ℤ) (es : List Entry) (w : Work) → w.state.floats.current ≡ es → Served P w (Text.first_goes p vert height depth page_height es w)

@@ -7,16 +7,17 @@ use Rattle.tb_scaled.specs.Scaled.{awful_bad, min_ℤ}
 use Rattle.tb_node.specs.declared.Act.{Act}
 use Rattle.tb_node.specs.declared.Act.TheVariants as acts
 use Rattle.tb_param.specs.declared.Params.{Params}
+use Rattle.tb_builder.specs.declared.Ask.{Ask}
 use Rattle.tb_builder.specs.Reach.{Reached, acted, tried, Reach}
 use Rattle.tb_builder.specs.FiredPages.{Fired, reach_of, fired_of}
 use Rattle.tb_float.specs.Lists.{live_count}
 use Rattle.tb_sheet.specs.declared.Warn.{Warn}
-use Rattle.tb_output.specs.State.{State, Recorded, emptied, ask_of, begun, Work}
+use Rattle.tb_output.specs.State.{State, Recorded, emptied, begun, Work}
 use Rattle.tb_output.specs.Act.{Acted, went, full, act_on}
 use Rattle.tb_output.specs.Output.{out, after_page}
 use Rattle.tb_laws.proofs.StepLaws.TurnLemmas.{Turned, out-turned}
 use Rattle.tb_laws.specs.Firings.{HasReason}
-use Rattle.tb_steps.specs.Run.{Run, done, dead_cycles, page_limit, node_limit, Progress, progress_by, progress, Step, ends, goes_on, held_count, after_firing, fire, after_progress, step, run_by, run_after, run_from, firings_left}
+use Rattle.tb_steps.specs.Run.{Run, done, dead_cycles, page_limit, node_limit, Progress, progress_by, progress, Step, ends, goes_on, held_count, after_firing, fire, after_progress, step, run_by, run_after, run_from, firings_left, ask_for}
 use Rattle.tb_items.specs.RunEvents.{RunEvent, sent}
 
 not-below : (a b : ℤ) → int_lt a b ≡ false → b ≤ℤ a
@@ -39,6 +40,7 @@ act-counts : (p : Params) (s : State) (a : Act) → CountsKept s (act_on p s a)
 act-counts p s (acts.Take f) = by_room s (int_le p.pool (pos (live_count s.floats))) _ _ _ _ _ (refl, refl)
 act-counts p s (acts.TakeMargin m) = by_room s (int_lt p.pool (pos (live_count s.floats + 2))) _ _ _ _ _ (refl, refl)
 act-counts p s (acts.Suppress area) = (refl, refl)
+act-counts p s (acts.Page n) = (refl, refl)
 act-counts p s (acts.Columns two) = (refl, refl)
 
 by_act-counts : (later : State → Progress) (s : State) → ((t : State) → SameCounts t (later t).state) → (a : Acted) → CountsKept s a → SameCounts s (progress_by later s a).state
@@ -97,11 +99,11 @@ turned-left : (p : Params) (s t : State) → 1 ≤ s.page → s.dead_cycles < na
 turned-left p s t h k (inl e) = (grind (arith, e, h), rw (e.0, e.1) (left-firing (nat_abs p.maxpages) (nat_abs p.maxdeadcycles) (pred s.page) s.dead_cycles k))
 turned-left p s t h k (inr e) = (grind (arith, e, h), left-page (nat_abs p.maxpages) (nat_abs p.maxdeadcycles) (pred s.page) (pred t.page) s.dead_cycles t.dead_cycles (pred-less s.page t.page h e.0) (pred-most t.page (nat_abs p.maxpages) e.1))
 
-fire-turns : (p : Params) (s : State) (w : Reach) (q : Progress) → 1 ≤ s.page → SameCounts s q.state → Turns p s (fire p w q)
-fire-turns p s w q h k = by_cycles (int_lt (pos q.state.dead_cycles) p.maxdeadcycles) refl
+fire-turns : (p : Params) (s : State) (a : Ask) (w : Reach) (q : Progress) → 1 ≤ s.page → SameCounts s q.state → Turns p s (fire p a w q)
+fire-turns p s a w q h k = by_cycles (int_lt (pos q.state.dead_cycles) p.maxdeadcycles) refl
   where
     f : Fired
-    f = fired_of (ask_of p q.state) q.state.classes q.state.boxes w
+    f = fired_of a q.state.classes q.state.boxes w
 
     turned : Turned p (begun (after_page q.state f)) (out p q.state f)
     turned = out-turned p q.state f
@@ -113,21 +115,21 @@ fire-turns p s w q h k = by_cycles (int_lt (pos q.state.dead_cycles) p.maxdeadcy
     by_cycles true c = after-turns p s q.events q.records (out p q.state f) (counted (out p q.state f) turned c)
     by_cycles false c = tt
 
-after_progress-turns : (p : Params) (s : State) (w : Reach) (q : Progress) (o : Option (ℕ × ℕ)) → 1 ≤ s.page → SameCounts s q.state → Turns p s (after_progress p w q o)
-after_progress-turns p s w q None h k = by_firing w.fires
+after_progress-turns : (p : Params) (s : State) (a : Ask) (w : Reach) (q : Progress) (o : Option (ℕ × ℕ)) → 1 ≤ s.page → SameCounts s q.state → Turns p s (after_progress p a w q o)
+after_progress-turns p s a w q None h k = by_firing w.fires
   where
-    by_firing : (t : Bool) → Turns p s (if t then fire p w q else ends q.events (q.records ++ emptied q.state.floats ∷ []) (done w.passed))
-    by_firing true = fire-turns p s w q h k
+    by_firing : (t : Bool) → Turns p s (if t then fire p a w q else ends q.events (q.records ++ emptied q.state.floats ∷ []) (done w.passed))
+    by_firing true = fire-turns p s a w q h k
     by_firing false = tt
-after_progress-turns p s w q (Some f) h k = tt
+after_progress-turns p s a w q (Some f) h k = tt
 
 -- each step that goes on lowers what is left
 pub step-turns : (p : Params) (s : State) → 1 ≤ s.page → Turns p s (step p s)
 unfolding step
 step-turns p s h =
-    let w = reach_of (ask_of p s) s.classes s.boxes [] s.waiting in
+    let w = reach_of (ask_for p s) s.classes s.boxes [] s.waiting in
     let q = progress p w.reached awful_bad s in
-    after_progress-turns p s w q q.fault h (progress-counts p w.reached awful_bad s)
+    after_progress-turns p s (ask_for p s) w q q.fault h (progress-counts p w.reached awful_bad s)
 
 -- ---- the fuel
 
@@ -155,30 +157,30 @@ after-reason p es rs w = by_refused w.refused (int_lt p.maxnodes (pos (held_coun
     by_refused false true = tt
     by_refused false false = tt
 
-fire-reason : (p : Params) (w : Reach) (q : Progress) → StepHasReason p (fire p w q)
-fire-reason p w q = by_cycles (int_lt (pos q.state.dead_cycles) p.maxdeadcycles) refl
+fire-reason : (p : Params) (a : Ask) (w : Reach) (q : Progress) → StepHasReason p (fire p a w q)
+fire-reason p a w q = by_cycles (int_lt (pos q.state.dead_cycles) p.maxdeadcycles) refl
   where
     o : Work
-    o = out p q.state (fired_of (ask_of p q.state) q.state.classes q.state.boxes w)
+    o = out p q.state (fired_of a q.state.classes q.state.boxes w)
 
     by_cycles : (t : Bool) → int_lt (pos q.state.dead_cycles) p.maxdeadcycles ≡ t → StepHasReason p (if t then after_firing p q.events q.records o else ends q.events q.records (dead_cycles q.state.dead_cycles))
     by_cycles true c = after-reason p q.events q.records o
     by_cycles false c = not-below (pos q.state.dead_cycles) p.maxdeadcycles c
 
-after_progress-reason : (p : Params) (w : Reach) (q : Progress) (o : Option (ℕ × ℕ)) → StepHasReason p (after_progress p w q o)
-after_progress-reason p w q None = by_firing w.fires
+after_progress-reason : (p : Params) (a : Ask) (w : Reach) (q : Progress) (o : Option (ℕ × ℕ)) → StepHasReason p (after_progress p a w q o)
+after_progress-reason p a w q None = by_firing w.fires
   where
-    by_firing : (t : Bool) → StepHasReason p (if t then fire p w q else ends q.events (q.records ++ emptied q.state.floats ∷ []) (done w.passed))
-    by_firing true = fire-reason p w q
+    by_firing : (t : Bool) → StepHasReason p (if t then fire p a w q else ends q.events (q.records ++ emptied q.state.floats ∷ []) (done w.passed))
+    by_firing true = fire-reason p a w q
     by_firing false = tt
-after_progress-reason p w q (Some f) = tt
+after_progress-reason p a w q (Some f) = tt
 
 step-reason : (p : Params) (s : State) → StepHasReason p (step p s)
 unfolding step
 step-reason p s =
-    let w = reach_of (ask_of p s) s.classes s.boxes [] s.waiting in
+    let w = reach_of (ask_for p s) s.classes s.boxes [] s.waiting in
     let q = progress p w.reached awful_bad s in
-    after_progress-reason p w q q.fault
+    after_progress-reason p (ask_for p s) w q q.fault
 
 by-reason : (p : Params) (s : State) (f : State → Run) → ((t : State) → 1 ≤ t.page → firings_left p t < firings_left p s → HasReason p (f t).end) → (t : Step) → Turns p s t → StepHasReason p t → HasReason p (run_by f t).end
 by-reason p s f h (ends es rs e) k r = r

@@ -1,6 +1,6 @@
 -- Nodes that have bytes in a DVI file: the label of each is short, and the height of its rule has four bytes. The page
 -- builder and the columns only move nodes of the galley, and make nodes that have bytes.
-use Rattle.std.proofs.Common.{ℕ, ℤ, pos, negsuc, ◌≤ℤ◌, ◌+ℤ◌, ◌<◌, Bool, true, false, List, [], ◌∷◌, ◌++◌, length, map, filter, take, drop, Option, Some, None, FitsSigned, IfSome, arith}
+use Rattle.std.proofs.Common.{ℕ, ℤ, pos, negsuc, ◌≤ℤ◌, ◌+ℤ◌, ◌≤◌, ◌<◌, Bool, true, false, List, [], ◌∷◌, ◌++◌, length, map, filter, take, drop, Option, Some, None, FitsSigned, IfSome, arith, unwrap_or}
 use Rattle.std.specs.Prelude.{◌==◌, not, if◌then◌else◌, codes}
 use Rattle.std.specs.Int.{w32}
 use Rattle.std.proofs.lemmas.Int.{ints}
@@ -30,7 +30,7 @@ use Rattle.tb_float.specs.Lists.{FloatLists}
 use Rattle.tb_margin.specs.Margin.{note_height, note_depth}
 use Rattle.tb_report.specs.Lines.{where_text, side_text}
 use Rattle.tb_text.specs.Fields.{and_count, and_text}
-use Rattle.tb_column.specs.Column.{Notes, is_no_glue, glue_if_any, rule_if_any, kern_if_any, foot_kern, floats_with, floats_above, floats_below, floats_after, floats_column, feet_above, class_below, notes_below, notes_among, text_above_feet, text_nodes, closing_glue, text_column, pair_floats}
+use Rattle.tb_column.specs.Column.{Notes, is_no_glue, glue_if_any, rule_if_any, kern_if_any, foot_kern, floats_with, floats_above, floats_below, floats_after, floats_column, feet_above, above_class, class_below, notes_below, notes_among, text_above_feet, text_nodes, closing_glue, text_column, pair_floats}
 use Rattle.tb_column.specs.Ranges.{IsSizedRule, AreColumnParams}
 use Rattle.tb_column.proofs.ColumnParts.{below-has, among-have}
 use Rattle.tb_sheet.specs.Sheet.{PlainSheet, one, wide, two}
@@ -63,6 +63,7 @@ abbrev pub WritableAct : Act → Type 0
 WritableAct (acts.Take f) = WritableFloat f
 WritableAct (acts.TakeMargin m) = WritableNote m
 WritableAct (acts.Suppress area) = Unit {0}
+WritableAct (acts.Page n) = n ≤ 1000000
 WritableAct (acts.Columns pair) = Unit {0}
 
 abbrev pub WritableKind : PlainKind → Type 0
@@ -303,18 +304,22 @@ floats-after sep (f ∷ fs) h = (tt, ((h.0.0 places.Page, h.0.1), floats-after s
 pub floats-column : (height : ℤ) (above between below : Glue) (fs : List Float) → WritableFloats fs → WritableNodes (floats_column height above between below fs).nodes
 floats-column height above between below fs h = (tt, (tt, nodes-join (floats_after between fs) _ (floats-after between fs h) (tt, tt)))
 
-abbrev pub WritableNotes : List Notes → Type 0
-WritableNotes ns = AllByRecursion (λ n. WritableLeaves n.inner) ns
+-- insertions that have bytes, under a rule that has some
+abbrev pub WritableClass : Notes → Type 0
+WritableClass n = WritableLeaves n.inner × IsSizedRule (unwrap_or n.below None)
 
-class-notes : (p : Params) (ranges : AreColumnParams p) (kern : Option ℤ) (n : Notes) → WritableLeaves n.inner → WritableNodes (class_below p kern n)
+abbrev pub WritableNotes : List Notes → Type 0
+WritableNotes ns = AllByRecursion WritableClass ns
+
+class-notes : (p : Params) (ranges : AreColumnParams p) (kern : Option ℤ) (n : Notes) → WritableClass n → WritableNodes (class_below p kern n)
 class-notes p ranges kern n h = by_class (n.class == 254)
   where
     feet : WritableNodes (feet_above p kern)
     feet = nodes-join (kern_if_any kern ++ glue_if_any p.footfill) _ (nodes-join (kern_if_any kern) (glue_if_any p.footfill) (kern-if kern) (glue-if p.footfill)) (tt, foot-rule p.footrule ranges.footrule)
 
-    by_class : (t : Bool) → WritableNodes (if t then feet_above p kern ++ map leaf_node n.inner else made (skip n.skip) ∷ map leaf_node n.inner)
-    by_class true = nodes-join (feet_above p kern) (map leaf_node n.inner) feet (leaf-nodes n.inner h)
-    by_class false = (tt, leaf-nodes n.inner h)
+    by_class : (t : Bool) → WritableNodes (if t then feet_above p kern ++ map leaf_node n.inner else above_class n.skip n.below ++ map leaf_node n.inner)
+    by_class true = nodes-join (feet_above p kern) (map leaf_node n.inner) feet (leaf-nodes n.inner h.0)
+    by_class false = nodes-join (above_class n.skip n.below) (map leaf_node n.inner) (tt, foot-rule (unwrap_or n.below None) h.1) (leaf-nodes n.inner h.0)
 
 all-notes : (p : Params) (ranges : AreColumnParams p) (kern : Option ℤ) (ns : List Notes) → WritableNotes ns → WritableNodes (notes_below p kern ns)
 all-notes p ranges kern [] h = tt
@@ -325,7 +330,7 @@ text-writable p ranges l body notes top bottom h g =
     let texts = text_nodes p l body notes in
     let tops = floats_above places.Top p.floatsep p.toprule p.textfloatsep l.top in
     let bottoms = floats_below places.Bottom p.floatsep p.bottomrule p.textfloatsep l.bottom in
-    let some = λ (feet : Bool). among-have (λ n. WritableLeaves n.inner) feet notes g in
+    let some = λ (feet : Bool). among-have WritableClass feet notes g in
     nodes-join (texts ++ made (skip (closing_glue p texts)) ∷ []) (glue_if_any p.textbottom)
     (nodes-join texts (made (skip (closing_glue p texts)) ∷ [])
     (below-has p l notes WritableNodes (text_above_feet p l body notes)

@@ -1,6 +1,6 @@
 -- The file of a run of a valid galley lists the pages of the run.
-use Rattle.std.proofs.Common.{◌≡◌, refl, sym, subst, ℕ, ℤ, pos, negsuc, ◌+ℤ◌, ◌≤◌, ◌<◌, true, false, List, [], ◌∷◌, ◌++◌, map, length, Option, Some, None, Ok, All, FitsSigned, arith}
-use Rattle.std.specs.Prelude.{nat_abs, int_lt}
+use Rattle.std.proofs.Common.{◌≡◌, refl, sym, subst, ℕ, ◌+◌, ℤ, pos, ◌+ℤ◌, ◌≤◌, ◌<◌, true, false, List, [], ◌∷◌, ◌++◌, map, length, Option, Some, None, Ok, All, FitsSigned, arith}
+use Rattle.std.specs.Prelude.{nat_abs}
 use Rattle.std.specs.Int.{w32}
 use Rattle.std.specs.List.{AllByRecursion}
 use Rattle.std.proofs.lemmas.Int.{ints}
@@ -65,9 +65,8 @@ sheet-writable (two tops at left right) w =
 
 -- ---- the pages of a run
 
-number-small : (n : ℕ) (limit : ℤ) → int_lt limit (pos n) ≡ false → nat_abs limit ≤ 1000000 → n < 2147483648
-number-small n (pos m) e h = grind (arith, ints, e, h)
-number-small n (negsuc m) e h = cc
+number-small : (n limit : ℕ) → n ≤ limit + 1000000 → limit ≤ 1000000 → n < 2147483648
+number-small n limit e h = omega (arith, e, h)
 
 module _ (p : Params) (height : FitsSigned w32 p.textheight) (few : nat_abs p.maxpages ≤ 1000000) where
   all-pages : (es : List RunEvent) → WritableEvents p height es → AllByRecursion IsWritablePage (event_pages es)
@@ -75,7 +74,7 @@ module _ (p : Params) (height : FitsSigned w32 p.textheight) (few : nat_abs p.ma
   all-pages (offered t ∷ es) w = all-pages es w.1
   all-pages (sent (warned x) ∷ es) w = all-pages es w.1
   all-pages (sent (shipped number sheet) ∷ es) w =
-      (record { number = number-small number p.maxpages w.0.0 few; placed = All-from_recursion IsWritable (sheet_placed sheet) (sheet-writable sheet w.0.1) }, all-pages es w.1)
+      (record { number = number-small number (nat_abs p.maxpages) w.0.0 few; placed = All-from_recursion IsWritable (sheet_placed sheet) (sheet-writable sheet w.0.1) }, all-pages es w.1)
 
 -- each page that a run of a valid galley ships has bytes
 pub pages-writable : (g : Galley) → IsValid g → All IsWritablePage (run_pages (run_of g))

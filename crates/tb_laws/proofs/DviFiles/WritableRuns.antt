@@ -5,6 +5,7 @@ use Rattle.std.specs.Int.{w32}
 use Rattle.std.specs.List.{AllByRecursion, list_all}
 use Rattle.std.proofs.lemmas.Int.{ints}
 use Rattle.std.proofs.lemmas.Bool.{and_parts}
+use Rattle.std.proofs.lemmas.Bool.Decides.{nat_tests}
 use Rattle.std.proofs.lemmas.Fmt.{length-decimal-le}
 use Rattle.std.proofs.lemmas.List.{length-append}
 use Rattle.tb_break.proofs.EachLemmas.{all-join}
@@ -29,10 +30,12 @@ use Rattle.tb_galley.specs.declared.ItemKind.{ItemKind}
 use Rattle.tb_galley.specs.declared.ItemKind.TheVariants as items
 use Rattle.tb_galley.specs.declared.Galley.{Galley}
 use Rattle.tb_galley.specs.GalleyNodes.{plain_leaf, with_firings, item_kinds, two_after, item_nodes, expanded}
-use Rattle.tb_galley.specs.Valid.{is_size, is_leaf, is_float, is_margin, is_item, IsValid}
+use Rattle.tb_galley.specs.declared.ClassLine.{ClassLine}
+use Rattle.tb_galley.specs.Valid.{is_size, is_leaf, is_float, is_margin, is_item, IsValid, may_stand, do_all_stand}
 use Rattle.tb_insert.specs.declared.Class.{Class}
 use Rattle.tb_insert.specs.Account.{terms_after}
 use Rattle.tb_break.specs.PageTop.{pruned_nodes}
+use Rattle.tb_builder.specs.declared.Ask.{Ask}
 use Rattle.tb_builder.specs.Reach.{Reached, acted, tried, Reach}
 use Rattle.tb_builder.specs.FiredPages.{frozen_for, reach_of, fired_of}
 use Rattle.tb_float.specs.declared.Entry.TheVariants as entries
@@ -44,14 +47,15 @@ use Rattle.tb_sheet.specs.declared.Warn.{Warn}
 use Rattle.tb_sheet.specs.Sheet.{PlainSent, warned}
 use Rattle.tb_column.specs.Ranges.{AreColumnParams}
 use Rattle.tb_column.proofs.RangeLemmas.{column-params}
-use Rattle.tb_output.specs.State.{State, Work, Recorded, emptied, ask_of, first_state, void_boxes}
+use Rattle.tb_output.specs.State.{State, Work, Recorded, emptied, first_state, void_boxes}
 use Rattle.tb_output.specs.Act.{Acted, went, full, act_on, taken_float, lists_with_taken}
 use Rattle.tb_output.specs.Output.{out}
-use Rattle.tb_steps.specs.Run.{Run, done, dead_cycles, page_limit, node_limit, Progress, progress_by, progress, Step, ends, goes_on, held_count, after_firing, fire, after_progress, step, run_by, run_from, firings_left, run_of}
+use Rattle.tb_steps.specs.Run.{Run, done, dead_cycles, page_limit, node_limit, Progress, progress_by, progress, Step, ends, goes_on, held_count, after_firing, fire, after_progress, step, run_by, run_from, firings_left, run_of, ask_for}
 use Rattle.tb_items.specs.RunEvents.{RunEvent, offered, sent}
-use Rattle.tb_items.specs.Classes.{classes_of}
+use Rattle.tb_items.specs.Classes.{classes_of, foot_class, class_of}
 use Rattle.tb_laws.proofs.DviFiles.WritableNodes.{WritableLeaves, WritableFloat, WritableNote, WritableAct, WritableNodes, nodes-join, nodes-pruned, WritableReached, WritableReach, reached-writable, WritableBoxes, fired-writable}
-use Rattle.tb_laws.proofs.DviFiles.WritableWorks.{WritableLists, WritableState, WritableSent, WritableWork, out-writable}
+use Rattle.tb_items.proofs.GalleyClasses.{standing-rule}
+use Rattle.tb_laws.proofs.DviFiles.WritableWorks.{WritableLists, WritableState, WritableSent, WritableWork, out-writable, WritableClasses}
 
 -- ---- acts
 
@@ -79,10 +83,11 @@ module _ (p : Params) (height : FitsSigned w32 p.textheight) where
   acted-if false line live s ws rs h = h
 
   acts-on : (s : State) (a : Act) → WritableState s → WritableAct a → WritableActed (act_on p s a)
-  acts-on s (acts.Take f) h g = acted-if _ _ _ _ _ _ (h.0, h.1, h.2, taken (taken_float p s f) s.floats (g.0, min-fits f.height p.textheight g.1 height) h.3, h.4)
-  acts-on s (acts.TakeMargin m) h g = acted-if _ _ _ _ _ _ (h.0, h.1, h.2, (all-join _ s.floats.current (entries.Left m ∷ entries.Right m ∷ []) h.3.0 (g, (tt, tt)), h.3.1, h.3.2, h.3.3, h.3.4, h.3.5), h.4)
+  acts-on s (acts.Take f) h g = acted-if _ _ _ _ _ _ (h.0, h.1, h.2, taken (taken_float p s f) s.floats (g.0, min-fits f.height p.textheight g.1 height) h.3, h.4, h.5, h.6)
+  acts-on s (acts.TakeMargin m) h g = acted-if _ _ _ _ _ _ (h.0, h.1, h.2, (all-join _ s.floats.current (entries.Left m ∷ entries.Right m ∷ []) h.3.0 (g, (tt, tt)), h.3.1, h.3.2, h.3.3, h.3.4, h.3.5), h.4, h.5, h.6)
   acts-on s (acts.Suppress area) h g = h
-  acts-on s (acts.Columns pair) h g = (h.0, h.1, h.2, h.3, tt)
+  acts-on s (acts.Page n) h g = let fits : n ≤ 1000000 = g in (h.0, h.1, h.2, h.3, h.4, omega (arith, fits), h.6)
+  acts-on s (acts.Columns pair) h g = (h.0, h.1, h.2, h.3, tt, h.5, h.6)
 
   -- ---- events
 
@@ -120,10 +125,10 @@ module _ (p : Params) (height : FitsSigned w32 p.textheight) where
   WritableStep (goes_on es rs s) = WritableEvents es × WritableState s
 
   abbrev page_of : State → Reach
-  page_of s = reach_of (ask_of p s) s.classes s.boxes [] s.waiting
+  page_of s = reach_of (ask_for p s) s.classes s.boxes [] s.waiting
 
   page-reached : (s : State) → WritableState s → WritableReach (page_of s)
-  page-reached s h = reached-writable (ask_of p s).max_depth (terms_after (frozen_for (ask_of p s) s.classes s.boxes)) [] (pruned_nodes p.topskip s.waiting) tt (nodes-pruned p.topskip s.waiting h.0)
+  page-reached s h = reached-writable (ask_for p s).max_depth (terms_after (frozen_for (ask_for p s) s.classes s.boxes)) [] (pruned_nodes p.topskip s.waiting) tt (nodes-pruned p.topskip s.waiting h.0)
 
   after-firing : (es : List RunEvent) (rs : List Recorded) (w : Work) → WritableEvents es → WritableWork p w → WritableStep (after_firing p es rs w)
   after-firing es rs w g k = by_refused w.refused
@@ -140,11 +145,11 @@ module _ (p : Params) (height : FitsSigned w32 p.textheight) where
       by_refused false = by_nodes (int_lt p.maxnodes (pos (held_count w.state)))
 
   module _ (ranges : AreColumnParams p) where
-    fires : (w : Reach) (q : Progress) → WritableReach w → WritableProgress q → WritableStep (fire p w q)
-    fires w q h k = by_cycles (int_lt (pos q.state.dead_cycles) p.maxdeadcycles)
+    fires : (a : Ask) (w : Reach) (q : Progress) → WritableReach w → WritableProgress q → WritableStep (fire p a w q)
+    fires a w q h k = by_cycles (int_lt (pos q.state.dead_cycles) p.maxdeadcycles)
       where
-        by_cycles : (t : Bool) → WritableStep (if t then after_firing p q.events q.records (out p q.state (fired_of (ask_of p q.state) q.state.classes q.state.boxes w)) else ends q.events q.records (dead_cycles q.state.dead_cycles))
-        by_cycles true = after-firing q.events q.records (out p q.state (fired_of (ask_of p q.state) q.state.classes q.state.boxes w)) k.1 (out-writable p ranges q.state (fired_of (ask_of p q.state) q.state.classes q.state.boxes w) k.0 (fired-writable (frozen_for (ask_of p q.state) q.state.classes q.state.boxes) q.state.boxes w k.0.1 h))
+        by_cycles : (t : Bool) → WritableStep (if t then after_firing p q.events q.records (out p q.state (fired_of a q.state.classes q.state.boxes w)) else ends q.events q.records (dead_cycles q.state.dead_cycles))
+        by_cycles true = after-firing q.events q.records (out p q.state (fired_of a q.state.classes q.state.boxes w)) k.1 (out-writable p ranges q.state (fired_of a q.state.classes q.state.boxes w) k.0 (fired-writable (frozen_for a q.state.classes q.state.boxes) q.state.boxes w k.0.1 h))
         by_cycles false = k.1
 
     steps : (s : State) → WritableState s → WritableStep (step p s)
@@ -157,11 +162,11 @@ module _ (p : Params) (height : FitsSigned w32 p.textheight) where
         k : WritableProgress q
         k = progresses (page_of s).reached awful_bad s (page-reached s h).reached h
 
-        by_firing : (t : Bool) → WritableStep (if t then fire p (page_of s) q else ends q.events (q.records ++ emptied q.state.floats ∷ []) (done (page_of s).passed))
-        by_firing true = fires (page_of s) q (page-reached s h) k
+        by_firing : (t : Bool) → WritableStep (if t then fire p (ask_for p s) (page_of s) q else ends q.events (q.records ++ emptied q.state.floats ∷ []) (done (page_of s).passed))
+        by_firing true = fires (ask_for p s) (page_of s) q (page-reached s h) k
         by_firing false = k.1
 
-        by_fault : (o : Option (ℕ × ℕ)) → WritableStep (after_progress p (page_of s) q o)
+        by_fault : (o : Option (ℕ × ℕ)) → WritableStep (after_progress p (ask_for p s) (page_of s) q o)
         by_fault None = by_firing (page_of s).fires
         by_fault (Some f) = k.1
 
@@ -285,6 +290,7 @@ item-writable p two n (items.NoPageBreak q) v = (tt, tt)
 item-writable p two n items.OneColumn v = (tt, (tt, (tt, (tt, (tt, (tt, tt))))))
 item-writable p two n items.TwoColumn v = (tt, (tt, (tt, (tt, (tt, (tt, tt))))))
 item-writable p two n (items.Suppress area) v = (tt, tt)
+item-writable p two n (items.Page k) v = let fits : k ≤ 1000000 = grind (arith, nat_tests, v) in (fits, tt)
 
 items-writable : (p : Params) (two : Bool) (ns : List Item) → IsTrue (list_all (λ n. is_item n.line n.kind) ns) → WritableNodes (item_nodes p two ns)
 items-writable p two [] v = tt
@@ -300,6 +306,18 @@ void : (cs : List Class) → WritableBoxes (void_boxes cs)
 void [] = tt
 void (c ∷ cs) = (tt, void cs)
 
+foot-writable : (p : Params) → WritableClasses (foot_class p ∷ [])
+foot-writable p = (tt, tt)
+
+lines-writable : (version : ℕ) (p : Params) (cs : List ClassLine) → IsTrue (do_all_stand version cs) → WritableClasses (map class_of cs ++ foot_class p ∷ [])
+lines-writable version p [] v = foot-writable p
+lines-writable version p (c ∷ cs) v =
+    let parts = and_parts (may_stand version c.below) (do_all_stand version cs) v in (standing-rule version c.below parts.0, lines-writable version p cs parts.1)
+
+-- the classes of a valid galley have rules in their ranges
+classes-writable : (g : Galley) → IsValid g → WritableClasses (classes_of g)
+classes-writable g v = lines-writable g.version g.params g.classes v.standing
+
 -- each page of the run of a valid galley has bytes
 pub run-writable : (g : Galley) → IsValid g → (height : FitsSigned w32 g.params.textheight) → WritableEvents g.params height (run_of g).events
 unfolding run_of
@@ -309,7 +327,7 @@ run-writable g v height = by_nodes (int_lt g.params.maxnodes (pos (held_count s)
     s = first_state g.params (classes_of g) (expanded g)
 
     start : WritableState s
-    start = (expanded-writable g v, void (classes_of g), tt, (tt, tt, tt, tt, tt, tt), tt)
+    start = (expanded-writable g v, void (classes_of g), tt, (tt, tt, tt, tt, tt, tt), tt, omega arith, classes-writable g v)
 
     by_nodes : (t : Bool) → WritableEvents g.params height (if t then record { events = []; records = []; end = node_limit (held_count s) } else run_from g.params (suc (firings_left g.params s)) s).events
     by_nodes true = tt

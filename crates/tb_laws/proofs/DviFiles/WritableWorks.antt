@@ -1,7 +1,8 @@
 -- A firing keeps the nodes and floats of the galley: what it sends and leaves has bytes in a DVI file, if what it began
--- with has, and each page has a number up to the page limit.
-use Rattle.std.proofs.Common.{◌≡◌, subst, ℕ, ℤ, pos, Bool, true, false, List, [], ◌∷◌, ◌++◌, drop, Option, Some, None}
-use Rattle.std.specs.Prelude.{◌==◌, int_lt, if◌then◌else◌}
+-- with has, and each page has a number up to the page limit and 1000000.
+use Rattle.std.proofs.Common.{◌≡◌, subst, ℕ, ◌+◌, ◌≤◌, ℤ, pos, negsuc, Bool, true, false, List, [], ◌∷◌, ◌++◌, drop, Option, Some, None, arith, unwrap_or}
+use Rattle.std.specs.Prelude.{◌==◌, int_lt, nat_abs, if◌then◌else◌}
+use Rattle.std.proofs.lemmas.Int.{ints}
 use Rattle.std.specs.List.{AllByRecursion}
 use Rattle.tb_break.proofs.EachLemmas.{all-join}
 use Rattle.tb_scaled.specs.declared.Glue.{Glue}
@@ -23,14 +24,14 @@ use Rattle.tb_float.specs.Rooms.{column_height_of}
 use Rattle.tb_fpage.proofs.FirstLemmas.{company-all}
 use Rattle.tb_fpage.specs.Company.{chosen_floats, left_floats}
 use Rattle.tb_column.specs.Column.{Notes, PlainColumn, wide_floats_column}
-use Rattle.tb_column.specs.Ranges.{AreColumnParams}
+use Rattle.tb_column.specs.Ranges.{AreColumnParams, IsSizedRule}
 use Rattle.tb_sheet.specs.Sheet.{PlainSheet, one, wide, pair_sheet, PlainSent, warned, shipped}
 use Rattle.tb_area.specs.Area.{where_of}
 use Rattle.tb_output.specs.State.{State, Work, Recorded, placed, output, puts, sends, records_also, with_floats, with_notes, notes_in, footnotes}
 use Rattle.tb_output.specs.FloatMoves.{joined_to, is_placed, place_float}
 use Rattle.tb_output.specs.Pages.{ship, wide_wanted, left_or, without_double}
 use Rattle.tb_output.specs.Columns.{emptied_boxes, single_wanted}
-use Rattle.tb_output.specs.Text.{penalty_nodes, penalty_after, without_firing_box, notes_nodes, here_nodes, note_nodes}
+use Rattle.tb_output.specs.Text.{penalty_nodes, penalty_between, without_firing_box, notes_nodes, here_nodes, note_nodes}
 use Rattle.tb_output.specs.Clear.{clear_again, cleared_front, deferred_again, double_again}
 use Rattle.tb_output.specs.Output.{blank_column, out}
 use Rattle.tb_output.specs.Firing.{page_work}
@@ -58,8 +59,12 @@ abbrev pub WritableLeft : Option PlainColumn → Type 0
 WritableLeft None = Unit {0}
 WritableLeft (Some c) = WritableNodes c.nodes
 
+-- the rules of classes that stand below footnotes have bytes
+abbrev pub WritableClasses : List Class → Type 0
+WritableClasses cs = AllByRecursion (λ c. IsSizedRule (unwrap_or c.below None)) cs
+
 abbrev pub WritableState : State → Type 0
-WritableState s = WritableNodes s.waiting × WritableBoxes s.boxes × WritableNodes s.held_page × WritableLists s.floats × WritableLeft s.left_column
+WritableState s = WritableNodes s.waiting × WritableBoxes s.boxes × WritableNodes s.held_page × WritableLists s.floats × WritableLeft s.left_column × (s.number ≤ s.page + 1000000) × WritableClasses s.classes
 
 -- ---- lists of floats
 
@@ -98,13 +103,13 @@ box-content (b ∷ bs) k h = by_class (b.number == k) (box-content bs k h.1)
     by_class true g = h.0
     by_class false g = g
 
-one-class : (c : Class) (o : Option (List Leaf)) (ns : List Notes) → WritableContent o → WritableNotes ns → WritableNotes (with_notes c o ns)
-one-class c None ns h k = k
-one-class c (Some inner) ns h k = (h, k)
+one-class : (c : Class) (o : Option (List Leaf)) (ns : List Notes) → WritableContent o → IsSizedRule (unwrap_or c.below None) → WritableNotes ns → WritableNotes (with_notes c o ns)
+one-class c None ns h r k = k
+one-class c (Some inner) ns h r k = ((h, r), k)
 
-notes-of : (cs : List Class) (bs : List Boxed) → WritableBoxes bs → WritableNotes (notes_in cs bs)
-notes-of [] bs h = tt
-notes-of (c ∷ cs) bs h = one-class c (box_content bs c.number) (notes_in cs bs) (box-content bs c.number h) (notes-of cs bs h)
+notes-of : (cs : List Class) (bs : List Boxed) → WritableBoxes bs → WritableClasses cs → WritableNotes (notes_in cs bs)
+notes-of [] bs h g = tt
+notes-of (c ∷ cs) bs h g = one-class c (box_content bs c.number) (notes_in cs bs) (box-content bs c.number h) g.0 (notes-of cs bs h g.1)
 
 emptied : (bs : List Boxed) → WritableBoxes (emptied_boxes bs)
 emptied [] = tt
@@ -113,10 +118,10 @@ emptied (b ∷ bs) = (tt, emptied bs)
 -- ---- a firing at work
 
 module _ (p : Params) where
-  -- a page has a number up to the page limit
+  -- a page has a number up to the page limit and 1000000, since a number that is set is at most 1000000 and goes on from there
   abbrev pub WritableSent : PlainSent → Type 0
   WritableSent (warned w) = Unit {0}
-  WritableSent (shipped number sheet) = (int_lt p.maxpages (pos number) ≡ false) × WritableSheet sheet
+  WritableSent (shipped number sheet) = (number ≤ nat_abs p.maxpages + 1000000) × WritableSheet sheet
 
   abbrev pub WritableWork : Work → Type 0
   WritableWork w = WritableState w.state × WritableNodes w.put_back × AllByRecursion WritableSent w.sent
@@ -145,7 +150,7 @@ module _ (p : Params) where
   records-more r w k = by-records WritableWork r w k k
 
   has-floats : (l : FloatLists) (w : Work) → WritableLists l → WritableWork w → WritableWork (with_floats l w)
-  has-floats l w h k = ((k.0.0, k.0.1, k.0.2, h, k.0.4), k.1, k.2)
+  has-floats l w h k = ((k.0.0, k.0.1, k.0.2, h, k.0.4, k.0.5, k.0.6), k.1, k.2)
 
   -- ---- floats
 
@@ -178,15 +183,22 @@ module _ (p : Params) where
 
   -- ---- pages
 
+  number-fits : (page number : ℕ) (most : ℤ) → int_lt most (pos page) ≡ false → number ≤ page + 1000000 → number ≤ nat_abs most + 1000000
+  number-fits page number (pos m) e h = grind (arith, ints, e, h)
+  number-fits page number (negsuc m) e h = cc
+
   ships : (sheet : PlainSheet) (w : Work) → WritableSheet sheet → WritableWork w → WritableWork (ship p sheet w)
-  ships sheet w h k = by-ship WritableWork p sheet w (λ r. k) (λ r. k) (λ r e. (k.0, k.1, all-join WritableSent w.sent (shipped w.state.page sheet ∷ []) k.2 ((e, h), tt)))
+  ships sheet w h k = by-ship WritableWork p sheet w (λ r. k) (λ r. k) (λ r e.
+      let fits : w.state.number ≤ w.state.page + 1000000 = k.0.5 in
+      let next : w.state.number + 1 ≤ w.state.page + 1 + 1000000 = omega (arith, fits) in
+      ((k.0.0, k.0.1, k.0.2, k.0.3, k.0.4, next, k.0.6), k.1, all-join WritableSent w.sent (shipped w.state.number sheet ∷ []) k.2 ((number-fits w.state.page w.state.number p.maxpages e fits, h), tt)))
 
   left-column : (c : PlainColumn) (o : Option PlainColumn) → WritableNodes c.nodes → WritableLeft o → WritableNodes (left_or c o).nodes
   left-column c None h k = h
   left-column c (Some d) h k = k
 
   without-double : (w : Work) → WritableWork w → WritableWork (without_double w)
-  without-double w k = ((k.0.0, k.0.1, k.0.2, (k.0.3.0, k.0.3.1, k.0.3.2, k.0.3.3, tt, k.0.3.5), tt), k.1, k.2)
+  without-double w k = ((k.0.0, k.0.1, k.0.2, (k.0.3.0, k.0.3.1, k.0.3.2, k.0.3.3, tt, k.0.3.5), tt, k.0.5, k.0.6), k.1, k.2)
 
   -- ---- what goes back
 
@@ -194,9 +206,13 @@ module _ (p : Params) where
   penalties n None = (tt, tt)
   penalties n (Some g) = (tt, (tt, (tt, tt)))
 
+  between : (n : ℤ) (nobreak : Bool) (ns : List PlainNode) → WritableNodes (penalty_between n nobreak ns)
+  between n true ns = (tt, tt)
+  between n false ns = penalties n _
+
   notes-back : (ns : List Notes) → WritableNotes ns → WritableNodes (notes_nodes p ns)
   notes-back [] h = tt
-  notes-back (n ∷ ns) h = (h.0, notes-back ns h.1)
+  notes-back (n ∷ ns) h = (h.0.0, notes-back ns h.1)
 
   stands : (vert : Bool) (f : Float) → WritableFloat f → WritableNodes (here_nodes p vert f)
   stands true f h = (tt, ((h.0 places.Here, h.1), (tt, (tt, (tt, tt)))))
@@ -219,7 +235,7 @@ module _ (p : Params) where
         (floats-column (column_height_of p w.state.floats) p.fptop p.fpsep p.fpbot (chosen_floats cs) c.0, has-floats (record w.state.floats { deferred = left_floats cs }) w (l.0, l.1, l.2, c.1, l.4, l.5) k.1)
     column-writable (records_column c w) k = (k.0, records-more (output c) w k.1)
     column-writable (ships_column c w t) k = (tt, ships (one c) w k.0 k.1)
-    column-writable (keeps_left c w t f) k = (tt, ((k.1.0.0, k.1.0.1, k.1.0.2, k.1.0.3, k.0), k.1.1, k.1.2))
+    column-writable (keeps_left c w t f) k = (tt, ((k.1.0.0, k.1.0.1, k.1.0.2, k.1.0.3, k.0, k.1.0.5, k.1.0.6), k.1.1, k.1.2))
     column-writable (ships_pair c w t f) k =
         let sheet = pair_sheet p w.state.floats (left_or c w.state.left_column) c in
         (tt, without-double (ship p sheet w) (ships sheet w (pair-writable p ranges w.state.floats k.1.0.3.4, left-column c w.state.left_column k.0 k.1.0.4, k.0) k.1))
@@ -240,7 +256,7 @@ module _ (p : Params) where
         (tt, goes-to (where_of a) f (record w.state.floats { deferred = before ++ rest }) w g.0 (l.0, l.1, l.2, g.1, l.4, l.5) k.1)
     page-writable (takes_text body w) k =
         let s = k.1.0 in
-        (text-writable p ranges w.state.floats body (footnotes w.state) s.3.1 s.3.2 k.0 (notes-of w.state.classes w.state.boxes s.1), ((s.0, emptied w.state.boxes, s.2, (s.3.0, tt, tt, s.3.3, s.3.4, s.3.5), s.4), k.1.1, k.1.2))
+        (text-writable p ranges w.state.floats body (footnotes w.state) s.3.1 s.3.2 k.0 (notes-of w.state.classes w.state.boxes s.1 s.6), ((s.0, emptied w.state.boxes, s.2, (s.3.0, tt, tt, s.3.3, s.3.4, s.3.5), s.4, s.5, s.6), k.1.1, k.1.2))
     page-writable (fills_text body w) k = (nodes-join body (made (skip filling_glue) ∷ []) k.0 (tt, tt), k.1)
     page-writable (keeps_front body w) k = (tt, puts-more (cleared_front p body) w (nodes-take _ body k.0) k.1)
     page-writable (gathers w) k =
@@ -258,8 +274,8 @@ module _ (p : Params) where
         let ns = w.state.held_page ++ without_firing_box body in (
           tt,
           puts-more (ns ++ notes_nodes p (footnotes w.state)) (record w { state = record w.state { held_page = []; boxes = emptied_boxes w.state.boxes } })
-              (nodes-join ns (notes_nodes p (footnotes w.state)) (nodes-join w.state.held_page (without_firing_box body) s.2 (nodes-take _ body k.0)) (notes-back (footnotes w.state) (notes-of w.state.classes w.state.boxes s.1)))
-              ((s.0, emptied w.state.boxes, tt, s.3, s.4), k.1.1, k.1.2),
+              (nodes-join ns (notes_nodes p (footnotes w.state)) (nodes-join w.state.held_page (without_firing_box body) s.2 (nodes-take _ body k.0)) (notes-back (footnotes w.state) (notes-of w.state.classes w.state.boxes s.1 s.6)))
+              ((s.0, emptied w.state.boxes, tt, s.3, s.4, s.5, s.6), k.1.1, k.1.2),
         )
     served-writable (places_current place f es height w c e i) k = (tt, (current-goes place f f es w e (λ h. h) k.1).1)
     served-writable (defers_current t f es w e i) k = (tt, (current-goes places.Deferred f (deferred_float t f) es w e (with-top t f) k.1).1)
@@ -270,13 +286,13 @@ module _ (p : Params) where
         let g = note-taken m es w.state.floats e l in
         (g.0, has-floats (record w.state.floats { current = drop 1 es }) w (g.1, l.1, l.2, l.3, l.4, l.5) k.1)
     served-writable (stands_beside depth m at w) k = (tt, puts-more (note_nodes depth m at) w (tt, ((k.0.0 at.side, k.0.1 at.side), (tt, tt))) k.1)
-    served-writable (puts_penalty h w) k = (k.0, puts-more (penalty_after p.interlinepenalty w.put_back) w (penalties p.interlinepenalty _) k.1)
+    served-writable (puts_penalty nobreak h w) k = (k.0, puts-more (penalty_between p.interlinepenalty nobreak w.put_back) w (between p.interlinepenalty nobreak w.put_back) k.1)
     served-writable (warns h e w) k = (k.0, sends-more (warned e) w tt k.1)
 
     writable : {h : Hand} {a : Work} {i : Hand} {b : Work} → Move p h a i b → Writable h a → Writable i b
     writable (by_page m) k = page-writable m k
     writable (by_text m) k = served-writable m k
-    writable (holds_page body w) k = (tt, ((k.1.0.0, k.1.0.1, k.0, k.1.0.3, k.1.0.4), k.1.1, k.1.2))
+    writable (holds_page body w) k = (tt, ((k.1.0.0, k.1.0.1, k.0, k.1.0.3, k.1.0.4, k.1.0.5, k.1.0.6), k.1.1, k.1.2))
     writable (leaves_blank two w) k = (tt, puts-more (if two then blank_column ++ blank_column else blank_column) w (blank-nodes two) k.1)
     writable (sets_goal g w) k = k
 
@@ -285,5 +301,5 @@ module _ (p : Params) where
     unfolding out page_work
     out-writable s f h g =
         let x = page_work p s f in
-        let k : WritableWork (page_work p s f) = (holds-on Writable (λ h i a b m. writable m) (page-moves p s f) (g.body, ((tt, g.boxes, h.2, h.3, h.4), tt, tt))).1 in
-        ((nodes-join (f.held ++ x.put_back) f.rest (nodes-join f.held x.put_back g.held k.1) g.rest, k.0.1, k.0.2, k.0.3, k.0.4), k.1, k.2)
+        let k : WritableWork (page_work p s f) = (holds-on Writable (λ h i a b m. writable m) (page-moves p s f) (g.body, ((tt, g.boxes, h.2, h.3, h.4, h.5, h.6), tt, tt))).1 in
+        ((nodes-join (f.held ++ x.put_back) f.rest (nodes-join f.held x.put_back g.held k.1) g.rest, k.0.1, k.0.2, k.0.3, k.0.4, k.0.5, k.0.6), k.1, k.2)

@@ -139,7 +139,7 @@ ship-shipped : (p : Params) (sheet : PlainSheet) (w : Work) → Shipped sheet w 
 ship-shipped p sheet w =
     by-ship (Shipped sheet w) p sheet w (λ e. record { goes = λ h. h; sends_it = λ h. never (sym h ∙ e); plain = λ s h. h; left = refl; fit = λ h. h })
     (λ e. record { goes = λ h. never (sym h); sends_it = λ h. never (sym h); plain = λ s h. h; left = refl; fit = λ h. h })
-    (λ e i. record { goes = λ h. h; sends_it = λ h. (w.state.page, refl); plain = λ s h. sent-plain w.sent (shipped w.state.page sheet ∷ []) h (s, tt); left = refl; fit = λ h. h })
+    (λ e i. record { goes = λ h. h; sends_it = λ h. (w.state.number, refl); plain = λ s h. sent-plain w.sent (shipped w.state.number sheet ∷ []) h (s, tt); left = refl; fit = λ h. h })
 
 -- what was sent with one page more
 page-more : (es fs : List PlainSent) (n : ℕ) (sheet : PlainSheet) → fs ≡ es ++ shipped n sheet ∷ [] → sent_prints fs ≡ sent_prints es ++ sheet_prints sheet
@@ -253,7 +253,7 @@ module _ (p : Params) where
   text-shows (places_current place f es height w c e i) = placed-shows p nothing place f _ w (λ k. k) (itself (shown w))
   text-shows (defers_current t f es w e i) = placed-shows p nothing places.Deferred _ _ w (λ k. k) (itself (shown w))
   text-shows (takes_float f es w e) = placed-shows p (of_float f) places.Here f _ w (λ k. k) (itself (shown w))
-  text-shows (puts_penalty h w) = alike h h w _ refl refl refl (λ k. k) (λ k. k) (itself (beside h (shown w)))
+  text-shows (puts_penalty nobreak h w) = alike h h w _ refl refl refl (λ k. k) (λ k. k) (itself (beside h (shown w)))
   text-shows (warns h e w) = warns-shows h e w
   text-shows {h = h} {a = a} {i = i} {b = b} m = alike h i a b refl refl refl (λ k. k) (λ k. tt) (itself (shown a))
 

@@ -182,7 +182,7 @@ goal-tells p n w =
     blank : List PlainNode
     blank = if w.state.two_columns && not w.state.first_column then Output.blank_column ++ Output.blank_column else Output.blank_column
 
-    kept : (t : Bool) → ((if t then w else record w { sent = w.sent ++ warned (warnings.Floats w.state.page) ∷ [] }).state ≡ w.state) × ((if t then w else record w { sent = w.sent ++ warned (warnings.Floats w.state.page) ∷ [] }).put_back ≡ w.put_back)
+    kept : (t : Bool) → ((if t then w else record w { sent = w.sent ++ warned (warnings.Floats w.state.number) ∷ [] }).state ≡ w.state) × ((if t then w else record w { sent = w.sent ++ warned (warnings.Floats w.state.number) ∷ [] }).put_back ≡ w.put_back)
     kept true = (refl, refl)
     kept false = (refl, refl)
 

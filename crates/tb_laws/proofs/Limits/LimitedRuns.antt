@@ -12,16 +12,17 @@ use Rattle.tb_node.specs.declared.Where.TheVariants as places
 use Rattle.tb_param.specs.declared.Params.{Params}
 use Rattle.tb_galley.specs.declared.Galley.{Galley}
 use Rattle.tb_galley.specs.GalleyNodes.{expanded}
+use Rattle.tb_builder.specs.declared.Ask.{Ask}
 use Rattle.tb_builder.specs.Reach.{Reached, acted, tried, Reach}
 use Rattle.tb_builder.specs.FiredPages.{fired_of, reach_of}
 use Rattle.tb_float.specs.Lists.{FloatLists, live_count}
 use Rattle.tb_float.specs.Rooms.{column_height_of}
 use Rattle.tb_area.specs.Laws as area
-use Rattle.tb_output.specs.State.{State, Recorded, placed, output, emptied, first_state, ask_of}
+use Rattle.tb_output.specs.State.{State, Recorded, placed, output, emptied, first_state}
 use Rattle.tb_output.specs.Act.{Acted, went, full, act_on}
 use Rattle.tb_output.specs.Output.{out}
 use Rattle.tb_laws.proofs.Limits.LimitLemmas.{IsLimited, AreLimited, limited-append, out-keeps}
-use Rattle.tb_steps.specs.Run.{Run, Progress, progress_by, progress, Step, ends, goes_on, held_count, after_firing, fire, after_progress, step, run_by, run_from, firings_left, run_of}
+use Rattle.tb_steps.specs.Run.{Run, Progress, progress_by, progress, Step, ends, goes_on, held_count, after_firing, fire, after_progress, step, run_by, run_from, firings_left, run_of, ask_for}
 use Rattle.tb_items.specs.Classes.{classes_of}
 use Rattle.tb_laws.specs.Laws.{PlacedWithin, KeepsLimits, WithinLimits}
 
@@ -62,6 +63,7 @@ unfolding ActedLimited
 act-limited p s (acts.Take f) = room-limited p (int_le p.pool (pos (live_count s.floats))) _ _ _ tt
 act-limited p s (acts.TakeMargin m) = room-limited p (int_lt p.pool (pos (live_count s.floats + 2))) _ _ _ tt
 act-limited p s (acts.Suppress a) = tt
+act-limited p s (acts.Page n) = tt
 act-limited p s (acts.Columns two) = (tt, tt)
 
 acted-limited : (p : Params) (later : State → Progress) → ((s : State) → AreLimited p (later s).records) → (s : State) (a : Acted) → ActedLimited p a → AreLimited p (progress_by later s a).records
@@ -84,27 +86,27 @@ step_if : (p : Params) (t : Bool) (a b : Step) → StepLimited p a → StepLimit
 step_if p true a b x y = x
 step_if p false a b x y = y
 
-fire-limited : (p : Params) (r : Reach) (q : Progress) → AreLimited p q.records → StepLimited p (fire p r q)
+fire-limited : (p : Params) (a : Ask) (r : Reach) (q : Progress) → AreLimited p q.records → StepLimited p (fire p a r q)
 unfolding StepLimited
-fire-limited p r q k =
-    let f = fired_of (ask_of p q.state) q.state.classes q.state.boxes r in
+fire-limited p a r q k =
+    let f = fired_of a q.state.classes q.state.boxes r in
     let w = out p q.state f in
     let added : AreLimited p w.records = out-keeps p q.state f in
     let all = limited-append p q.records w.records k added in
     step_if p (int_lt (pos q.state.dead_cycles) p.maxdeadcycles) (after_firing p q.events q.records w) _
     (step_if p w.refused _ _ all (step_if p (int_lt p.maxnodes (pos (held_count w.state))) _ _ all all)) k
 
-after-limited : (p : Params) (r : Reach) (q : Progress) (o : Option (ℕ × ℕ)) → AreLimited p q.records → StepLimited p (after_progress p r q o)
+after-limited : (p : Params) (a : Ask) (r : Reach) (q : Progress) (o : Option (ℕ × ℕ)) → AreLimited p q.records → StepLimited p (after_progress p a r q o)
 unfolding StepLimited
-after-limited p r q None k = step_if p r.fires (fire p r q) _ (fire-limited p r q k) (limited-append p q.records (emptied q.state.floats ∷ []) k (tt, tt))
-after-limited p r q (Some f) k = k
+after-limited p a r q None k = step_if p r.fires (fire p a r q) _ (fire-limited p a r q k) (limited-append p q.records (emptied q.state.floats ∷ []) k (tt, tt))
+after-limited p a r q (Some f) k = k
 
 step-limited : (p : Params) (s : State) → StepLimited p (step p s)
 unfolding step
 step-limited p s =
-    let r = reach_of (ask_of p s) s.classes s.boxes [] s.waiting in
+    let r = reach_of (ask_for p s) s.classes s.boxes [] s.waiting in
     let q = progress p r.reached awful_bad s in
-    after-limited p r q q.fault (progress-limited p r.reached awful_bad s)
+    after-limited p (ask_for p s) r q q.fault (progress-limited p r.reached awful_bad s)
 
 -- ---- the run
 

@@ -171,10 +171,10 @@ module _ (p : Params) where
 
   ship-numbered : (sheet : PlainSheet) (w : Work) → Numbered w → Numbered (Pages.ship p sheet w)
   ship-numbered sheet w h =
-      let next = record w { state = record w.state { page = w.state.page + 1; dead_cycles = 0 } } in
+      let next = record w { state = record w.state { page = w.state.page + 1; number = w.state.number + 1; dead_cycles = 0 } } in
       let now : Numbered next = record { lists = h.lists; records = h.records } in
       numbered_if w.refused w (if int_lt p.maxpages (pos w.state.page) then record w { refused = true } else Pages.ship_now sheet w) h
-      (numbered_if (int_lt p.maxpages (pos w.state.page)) (record w { refused = true }) (Pages.ship_now sheet w) (record { lists = h.lists; records = h.records }) (sends-numbered (shipped w.state.page sheet) next now))
+      (numbered_if (int_lt p.maxpages (pos w.state.page)) (record w { refused = true }) (Pages.ship_now sheet w) (record { lists = h.lists; records = h.records }) (sends-numbered (shipped w.state.number sheet) next now))
 
   -- ---- floats
 
@@ -375,9 +375,9 @@ module _ (p : Params) where
   next_goal-numbered : (n : ℤ) (w : Work) → Numbered w → Numbered (Output.next_goal p n w)
   next_goal-numbered n w h =
       let room = column_room_of p w.state.floats in
-      let told = sends (warned (warnings.Floats w.state.page)) w in
+      let told = sends (warned (warnings.Floats w.state.number)) w in
       numbered_if (Output.is_int n Asked.hold_penalty) (Output.with_goal max_dimen w) (Output.goal_by p room w) (record { lists = h.lists; records = h.records })
-      (numbered_if (Output.is_crowded p room) (Output.leave_column w) (Output.with_goal room w) (puts-numbered _ told (sends-numbered (warned (warnings.Floats w.state.page)) w h)) (record { lists = h.lists; records = h.records }))
+      (numbered_if (Output.is_crowded p room) (Output.leave_column w) (Output.with_goal room w) (puts-numbered _ told (sends-numbered (warned (warnings.Floats w.state.number)) w h)) (record { lists = h.lists; records = h.records }))
 
   -- a firing leaves lists that hold no more, and records such lists alone
   pub out-numbered : (s : State) (f : Fired) → Holds s.floats → Numbered (Output.out p s f)

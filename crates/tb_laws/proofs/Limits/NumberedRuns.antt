@@ -12,14 +12,15 @@ use Rattle.tb_param.specs.Release.{has_second}
 use Rattle.tb_galley.specs.declared.Galley.{Galley}
 use Rattle.tb_galley.specs.GalleyNodes.{expanded}
 use Rattle.tb_galley.specs.Valid.{IsValid}
+use Rattle.tb_builder.specs.declared.Ask.{Ask}
 use Rattle.tb_builder.specs.Reach.{Reached, acted, tried, Reach}
 use Rattle.tb_builder.specs.FiredPages.{fired_of, reach_of}
 use Rattle.tb_float.specs.declared.Entry.TheVariants as entries
 use Rattle.tb_float.specs.Lists.{FloatLists, live_count}
-use Rattle.tb_output.specs.State.{State, Recorded, emptied, first_state, ask_of}
+use Rattle.tb_output.specs.State.{State, Recorded, emptied, first_state}
 use Rattle.tb_output.specs.Act.{Acted, went, full, act_on, taken_float, lists_with_taken}
 use Rattle.tb_output.specs.Output.{out}
-use Rattle.tb_steps.specs.Run.{Run, Progress, progress_by, progress, Step, ends, goes_on, held_count, after_firing, fire, after_progress, step, run_by, run_from, firings_left, run_of}
+use Rattle.tb_steps.specs.Run.{Run, Progress, progress_by, progress, Step, ends, goes_on, held_count, after_firing, fire, after_progress, step, run_by, run_from, firings_left, run_of, ask_for}
 use Rattle.tb_items.specs.Classes.{classes_of}
 use Rattle.tb_laws.specs.AreaNumbers.{HoldsNumbers, KeepsNumbers, NumbersHold}
 use Rattle.tb_laws.proofs.Limits.NumberLemmas.{out-numbered}
@@ -55,6 +56,7 @@ module _ (p : Params) where
   act-holds s (acts.Take f) h = room-holds (int_le p.pool (pos (live_count s.floats))) _ _ _ (tt, taken-holds (taken_float p s f) s.floats h)
   act-holds s (acts.TakeMargin m) h = room-holds (int_lt p.pool (pos (live_count s.floats + 2))) _ _ _ (tt, record { top = h.top; bottom = h.bottom; double = h.double; text = h.text })
   act-holds s (acts.Suppress a) h = (tt, h)
+  act-holds s (acts.Page n) h = (tt, h)
   act-holds s (acts.Columns two) h = ((h, tt), h)
 
   -- ---- a page
@@ -82,27 +84,27 @@ module _ (p : Params) where
   step_if true a b x y = x
   step_if false a b x y = y
 
-  fire-holds : (r : Reach) (q : Progress) → ProgressHolds q → StepHolds (fire p r q)
+  fire-holds : (a : Ask) (r : Reach) (q : Progress) → ProgressHolds q → StepHolds (fire p a r q)
   unfolding StepHolds
-  fire-holds r q k =
-      let f = fired_of (ask_of p q.state) q.state.classes q.state.boxes r in
+  fire-holds a r q k =
+      let f = fired_of a q.state.classes q.state.boxes r in
       let w = out p q.state f in
       let added = out-numbered p q.state f k.1 in
       let all : AllKeep (q.records ++ w.records) = all-join (KeepsNumbers p) q.records w.records k.0 added.records in
       step_if (int_lt (pos q.state.dead_cycles) p.maxdeadcycles) (after_firing p q.events q.records w) _
       (step_if w.refused _ _ all (step_if (int_lt p.maxnodes (pos (held_count w.state))) _ _ all (all, added.lists))) k.0
 
-  after-holds : (r : Reach) (q : Progress) (o : Option (ℕ × ℕ)) → ProgressHolds q → StepHolds (after_progress p r q o)
+  after-holds : (a : Ask) (r : Reach) (q : Progress) (o : Option (ℕ × ℕ)) → ProgressHolds q → StepHolds (after_progress p a r q o)
   unfolding StepHolds
-  after-holds r q None k = step_if r.fires (fire p r q) _ (fire-holds r q k) (all-join (KeepsNumbers p) q.records (emptied q.state.floats ∷ []) k.0 (k.1, tt))
-  after-holds r q (Some f) k = k.0
+  after-holds a r q None k = step_if r.fires (fire p a r q) _ (fire-holds a r q k) (all-join (KeepsNumbers p) q.records (emptied q.state.floats ∷ []) k.0 (k.1, tt))
+  after-holds a r q (Some f) k = k.0
 
   step-holds : (s : State) → Holds s.floats → StepHolds (step p s)
   unfolding step
   step-holds s h =
-      let r = reach_of (ask_of p s) s.classes s.boxes [] s.waiting in
+      let r = reach_of (ask_for p s) s.classes s.boxes [] s.waiting in
       let q = progress p r.reached awful_bad s in
-      after-holds r q q.fault (progress-holds r.reached awful_bad s h)
+      after-holds (ask_for p s) r q q.fault (progress-holds r.reached awful_bad s h)
 
   -- ---- the run
 

@@ -42,6 +42,7 @@ acts-fit v o d [] h c = tt
 acts-fit v o d (acts.Take f ∷ ds) h c = (tt, acts-fit v o false ds (λ e. never e) c)
 acts-fit v o d (acts.TakeMargin m ∷ ds) h c = (tt, acts-fit v o false ds (λ e. never e) c)
 acts-fit v o d (acts.Suppress area ∷ ds) h c = (tt, acts-fit v o d ds h c)
+acts-fit v o d (acts.Page n ∷ ds) h c = (tt, acts-fit v o d ds h c)
 acts-fit v o d (acts.Columns two ∷ ds) h c = (h c.0, acts-fit v o d ds h c.1)
 
 -- ---- an act
@@ -110,6 +111,7 @@ act-went p n o s (acts.TakeMargin m) ds e b i g c =
     let k : entry_items (s.floats.current ++ entries.Left m ∷ entries.Right m ∷ []) ≡ entry_items s.floats.current + 1 = items-append s.floats.current (entries.Left m ∷ entries.Right m ∷ []) in
     room-went p n s (acts.TakeMargin m) ds (int_lt p.pool (pos (live_count s.floats + 2))) _ _ _ _ _ (record { records = tt; owed = suc n; done = false; empty = λ z. never z; items = omega arith; single = g; close = c; same_owed = refl; same_ways = refl; here = refl; still = λ z. absurd z; bare = λ z. never z; left = refl; left_plain = λ z. z })
 act-went p n o s (acts.Suppress area) ds e b i g c = record { records = tt; owed = n; done = o; empty = e; items = i; single = g; close = c; same_owed = refl; same_ways = refl; here = refl; still = λ z. refl; bare = b; left = refl; left_plain = λ z. z }
+act-went p n o s (acts.Page number) ds e b i g c = record { records = tt; owed = n; done = o; empty = e; items = i; single = g; close = c; same_owed = refl; same_ways = refl; here = refl; still = λ z. refl; bare = b; left = refl; left_plain = λ z. z }
 act-went p n o s (acts.Columns two) ds e b i g c = record { records = (e c.0, tt); owed = n; done = o; empty = e; items = i; single = λ z. ap (λ l. l.double) (e c.0); close = c.1; same_owed = refl; same_ways = refl; here = refl; still = λ z. refl; bare = λ z. refl; left = sym (b c.0); left_plain = λ z. tt }
 
 -- ---- all acts of a page
@@ -154,5 +156,6 @@ still-weight v [] h = refl
 still-weight v (acted (acts.Take f) ∷ rs) h = absurd h.0
 still-weight v (acted (acts.TakeMargin m) ∷ rs) h = absurd h.0
 still-weight v (acted (acts.Suppress area) ∷ rs) h = let k : acted_weight v rs ≡ 0 = still-weight v rs h.1 in omega arith
+still-weight v (acted (acts.Page n) ∷ rs) h = let k : acted_weight v rs ≡ 0 = still-weight v rs h.1 in omega arith
 still-weight v (acted (acts.Columns two) ∷ rs) h = let k : acted_weight v rs ≡ 0 = still-weight v rs h.1 in omega arith
 still-weight v (tried line b ∷ rs) h = still-weight v rs h

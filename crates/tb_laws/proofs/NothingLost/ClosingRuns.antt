@@ -21,7 +21,7 @@ use Rattle.tb_float.specs.declared.Entry.{Entry}
 use Rattle.tb_float.specs.declared.Entry.TheVariants as entries
 use Rattle.tb_float.specs.Lists.{FloatLists, no_floats}
 use Rattle.tb_node.specs.declared.Float.{Float}
-use Rattle.tb_output.specs.State.{State, emptied, ask_of, Work, with_notes, notes_in}
+use Rattle.tb_output.specs.State.{State, emptied, Work, with_notes, notes_in}
 use Rattle.tb_insert.specs.declared.Class.{Class}
 use Rattle.tb_column.specs.Column.{Notes, PlainColumn}
 use Rattle.tb_param.specs.Release.{has_second}
@@ -40,7 +40,7 @@ use Rattle.tb_laws.proofs.Limits.LimitLemmas.{out-records}
 use Rattle.tb_laws.proofs.NothingLost.ClosingActs.{acts-fit, ActsClosed, ProgressClosed, emptied-append, progress-closed, still-weight}
 use Rattle.tb_laws.proofs.NothingLost.RunWeights.{ActsFit, After, progress-adds, box-fired, fit-numbers, box_after-number, Kept, page_of, cut, cut_feet, cut_stands, reached, fired-keeps}
 use Rattle.tb_items.specs.RunEvents.{sent}
-use Rattle.tb_steps.specs.Run.{done, pool_full, dead_cycles, page_limit, node_limit, Progress, progress, Step, ends, goes_on, held_count, after_firing, fire, after_progress, step}
+use Rattle.tb_steps.specs.Run.{done, pool_full, dead_cycles, page_limit, node_limit, Progress, progress, Step, ends, goes_on, held_count, after_firing, fire, after_progress, step, ask_for}
 use Rattle.tb_laws.specs.Laws.{IsEmptied}
 
 -- ---- lists that weigh nothing
@@ -294,11 +294,11 @@ module _ (p : Params) (calm : int_le p.interlinepenalty eject_penalty ≡ false)
         by_clean h (inl y) = record { weightless = h y.0; here = y.1 }
         by_clean h (inr y) = y
 
-  fire-closes : (q : Progress) → AllByRecursion IsEmptied q.records → ((v : Weight) → After v (acted_weight v (page_of p s).reached) s q.state) → ActsClosed p closing.owed (acted_of (page_of p s).reached) s q.state → StepCloses p s (fire p (page_of p s) q)
+  fire-closes : (q : Progress) → AllByRecursion IsEmptied q.records → ((v : Weight) → After v (acted_weight v (page_of p s).reached) s q.state) → ActsClosed p closing.owed (acted_of (page_of p s).reached) s q.state → StepCloses p s (fire p (ask_for p s) (page_of p s) q)
   fire-closes q e a d = by_cycles (int_lt (pos q.state.dead_cycles) p.maxdeadcycles)
     where
       f : Fired
-      f = fired_of (ask_of p q.state) (q.state.classes) q.state.boxes (page_of p s)
+      f = fired_of (ask_for p s) (q.state.classes) q.state.boxes (page_of p s)
 
       o : Work
       o = out p q.state f
@@ -308,7 +308,7 @@ module _ (p : Params) (calm : int_le p.interlinepenalty eject_penalty ≡ false)
 
       by_nodes : (u : Bool) → o.refused ≡ false → StepCloses p s (if u then ends (q.events ++ map sent o.sent) (q.records ++ o.records) (node_limit (held_count o.state)) else goes_on (q.events ++ map sent o.sent) (q.records ++ o.records) o.state)
       by_nodes true r = records
-      by_nodes false r = (records, fired_closing q.state a d (frozen_for (ask_of p q.state) (q.state.classes) q.state.boxes) r)
+      by_nodes false r = (records, fired_closing q.state a d (frozen_for (ask_for p s) (q.state.classes) q.state.boxes) r)
 
       by_refused : (u : Bool) → o.refused ≡ u → StepCloses p s (if u then ends (q.events ++ map sent o.sent) (q.records ++ o.records) (page_limit (pred o.state.page)) else (if int_lt p.maxnodes (pos (held_count o.state)) then ends (q.events ++ map sent o.sent) (q.records ++ o.records) (node_limit (held_count o.state)) else goes_on (q.events ++ map sent o.sent) (q.records ++ o.records) o.state))
       by_refused true r = records
@@ -340,10 +340,10 @@ module _ (p : Params) (calm : int_le p.interlinepenalty eject_penalty ≡ false)
       q : Progress
       q = progress p (page_of p s).reached awful_bad s
 
-      by_firing : (u : Bool) → (page_of p s).fires ≡ u → q.fault ≡ None → StepCloses p s (if u then fire p (page_of p s) q else ends q.events (q.records ++ emptied q.state.floats ∷ []) (done (page_of p s).passed))
+      by_firing : (u : Bool) → (page_of p s).fires ≡ u → q.fault ≡ None → StepCloses p s (if u then fire p (ask_for p s) (page_of p s) q else ends q.events (q.records ++ emptied q.state.floats ∷ []) (done (page_of p s).passed))
       by_firing true u f = fire-closes q progressed.records (acts-after f) (progressed.after f)
       by_firing false u f = let x = end-empty q.state (progressed.after f) u in (emptied-append q.records (emptied q.state.floats ∷ []) progressed.records (x.0, tt), x.1)
 
-      by_fault : (o : Option (ℕ × ℕ)) → q.fault ≡ o → StepCloses p s (after_progress p (page_of p s) q o)
+      by_fault : (o : Option (ℕ × ℕ)) → q.fault ≡ o → StepCloses p s (after_progress p (ask_for p s) (page_of p s) q o)
       by_fault None f = by_firing (page_of p s).fires refl f
       by_fault (Some y) f = progressed.records

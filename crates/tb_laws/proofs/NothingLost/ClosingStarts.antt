@@ -90,6 +90,7 @@ item-ends ks p two line (items.NoPageBreak (suc (suc (suc (suc n))))) f ys e o =
 item-ends ks p two line items.OneColumn f ys e o = (refl, e true)
 item-ends ks p two line items.TwoColumn f ys e o = (refl, e true)
 item-ends ks p two line (items.Suppress area) f ys e o = e o
+item-ends ks p two line (items.Page n) f ys e o = e o
 
 items-end : (ks : List ℕ) (p : Params) (two : Bool) (ns : List Item) → ItemsFit ks ns → (ys : List Token) → ((y : Ways) → Ends y ys) → Ends (ways p two) (tokens (item_nodes p two ns) ++ ys)
 items-end ks p two [] f ys e o = e (ways p two) o

@@ -1,5 +1,5 @@
 -- What columns and companies of floats weigh.
-use Rattle.std.proofs.Common.{◌≡◌, refl, ℕ, ◌+◌, Bool, true, false, not, List, [], ◌∷◌, ◌++◌, map, length, Option, Some, None, arith}
+use Rattle.std.proofs.Common.{◌≡◌, refl, ℕ, ◌+◌, Bool, true, false, not, List, [], ◌∷◌, ◌++◌, map, length, Option, Some, None, arith, unwrap_or}
 use Rattle.std.specs.Prelude.{ℤ, ◌==◌, ◌&&◌, if◌then◌else◌}
 use Rattle.tb_scaled.specs.declared.Glue.{Glue}
 use Rattle.tb_scaled.specs.Glue.{negated_glue}
@@ -14,7 +14,9 @@ use Rattle.tb_param.specs.declared.Rule.{Rule}
 use Rattle.tb_float.specs.Lists.{FloatLists}
 use Rattle.tb_fpage.specs.declared.Wanted.{Wanted}
 use Rattle.tb_fpage.specs.Company.{Choice, passed_over, joins, choices_from, company_of_head, is_head, is_made, company_from, company, chosen_floats, left_floats}
-use Rattle.tb_column.specs.Column.{Notes, is_no_glue, glue_if_any, rule_if_any, kern_if_any, is_below, foot_kern, floats_with, floats_above, floats_below, feet_above, class_below, notes_below, notes_among, text_above_feet, with_feet, with_bottoms, with_below, text_nodes, closing_glue, text_column, floats_after, floats_column}
+use Rattle.tb_column.specs.declared.Standing.{Standing}
+use Rattle.tb_column.specs.declared.Standing.TheVariants as standings
+use Rattle.tb_column.specs.Column.{Notes, is_no_glue, glue_if_any, rule_if_any, kern_if_any, is_below, foot_kern, floats_with, floats_above, floats_below, feet_above, above_class, class_below, notes_below, standing_of, is_at, notes_at, notes_among, text_above_feet, with_feet, with_bottoms, with_below, text_nodes, closing_glue, text_column, floats_after, floats_column}
 use Rattle.tb_laws.proofs.NothingLost.StateWeights.{floats_weight, floats-append}
 
 -- ---- columns
@@ -80,13 +82,17 @@ notes_weight v (n ∷ ns) = leaves_weight v n.inner + notes_weight v ns
 class_below-weight : (v : Weight) (p : Params) (kern : Option ℤ) (n : Notes) → nodes_weight v (class_below p kern n) ≡ leaves_weight v n.inner
 class_below-weight v p kern n = by_class (n.class == 254)
   where
-    by_class : (t : Bool) → nodes_weight v (if t then feet_above p kern ++ map leaf_node n.inner else made (skip n.skip) ∷ map leaf_node n.inner) ≡ leaves_weight v n.inner
+    by_class : (t : Bool) → nodes_weight v (if t then feet_above p kern ++ map leaf_node n.inner else above_class n.skip n.below ++ map leaf_node n.inner) ≡ leaves_weight v n.inner
     by_class true =
         let h : nodes_weight v (map leaf_node n.inner) ≡ leaves_weight v n.inner = leaf_nodes-weight v n.inner in
         let a : nodes_weight v (feet_above p kern ++ map leaf_node n.inner) ≡ nodes_weight v (feet_above p kern) + nodes_weight v (map leaf_node n.inner) = weight-append v (feet_above p kern) (map leaf_node n.inner) in
         let f : nodes_weight v (feet_above p kern) ≡ 0 = feet_above-weight v p kern in
         omega arith
-    by_class false = let h : nodes_weight v (map leaf_node n.inner) ≡ leaves_weight v n.inner = leaf_nodes-weight v n.inner in omega arith
+    by_class false =
+        let h : nodes_weight v (map leaf_node n.inner) ≡ leaves_weight v n.inner = leaf_nodes-weight v n.inner in
+        let a : nodes_weight v (above_class n.skip n.below ++ map leaf_node n.inner) ≡ nodes_weight v (above_class n.skip n.below) + nodes_weight v (map leaf_node n.inner) = weight-append v (above_class n.skip n.below) (map leaf_node n.inner) in
+        let f : nodes_weight v (rule_if_any Footnotes (unwrap_or n.below None)) ≡ 0 = foot_rule-weight v (unwrap_or n.below None) in
+        omega arith
 
 notes_below-weight : (v : Weight) (p : Params) (kern : Option ℤ) (ns : List Notes) → nodes_weight v (notes_below p kern ns) ≡ notes_weight v ns
 notes_below-weight v p kern [] = refl
@@ -96,15 +102,27 @@ notes_below-weight v p kern (n ∷ ns) =
     let h : nodes_weight v (notes_below p kern ns) ≡ notes_weight v ns = notes_below-weight v p kern ns in
     omega arith
 
--- footnotes and the others weigh together what all weigh
-among-weight : (v : Weight) (ns : List Notes) → notes_weight v (notes_among false ns) + notes_weight v (notes_among true ns) ≡ notes_weight v ns
-among-weight v [] = refl
-among-weight v (n ∷ ns) = by_class (n.class == 254) (among-weight v ns)
+-- what stands above footnotes, footnotes and what stands below them weigh together what all weigh
+places-weight : (v : Weight) (ns : List Notes) → notes_weight v (notes_at standings.Above ns) + notes_weight v (notes_at standings.Feet ns) + notes_weight v (notes_at standings.Below ns) ≡ notes_weight v ns
+places-weight v [] = refl
+places-weight v (n ∷ ns) = by_place (standing_of n.class n.below) (places-weight v ns)
   where
-    by_class : (t : Bool) → notes_weight v (notes_among false ns) + notes_weight v (notes_among true ns) ≡ notes_weight v ns
-        → notes_weight v (if not t then n ∷ notes_among false ns else notes_among false ns) + notes_weight v (if t then n ∷ notes_among true ns else notes_among true ns) ≡ leaves_weight v n.inner + notes_weight v ns
-    by_class true h = omega arith
-    by_class false h = omega arith
+    by_place : (x : Standing) → notes_weight v (notes_at standings.Above ns) + notes_weight v (notes_at standings.Feet ns) + notes_weight v (notes_at standings.Below ns) ≡ notes_weight v ns
+        → notes_weight v (if is_at standings.Above x then n ∷ notes_at standings.Above ns else notes_at standings.Above ns) + notes_weight v (if is_at standings.Feet x then n ∷ notes_at standings.Feet ns else notes_at standings.Feet ns)
+        + notes_weight v (if is_at standings.Below x then n ∷ notes_at standings.Below ns else notes_at standings.Below ns) ≡ leaves_weight v n.inner + notes_weight v ns
+    by_place standings.Above h = omega arith
+    by_place standings.Feet h = omega arith
+    by_place standings.Below h = omega arith
+
+both-weigh : (v : Weight) (xs ys : List Notes) → notes_weight v (xs ++ ys) ≡ notes_weight v xs + notes_weight v ys
+both-weigh v [] ys = omega arith
+both-weigh v (x ∷ xs) ys = let h : notes_weight v (xs ++ ys) ≡ notes_weight v xs + notes_weight v ys = both-weigh v xs ys in omega arith
+
+among-weight : (v : Weight) (ns : List Notes) → notes_weight v (notes_among false ns) + notes_weight v (notes_among true ns) ≡ notes_weight v ns
+among-weight v ns =
+    let h : notes_weight v (notes_at standings.Above ns) + notes_weight v (notes_at standings.Feet ns) + notes_weight v (notes_at standings.Below ns) ≡ notes_weight v ns = places-weight v ns in
+    let b : notes_weight v (notes_among true ns) ≡ notes_weight v (notes_at standings.Feet ns) + notes_weight v (notes_at standings.Below ns) = both-weigh v (notes_at standings.Feet ns) (notes_at standings.Below ns) in
+    omega arith
 
 with_feet-weight : (v : Weight) (p : Params) (l : FloatLists) (notes : List Notes) (ns : List PlainNode) → nodes_weight v (with_feet p l notes ns) ≡ nodes_weight v ns + notes_weight v (notes_among true notes)
 with_feet-weight v p l notes ns =

@@ -24,7 +24,7 @@ use Rattle.tb_float.specs.Lists.{FloatLists, live_count}
 use Rattle.tb_sheet.specs.declared.Warn.{Warn}
 use Rattle.tb_column.specs.Column.{PlainColumn}
 use Rattle.tb_sheet.specs.Sheet.{PlainSent, warned, shipped}
-use Rattle.tb_output.specs.State.{State, Recorded, emptied, ask_of, Work}
+use Rattle.tb_output.specs.State.{State, Recorded, emptied, Work}
 use Rattle.tb_output.specs.Act.{Acted, went, full, act_on, taken_float, lists_with_taken}
 use Rattle.tb_output.specs.Output.{out}
 use Rattle.tb_laws.proofs.NothingLost.StateWeights.{floats_weight, floats-append}
@@ -33,7 +33,7 @@ use Rattle.tb_laws.proofs.Closed.SortLemmas.{PageStands, cut-stands, pruned-stan
 use Rattle.tb_laws.proofs.Closed.PutLemmas.{AreAmong}
 use Rattle.tb_laws.proofs.Closed.PlaceLemmas.{AllSteady, WellPlaced, body-steady, body-class, out-placed}
 use Rattle.tb_items.specs.RunEvents.{RunEvent, offered, sent}
-use Rattle.tb_steps.specs.Run.{done, pool_full, dead_cycles, page_limit, node_limit, Progress, progress_by, progress, Step, ends, goes_on, held_count, after_firing, fire, after_progress, step}
+use Rattle.tb_steps.specs.Run.{done, pool_full, dead_cycles, page_limit, node_limit, Progress, progress_by, progress, Step, ends, goes_on, held_count, after_firing, fire, after_progress, step, ask_for}
 
 abbrev pub events_weight : Weight → List RunEvent → ℕ
 events_weight v [] = 0
@@ -78,6 +78,7 @@ abbrev pub ActFits : Weight → Option PlainColumn → Act → Type 0
 ActFits v o (acts.Take f) = Unit {0}
 ActFits v o (acts.TakeMargin m) = Unit {0}
 ActFits v o (acts.Suppress area) = Unit {0}
+ActFits v o (acts.Page n) = Unit {0}
 ActFits v o (acts.Columns two) = left_weight v o ≡ 0
 
 abbrev pub ActsFit : Weight → Option PlainColumn → List Act → Type 0
@@ -133,6 +134,7 @@ act-adds v p s (acts.TakeMargin m) ds d h =
     let e : entries_weight v (s.floats.current ++ entries.Left m ∷ entries.Right m ∷ []) ≡ entries_weight v s.floats.current + (v.margin m.line + 0) = entries-append v s.floats.current (entries.Left m ∷ entries.Right m ∷ []) in
     room-adds v s (acts.TakeMargin m) ds (int_lt p.pool (pos (live_count s.floats + 2))) _ _ _ _ _ (record { sound = record { box = d.box; columns = d.columns; entries = paired-append s.floats.current (entries.Left m ∷ entries.Right m ∷ []) d.entries tt }; waiting = refl; held = refl; boxes = refl; classes = refl; weight = omega arith }, h.1)
 act-adds v p s (acts.Suppress area) ds d h = (record { sound = record { box = d.box; columns = d.columns; entries = d.entries }; waiting = refl; held = refl; boxes = refl; classes = refl; weight = omega arith }, h.1)
+act-adds v p s (acts.Page n) ds d h = (record { sound = record { box = d.box; columns = d.columns; entries = d.entries }; waiting = refl; held = refl; boxes = refl; classes = refl; weight = omega arith }, h.1)
 act-adds v p s (acts.Columns two) ds d h =
     let e : left_weight v s.left_column ≡ 0 = h.0 in
     (record { sound = record { box = d.box; columns = tt; entries = d.entries }; waiting = refl; held = refl; boxes = refl; classes = refl; weight = omega arith }, fits-none v ds)
@@ -222,14 +224,14 @@ StepWeighs v s (ends es rs (node_limit n)) = Unit {0}
 
 -- the page of a state
 abbrev pub page_of : Params → State → Reach
-page_of p s = reach_of (ask_of p s) s.classes s.boxes [] s.waiting
+page_of p s = reach_of (ask_for p s) s.classes s.boxes [] s.waiting
 
 module _ (v : Weight) (p : Params) (calm : int_le p.interlinepenalty eject_penalty ≡ false) (s : State) (kept : Kept s) where
   limit : ℤ
-  limit = (ask_of p s).max_depth
+  limit = (ask_for p s).max_depth
 
   pub cut : CutAt [] (pruned_nodes p.topskip s.waiting) (page_of p s)
-  cut = reach-cut (ask_of p s).max_depth (terms_after (frozen_for (ask_of p s) s.classes s.boxes)) [] (pruned_nodes p.topskip s.waiting)
+  cut = reach-cut (ask_for p s).max_depth (terms_after (frozen_for (ask_for p s) s.classes s.boxes)) [] (pruned_nodes p.topskip s.waiting)
 
   pub cut_feet : AllOfClass (class_numbers s.classes) (take (page_break (page_of p s)).place (page_of p s).passed) × AllOfClass (class_numbers s.classes) (with_spent_break (drop (page_break (page_of p s)).place (page_of p s).passed ++ (page_of p s).beyond))
   cut_feet = cut-class (class_numbers s.classes) (page_break (page_of p s)).place (pruned_nodes p.topskip s.waiting) (page_of p s) cut (class-pruned (class_numbers s.classes) p.topskip s.waiting kept.placed.feet)
@@ -239,7 +241,7 @@ module _ (v : Weight) (p : Params) (calm : int_le p.interlinepenalty eject_penal
 
   pub reached : nodes_weight v (page_of p s).passed + acted_weight v (page_of p s).reached + nodes_weight v (page_of p s).beyond ≡ nodes_weight v s.waiting
   reached =
-      let a : nodes_weight v (page_of p s).passed + acted_weight v (page_of p s).reached + nodes_weight v (page_of p s).beyond ≡ 0 + nodes_weight v (pruned_nodes p.topskip s.waiting) = reach-weight v (ask_of p s).max_depth (terms_after (frozen_for (ask_of p s) s.classes s.boxes)) [] (pruned_nodes p.topskip s.waiting) in
+      let a : nodes_weight v (page_of p s).passed + acted_weight v (page_of p s).reached + nodes_weight v (page_of p s).beyond ≡ 0 + nodes_weight v (pruned_nodes p.topskip s.waiting) = reach-weight v (ask_for p s).max_depth (terms_after (frozen_for (ask_for p s) s.classes s.boxes)) [] (pruned_nodes p.topskip s.waiting) in
       let b : nodes_weight v (pruned_nodes p.topskip s.waiting) ≡ nodes_weight v s.waiting = pruned_nodes-weight v p.topskip s.waiting in
       omega arith
 
@@ -267,18 +269,18 @@ module _ (v : Weight) (p : Params) (calm : int_le p.interlinepenalty eject_penal
       sums : (G F Ht Lt Ct Bt P Y A W Bs Hs Ls Cs : ℕ) → G ≡ F + (Ht + Lt + Ct) → F ≡ Bt + (P + Y) → P + A + Y ≡ W → Lt + Ct ≡ Ls + Cs + A → Bt ≡ Bs → Ht ≡ Hs → G ≡ W + Bs + Hs + Ls + Cs
       sums G F Ht Lt Ct Bt P Y A W Bs Hs Ls Cs g i j k l m = omega arith
 
-  fire-weighs : (q : Progress) → events_weight v q.events ≡ 0 → After v (acted_weight v (page_of p s).reached) s q.state → StepWeighs v s (fire p (page_of p s) q)
+  fire-weighs : (q : Progress) → events_weight v q.events ≡ 0 → After v (acted_weight v (page_of p s).reached) s q.state → StepWeighs v s (fire p (ask_for p s) (page_of p s) q)
   fire-weighs q e a = by_cycles (int_lt (pos q.state.dead_cycles) p.maxdeadcycles)
     where
       f : Fired
-      f = fired_of (ask_of p q.state) q.state.classes q.state.boxes (page_of p s)
+      f = fired_of (ask_for p s) q.state.classes q.state.boxes (page_of p s)
 
       o : Work
       o = out p q.state f
 
       goes : o.refused ≡ false → Kept o.state × (events_weight v (q.events ++ map sent o.sent) + state_weight v o.state ≡ state_weight v s)
       goes r =
-          let x = fired-keeps q.state a (frozen_for (ask_of p q.state) q.state.classes q.state.boxes) r in
+          let x = fired-keeps q.state a (frozen_for (ask_for p s) q.state.classes q.state.boxes) r in
           (x.0, sums (state_weight v o.state) (sent_weight v o.sent) (events_weight v q.events) (events_weight v (map sent o.sent)) (events_weight v (q.events ++ map sent o.sent)) (state_weight v s) e (events-append v q.events (map sent o.sent)) (sent-events v o.sent) x.1)
         where
           sums : (S T Q M E U : ℕ) → Q ≡ 0 → E ≡ Q + M → M ≡ T → S + T ≡ U → E + S ≡ U
@@ -307,13 +309,13 @@ module _ (v : Weight) (p : Params) (calm : int_le p.interlinepenalty eject_penal
       x : Progressed v (acted_weight v (page_of p s).reached) s q
       x = progress-adds v p (page_of p s).reached awful_bad s kept.sound h
 
-      by_firing : (u : Bool) → (page_of p s).fires ≡ u → q.fault ≡ None → StepWeighs v s (if u then fire p (page_of p s) q else ends q.events (q.records ++ emptied q.state.floats ∷ []) (done (page_of p s).passed))
+      by_firing : (u : Bool) → (page_of p s).fires ≡ u → q.fault ≡ None → StepWeighs v s (if u then fire p (ask_for p s) (page_of p s) q else ends q.events (q.records ++ emptied q.state.floats ∷ []) (done (page_of p s).passed))
       by_firing true u f = fire-weighs q x.events (x.after f)
       by_firing false u f =
           let a : nodes_weight v (page_of p s).passed + acted_weight v (page_of p s).reached + nodes_weight v (page_of p s).beyond ≡ nodes_weight v s.waiting = reached in
           let b : nodes_weight v (page_of p s).beyond ≡ 0 = ap (nodes_weight v) (cut.ended u) in
           (x.events, (acted_weight v (page_of p s).reached, omega arith))
 
-      by_fault : (o : Option (ℕ × ℕ)) → q.fault ≡ o → StepWeighs v s (after_progress p (page_of p s) q o)
+      by_fault : (o : Option (ℕ × ℕ)) → q.fault ≡ o → StepWeighs v s (after_progress p (ask_for p s) (page_of p s) q o)
       by_fault None f = by_firing (page_of p s).fires refl f
       by_fault (Some y) f = tt

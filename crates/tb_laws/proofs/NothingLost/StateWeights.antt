@@ -151,7 +151,7 @@ pub shipped-adds : (v : Weight) (p : Params) (sheet : PlainSheet) (w : Work) →
 shipped-adds v p sheet w =
     by-ship (Adds v (sheet_weight v sheet) w) p sheet w (λ h. record { waits = refl; classes = refl; goes = λ k. k; by = λ k s. let no : ⊥ = grind (arith, k, h) in absurd no })
     (λ h. record { waits = refl; classes = refl; goes = λ k. let no : ⊥ = grind (arith, k) in absurd no; by = λ k s. let no : ⊥ = grind (arith, k) in absurd no })
-    (λ h e. record { waits = refl; classes = refl; goes = λ k. k; by = λ k s. (record { box = s.box; columns = s.columns; entries = s.entries }, sums (state_weight v w.state + nodes_weight v w.put_back) (sent_weight v w.sent) (sent_weight v (w.sent ++ shipped w.state.page sheet ∷ [])) (sheet_weight v sheet) (sent_weight-append v w.sent (shipped w.state.page sheet ∷ []))) })
+    (λ h e. record { waits = refl; classes = refl; goes = λ k. k; by = λ k s. (record { box = s.box; columns = s.columns; entries = s.entries }, sums (state_weight v w.state + nodes_weight v w.put_back) (sent_weight v w.sent) (sent_weight v (w.sent ++ shipped w.state.number sheet ∷ [])) (sheet_weight v sheet) (sent_weight-append v w.sent (shipped w.state.number sheet ∷ []))) })
   where
     sums : (x y z n : ℕ) → z ≡ y + (n + 0) → x + z ≡ x + y + n
     sums x y z n e = omega arith

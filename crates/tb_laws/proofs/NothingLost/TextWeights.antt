@@ -39,8 +39,12 @@ penalty-weight v n (Some g) = refl
 pub puts-nothing : (v : Weight) (ns : List PlainNode) (w : Work) → nodes_weight v ns ≡ 0 → Adds v 0 w (puts ns w)
 puts-nothing v ns w h = let x : Adds v (nodes_weight v ns) w (puts ns w) = puts-adds v ns w in rw h at x
 
-interline-adds : (v : Weight) (p : Params) (w : Work) → Adds v 0 w (Text.puts_interline p w)
-interline-adds v p w = puts-nothing v (Text.penalty_after p.interlinepenalty w.put_back) w (penalty-weight v p.interlinepenalty (Text.glue_at_end (last_or (plain (pen p.interlinepenalty)) (map (λ m. m.kind) w.put_back))))
+between-weight : (v : Weight) (n : ℤ) (nobreak : Bool) (ns : List PlainNode) → nodes_weight v (Text.penalty_between n nobreak ns) ≡ 0
+between-weight v n true ns = refl
+between-weight v n false ns = penalty-weight v n (Text.glue_at_end (last_or (plain (pen n)) (map (λ m. m.kind) ns)))
+
+interline-adds : (v : Weight) (p : Params) (nobreak : Bool) (w : Work) → Adds v 0 w (Text.puts_interline p nobreak w)
+interline-adds v p nobreak w = puts-nothing v (Text.penalty_between p.interlinepenalty nobreak w.put_back) w (between-weight v p.interlinepenalty nobreak w.put_back)
 
 here-weight : (v : Weight) (p : Params) (vert : Bool) (f : Float) → nodes_weight v (Text.here_nodes p vert f) ≡ v.float f.line
 here-weight v p true f = omega arith
@@ -127,7 +131,7 @@ text-weighs {p} v (takes_float f es w e) = float-taken v p f es w e
 text-weighs {p} v (stands_here vert f w) = put-weighs v (of_float f) (Text.here_nodes p vert f) w (λ l. here-weight v p vert f)
 text-weighs {p} v (takes_note height m es at w e i) = note-weighs v m es at w e
 text-weighs {p} v (stands_beside depth m at w) = put-weighs v (of_note m at) (Text.note_nodes depth m at) w (λ l. omega arith)
-text-weighs {p} v (puts_penalty h w) = keeps v h w _ (interline-adds v p w)
+text-weighs {p} v (puts_penalty nobreak h w) = keeps v h w _ (interline-adds v p nobreak w)
 text-weighs {p} v (warns h e w) = keeps v h w _ (warns-adds v e w)
 
 -- at a float or note, if the page's list weighs nothing

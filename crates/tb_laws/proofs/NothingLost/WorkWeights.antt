@@ -103,14 +103,14 @@ goal-adds v p n w = adds_if v 0 w (Output.is_int n Asked.hold_penalty) (Output.w
     goal g = record { waits = refl; classes = refl; goes = λ r. r; by = λ r s. (record { box = s.box; columns = s.columns; entries = s.entries }, omega arith) }
 
     told : Work
-    told = sends (warned (warnings.Floats w.state.page)) w
+    told = sends (warned (warnings.Floats w.state.number)) w
 
     blank : (t : Bool) → nodes_weight v (if t then Output.blank_column ++ Output.blank_column else Output.blank_column) ≡ 0
     blank true = refl
     blank false = refl
 
     crowded : Adds v 0 w (Output.leave_column w)
-    crowded = then_kept v 0 w told (Output.leave_column w) (warns-adds v (warnings.Floats w.state.page) w) (puts-nothing v (if w.state.two_columns && not w.state.first_column then Output.blank_column ++ Output.blank_column else Output.blank_column) told (blank (w.state.two_columns && not w.state.first_column)))
+    crowded = then_kept v 0 w told (Output.leave_column w) (warns-adds v (warnings.Floats w.state.number) w) (puts-nothing v (if w.state.two_columns && not w.state.first_column then Output.blank_column ++ Output.blank_column else Output.blank_column) told (blank (w.state.two_columns && not w.state.first_column)))
 
 -- the break is that of a clear, of a float or of a note
 abbrev pub is_serving : ℤ → Bool

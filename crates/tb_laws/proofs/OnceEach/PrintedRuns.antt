@@ -14,13 +14,13 @@ use Rattle.tb_sheet.specs.Sheet.{PlainSent, warned, shipped}
 use Rattle.tb_galley.specs.declared.Galley.{Galley}
 use Rattle.tb_galley.specs.GalleyNodes.{expanded}
 use Rattle.tb_galley.specs.Valid.{IsValid}
-use Rattle.tb_output.specs.State.{first_state, State, Recorded, emptied, ask_of, Work}
+use Rattle.tb_output.specs.State.{first_state, State, Recorded, emptied, Work}
 use Rattle.tb_output.specs.Act.{Acted, went, full, act_on}
 use Rattle.tb_output.specs.Output.{out}
 use Rattle.tb_laws.proofs.NothingLost.StateWeights.{state_weight}
 use Rattle.tb_laws.proofs.Closed.Sorts.{Stands, sorts-calm, acts-silent, CalmSort, light, blank, real, silent, pause, hold, serve, clear, odd, seen_after, Sort, Seen}
 use Rattle.tb_laws.proofs.Closed.SortLemmas.{none, pruned-stands, sorts, sorts-append, take-drop}
-use Rattle.tb_steps.specs.Run.{Run, End, done, pool_full, dead_cycles, page_limit, node_limit, Progress, progress_by, progress, Step, ends, goes_on, held_count, after_firing, fire, after_progress, step, run_by, run_from, firings_left, run_of}
+use Rattle.tb_steps.specs.Run.{Run, End, done, pool_full, dead_cycles, page_limit, node_limit, Progress, progress_by, progress, Step, ends, goes_on, held_count, after_firing, fire, after_progress, step, run_by, run_from, firings_left, run_of, ask_for}
 use Rattle.tb_items.specs.RunEvents.{RunEvent, offered, sent}
 use Rattle.tb_items.specs.Classes.{classes_of}
 use Rattle.tb_laws.specs.Laws.{EndsDone}
@@ -161,19 +161,19 @@ module _ (p : Params) (calm : int_le p.interlinepenalty eject_penalty ≡ false)
       let x : OutReads f t (out p t f) = out-reads p calm t f before refl stands.calm stands.free kept.placed.held stands.rest unreal (λ h. a.held ∙ kept.placed.free h) a.sound.entries a.sound.columns (tt, d.left_plain left_plain) in
       (subst (λ l. Within l (sent_prints (out p t f).sent ++ state_prints (out p t f).state)) (λ i. (d.left i ++ prints (a.held i)) ++ page-prints i) (x.lines r), x.plain.0, x.plain.1)
 
-  fire-reads : (q : Progress) → Silent q.events → After ones (acted_weight ones (page_of p s).reached) s q.state → ActsClosed p closing.owed (acted_of (page_of p s).reached) s q.state → StepReads s (fire p (page_of p s) q)
+  fire-reads : (q : Progress) → Silent q.events → After ones (acted_weight ones (page_of p s).reached) s q.state → ActsClosed p closing.owed (acted_of (page_of p s).reached) s q.state → StepReads s (fire p (ask_for p s) (page_of p s) q)
   unfolding Silent
   fire-reads q e a d = by_cycles (int_lt (pos q.state.dead_cycles) p.maxdeadcycles)
     where
       f : Fired
-      f = fired_of (ask_of p q.state) (q.state.classes) q.state.boxes (page_of p s)
+      f = fired_of (ask_for p s) (q.state.classes) q.state.boxes (page_of p s)
 
       o : Work
       o = out p q.state f
 
       goes : o.refused ≡ false → Within (state_prints s) (events_prints (q.events ++ map sent o.sent) ++ state_prints o.state) × EventsPlain (q.events ++ map sent o.sent) × LeftPlain o.state.left_column
       goes r =
-          let x = fired-reads q.state a d (frozen_for (ask_of p q.state) (q.state.classes) q.state.boxes) r in
+          let x = fired-reads q.state a d (frozen_for (ask_for p s) (q.state.classes) q.state.boxes) r in
           (subst (λ l. Within (state_prints s) (l ++ state_prints o.state)) (sym (events-append q.events (map sent o.sent) ∙ (λ i. e.0 i ++ sent-events o.sent i))) x.0, plain-append q.events (map sent o.sent) e.1 (sent-plain o.sent x.1), x.2)
 
       by_nodes : (u : Bool) → o.refused ≡ false → StepReads s (if u then ends (q.events ++ map sent o.sent) (q.records ++ o.records) (node_limit (held_count o.state)) else goes_on (q.events ++ map sent o.sent) (q.records ++ o.records) o.state)
@@ -195,11 +195,11 @@ module _ (p : Params) (calm : int_le p.interlinepenalty eject_penalty ≡ false)
       q : Progress
       q = progress p (page_of p s).reached awful_bad s
 
-      by_firing : (u : Bool) → q.fault ≡ None → StepReads s (if u then fire p (page_of p s) q else ends q.events (q.records ++ emptied q.state.floats ∷ []) (done (page_of p s).passed))
+      by_firing : (u : Bool) → q.fault ≡ None → StepReads s (if u then fire p (ask_for p s) (page_of p s) q else ends q.events (q.records ++ emptied q.state.floats ∷ []) (done (page_of p s).passed))
       by_firing true f = fire-reads q (progress-silent p (page_of p s).reached awful_bad s) (acts-after p calm s kept closing f ones) ((progressed p calm s kept closing).after f)
       by_firing false f = (progress-silent p (page_of p s).reached awful_bad s).1
 
-      by_fault : (o : Option (ℕ × ℕ)) → q.fault ≡ o → StepReads s (after_progress p (page_of p s) q o)
+      by_fault : (o : Option (ℕ × ℕ)) → q.fault ≡ o → StepReads s (after_progress p (ask_for p s) (page_of p s) q o)
       by_fault None f = by_firing (page_of p s).fires f
       by_fault (Some y) f = tt
 

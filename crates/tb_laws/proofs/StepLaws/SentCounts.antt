@@ -75,8 +75,8 @@ module _ (p : Params) where
   ships_one sheet w =
       by-ship (Step w) p sheet w (λ r. still refl refl) (λ r. still refl refl)
       (λ r h. record {
-        warnings = let e = warnings-append w.sent (shipped w.state.page sheet ∷ []) in omega (arith, e);
-        pages = let e = pages-append w.sent (shipped w.state.page sheet ∷ []) in omega (arith, e);
+        warnings = let e = warnings-append w.sent (shipped w.state.number sheet ∷ []) in omega (arith, e);
+        pages = let e = pages-append w.sent (shipped w.state.number sheet ∷ []) in omega (arith, e);
         limit = λ k. grind (arith, ints, h, k);
       })
 

@@ -1,5 +1,5 @@
 -- The nodes of a state while a page is filled: what is added up fits, and an act adds few nodes.
-use Rattle.std.proofs.Common.{◌≡◌, refl, sym, ◌∙◌, ap, subst, ℕ, ◌+◌, ◌≤◌, ℤ, pos, negsuc, Bool, true, false, List, [], ◌∷◌, ◌++◌, length, arith}
+use Rattle.std.proofs.Common.{◌≡◌, refl, sym, ◌∙◌, ap, subst, ℕ, ◌+◌, ◌≤◌, ℤ, pos, negsuc, Bool, true, false, List, [], ◌∷◌, ◌++◌, length, arith, None}
 use Rattle.std.specs.Prelude.{All, ◌||◌, int_lt, if◌then◌else◌}
 use Rattle.std.proofs.lemmas.Int.{ints}
 use Rattle.std.proofs.lemmas.Bool.{true≢false}
@@ -82,7 +82,7 @@ module _ (p : Params) (h : AreMakeupParams p) where
   top-sized : IsSizedClass top_class
   top-sized = record { factor = record { low = omega (arith, ints); high = omega (arith, ints) }; width = zero-dimension; stretch = zero-dimension; shrink = zero-dimension }
 
-  foot-sized : IsSizedClass (record { number = 254; factor = pos 1000; limit = p.footlimit; skip = p.skipfootins })
+  foot-sized : IsSizedClass (record { number = 254; factor = pos 1000; limit = p.footlimit; below = None; skip = p.skipfootins })
   foot-sized = record { factor = record { low = omega (arith, ints); high = omega (arith, ints) }; width = h.skipfootins.width; stretch = h.skipfootins.stretch; shrink = h.skipfootins.shrink }
 
   pub classes-sized : All IsSizedClass (makeup_classes p)

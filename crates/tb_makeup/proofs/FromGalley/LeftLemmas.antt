@@ -30,6 +30,7 @@ kinds-end : (d : Bool) (p : Params) (l : ℕ) (k : ItemKind) → ends_batch k �
 kinds-end d p l (items.Float f vert) e = absurd (true≢false (sym e))
 kinds-end d p l (items.Kern w) e = absurd (true≢false (sym e))
 kinds-end d p l (items.Suppress area) e = absurd (true≢false (sym e))
+kinds-end d p l (items.Page n) e = absurd (true≢false (sym e))
 kinds-end d p l k e = refl
 
 -- nor do those of a batch

@@ -98,6 +98,7 @@ module _ (cs : List Class) (p : Params) where
   fits l items.OneColumn s i a = not-served s
   fits l items.TwoColumn s i a = not-served s
   fits l (items.Suppress area) s i a = not-served s
+  fits l (items.Page n) s i a = not-served s
   fits l k s i a = record { one_column = refl; nodes = sized l k a; led = (tt, tt); item = tt }
 
   -- ---- of all items

@@ -1,5 +1,5 @@
 -- A machine after a float was taken.
-use Rattle.std.proofs.Common.{◌≡◌, refl, sym, subst, ap, ◌∙◌, Bool, List, [], ◌∷◌, ◌++◌, Result}
+use Rattle.std.proofs.Common.{◌≡◌, refl, sym, subst, ap, ◌∙◌, ℕ, ◌+◌, ◌≤◌, Bool, List, [], ◌∷◌, ◌++◌, Result, arith}
 use Rattle.std.specs.Prelude.{OnOk, IfErr}
 use Rattle.std.specs.List.{AllByRecursion}
 use Rattle.tb_break.proofs.EachLemmas.{all-join}
@@ -16,7 +16,7 @@ use Rattle.tb_output.specs.Machine.{MachineView, event_lists, left_lists, machin
 use Rattle.tb_sheet.specs.StoredSheets.{sent_lists, IsPageSent}
 use Rattle.tb_pool.specs.Frame.{IsNoneOf}
 use Rattle.tb_column.specs.Notes.{AreDistinct}
-use Rattle.tb_output.specs.ActCalls.{warnings_sent, TakesNoList, clipped, taken_into, with_float, with_columns, HasTaken, HasNoRoom}
+use Rattle.tb_output.specs.ActCalls.{warnings_sent, TakesNoList, clipped, taken_into, with_float, with_columns, with_page_number, HasTaken, HasNoRoom}
 use Rattle.tb_sheet.specs.ApartLists.{AreNoneOf}
 use Rattle.tb_pool.proofs.FrameLemmas.{none-front}
 use Rattle.tb_sheet.proofs.ListsApart.{apart-cons, distinct-apart}
@@ -39,10 +39,10 @@ page-warnings store (w ∷ ws) = (tt, page-warnings store ws)
 
 -- ---- a float was taken
 
-pub float-taken : (m : MachineView) (f taken : Float) (v : FloatPool) (es : List Sent) → taken ≡ clipped m.params.textheight m.two_columns f → v ≡ taken_into m.params taken m.pool → es ≡ m.events ++ warnings_sent (large_warning m.params f) → record m { pool = v; events = es } ≡ with_float f m
+pub float-taken : (m : MachineView) (f taken : Float) (v : FloatPool) (es : List Sent) → taken ≡ clipped m.params m.two_columns f → v ≡ taken_into m.params taken m.pool → es ≡ m.events ++ warnings_sent (large_warning m.params f) → record m { pool = v; events = es } ≡ with_float f m
 float-taken m f taken v es t p e = λ i. record m { pool = (p ∙ ap (λ x. taken_into m.params x m.pool) t) i; events = e i }
 
-pub float-unmarked : (p : Params) (two : Bool) (f taken : Float) (pool v : FloatPool) → taken ≡ clipped p.textheight two f → v ≡ taken_into p taken pool → (HasNoMarks pool → HasNoMarks v) → HasNoMarks pool → HasNoMarks (taken_into p (clipped p.textheight two f) pool)
+pub float-unmarked : (p : Params) (two : Bool) (f taken : Float) (pool v : FloatPool) → taken ≡ clipped p two f → v ≡ taken_into p taken pool → (HasNoMarks pool → HasNoMarks v) → HasNoMarks pool → HasNoMarks (taken_into p (clipped p two f) pool)
 float-unmarked p two f taken pool v t e free h = subst HasNoMarks (e ∙ ap (λ x. taken_into p x pool) t) (free h)
 
 module _ (m now : MachineView) (f : Float) where
@@ -77,3 +77,23 @@ columns-drop two m now e store is =
     subst (λ v. AreNoneOf (left_lists m.left_column) (machine_lists v)) (sym e)
     (apart-cons (left_lists m.left_column) m.held_page (event_lists m.events) (none-front m.held_page (left_lists m.left_column) (event_lists m.events) is.apart.0)
     (distinct-apart (left_lists m.left_column) (event_lists m.events) is.apart.1))
+
+-- ---- the page number is set
+
+pub machine-numbered : (n : ℕ) (m : MachineView) (store : Lists Node) → IsMachine m store → n ≤ 1000000 → IsMachine (with_page_number n m) store
+machine-numbered n m store is small = record {
+  params = is.params;
+  classes = is.classes;
+  goal = is.goal;
+  first = is.first;
+  last = is.last;
+  numbered = omega (arith, small);
+  pool = is.pool;
+  unmarked = is.unmarked;
+  left = is.left;
+  held_page = is.held_page;
+  held_room = is.held_room;
+  left_column = is.left_column;
+  events = is.events;
+  apart = is.apart;
+}

@@ -48,6 +48,7 @@ module _ (p : Params) (cs : List Class) (store new : Lists Node) (l : ℕ) (open
     goal = extent_goal p.textheight ok.columns.floats.textheight;
     first = omega arith;
     last = omega arith;
+    numbered = omega arith;
     pool = size-is p.pool ok.pool;
     unmarked = record { deferred = refl; second = refl };
     left = λ e. absurd (true≢false e);

@@ -126,7 +126,7 @@ module _ (m now : MachineView) (store s : Lists Node) (tops : ℕ) (at : ℤ) (l
     lists-of = ap (λ o. m.held_page ∷ left_lists o ++ rest) has_left
 
     lists-then : machine_lists (without_left (shipped_machine both (without_doubles m))) ≡ m.held_page ∷ (rest ++ added)
-    lists-then = ap (λ ls. m.held_page ∷ ls) (event_lists-after m.events m.page both)
+    lists-then = ap (λ ls. m.held_page ∷ ls) (event_lists-after m.events m.number both)
 
     d : AreDistinct (m.held_page ∷ left.list ∷ rest)
     d = subst AreDistinct lists-of is.apart
@@ -156,13 +156,14 @@ module _ (m now : MachineView) (store s : Lists Node) (tops : ℕ) (at : ℤ) (l
       goal = is.goal;
       first = omega arith;
       last = last-page m.params m.page is.params.maxpages.high room;
+      numbered = let n = is.numbered in omega (arith, n);
       pool = is.pool;
       unmarked = record { deferred = is.unmarked.deferred; second = is.unmarked.second };
       left = λ e. absurd cc;
       held_page = same.machine.held_page;
       held_room = same.machine.held_room;
       left_column = tt;
-      events = all-join (IsPageSent s) m.events (events.Ship m.page both ∷ []) same.machine.events ((list, left-page, column-stands store s right stands page), tt);
+      events = all-join (IsPageSent s) m.events (events.Ship m.number both ∷ []) same.machine.events ((list, left-page, column-stands store s right stands page), tt);
       apart = subst AreDistinct (sym lists-then) distinct;
     }
 

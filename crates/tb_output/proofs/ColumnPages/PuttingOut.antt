@@ -91,6 +91,7 @@ left-keeps m store c is page apart = record {
     goal = is.goal;
     first = is.first;
     last = is.last;
+    numbered = is.numbered;
     pool = is.pool;
     unmarked = is.unmarked;
     left = λ e. refl;

@@ -34,8 +34,8 @@ use Rattle.tb_sheet.proofs.ListsApart.{apart-swap, distinct-join}
 module _ (m : MachineView) (store : Lists Node) (sheet : Sheet) where
   abbrev pub shipped_work : Work → Work
   shipped_work w = record (shown_work m store w) {
-    state = record (state_shown store w.state.boxes w.state.waiting m) { page = m.page + 1; dead_cycles = 0 };
-    sent = w.sent ++ shipped m.page (sheet_shown store sheet) ∷ [];
+    state = record (state_shown store w.state.boxes w.state.waiting m) { page = m.page + 1; number = m.number + 1; dead_cycles = 0 };
+    sent = w.sent ++ shipped m.number (sheet_shown store sheet) ∷ [];
   }
 
   pub ship-is : (w : Work) → int_lt m.params.maxpages (pos m.page) ≡ false → Pages.ship m.params (sheet_shown store sheet) (shown_work m store w) ≡ shipped_work w
@@ -47,7 +47,7 @@ module _ (m : MachineView) (store : Lists Node) (sheet : Sheet) where
   pub shipped-shows : (before : List PlainSent) (w : Work) → events_shown store m.events ≡ before ++ w.sent → ShowsWork before (shipped_machine sheet m) store (shipped_work w)
   shipped-shows before w sent = record {
     served = refl;
-    sent = map-append (sent_shown store) m.events (events.Ship m.page sheet ∷ []) ∙ ap (λ es. es ++ shipped m.page (sheet_shown store sheet) ∷ []) sent ∙ append_assoc before w.sent (shipped m.page (sheet_shown store sheet) ∷ []);
+    sent = map-append (sent_shown store) m.events (events.Ship m.number sheet ∷ []) ∙ ap (λ es. es ++ shipped m.number (sheet_shown store sheet) ∷ []) sent ∙ append_assoc before w.sent (shipped m.number (sheet_shown store sheet) ∷ []);
     state = refl;
   }
 
@@ -77,7 +77,7 @@ last-page p n most room = grind (arith, ints, most, room)
 -- the machine after a page whose lists are none of its own
 module _ (m : MachineView) (store : Lists Node) (sheet : Sheet) (is : IsMachine m store) where
   lists-after : machine_lists (shipped_machine sheet m) ≡ machine_lists m ++ sheet_lists sheet
-  lists-after = ap (λ ls. m.held_page ∷ left_lists m.left_column ++ ls) (event_lists-after m.events m.page sheet) ∙ ap (λ ls. m.held_page ∷ ls) (sym (append_assoc (left_lists m.left_column) (event_lists m.events) (sheet_lists sheet)))
+  lists-after = ap (λ ls. m.held_page ∷ left_lists m.left_column ++ ls) (event_lists-after m.events m.number sheet) ∙ ap (λ ls. m.held_page ∷ ls) (sym (append_assoc (left_lists m.left_column) (event_lists m.events) (sheet_lists sheet)))
 
   shipped-is : int_lt m.params.maxpages (pos m.page) ≡ false → IsPageSheet store sheet → AreDistinct (sheet_lists sheet) → AreNoneOf (sheet_lists sheet) (machine_lists m) → IsMachine (shipped_machine sheet m) store
   shipped-is room page distinct apart = record {
@@ -86,13 +86,14 @@ module _ (m : MachineView) (store : Lists Node) (sheet : Sheet) (is : IsMachine 
     goal = is.goal;
     first = omega arith;
     last = last-page m.params m.page is.params.maxpages.high room;
+    numbered = let n = is.numbered in omega (arith, n);
     pool = is.pool;
     unmarked = is.unmarked;
     left = is.left;
     held_page = is.held_page;
     held_room = is.held_room;
     left_column = is.left_column;
-    events = all-join (IsPageSent store) m.events (events.Ship m.page sheet ∷ []) is.events (page, tt);
+    events = all-join (IsPageSent store) m.events (events.Ship m.number sheet ∷ []) is.events (page, tt);
     apart = subst AreDistinct (sym lists-after) (distinct-join (machine_lists m) (sheet_lists sheet) is.apart distinct (apart-swap (sheet_lists sheet) (machine_lists m) apart));
   }
 

@@ -22,6 +22,7 @@ machine-with m store is goal size unmarked events apart = record {
   goal = goal;
   first = is.first;
   last = is.last;
+  numbered = is.numbered;
   pool = ap (λ n. pos n) size ∙ is.pool;
   unmarked = unmarked;
   left = is.left;

@@ -23,7 +23,7 @@ module _ (store new : Lists Node) where
   -- the insertions show the same, are as many, and may still be put below a text
   pub notes-same : (ns : List NoteBox) → AllByRecursion (Stands store new) (note_lists ns) → notes_shown new ns ≡ notes_shown store ns
   notes-same [] h = refl
-  notes-same (n ∷ ns) h = λ i. record { class = n.class; skip = n.skip; inner = map leaf_of (list-same store new n.list h.0 i) } ∷ notes-same ns h.1 i
+  notes-same (n ∷ ns) h = λ i. record { class = n.class; below = n.below; skip = n.skip; inner = map leaf_of (list-same store new n.list h.0 i) } ∷ notes-same ns h.1 i
 
   pub count-same : (ns : List NoteBox) → AllByRecursion (Stands store new) (note_lists ns) → note_count new ns ≡ note_count store ns
   count-same [] h = refl
@@ -31,7 +31,7 @@ module _ (store new : Lists Node) where
 
   pub notes-stay : (ns : List NoteBox) → AllByRecursion (Stands store new) (note_lists ns) → AllByRecursion (IsNote store) ns → AllByRecursion (IsNote new) ns
   notes-stay [] e h = tt
-  notes-stay (n ∷ ns) e h = (record { list = list-stands store new n.list e.0 h.0.list; skip = h.0.skip }, notes-stay ns e.1 h.1)
+  notes-stay (n ∷ ns) e h = (record { list = list-stands store new n.list e.0 h.0.list; rule = h.0.rule; skip = h.0.skip }, notes-stay ns e.1 h.1)
 
   pub events-stand : (es : List Sent) → AllByRecursion (Stands store new) (event_lists es) → AllByRecursion (IsPageSent store) es → AllByRecursion (IsPageSent new) es
   events-stand [] e h = tt
@@ -65,6 +65,7 @@ module _ (store new : Lists Node) where
       goal = is.goal;
       first = is.first;
       last = is.last;
+      numbered = is.numbered;
       pool = is.pool;
       unmarked = is.unmarked;
       left = is.left;

@@ -1,5 +1,5 @@
 -- The boxes of classes are taken one after another, and in the end all of them were.
-use Rattle.std.proofs.Common.{◌≡◌, ◌≢◌, refl, sym, subst, ◌∙◌, ap, ℕ, suc, ◌+◌, ◌<◌, ◌≤◌, Bool, true, false, List, [], ◌∷◌, ◌++◌, length, take, get_or, Option, Some, None, arith}
+use Rattle.std.proofs.Common.{◌≡◌, ◌≢◌, refl, sym, subst, ◌∙◌, ap, ℕ, suc, ◌+◌, ◌<◌, ◌≤◌, Bool, true, false, List, [], ◌∷◌, ◌++◌, length, take, get_or, Option, Some, None, unwrap_or, arith}
 use Rattle.std.specs.Prelude.{◌==◌, ◌||◌, All, if◌then◌else◌}
 use Rattle.std.specs.List.{AllByRecursion}
 use Rattle.std.proofs.lemmas.List.{length-map, map-append, take_all, take_more}
@@ -25,7 +25,7 @@ use Rattle.tb_column.specs.declared.NoteBox.{NoteBox}
 use Rattle.tb_column.specs.Column.{Notes}
 use Rattle.tb_column.specs.Page.{AreLeaves}
 use Rattle.tb_column.specs.Notes.{note_shown, notes_shown, note_lists, note_count, AreRisingFrom, IsNote}
-use Rattle.tb_column.specs.Ranges.{IsSizedGlue}
+use Rattle.tb_column.specs.Ranges.{IsSizedGlue, IsSizedRule}
 use Rattle.tb_output.specs.State.{with_notes, notes_in}
 use Rattle.tb_output.specs.Machine.{AreClassesFrom}
 use Rattle.tb_builder.specs.BuilderLists.{builder_lists}
@@ -147,9 +147,10 @@ rising-shown : (store : Lists Node) (k : ℕ) (ns : List NoteBox) → AreRising 
 rising-shown store k [] h = tt
 rising-shown store k (n ∷ ns) h = (h.0, rising-shown store (suc n.class) ns h.1)
 
--- the insertions of a box: their class is one of these, and glue and nodes are sized
+-- the insertions of a box: their class is one of these, and glue, rule and nodes are sized
 record FromBox (cs : List Class) (n : Notes) : Type 0 where
   known : has_class cs n.class ≡ true
+  rule : IsSizedRule (unwrap_or n.below None)
   skip : IsSizedGlue n.skip
   sized : All IsSizedLeaf n.inner
 
@@ -169,13 +170,13 @@ known-own (c ∷ cs) = (
 )
 
 module _ (all : List Class) where
-  from-with : (c : Class) (o : Option (List Leaf)) (ns : List Notes) → has_class all c.number ≡ true → IsSizedGlue c.skip → All IsSizedLeaf (content_of o) → AllByRecursion (FromBox all) ns → AllByRecursion (FromBox all) (with_notes c o ns)
-  from-with c None ns known skip sized h = h
-  from-with c (Some inner) ns known skip sized h = (record { known = known; skip = skip; sized = sized }, h)
+  from-with : (c : Class) (o : Option (List Leaf)) (ns : List Notes) → has_class all c.number ≡ true → IsSizedGlue c.skip → IsSizedRule (unwrap_or c.below None) → All IsSizedLeaf (content_of o) → AllByRecursion (FromBox all) ns → AllByRecursion (FromBox all) (with_notes c o ns)
+  from-with c None ns known skip rule sized h = h
+  from-with c (Some inner) ns known skip rule sized h = (record { known = known; rule = rule; skip = skip; sized = sized }, h)
 
   from-in : (k : ℕ) (cs : List Class) (bs : List Boxed) → AllByRecursion (λ c. has_class all c.number ≡ true) cs → AreClassesFrom k cs → AreSizedBoxes bs → AllByRecursion (FromBox all) (notes_in cs bs)
   from-in k [] bs known rising sized = tt
-  from-in k (c ∷ cs) bs known rising sized = from-with c (box_content bs c.number) (notes_in cs bs) known.0 rising.1 (sized-content bs c.number sized) (from-in (suc c.number) cs bs known.1 rising.2 sized)
+  from-in k (c ∷ cs) bs known rising sized = from-with c (box_content bs c.number) (notes_in cs bs) known.0 rising.1 rising.3 (sized-content bs c.number sized) (from-in (suc c.number) cs bs known.1 rising.2 sized)
 
   known-shown : (store : Lists Node) (ns : List NoteBox) → AllByRecursion (FromBox all) (notes_shown store ns) → AreKnownNotes all ns
   known-shown store [] h = tt
@@ -186,6 +187,7 @@ module _ (all : List Class) where
   each-note store (n ∷ ns) few lists from = (
     record {
       list = record { live = lists.0.live; leaves = lists.0.leaves; sized = leaves-back (list_at store n.list) from.0.sized; few = omega (arith, few) };
+      rule = from.0.rule;
       skip = from.0.skip;
     },
     each-note store ns (omega (arith, few)) lists.1 from.1,

@@ -66,15 +66,15 @@ module _ (l : ℕ) (m : MachineView) (store new : Lists Node) (is : IsMachine m 
   blanked = grown-keeps l (blanks both) [] m store new is back grown (apart-none _) (blanks-back both)
 
   -- the machine that warned
-  pub left-keeps : KeepsBack l [] m (with_warning (warnings.Floats m.page) m) store new
-  left-keeps = keeps-back_then l [] [] m m (with_warning (warnings.Floats m.page) m) store new new blanked (warned-back (warnings.Floats m.page) m l new blanked.machine blanked.back) (λ q live none. tt)
+  pub left-keeps : KeepsBack l [] m (with_warning (warnings.Floats m.number) m) store new
+  left-keeps = keeps-back_then l [] [] m m (with_warning (warnings.Floats m.number) m) store new new blanked (warned-back (warnings.Floats m.number) m l new blanked.machine blanked.back) (λ q live none. tt)
 
-  pub left-done : Does (shows_back l m store) (shows_back l (with_warning (warnings.Floats m.page) m) new) leave_column
-  left-done before w h = does-shown_with (ShowsBack l store) (shows_back l (with_warning (warnings.Floats m.page) m) new) m store leave_column
+  pub left-done : Does (shows_back l m store) (shows_back l (with_warning (warnings.Floats m.number) m) new) leave_column
+  left-done before w h = does-shown_with (ShowsBack l store) (shows_back l (with_warning (warnings.Floats m.number) m) new) m store leave_column
       (λ b v sent at. (
         record {
           served = refl;
-          sent = shown-joined new m.events (events.Warn (warnings.Floats m.page)) b v.sent ((grown-machine l (blanks both) [] m store new is back grown (apart-none _)).events ∙ sent);
+          sent = shown-joined new m.events (events.Warn (warnings.Floats m.number)) b v.sent ((grown-machine l (blanks both) [] m store new is back grown (apart-none _)).events ∙ sent);
           state = (grown-machine l (blanks both) [] m store new is back grown (apart-none _)).state v.state.boxes v.state.waiting;
         },
         grown-shows l (blanks both) [] m store new is back grown (apart-none _) (blanks-back both).leaves

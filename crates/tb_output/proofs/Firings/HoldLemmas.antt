@@ -31,6 +31,7 @@ module _ (body : ℕ) (room : ℤ) (m : MachineView) (store new : Lists Node) (i
     goal = is.goal;
     first = is.first;
     last = is.last;
+    numbered = is.numbered;
     pool = is.pool;
     unmarked = is.unmarked;
     left = is.left;

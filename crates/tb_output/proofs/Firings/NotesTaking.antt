@@ -86,7 +86,7 @@ module _ (b : Builder) (store mid : Lists Node) (l : ℕ) (sound : IsSound b sto
   pub list-awaits : NoPage (contents_of b store) → NoPage (contents_of b mid)
   list-awaits h = subst NoPage (sym list-contents) h
 
-  module _ (c : Class) (n : NoteBox) (d : Builder) (new : Lists Node) (is : n ≡ record { class = c.number; skip = c.skip; list = l }) (full : is_none (box_content (contents_of b store).boxes c.number) ≡ false)
+  module _ (c : Class) (n : NoteBox) (d : Builder) (new : Lists Node) (is : n ≡ record { class = c.number; below = c.below; skip = c.skip; list = l }) (full : is_none (box_content (contents_of b store).boxes c.number) ≡ false)
       (contents : contents_of d new ≡ record (contents_of b mid) { boxes = with_void c.number (contents_of b mid).boxes }) (taken : Taken mid new l (box_content (contents_of b mid).boxes c.number))
       (keeps : (q : ℕ) → Lacks q (owned (ids_of b) mid) → Lacks q (owned (ids_of d) new)) where
     joined : list_at new l ≡ taken.nodes

@@ -190,7 +190,7 @@ module _ (c : Class) (bs : List Boxed) (sized : AreSizedBoxes bs) (few : box_cou
 
 -- what comes past the end of a list of classes
 abbrev pub past : Class
-past = record { number = 0; factor = pos 0; limit = pos 0; skip = record { width = pos 0; stretch = pos 0; order = orders.Normal; shrink = pos 0 } }
+past = record { number = 0; factor = pos 0; limit = pos 0; below = None; skip = record { width = pos 0; stretch = pos 0; order = orders.Normal; shrink = pos 0 } }
 
 -- the insertions of the classes before these take this height
 pub record IsReadSoFar (all left : List Class) (bs : List Boxed) (k : ℕ) (height : ℤ) : Type 0 where

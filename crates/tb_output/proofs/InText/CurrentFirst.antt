@@ -1,5 +1,5 @@
 -- What comes first of the current list, a float or a marginal note, and where the routine puts it.
-use Rattle.std.proofs.Common.{◌≡◌, sym, ◌∙◌, ap, ℕ, ℤ, Bool, List, [], ◌∷◌, drop, Some, None}
+use Rattle.std.proofs.Common.{◌≡◌, sym, ◌∙◌, ap, ℕ, ℤ, Bool, false, List, [], ◌∷◌, drop, Some, None}
 use Rattle.std.specs.List.{slice_get}
 use Rattle.tb_pool.specs.Lists.{Lists}
 use Rattle.tb_node.specs.declared.Float.{Float}
@@ -59,15 +59,15 @@ pub note-first : (l : ℕ) (m : MachineView) (store : Lists Node) (vert : Bool) 
 note-first l m store vert z note there before w h = first-note m.params vert z w m.pool.lists.current note (λ i. (sym h.0.state i).floats.current) there
 
 -- neither a float nor a note comes first
-first-none : (p : Params) (vert : Bool) (z : TextSize) (w : Work) (es : List Entry) → w.state.floats.current ≡ es → slice_get es 0 ≡ None → puts_interline p w ≡ first_placed p vert z w
+first-none : (p : Params) (vert : Bool) (z : TextSize) (w : Work) (es : List Entry) → w.state.floats.current ≡ es → slice_get es 0 ≡ None → puts_interline p false w ≡ first_placed p vert z w
 first-none p vert z w [] e h = ap (λ (ds : List Entry). first_goes p vert z.height z.depth z.page ds w) (sym e)
 first-none p vert z w (x ∷ es) e h = let some : Some x ≡ None = h in absurd cc
 
 pub none-first : (l : ℕ) (m : MachineView) (store : Lists Node) (vert : Bool) (z : TextSize) → slice_get m.pool.lists.current 0 ≡ None
-    → (before : List PlainSent) (w : Work) → shows_back l m store before w → puts_interline m.params w ≡ first_placed m.params vert z w
+    → (before : List PlainSent) (w : Work) → shows_back l m store before w → puts_interline m.params false w ≡ first_placed m.params vert z w
 none-first l m store vert z none before w h = first-none m.params vert z w m.pool.lists.current (λ i. (sym h.0.state i).floats.current) none
 
-first-right : (p : Params) (vert : Bool) (z : TextSize) (w : Work) (es : List Entry) (m : Margin) → w.state.floats.current ≡ es → slice_get es 0 ≡ Some (entries.Right m) → puts_interline p w ≡ first_placed p vert z w
+first-right : (p : Params) (vert : Bool) (z : TextSize) (w : Work) (es : List Entry) (m : Margin) → w.state.floats.current ≡ es → slice_get es 0 ≡ Some (entries.Right m) → puts_interline p false w ≡ first_placed p vert z w
 first-right p vert z w [] m e h = let none : None ≡ Some (entries.Right m) = h in absurd cc
 first-right p vert z w (x ∷ es) m e h =
     let some : Some x ≡ Some (entries.Right m) = h in
@@ -75,5 +75,5 @@ first-right p vert z w (x ∷ es) m e h =
     ap (λ (ds : List Entry). first_goes p vert z.height z.depth z.page ds w) (sym (e ∙ ap (λ y. y ∷ es) same))
 
 pub right-first : (l : ℕ) (m : MachineView) (store : Lists Node) (vert : Bool) (z : TextSize) (note : Margin) → slice_get m.pool.lists.current 0 ≡ Some (entries.Right note)
-    → (before : List PlainSent) (w : Work) → shows_back l m store before w → puts_interline m.params w ≡ first_placed m.params vert z w
+    → (before : List PlainSent) (w : Work) → shows_back l m store before w → puts_interline m.params false w ≡ first_placed m.params vert z w
 right-first l m store vert z note there before w h = first-right m.params vert z w m.pool.lists.current note (λ i. (sym h.0.state i).floats.current) there

@@ -82,6 +82,7 @@ module _ (m : MachineView) (store new : Lists Node) (is : IsMachine m store) (em
     goal = is.goal;
     first = is.first;
     last = is.last;
+    numbered = is.numbered;
     pool = is.pool;
     unmarked = is.unmarked;
     left = is.left;

@@ -1,5 +1,5 @@
 -- The first float or marginal note gets its place: the steps of the work.
-use Rattle.std.proofs.Common.{◌≡◌, refl, sym, subst, ◌∙◌, ap, ℕ, suc, ℤ, Bool, true, false, List, [], ◌∷◌, ◌++◌, map, drop, length, length-append, Option, Some, None, arith}
+use Rattle.std.proofs.Common.{◌≡◌, refl, sym, subst, ◌∙◌, ap, ℕ, suc, ℤ, Bool, true, false, List, [], ◌∷◌, ◌++◌, map, drop, length, length-append, Option, Some, None, pos, arith}
 use Rattle.std.specs.Prelude.{if◌then◌else◌, OnSome, IfNone}
 use Rattle.std.specs.List.{slice_get, slice_set}
 use Rattle.std.proofs.lemmas.Int.{ints}
@@ -32,12 +32,14 @@ use Rattle.tb_sheet.specs.declared.Warn.TheVariants as warnings
 use Rattle.tb_sheet.specs.declared.Sent.TheVariants as events
 use Rattle.tb_sheet.specs.Sheet.{PlainSent, warned}
 use Rattle.tb_column.specs.Ranges.{IsSizedGlue}
+use Rattle.tb_column.specs.Column.{float_depth}
+use Rattle.tb_column.specs.FloatColumns.{made_node}
 use Rattle.tb_column.proofs.FloatLemmas.{negated_dimension}
 use Rattle.tb_output.specs.declared.texts.TextSize.{TextSize}
 use Rattle.tb_output.specs.State.{Work, puts, sends, with_floats}
 use Rattle.tb_output.specs.FloatMoves.{joined_to, place_float}
-use Rattle.tb_output.specs.Text.{glue_at_end, penalty_nodes, penalty_after, puts_interline, here_nodes, note_nodes, only_here, with_top, defer, moved_warning, with_note_bottom, note_goes}
-use Rattle.tb_output.specs.BackList.{glue_of_kind, last_glue, interline_by, interline_list, here_list, note_list}
+use Rattle.tb_output.specs.Text.{glue_at_end, penalty_nodes, penalty_after, penalty_between, puts_interline, here_nodes, note_nodes, only_here, with_top, defer, moved_warning, with_note_bottom, note_goes}
+use Rattle.tb_output.specs.BackList.{glue_of_kind, last_glue, interline_by, interline_list, between_list, here_list, note_list}
 use Rattle.tb_output.specs.Machine.{MachineView, IsMachine, AreOutputParams}
 use Rattle.tb_output.specs.Events.{HasRoomFor}
 use Rattle.tb_output.specs.PageChanges.{with_warning}
@@ -86,16 +88,38 @@ interline-may n (Some g) small glue =
           ((negated_dimension g.width h.width, negated_dimension g.stretch h.stretch, negated_dimension g.shrink h.shrink), (small, ((h.width, h.stretch, h.shrink), tt)));
     }
 
-pub interline-done : (l : ℕ) (m : MachineView) (store new : Lists Node) → IsMachine m store → IsBack l m store → HasGrown l (interline_list m.params.interlinepenalty (list_at store l)) [] store new → Done l m m store new (puts_interline m.params)
-interline-done l m store new is back grown =
+-- a penalty of 10000 may go back
+nobreak-may : MayGoBack (made_node (kinds.Pen (pos 10000)) ∷ [])
+nobreak-may = record {
+  leaves = (tt, tt);
+  sized = All-from_recursion IsSizedNode (made_node (kinds.Pen (pos 10000)) ∷ []) (record { low = omega (arith, ints); high = omega (arith, ints) }, tt);
+}
+
+between-may : (n : ℤ) (nobreak : Bool) (ns : List Node) → MayGoBack (interline_list n ns) → MayGoBack (between_list n nobreak ns)
+between-may n true ns h = nobreak-may
+between-may n false ns h = h
+
+between-shown : (held : ListId → List Node) (n : ℤ) (nobreak : Bool) (ns : List Node) → map (plain_of held) (between_list n nobreak ns) ≡ penalty_between n nobreak (map (plain_of held) ns)
+between-shown held n true ns = refl
+between-shown held n false ns = interline-shown held n ns
+
+pub interline-done : (l : ℕ) (m : MachineView) (store new : Lists Node) (nobreak : Bool) → IsMachine m store → IsBack l m store → HasGrown l (between_list m.params.interlinepenalty nobreak (list_at store l)) [] store new → Done l m m store new (puts_interline m.params nobreak)
+interline-done l m store new nobreak is back grown =
     let n = m.params.interlinepenalty in
-    let may = interline-may n (last_glue (list_at store l)) is.params.interlinepenalty (λ g e. last-sized (list_at store l) g back.sized e) in
-    let pn = penalty_after n (plain_list store l) in
-    done-same l m m store new (puts pn) (puts_interline m.params)
-    (λ before w h. ap (λ ns. puts (penalty_after n ns) w) h.1)
-    (done-puts l (interline_list n (list_at store l)) m store new is back grown may pn (interline-shown (list_at store) n (list_at store l)))
+    let may = between-may n nobreak (list_at store l) (interline-may n (last_glue (list_at store l)) is.params.interlinepenalty (λ g e. last-sized (list_at store l) g back.sized e)) in
+    let pn = penalty_between n nobreak (plain_list store l) in
+    done-same l m m store new (puts pn) (puts_interline m.params nobreak)
+    (λ before w h. ap (λ ns. puts (penalty_between n nobreak ns) w) h.1)
+    (done-puts l (between_list n nobreak (list_at store l)) m store new is back grown may pn (between-shown (list_at store) n nobreak (list_at store l)))
 
 -- ---- a float in the text, and a marginal note
+
+float-extent : (f : Float) → IsExtent (float_depth f)
+float-extent f = by_depth f.deep
+  where
+    by_depth : (deep : Bool) → IsExtent (if deep then pos 1 else pos 0)
+    by_depth true = record { low = omega (arith, ints); high = omega (arith, ints) }
+    by_depth false = record { low = omega (arith, ints); high = omega (arith, ints) }
 
 here-may : (p : Params) (vert : Bool) (f : Float) → AreOutputParams p → IsExtent f.height → MayGoBack (here_list p vert f)
 here-may p true f h extent = record {
@@ -103,7 +127,7 @@ here-may p true f h extent = record {
   sized = All-from_recursion IsSizedNode (here_list p true f) (
     (h.intextsep.width, h.intextsep.stretch, h.intextsep.shrink),
     (
-      (extent, record { low = omega (arith, ints); high = omega (arith, ints) }),
+      (extent, float-extent f),
       (
         h.interlinepenalty,
         (
@@ -117,7 +141,7 @@ here-may p true f h extent = record {
 here-may p false f h extent = record {
   leaves = (tt, (tt, (tt, (tt, tt))));
   sized = All-from_recursion IsSizedNode (here_list p false f)
-      ((h.intextsep.width, h.intextsep.stretch, h.intextsep.shrink), ((extent, record { low = omega (arith, ints); high = omega (arith, ints) }), (h.interlinepenalty, ((h.intextsep.width, h.intextsep.stretch, h.intextsep.shrink), tt))));
+      ((h.intextsep.width, h.intextsep.stretch, h.intextsep.shrink), ((extent, float-extent f), (h.interlinepenalty, ((h.intextsep.width, h.intextsep.stretch, h.intextsep.shrink), tt))));
 }
 
 here-shown : (held : ListId → List Node) (p : Params) (vert : Bool) (f : Float) → map (plain_of held) (here_list p vert f) ≡ here_nodes p vert f
@@ -276,7 +300,7 @@ area-column parts.Bottom c = tt
 area-column to c = absurd c
 
 -- the float goes to its area, and the penalty comes after it
-pub area-places : (to : Part) (p : Params) (vert : Bool) (f : Float) (w : Work) → IsAreaPart to → puts_interline p (place_float p (place_of to) f (without_first w.state.floats) w) ≡ float_placed p vert f (place_of to) w
+pub area-places : (to : Part) (p : Params) (vert : Bool) (f : Float) (w : Work) → IsAreaPart to → puts_interline p f.nobreak (place_float p (place_of to) f (without_first w.state.floats) w) ≡ float_placed p vert f (place_of to) w
 area-places parts.Top p vert f w c = refl
 area-places parts.Bottom p vert f w c = refl
 area-places to p vert f w c = absurd c
@@ -348,43 +372,43 @@ warned-moved l m now store note at is back e = by_moved at.moved e
     })
 
 -- the place of the note is the machine's
-pub note-same : (l : ℕ) (m : MachineView) (store : Lists Node) (z : TextSize) (note : Margin) (at : Placed) → at ≡ placed_note m.params m.page m.two_columns m.first_column z.height m.note_bottom note
+pub note-same : (l : ℕ) (m : MachineView) (store : Lists Node) (z : TextSize) (note : Margin) (at : Placed) → at ≡ placed_note m.params m.number m.two_columns m.first_column z.height m.note_bottom note
     → (before : List PlainSent) (w : Work) → shows_back l m store before w
-    → puts_interline m.params (puts (note_nodes z.depth note at) (moved_warning note at (with_note_bottom at.bottom (with_floats (without_note w.state.floats) w)))) ≡ note_placed m.params z note w
+    → puts_interline m.params note.nobreak (puts (note_nodes z.depth note at) (moved_warning note at (with_note_bottom at.bottom (with_floats (without_note w.state.floats) w)))) ≡ note_placed m.params z note w
 note-same l m store z note at e before w h =
-    ap (note_goes m.params z.depth note (without_note w.state.floats) w) (e ∙ (λ i. placed_note m.params (h.0.state i).page (h.0.state i).two_columns (h.0.state i).first_column z.height (h.0.state i).note_bottom note))
+    ap (note_goes m.params z.depth note (without_note w.state.floats) w) (e ∙ (λ i. placed_note m.params (h.0.state i).number (h.0.state i).two_columns (h.0.state i).first_column z.height (h.0.state i).note_bottom note))
 
 -- ---- the interline penalty comes after a step
 
 module _ (l : ℕ) (m mid now : MachineView) (store middle new : Lists Node) (f : Work → Work) (x : Done l m mid store middle f) where
-  pub then-interline : Does (shows_back l mid middle) (shows_back l now new) (puts_interline mid.params) → Does (shows_back l m store) (shows_back l now new) (λ w. puts_interline m.params (f w))
-  then-interline y =
-      does-then (shows_back l m store) (shows_back l mid middle) (shows_back l now new) f (puts_interline m.params) x.does
-      (subst (λ (p : Params). Does (shows_back l mid middle) (shows_back l now new) (puts_interline p)) x.keeps.fields.params y)
+  pub then-interline : (nobreak : Bool) → Does (shows_back l mid middle) (shows_back l now new) (puts_interline mid.params nobreak) → Does (shows_back l m store) (shows_back l now new) (λ w. puts_interline m.params nobreak (f w))
+  then-interline nobreak y =
+      does-then (shows_back l m store) (shows_back l mid middle) (shows_back l now new) f (puts_interline m.params nobreak) x.does
+      (subst (λ (p : Params). Does (shows_back l mid middle) (shows_back l now new) (puts_interline p nobreak)) x.keeps.fields.params y)
 
-  pub then-interline_cut : (e : RunFault) → Does (shows_back l mid middle) (IsCutShort e now new) (puts_interline mid.params) → Does (shows_back l m store) (IsCutShort e now new) (λ w. puts_interline m.params (f w))
-  then-interline_cut e y =
-      does-then (shows_back l m store) (shows_back l mid middle) (IsCutShort e now new) f (puts_interline m.params) x.does
-      (subst (λ (p : Params). Does (shows_back l mid middle) (IsCutShort e now new) (puts_interline p)) x.keeps.fields.params y)
+  pub then-interline_cut : (nobreak : Bool) (e : RunFault) → Does (shows_back l mid middle) (IsCutShort e now new) (puts_interline mid.params nobreak) → Does (shows_back l m store) (IsCutShort e now new) (λ w. puts_interline m.params nobreak (f w))
+  then-interline_cut nobreak e y =
+      does-then (shows_back l m store) (shows_back l mid middle) (IsCutShort e now new) f (puts_interline m.params nobreak) x.does
+      (subst (λ (p : Params). Does (shows_back l mid middle) (IsCutShort e now new) (puts_interline p nobreak)) x.keeps.fields.params y)
 
 -- ---- a float in the text
 
 module _ (l : ℕ) (m mid : MachineView) (store middle : Lists Node) (vert : Bool) (f : Float) (x : Done l m mid store store (λ w. place_float m.params places.Here f (without_first w.state.floats) w)) (k : KeepsBack l [] mid mid store middle) where
-  pub here-cut : (e : RunFault) → Does (shows_back l mid store) (IsCutShort e mid middle) (puts_interline mid.params) → Cut e l m mid store middle (float_placed m.params vert f places.Here)
-  here-cut e y = cut-short l e m mid store middle (λ w. puts_interline m.params (place_float m.params places.Here f (without_first w.state.floats) w)) (puts (here_nodes m.params vert f))
-      (record { does = then-interline_cut l m mid mid store store middle (λ w. place_float m.params places.Here f (without_first w.state.floats) w) x e y; keeps = keeps-on l m mid mid store store middle x.keeps k })
+  pub here-cut : (e : RunFault) → Does (shows_back l mid store) (IsCutShort e mid middle) (puts_interline mid.params f.nobreak) → Cut e l m mid store middle (float_placed m.params vert f places.Here)
+  here-cut e y = cut-short l e m mid store middle (λ w. puts_interline m.params f.nobreak (place_float m.params places.Here f (without_first w.state.floats) w)) (puts (here_nodes m.params vert f))
+      (record { does = then-interline_cut l m mid mid store store middle (λ w. place_float m.params places.Here f (without_first w.state.floats) w) x f.nobreak e y; keeps = keeps-on l m mid mid store store middle x.keeps k })
       (continues-puts (here_nodes m.params vert f))
 
-  module _ (y : Does (shows_back l mid store) (shows_back l mid middle) (puts_interline mid.params)) where
-    here-first : Done l m mid store middle (λ w. puts_interline m.params (place_float m.params places.Here f (without_first w.state.floats) w))
-    here-first = record { does = then-interline l m mid mid store store middle (λ w. place_float m.params places.Here f (without_first w.state.floats) w) x y; keeps = keeps-on l m mid mid store store middle x.keeps k }
+  module _ (y : Does (shows_back l mid store) (shows_back l mid middle) (puts_interline mid.params f.nobreak)) where
+    here-first : Done l m mid store middle (λ w. puts_interline m.params f.nobreak (place_float m.params places.Here f (without_first w.state.floats) w))
+    here-first = record { does = then-interline l m mid mid store store middle (λ w. place_float m.params places.Here f (without_first w.state.floats) w) x f.nobreak y; keeps = keeps-on l m mid mid store store middle x.keeps k }
 
     pub here-whole : (new : Lists Node) → IsExtent f.height → HasGrown l (here_list mid.params vert f) [] middle new → Done l m mid store new (float_placed m.params vert f places.Here)
-    here-whole new extent grown = done-then l m mid mid store middle new (λ w. puts_interline m.params (place_float m.params places.Here f (without_first w.state.floats) w)) (puts (here_nodes m.params vert f)) here-first
+    here-whole new extent grown = done-then l m mid mid store middle new (λ w. puts_interline m.params f.nobreak (place_float m.params places.Here f (without_first w.state.floats) w)) (puts (here_nodes m.params vert f)) here-first
         (subst (λ (p : Params). Done l mid mid middle new (puts (here_nodes p vert f))) x.keeps.fields.params (here-done l mid middle new vert f k.machine k.back extent grown))
 
     pub here-memory : (new : Lists Node) → new.lists ≡ middle.lists → Cut faults.Memory l m mid store new (float_placed m.params vert f places.Here)
-    here-memory new same = then-cut l faults.Memory m mid mid store middle new (λ w. puts_interline m.params (place_float m.params places.Here f (without_first w.state.floats) w)) (puts (here_nodes m.params vert f)) here-first
+    here-memory new same = then-cut l faults.Memory m mid mid store middle new (λ w. puts_interline m.params f.nobreak (place_float m.params places.Here f (without_first w.state.floats) w)) (puts (here_nodes m.params vert f)) here-first
         (no-room l mid mid middle new (puts (here_nodes m.params vert f)) k.machine k.back refl same (continues-puts (here_nodes m.params vert f)))
 
 -- ---- each step continues the work
@@ -396,4 +420,4 @@ pub continues-float_placed : (p : Params) (vert : Bool) (f : Float) (place : Whe
 continues-float_placed p vert f place w = continues-float_goes p vert f (without_first w.state.floats) w place
 
 pub continues-note_placed : (p : Params) (z : TextSize) (m : Margin) (w : Work) → Continues w (note_placed p z m w)
-continues-note_placed p z m w = continues-note_goes p z.depth m (without_note w.state.floats) w (placed_note p w.state.page w.state.two_columns w.state.first_column z.height w.state.note_bottom m)
+continues-note_placed p z m w = continues-note_goes p z.depth m (without_note w.state.floats) w (placed_note p w.state.number w.state.two_columns w.state.first_column z.height w.state.note_bottom m)

@@ -96,8 +96,8 @@ module _ (p : Params) where
 
   first_goes-boxes : (vert : Bool) (height depth page_height : ℤ) (es : List Entry) (w : Work) → (Text.first_goes p vert height depth page_height es w).state.boxes ≡ w.state.boxes
   first_goes-boxes vert height depth page_height (entries.Float f ∷ es) w = float_goes-boxes vert f _ w _
-  first_goes-boxes vert height depth page_height (entries.Left m ∷ []) w = note_goes-boxes depth m _ w (placed_note p w.state.page w.state.two_columns w.state.first_column height w.state.note_bottom m)
-  first_goes-boxes vert height depth page_height (entries.Left m ∷ e ∷ es) w = note_goes-boxes depth m _ w (placed_note p w.state.page w.state.two_columns w.state.first_column height w.state.note_bottom m)
+  first_goes-boxes vert height depth page_height (entries.Left m ∷ []) w = note_goes-boxes depth m _ w (placed_note p w.state.number w.state.two_columns w.state.first_column height w.state.note_bottom m)
+  first_goes-boxes vert height depth page_height (entries.Left m ∷ e ∷ es) w = note_goes-boxes depth m _ w (placed_note p w.state.number w.state.two_columns w.state.first_column height w.state.note_bottom m)
   first_goes-boxes vert height depth page_height (entries.Right m ∷ es) w = refl
   first_goes-boxes vert height depth page_height [] w = refl
 
@@ -153,7 +153,7 @@ module _ (p : Params) where
   goal-boxes n w =
       let room = column_room_of p w.state.floats in
       boxes_if (Output.is_int n Asked.hold_penalty) (Output.with_goal max_dimen w) (Output.goal_by p room w) w refl
-      (boxes_if (Output.is_crowded p room) (Output.leave_column w) (Output.with_goal room w) w (sends-stays (warned (warnings.Floats w.state.page)) w).boxes refl)
+      (boxes_if (Output.is_crowded p room) (Output.leave_column w) (Output.with_goal room w) w (sends-stays (warned (warnings.Floats w.state.number)) w).boxes refl)
 
 -- ---- boxes that hold nothing
 
@@ -182,7 +182,7 @@ void-boxes k (c ∷ cs) (b ∷ bs) classes boxes none = λ i. first i ∷ void-b
   where
     by_content : (o : Option (List Leaf)) (ns : List Notes) → with_notes c o ns ≡ [] → (None ≡ o) × (ns ≡ [])
     by_content None ns e = (refl, e)
-    by_content (Some inner) ns e = let no : record { class = c.number; skip = c.skip; inner = inner } ∷ ns ≡ [] = e in cc
+    by_content (Some inner) ns e = let no : record { class = c.number; below = c.below; skip = c.skip; inner = inner } ∷ ns ≡ [] = e in cc
 
     split : (None ≡ b.content) × (notes_in cs (b ∷ bs) ≡ [])
     split = by_content b.content (notes_in cs (b ∷ bs)) (sym (ap (λ o. with_notes c o (notes_in cs (b ∷ bs))) (own-content c b bs boxes.0)) ∙ none)

@@ -78,8 +78,8 @@ module _ (p : Params) (law : RecordLaw p) where
 
   -- ---- floats and notes in the text
 
-  interline-step : (a w : Work) → Step 1 a w → Step 1 a (Text.puts_interline p w)
-  interline-step a w x = afterwards {j = 1} {k = 0} {b = w} x (changes refl)
+  interline-step : (nobreak : Bool) (a w : Work) → Step 1 a w → Step 1 a (Text.puts_interline p nobreak w)
+  interline-step nobreak a w x = afterwards {j = 1} {k = 0} {b = w} x (changes refl)
 
   pub defer-step : (f : Float) (left : FloatLists) (w : Work) → Step 1 w (Text.defer p f left w)
   defer-step f left w = by_places (Text.only_here f)
@@ -94,10 +94,10 @@ module _ (p : Params) (law : RecordLaw p) where
   pub float_goes-step : (vert : Bool) (f : Float) (left : FloatLists) (w : Work) (place : Where) → law.holds (placed f place w.state.floats (column_height_of p w.state.floats)) → Step 1 w (Text.float_goes p vert f left w place)
   float_goes-step vert f left w places.Here h =
       let a = FloatMoves.place_float p places.Here f left w in
-      afterwards {j = 1} {k = 0} {b = Text.puts_interline p a} (interline-step w a (quiet (by_columns (place_float-step p law places.Here f left w h)))) (changes refl)
-  float_goes-step vert f left w places.Top h = interline-step w _ (quiet (by_columns (place_float-step p law places.Top f left w h)))
-  float_goes-step vert f left w places.Bottom h = interline-step w _ (quiet (by_columns (place_float-step p law places.Bottom f left w h)))
-  float_goes-step vert f left w place h = interline-step w _ (defer-step f left w)
+      afterwards {j = 1} {k = 0} {b = Text.puts_interline p f.nobreak a} (interline-step f.nobreak w a (quiet (by_columns (place_float-step p law places.Here f left w h)))) (changes refl)
+  float_goes-step vert f left w places.Top h = interline-step f.nobreak w _ (quiet (by_columns (place_float-step p law places.Top f left w h)))
+  float_goes-step vert f left w places.Bottom h = interline-step f.nobreak w _ (quiet (by_columns (place_float-step p law places.Bottom f left w h)))
+  float_goes-step vert f left w place h = interline-step f.nobreak w _ (defer-step f left w)
 
   pub note_goes-step : (depth : ℤ) (m : Margin) (left : FloatLists) (w : Work) (at : Placed) → Step 1 w (Text.note_goes p depth m left w at)
   note_goes-step depth m left w at =
@@ -156,9 +156,9 @@ module _ (p : Params) (law : RecordLaw p) where
   pub next_goal-step : (n : ℤ) (w : Work) → Step 1 w (Output.next_goal p n w)
   next_goal-step n w =
       let room = column_room_of p w.state.floats in
-      let told = sends (warned (warnings.Floats w.state.page)) w in
+      let told = sends (warned (warnings.Floats w.state.number)) w in
       step_if w (Output.is_int n Asked.hold_penalty) (Output.with_goal max_dimen w) (Output.goal_by p room w) (quiet (changes refl))
-      (step_if w (Output.is_crowded p room) (Output.leave_column w) (Output.with_goal room w) (afterwards {j = 1} {k = 0} {b = told} (warns_one (warnings.Floats w.state.page) w) (changes refl)) (quiet (changes refl)))
+      (step_if w (Output.is_crowded p room) (Output.leave_column w) (Output.with_goal room w) (afterwards {j = 1} {k = 0} {b = told} (warns_one (warnings.Floats w.state.number) w) (changes refl)) (quiet (changes refl)))
 
   -- a firing without what waits after it
   pub page_work-step : (s : State) (f : Fired) → Step 2 (begun (Output.after_page s f)) (page_work p s f)

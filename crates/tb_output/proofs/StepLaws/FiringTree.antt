@@ -182,8 +182,8 @@ module _ (p : Params) where
   -- ---- floats and notes in the text
 
   -- the interline penalty goes back at last
-  then_penalty : {h : Hand} {a : Work} (b : Work) → Moves (TextMove p) h a nothing b → Moves (TextMove p) h a nothing (Text.puts_interline p b)
-  then_penalty b x = in_turn x (moves (puts_penalty nothing b))
+  then_penalty : (nobreak : Bool) {h : Hand} {a : Work} (b : Work) → Moves (TextMove p) h a nothing b → Moves (TextMove p) h a nothing (Text.puts_interline p nobreak b)
+  then_penalty nobreak b x = in_turn x (moves (puts_penalty nobreak nothing b))
 
   defer-moves : (f : Float) (es : List Entry) (w : Work) → w.state.floats.current ≡ entries.Float f ∷ es → OfText nothing w (Text.defer p f (record w.state.floats { current = es }) w)
   defer-moves f es w e = by_test (Text.only_here f) _ _ (λ i. in_turn (placed true i) (moves (warns nothing (warnings.Ht f.name) _))) (placed false)
@@ -194,17 +194,17 @@ module _ (p : Params) where
   float_goes-moves : (vert : Bool) (f : Float) (es : List Entry) (w : Work) (page_height : ℤ) (place : Where) → w.state.floats.current ≡ entries.Float f ∷ es → current_place p w.state.floats w.state.suppress page_height f ≡ place → OfText nothing w (Text.float_goes p vert f (record w.state.floats { current = es }) w place)
   float_goes-moves vert f es w height places.Here e i =
       let a = FloatMoves.place_float p places.Here f (record w.state.floats { current = es }) w in
-      in_turn (moves (takes_float f es w e)) (in_turn (moves (puts_penalty (of_float f) a)) (moves (stands_here vert f (Text.puts_interline p a))))
-  float_goes-moves vert f es w height places.Top e i = then_penalty _ (moves (places_current places.Top f es height w tt e i))
-  float_goes-moves vert f es w height places.Bottom e i = then_penalty _ (moves (places_current places.Bottom f es height w tt e i))
-  float_goes-moves vert f es w height place e i = then_penalty _ (defer-moves f es w e)
+      in_turn (moves (takes_float f es w e)) (in_turn (moves (puts_penalty f.nobreak (of_float f) a)) (moves (stands_here vert f (Text.puts_interline p f.nobreak a))))
+  float_goes-moves vert f es w height places.Top e i = then_penalty f.nobreak _ (moves (places_current places.Top f es height w tt e i))
+  float_goes-moves vert f es w height places.Bottom e i = then_penalty f.nobreak _ (moves (places_current places.Bottom f es height w tt e i))
+  float_goes-moves vert f es w height place e i = then_penalty f.nobreak _ (defer-moves f es w e)
 
   note-moves : (height depth : ℤ) (m : Margin) (es : List Entry) (w : Work) → w.state.floats.current ≡ entries.Left m ∷ es → OfText nothing w (Text.note_at p height depth m (record w.state.floats { current = drop 1 es }) w)
   note-moves height depth m es w e =
-      let at = placed_note p w.state.page w.state.two_columns w.state.first_column height w.state.note_bottom m in
+      let at = placed_note p w.state.number w.state.two_columns w.state.first_column height w.state.note_bottom m in
       let a = Text.with_note_bottom at.bottom (with_floats (record w.state.floats { current = drop 1 es }) w) in
       let b = Text.moved_warning m at a in
-      then_penalty _ (in_turn (moves (takes_note height m es at w e refl)) (in_turn (told at a at.moved) (moves (stands_beside depth m at b))))
+      then_penalty m.nobreak _ (in_turn (moves (takes_note height m es at w e refl)) (in_turn (told at a at.moved) (moves (stands_beside depth m at b))))
     where
       told : (at : Placed) (a : Work) (t : Bool) → Moves (TextMove p) (of_note m at) a (of_note m at) (if t then sends (warned (warnings.Moved m.name at.shift)) a else a)
       told at a true = moves (warns (of_note m at) (warnings.Moved m.name at.shift) a)
@@ -214,8 +214,8 @@ module _ (p : Params) where
   first-moves vert height depth page_height (entries.Float f ∷ es) w e = float_goes-moves vert f es w page_height _ e refl
   first-moves vert height depth page_height (entries.Left m ∷ []) w e = note-moves height depth m [] w e
   first-moves vert height depth page_height (entries.Left m ∷ n ∷ es) w e = note-moves height depth m (n ∷ es) w e
-  first-moves vert height depth page_height (entries.Right m ∷ es) w e = moves (puts_penalty nothing w)
-  first-moves vert height depth page_height [] w e = moves (puts_penalty nothing w)
+  first-moves vert height depth page_height (entries.Right m ∷ es) w e = moves (puts_penalty false nothing w)
+  first-moves vert height depth page_height [] w e = moves (puts_penalty false nothing w)
 
   pub float_or_note-moves : (vert : Bool) (body : List PlainNode) (w : Work) → OfText (of_text body) w (Text.float_or_note p vert body w)
   float_or_note-moves vert body w = in_turn (moves (goes_back body w)) (first-moves vert _ _ _ w.state.floats.current (Text.list_back p (w.state.held_page ++ Text.without_firing_box body) w) refl)
@@ -262,9 +262,9 @@ module _ (p : Params) where
   pub goal-moves : (n : ℤ) (w : Work) → Of nothing w (Output.next_goal p n w)
   goal-moves n w =
       let room = column_room_of p w.state.floats in
-      let told = sends (warned (warnings.Floats w.state.page)) w in
+      let told = sends (warned (warnings.Floats w.state.number)) w in
       by_test (Output.is_int n Asked.hold_penalty) (Output.with_goal max_dimen w) (Output.goal_by p room w) (λ e. moves (sets_goal max_dimen w))
-      (λ e. by_test (Output.is_crowded p room) (Output.leave_column w) (Output.with_goal room w) (λ e. in_turn (moves (by_text (warns nothing (warnings.Floats w.state.page) w))) (moves (leaves_blank (w.state.two_columns && not w.state.first_column) told))) (λ e. moves (sets_goal room w)))
+      (λ e. by_test (Output.is_crowded p room) (Output.leave_column w) (Output.with_goal room w) (λ e. in_turn (moves (by_text (warns nothing (warnings.Floats w.state.number) w))) (moves (leaves_blank (w.state.two_columns && not w.state.first_column) told))) (λ e. moves (sets_goal room w)))
 
   -- a firing without what waits after it
   pub page-moves : (s : State) (f : Fired) → Of (of_text f.body) (begun (Output.after_page s f)) (page_work p s f)

@@ -82,9 +82,9 @@ pub data TextMove (p : Params) : Hand → Work → Hand → Work → Type 0 wher
   defers_current : (t : Bool) (f : Float) (es : List Entry) (w : Work) → w.state.floats.current ≡ entries.Float f ∷ es → Text.only_here f ≡ t → TextMove p nothing w nothing (FloatMoves.place_float p places.Deferred (deferred_float t f) (record w.state.floats { current = es }) w)
   takes_float : (f : Float) (es : List Entry) (w : Work) → w.state.floats.current ≡ entries.Float f ∷ es → TextMove p nothing w (of_float f) (FloatMoves.place_float p places.Here f (record w.state.floats { current = es }) w)
   stands_here : (vert : Bool) (f : Float) (w : Work) → TextMove p (of_float f) w nothing (puts (Text.here_nodes p vert f) w)
-  takes_note : (height : ℤ) (m : Margin) (es : List Entry) (at : Placed) (w : Work) → w.state.floats.current ≡ entries.Left m ∷ es → at ≡ placed_note p w.state.page w.state.two_columns w.state.first_column height w.state.note_bottom m → TextMove p nothing w (of_note m at) (Text.with_note_bottom at.bottom (with_floats (record w.state.floats { current = drop 1 es }) w))
+  takes_note : (height : ℤ) (m : Margin) (es : List Entry) (at : Placed) (w : Work) → w.state.floats.current ≡ entries.Left m ∷ es → at ≡ placed_note p w.state.number w.state.two_columns w.state.first_column height w.state.note_bottom m → TextMove p nothing w (of_note m at) (Text.with_note_bottom at.bottom (with_floats (record w.state.floats { current = drop 1 es }) w))
   stands_beside : (depth : ℤ) (m : Margin) (at : Placed) (w : Work) → TextMove p (of_note m at) w nothing (puts (Text.note_nodes depth m at) w)
-  puts_penalty : (h : Hand) (w : Work) → TextMove p h w h (Text.puts_interline p w)
+  puts_penalty : (nobreak : Bool) (h : Hand) (w : Work) → TextMove p h w h (Text.puts_interline p nobreak w)
   warns : (h : Hand) (e : Warn) (w : Work) → TextMove p h w h (sends (warned e) w)
 
 -- what is done at any break: the above, a page that is held, and the goal of the next page

@@ -23,16 +23,16 @@ module _ (P : Work → Type 0) where
 
   -- a page is shipped, or the limit stops it
   pub by-ship : (p : Params) (sheet : PlainSheet) (w : Work) → (w.refused ≡ true → P w) → (w.refused ≡ false → P (record w { refused = true }))
-      → (w.refused ≡ false → int_lt p.maxpages (pos w.state.page) ≡ false → P (record w { state = record w.state { page = w.state.page + 1; dead_cycles = 0 }; sent = w.sent ++ shipped w.state.page sheet ∷ [] })) → P (Pages.ship p sheet w)
+      → (w.refused ≡ false → int_lt p.maxpages (pos w.state.page) ≡ false → P (record w { state = record w.state { page = w.state.page + 1; number = w.state.number + 1; dead_cycles = 0 }; sent = w.sent ++ shipped w.state.number sheet ∷ [] })) → P (Pages.ship p sheet w)
   by-ship p sheet w x y z = unless-stopped w (if int_lt p.maxpages (pos w.state.page) then record w { refused = true } else Pages.ship_now sheet w) x (λ r. by_limit r (int_lt p.maxpages (pos w.state.page)) refl)
     where
       counted : Work
-      counted = record w { state = record w.state { page = w.state.page + 1; dead_cycles = 0 } }
+      counted = record w { state = record w.state { page = w.state.page + 1; number = w.state.number + 1; dead_cycles = 0 } }
 
       by_limit : w.refused ≡ false → (t : Bool) → int_lt p.maxpages (pos w.state.page) ≡ t → P (if t then record w { refused = true } else Pages.ship_now sheet w)
       by_limit r true e = y r
-      by_limit r false e = unless-stopped counted (record counted { sent = w.sent ++ shipped w.state.page sheet ∷ [] }) (λ k. let no : ⊥ = grind (arith, r, k) in absurd no) (λ k. z r e)
+      by_limit r false e = unless-stopped counted (record counted { sent = w.sent ++ shipped w.state.number sheet ∷ [] }) (λ k. let no : ⊥ = grind (arith, r, k) in absurd no) (λ k. z r e)
 
   -- the same, whatever was before
-  pub by-any-ship : (p : Params) (sheet : PlainSheet) (w : Work) → P w → P (record w { refused = true }) → P (record w { state = record w.state { page = w.state.page + 1; dead_cycles = 0 }; sent = w.sent ++ shipped w.state.page sheet ∷ [] }) → P (Pages.ship p sheet w)
+  pub by-any-ship : (p : Params) (sheet : PlainSheet) (w : Work) → P w → P (record w { refused = true }) → P (record w { state = record w.state { page = w.state.page + 1; number = w.state.number + 1; dead_cycles = 0 }; sent = w.sent ++ shipped w.state.number sheet ∷ [] }) → P (Pages.ship p sheet w)
   by-any-ship p sheet w x y z = by-ship p sheet w (λ r. x) (λ r. y) (λ r e. z)

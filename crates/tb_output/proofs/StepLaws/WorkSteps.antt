@@ -63,7 +63,7 @@ pub continues-ship : (p : Params) (sheet : PlainSheet) (w : Work) → Continues 
 continues-ship p sheet w =
     by-ship (Continues w) p sheet w (λ r. continues-same refl refl refl refl refl)
     (λ r. record { more = []; sent = sym (append-nil w.sent); refused = λ h. unrefused r h; classes = refl; waiting = refl })
-    (λ r e. record { more = shipped w.state.page sheet ∷ []; sent = refl; refused = λ k. unrefused r k; classes = refl; waiting = refl })
+    (λ r e. record { more = shipped w.state.number sheet ∷ []; sent = refl; refused = λ k. unrefused r k; classes = refl; waiting = refl })
 
 continues-course : {w next : Work} → course next ≡ course w → Continues w next
 continues-course c = continues-same (ap (λ x. x.sent) c) (ap (λ x. x.refused) c) (ap (λ x. x.page) c) (ap (λ x. x.classes) c) (ap (λ x. x.waiting) c)
@@ -137,8 +137,8 @@ continues-fill_column p w = continues-place_next p [] w.state.floats.deferred w
 
 -- ---- floats and notes in the text
 
-pub continues-puts_interline : (p : Params) (w : Work) → Continues w (Text.puts_interline p w)
-continues-puts_interline p w = continues-same refl refl refl refl refl
+pub continues-puts_interline : (p : Params) (nobreak : Bool) (w : Work) → Continues w (Text.puts_interline p nobreak w)
+continues-puts_interline p nobreak w = continues-same refl refl refl refl refl
 
 pub continues-list_back : (p : Params) (ns : List PlainNode) (w : Work) → Continues w (Text.list_back p ns w)
 continues-list_back p ns w = continues-same refl refl refl refl refl
@@ -170,7 +170,7 @@ continues-output_by p f w = continues (output_by-step p (no_law p) f w)
 
 pub continues-leave_column : (w : Work) → Continues w (Output.leave_column w)
 continues-leave_column w =
-    continues-then (continues-sends (warned (warnings.Floats w.state.page)) w) (continues-puts (if w.state.two_columns && not w.state.first_column then Output.blank_column ++ Output.blank_column else Output.blank_column) _)
+    continues-then (continues-sends (warned (warnings.Floats w.state.number)) w) (continues-puts (if w.state.two_columns && not w.state.first_column then Output.blank_column ++ Output.blank_column else Output.blank_column) _)
 
 pub continues-next_goal : (p : Params) (n : ℤ) (w : Work) → Continues w (Output.next_goal p n w)
 continues-next_goal p n w = continues (next_goal-step p (no_law p) n w)

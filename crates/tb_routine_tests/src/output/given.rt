@@ -90,6 +90,8 @@ pub(super) fn float(letters: &str, height: u8) -> Result<Float, Fail>
         },
         bang: letters.contains(&b'!'),
         height: i64::from(height),
+        deep: false,
+        nobreak: false,
     })
 }
 
@@ -104,5 +106,6 @@ pub(super) fn note() -> Result<Margin, Fail>
         left_depth: 4,
         right_height: 8,
         right_depth: 4,
+        nobreak: false,
     })
 }

@@ -262,12 +262,13 @@ fn classes() -> [Class; 2]
 }
 
 fn class_of(number: u8, skip: u8) -> Class
-    ensures { result ≡ record { number = number; factor = pos 1000; limit = pos 1000; skip = fixed_glue (pos skip) } }
+    ensures { result ≡ record { number = number; factor = pos 1000; limit = pos 1000; below = None; skip = fixed_glue (pos skip) } }
 {
     Class {
         number,
         factor: 1000,
         limit: 1000,
+        below: None,
         skip: fixed(i64::from(skip)),
     }
 }

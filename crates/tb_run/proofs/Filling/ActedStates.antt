@@ -22,7 +22,7 @@ use Rattle.tb_float.specs.declared.Entry.TheVariants as entries
 use Rattle.tb_float.specs.Lists.{live_count}
 use Rattle.tb_float.specs.Ranges.{IsWithin, IsSizedEntry}
 use Rattle.tb_sheet.specs.declared.Warn.{Warn}
-use Rattle.tb_output.specs.State.{State, ask_of, Recorded}
+use Rattle.tb_output.specs.State.{State, Recorded}
 use Rattle.tb_output.specs.Act.{Acted, went, full, taken_float, large_warning, with_taken, act_on}
 use Rattle.tb_sheet.specs.Asked.{IsSizedAct}
 use Rattle.tb_items.specs.GalleyNodes.{IsGalleyNode}
@@ -38,10 +38,9 @@ pub record ActKeeps (p : Params) (s t : State) : Type 0 where
   pub boxes : t.boxes ≡ s.boxes
   pub held : t.held_page ≡ s.held_page
   pub bottom : t.note_bottom ≡ s.note_bottom
-  pub asks : ask_of p t ≡ ask_of p s
 
 pub keeps-same : (p : Params) (s : State) → ActKeeps p s s
-keeps-same p s = record { waiting = refl; classes = refl; boxes = refl; held = refl; bottom = refl; asks = refl }
+keeps-same p s = record { waiting = refl; classes = refl; boxes = refl; held = refl; bottom = refl }
 
 pub keeps-then : (p : Params) (s t u : State) → ActKeeps p s t → ActKeeps p t u → ActKeeps p s u
 keeps-then p s t u h k = record {
@@ -50,7 +49,6 @@ keeps-then p s t u h k = record {
   boxes = k.boxes ∙ h.boxes;
   held = k.held ∙ h.held;
   bottom = k.bottom ∙ h.bottom;
-  asks = k.asks ∙ h.asks;
 }
 
 pub taken-append : (xs ys : List Entry) → notes_taken (xs ++ ys) ≡ notes_taken xs + notes_taken ys
@@ -76,9 +74,9 @@ full-went l n t ws rs e = cc
 module _ (p : Params) (s : State) (runs : AreRunnable p) (sized : AllByRecursion IsSizedEntry s.floats.current) where
   taken-goes : (f : Float) (b : Bool) → IsExtent f.height
       → Goes p 0 s (record s { floats = if b then record s.floats { second = s.floats.second ++ f ∷ [] } else record s.floats { current = s.floats.current ++ entries.Float f ∷ [] } })
-  taken-goes f true h = record { keeps = record { waiting = refl; classes = refl; boxes = refl; held = refl; bottom = refl; asks = refl }; entries = sized; notes = omega arith }
+  taken-goes f true h = record { keeps = record { waiting = refl; classes = refl; boxes = refl; held = refl; bottom = refl }; entries = sized; notes = omega arith }
   taken-goes f false h = record {
-    keeps = record { waiting = refl; classes = refl; boxes = refl; held = refl; bottom = refl; asks = refl };
+    keeps = record { waiting = refl; classes = refl; boxes = refl; held = refl; bottom = refl };
     entries = all-join IsSizedEntry s.floats.current (entries.Float f ∷ []) sized (h, tt);
     notes = let e = taken-append s.floats.current (entries.Float f ∷ []) in omega (arith, e);
   }
@@ -103,14 +101,16 @@ module _ (p : Params) (s : State) (runs : AreRunnable p) (sized : AllByRecursion
       by_room : (b : Bool) → (if b then full m.line (live_count s.floats) else went next [] []) ≡ went t ws rs → Goes p 1 s t
       by_room true e = absurd (full-went m.line (live_count s.floats) t ws rs e)
       by_room false e = goes-is 1 next t (went-state next t [] ws [] rs e) (record {
-        keeps = record { waiting = refl; classes = refl; boxes = refl; held = refl; bottom = refl; asks = refl };
+        keeps = record { waiting = refl; classes = refl; boxes = refl; held = refl; bottom = refl };
         entries = all-join IsSizedEntry s.floats.current (entries.Left m ∷ entries.Right m ∷ []) sized (h, (h, tt));
         notes = let e = taken-append s.floats.current (entries.Left m ∷ entries.Right m ∷ []) in omega (arith, e);
       })
   acted-goes (acts.Suppress area) t ws rs h e =
-      goes-is 0 _ t (went-state _ t [] ws [] rs e) (record { keeps = record { waiting = refl; classes = refl; boxes = refl; held = refl; bottom = refl; asks = refl }; entries = sized; notes = omega arith })
+      goes-is 0 _ t (went-state _ t [] ws [] rs e) (record { keeps = record { waiting = refl; classes = refl; boxes = refl; held = refl; bottom = refl }; entries = sized; notes = omega arith })
+  acted-goes (acts.Page n) t ws rs h e =
+      goes-is 0 _ t (went-state _ t [] ws [] rs e) (record { keeps = record { waiting = refl; classes = refl; boxes = refl; held = refl; bottom = refl }; entries = sized; notes = omega arith })
   acted-goes (acts.Columns two) t ws rs h e =
-      goes-is 0 _ t (went-state _ t [] ws _ rs e) (record { keeps = record { waiting = refl; classes = refl; boxes = refl; held = refl; bottom = refl; asks = refl }; entries = sized; notes = omega arith })
+      goes-is 0 _ t (went-state _ t [] ws _ rs e) (record { keeps = record { waiting = refl; classes = refl; boxes = refl; held = refl; bottom = refl }; entries = sized; notes = omega arith })
 
 -- the act is a node that can be served
 without-act : (cs : List Class) (a : Act) (ns ms : List PlainNode) (w : Without a ns ms) → AllByRecursion (IsGalleyNode cs) ns → IsSizedAct a × AllByRecursion (IsGalleyNode cs) ms

@@ -17,12 +17,12 @@ use Rattle.tb_builder.proofs.Events.PagingLemmas.{paging_begins}
 use Rattle.tb_builder.proofs.Ranges.PageableLemmas.{pruned_sized, pruned_nodes_longer}
 use Rattle.tb_sheet.specs.Sheet.{warned}
 use Rattle.tb_sheet.specs.declared.Warn.{Warn}
-use Rattle.tb_output.specs.State.{State, ask_of, Recorded, emptied}
+use Rattle.tb_output.specs.State.{State, Recorded, emptied}
 use Rattle.tb_output.specs.Act.{went, full, act_on}
 use Rattle.tb_sheet.specs.Asked.{IsSizedAct}
 use Rattle.tb_items.specs.GalleyNodes.{IsGalleyNode}
 use Rattle.tb_items.specs.RunEvents.{offered, sent}
-use Rattle.tb_steps.specs.Run.{done, pool_full, Progress, after_events, progress_by, progress, ends, after_progress, step}
+use Rattle.tb_steps.specs.Run.{done, pool_full, Progress, after_events, progress_by, progress, ask_for, ends, after_progress, step}
 use Rattle.tb_steps.specs.Runnable.{AreRunnable}
 use Rattle.tb_run.specs.ServedStates.{notes_waiting, notes_left, IsServed}
 use Rattle.tb_run.specs.Routine.{between_pages}
@@ -48,7 +48,7 @@ served-nodes ns ms s nodes same h =
 
 module _ (p : Params) (s : State) where
   abbrev pub ask : Ask
-  ask = ask_of p s
+  ask = ask_for p s
 
   -- what the builder holds at the start of the page
   abbrev pub start : Contents
@@ -159,7 +159,7 @@ module _ (p : Params) (s : State) where
       -- the run ends
       pub step-full : (line live : ℕ) → act_on p t a ≡ full line live → step p s ≡ ends (so_far rs).events (so_far rs).records (pool_full line live)
       unfolding step
-      step-full line live e = ap (λ (q : Progress). after_progress p (page_reach start ask) q q.fault) (full-progress line live e)
+      step-full line live e = ap (λ (q : Progress). after_progress p ask (page_reach start ask) q q.fault) (full-progress line live e)
 
     -- ---- nothing waits any more
 
@@ -174,8 +174,8 @@ module _ (p : Params) (s : State) where
     unfolding step
     step-over n =
         let last : Reach = record { reached = rs; passed = d.page; beyond = []; fires = false } in
-        ap (λ (x : Reach). let q = progress p x.reached awful_bad s in after_progress p x q q.fault) n.reach
-        ∙ ap (after_progress p last (so_far rs)) h.none
+        ap (λ (x : Reach). let q = progress p x.reached awful_bad s in after_progress p ask x q q.fault) n.reach
+        ∙ ap (after_progress p ask last (so_far rs)) h.none
 
   -- ---- the page fires
 
@@ -203,5 +203,5 @@ module _ (p : Params) (s : State) where
     -- the page that fires is that of the state after the acts
     pub fires-page : page_in p s ≡ page_fired start ask
     fires-page =
-        (λ i. fired_of (ask_of p (fires-state i)) (fires-state i).classes (fires-state i).boxes (reach_in p s))
-        ∙ (λ i. fired_of (h.keeps.asks i) (h.keeps.classes i) (h.keeps.boxes i) (reach_in p s))
+        (λ i. fired_of ask (fires-state i).classes (fires-state i).boxes (reach_in p s))
+        ∙ (λ i. fired_of ask (h.keeps.classes i) (h.keeps.boxes i) (reach_in p s))

@@ -1,6 +1,6 @@
 -- The page that is filled fits, and so does the page that fires.
-use Rattle.std.proofs.Common.{◌≡◌, sym, subst, ap, ℕ, ◌+◌, ◌≤◌, pos, ◌≤ℤ◌, Bool, true, false, List, [], ◌∷◌, ◌++◌, map, take, drop, Some, arith}
-use Rattle.std.specs.Prelude.{All, if◌then◌else◌}
+use Rattle.std.proofs.Common.{◌≡◌, refl, sym, subst, ◌∙◌, ap, ℕ, ◌+◌, ◌≤◌, pos, ◌≤ℤ◌, Bool, true, false, List, [], ◌∷◌, ◌++◌, map, take, drop, Some, arith}
+use Rattle.std.specs.Prelude.{ℤ, All, Option, None, if◌then◌else◌}
 use Rattle.std.specs.List.{AllByRecursion}
 use Rattle.std.proofs.lemmas.Int.{ints}
 use Rattle.std.proofs.lemmas.List.{length-map}
@@ -14,7 +14,7 @@ use Rattle.tb_insert.specs.Account.{ClassBox, Labelled, labelled}
 use Rattle.tb_builder.specs.declared.Ask.{Ask}
 use Rattle.tb_builder.specs.Reach.{Reached, Reach}
 use Rattle.tb_builder.specs.FiredPages.{Boxed, Fired, page_break, content_of, given_to, box_after, is_given, frozen_for, fired_of}
-use Rattle.tb_builder.specs.Contents.{Contents, frozen_of, laid, node_count, box_count}
+use Rattle.tb_builder.specs.Contents.{Contents, frozen_of, frozen_or, laid, node_count, box_count}
 use Rattle.tb_builder.specs.SizedContents.{IsSizedAsk, fired_count, AreBoxesOf}
 use Rattle.tb_builder.specs.PageEvents.{BoxesFit, NextFits}
 use Rattle.tb_builder.specs.PageProgress.{page_fired}
@@ -27,7 +27,7 @@ use Rattle.tb_builder.proofs.Events.WholeLemmas.{between-fits, fired_of-sized, f
 use Rattle.tb_output.specs.State.{State, ask_of, has_floats}
 use Rattle.tb_sheet.specs.Asked.{hold_penalty}
 use Rattle.tb_items.specs.GalleyNodes.{IsServable, IsGalleyNode}
-use Rattle.tb_steps.specs.Run.{held_count}
+use Rattle.tb_steps.specs.Run.{held_count, led, ask_for}
 use Rattle.tb_steps.specs.Runnable.{AreRunnable, AreRunClasses}
 use Rattle.tb_run.specs.ServedStates.{notes_waiting, notes_left, IsTextKind, IsServed, IsServedPage}
 use Rattle.tb_run.specs.Routine.{between_pages}
@@ -49,31 +49,58 @@ boxes-after ls (c ∷ cs) (b ∷ bs) h = (by_test (is_given b.number ls), boxes-
     by_test true = h.0
     by_test false = h.0
 
-module _ (p : Params) (s : State) (runs : AreRunnable p) (classes : AreRunClasses s.classes) (goal : IsGoal s.goal) (served : IsServed s.waiting s) (few : held_count s ≤ 4194304) where
-  abbrev ask : Ask
-  ask = ask_of p s
+module _ (p : Params) (s : State) (runs : AreRunnable p) (classes : AreRunClasses s.classes) (served : IsServed s.waiting s) (few : held_count s ≤ 4194304) where
+  -- what is asked in a state with a goal in its range
+  module _ (t : State) (goal : IsGoal t.goal) where
+    depth : IsExtent (ask_of p t).max_depth
+    depth = by_test (has_floats t.floats.bottom)
+      where
+        by_test : (b : Bool) → IsExtent (if b then pos 0 else p.maxdepth)
+        by_test true = extent-zero
+        by_test false = runs.output.columns.maxdepth
 
-  depth : IsExtent ask.max_depth
-  depth = by_test (has_floats s.floats.bottom)
-    where
-      by_test : (t : Bool) → IsExtent (if t then pos 0 else p.maxdepth)
-      by_test true = extent-zero
-      by_test false = runs.output.columns.maxdepth
+    sized-asked : IsSizedAsk (ask_of p t)
+    sized-asked = record { goal = goal; depth = depth; top_skip = runs.topskip }
+
+    begins : NextFits (between_pages s) (ask_of p t)
+    begins = between-fits s.classes s.boxes s.waiting classes.sized classes.fit served.boxes (nodes-sized s.classes s.waiting served.nodes) (ask_of p t) sized-asked (omega (arith, few))
+
+    frozen-sized : IsSizedFrozen (frozen_for (ask_of p t) s.classes s.boxes)
+    frozen-sized = record {
+      goal = goal;
+      limit = depth;
+      classes = class_boxes_sized s.classes s.boxes classes.sized served.boxes (omega (arith, few));
+      few = let a = few_classes s.classes classes.fit in let b = length-map {B = ClassBox} s.classes in omega (arith, a, b);
+      total = class_boxes_total s.classes s.boxes classes.fit served.boxes (omega (arith, few));
+    }
+
+  -- all that is added up fits, whatever is asked, if what is frozen is in its range
+  module _ (rs : List Reached) (c : Contents) (now : State) (h : IsComing p s rs c now) (t : State) (goal : IsGoal t.goal) (frozen : (f : ℤ × ℤ) → c.frozen ≡ Some f → IsGoal (ask_for p s).goal) where
+    laid-nodes : All (IsGalleyNode s.classes) (laid c (ask_of p t))
+    laid-nodes = subst (λ cs. All (IsGalleyNode cs) (laid c (ask_for p s))) h.keeps.classes h.served.nodes
+
+    sized-by : (o : Option (ℤ × ℤ)) → c.frozen ≡ o → IsSizedFrozen (frozen_of c (ask_of p t))
+    sized-by None e = subst IsSizedFrozen (sym (λ i. frozen_or (e i) (ask_of p t) (h.come.stays.classes i) (h.come.stays.boxes i))) (frozen-sized t goal)
+    sized-by (Some f) e =
+        subst IsSizedFrozen (sym (
+        ap (λ o. frozen_or o (ask_of p t) c.classes c.boxes) e
+        ∙ sym (ap (λ o. frozen_or o (ask_for p s) c.classes c.boxes) e)
+        ∙ h.come.stays.frozen
+        )) (frozen-sized (led p s) (frozen f e))
+
+    pub coming-fits : NextFits c (ask_of p t)
+    coming-fits = record {
+      asked = (begins t goal).asked;
+      boxes = subst BoxesFit (sym h.come.stays.boxes) (begins t goal).boxes;
+      laid_fits = laid_fits (frozen_of c (ask_of p t)) (laid c (ask_of p t)) (sized-by c.frozen refl) (nodes-sized s.classes (laid c (ask_of p t)) laid-nodes) (let f = h.few in omega (arith, f, few));
+    }
+
+module _ (p : Params) (s : State) (runs : AreRunnable p) (classes : AreRunClasses s.classes) (goal : IsGoal (ask_for p s).goal) (served : IsServed s.waiting s) (few : held_count s ≤ 4194304) where
+  abbrev ask : Ask
+  ask = ask_for p s
 
   sized-ask : IsSizedAsk ask
-  sized-ask = record { goal = goal; depth = depth; top_skip = runs.topskip }
-
-  begins : NextFits (between_pages s) ask
-  begins = between-fits s.classes s.boxes s.waiting classes.sized classes.fit served.boxes (nodes-sized s.classes s.waiting served.nodes) ask sized-ask (omega (arith, few))
-
-  frozen-sized : IsSizedFrozen (frozen_for ask s.classes s.boxes)
-  frozen-sized = record {
-    goal = goal;
-    limit = depth;
-    classes = class_boxes_sized s.classes s.boxes classes.sized served.boxes (omega (arith, few));
-    few = let a = few_classes s.classes classes.fit in let b = length-map {B = ClassBox} s.classes in omega (arith, a, b);
-    total = class_boxes_total s.classes s.boxes classes.fit served.boxes (omega (arith, few));
-  }
+  sized-ask = sized-asked p s runs classes served few (led p s) goal
 
   module _ (rs : List Reached) (c : Contents) (t : State) (h : IsComing p s rs c t) where
     abbrev ns : List PlainNode
@@ -84,14 +111,6 @@ module _ (p : Params) (s : State) (runs : AreRunnable p) (classes : AreRunClasse
 
     ns-nodes : All (IsGalleyNode s.classes) ns
     ns-nodes = subst (λ cs. All (IsGalleyNode cs) ns) same-classes h.served.nodes
-
-    -- all that is added up fits
-    pub coming-fits : NextFits c ask
-    coming-fits = record {
-      asked = begins.asked;
-      boxes = subst BoxesFit (sym h.come.stays.boxes) begins.boxes;
-      laid_fits = laid_fits (frozen_of c ask) ns (subst IsSizedFrozen (sym h.come.stays.frozen) frozen-sized) (nodes-sized s.classes ns ns-nodes) (let f = h.few in omega (arith, f, few));
-    }
 
     -- ---- the page that fires
 

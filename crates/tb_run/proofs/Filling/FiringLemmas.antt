@@ -25,13 +25,13 @@ use Rattle.tb_items.specs.ItemsLeft.{IsOpen}
 use Rattle.tb_builder.specs.PageEvents.{IsGivenOut, TellsRoom}
 use Rattle.tb_builder.specs.PageProgress.{page_fired, ComesToPage, IsNextOfPage}
 use Rattle.tb_builder.specs.Ownership.{ids_of, KeepsOthers}
-use Rattle.tb_builder.specs.Pageable.{IsSizedBox}
+use Rattle.tb_builder.specs.Pageable.{IsSizedBox, IsGoal}
 use Rattle.tb_builder.specs.LegalPlaces.{NoActs}
 use Rattle.tb_builder.specs.Courses.{IsSound, IsPageSoFar}
 use Rattle.tb_builder.proofs.Ownership.StoreSized.{list-back, list-length, boxes_of}
 use Rattle.tb_column.specs.Page.{is_leaf_kind, AreLeaves}
 use Rattle.tb_float.specs.Ranges.{IsWithin}
-use Rattle.tb_output.specs.State.{State, ask_of, Recorded}
+use Rattle.tb_output.specs.State.{State, Recorded}
 use Rattle.tb_sheet.specs.Asked.{hold_penalty}
 use Rattle.tb_output.specs.Output.{out}
 use Rattle.tb_output.specs.Machine.{MachineView, state_shown, machine_lists}
@@ -44,7 +44,7 @@ use Rattle.tb_output.proofs.FiringWork.StandLemmas.{machine-live}
 use Rattle.tb_items.specs.declared.happenings.Happening.{Happening}
 use Rattle.tb_run.specs.declared.routine.Routine.{Routine}
 use Rattle.tb_items.specs.RunEvents.{RunEvent}
-use Rattle.tb_steps.specs.Run.{held_count, Progress, firing_step}
+use Rattle.tb_steps.specs.Run.{held_count, Progress, ask_for, firing_step}
 use Rattle.tb_steps.specs.Runnable.{AreRunnable, AreRunClasses}
 use Rattle.tb_run.specs.ServedStates.{IsTextKind, notes_waiting, notes_taken, notes_left, IsServedPage}
 use Rattle.tb_run.specs.Routine.{built_in, held_in, state_of, IsConsistent, IsBetweenFirings, IsReady}
@@ -54,6 +54,7 @@ use Rattle.tb_run.proofs.ServedAgain.ServedFirings.{reach_where}
 use Rattle.tb_run.proofs.Turns.CountedLemmas.{leaves-count}
 use Rattle.tb_run.proofs.Filling.ComingLemmas.{start, fires-progress, fires-is, fires-state, fires-page}
 use Rattle.tb_run.proofs.Filling.ComingPages.{fired-mild, fired-few, fired-notes, fired-served}
+use Rattle.tb_run.proofs.Filling.AskLemmas.{stopped-begun}
 use Rattle.tb_run.proofs.Filling.FillingLemmas.{state_now, IsUnderway, next-is, next-whole, next-state, next-params, next-taken}
 
 -- ---- nodes of a page
@@ -89,7 +90,7 @@ firing-same p es rs store bs cs ns ms m f = refl
 page-same : (store : Lists Node) (bs cs : List Boxed) (ns ms : List PlainNode) (m : MachineView) (f : Fired) → IsServedPage (state_shown store bs ns m) f → IsServedPage (state_shown store cs ms m) f
 page-same store bs cs ns ms m f h = record { body = h.body; text = h.text; back = h.back; rest = h.rest; boxes = h.boxes; boxes_of = h.boxes_of; held = h.held; entries = h.entries; notes = h.notes; bottom = h.bottom }
 
-module _ (wanted : Bool) (r q d : Routine) (hs : List Happening) (ready : IsReady r) (h : IsUnderway wanted r q hs) (ask : Ask) (asked : ask ≡ ask_of r.machine.params (state_of r))
+module _ (wanted : Bool) (r q d : Routine) (hs : List Happening) (ready : IsReady r) (h : IsUnderway wanted r q hs) (ask : Ask) (asked : ask ≡ ask_for r.machine.params (state_of r))
     (e : Event) (of_page : IsNextOfPage e (held_in q) ask (held_in d) d.store) (sound : IsSound d.builder d.store) (keeps : KeepsOthers (ids_of q.builder) q.store (ids_of d.builder) d.store) (same : d.machine ≡ q.machine) (most : d.most ≡ q.most) (d_left : d.left ≡ q.left) (kept : (built_in d).classes ≡ (built_in q).classes)
     (page : Page) (is : e ≡ events.Fired page) (given : IsGivenOut e q.store (ids_of d.builder) d.store) (told : TellsRoom e d.builder d.store) (open_so : q.builder.stopped ≡ true → (before : List PlainNode) → IsOpen d.left (before ++ (built_in d).waiting)) where
   abbrev p : Params
@@ -98,11 +99,11 @@ module _ (wanted : Bool) (r q d : Routine) (hs : List Happening) (ready : IsRead
   abbrev s : State
   s = state_of r
 
-  fires : ComesToPage page (start p s) (held_in q) (ask_of p s) (held_in d) d.store
+  fires : ComesToPage page (start p s) (held_in q) (ask_for p s) (held_in d) d.store
   fires = next-is wanted r q d hs ready h ask asked e of_page sound keeps same most d_left kept (events.Fired page) is
 
   abbrev f : Fired
-  f = page_fired (start p s) (ask_of p s)
+  f = page_fired (start p s) (ask_for p s)
 
   left : IsGivenOut (events.Fired page) q.store (ids_of d.builder) d.store
   left = subst (λ x. IsGivenOut x q.store (ids_of d.builder) d.store) is given
@@ -138,8 +139,16 @@ module _ (wanted : Bool) (r q d : Routine) (hs : List Happening) (ready : IsRead
   abbrev set : IsBetweenFirings r
   set = ready.settled
 
+  -- the page was begun
+  goal : IsGoal (ask_for p s).goal
+  goal = by_frozen q.builder.frozen refl
+    where
+      by_frozen : (o : Option (ℤ × ℤ)) → q.builder.frozen ≡ o → IsGoal (ask_for p s).goal
+      by_frozen None none = absurd (stopped-begun q.builder q.store h.whole.builder fires.stopped none)
+      by_frozen (Some x) k = h.asked.goal x k
+
   served : IsServedPage (state_now r q) f
-  served = fired-served p s set.params set.classes set.whole.machine.goal set.served few h.rs (held_in q) (state_now r q) h.coming fires.stopped (page-quiet q.builder q.store h.whole.builder fires.stopped) of-boxes
+  served = fired-served p s set.params set.classes goal set.served few h.rs (held_in q) (state_now r q) h.coming fires.stopped (page-quiet q.builder q.store h.whole.builder fires.stopped) of-boxes
 
   served-now : IsServedPage (state_of d) (fired_whole d page)
   served-now = page-same d.store s.boxes (held_in d).boxes s.waiting (held_in d).waiting d.machine (fired_whole d page)
@@ -148,13 +157,13 @@ module _ (wanted : Bool) (r q d : Routine) (hs : List Happening) (ready : IsRead
   -- no more marginal notes have no place yet
   notes-now : notes_left ((fired_whole d page).held ++ (fired_whole d page).rest) (state_of d) ≤ notes_left s.waiting s
   notes-now =
-      let a = fired-notes p s set.params set.classes set.whole.machine.goal set.served few h.rs (held_in q) (state_now r q) h.coming fires.stopped (page-quiet q.builder q.store h.whole.builder fires.stopped) of-boxes in
+      let a = fired-notes p s set.params set.classes goal set.served few h.rs (held_in q) (state_now r q) h.coming fires.stopped (page-quiet q.builder q.store h.whole.builder fires.stopped) of-boxes in
       let b = ap (λ (x : Fired). notes_waiting (x.held ++ x.rest)) fired-same in
       let e = ap (λ (t : State). notes_taken t.floats.current) t-now in
       omega (arith, a, b, e)
 
   counted : fired_count f ≤ node_count s.waiting + 1 + box_count s.boxes
-  counted = fired-few p s set.params set.classes set.whole.machine.goal set.served few h.rs (held_in q) (state_now r q) h.coming fires.stopped (page-quiet q.builder q.store h.whole.builder fires.stopped) of-boxes
+  counted = fired-few p s set.params set.classes goal set.served few h.rs (held_in q) (state_now r q) h.coming fires.stopped (page-quiet q.builder q.store h.whole.builder fires.stopped) of-boxes
 
   held-same : node_count (state_of d).held_page ≡ node_count s.held_page
   held-same = ap (λ (t : State). node_count t.held_page) t-now ∙ ap node_count h.coming.keeps.held
@@ -181,7 +190,7 @@ module _ (wanted : Bool) (r q d : Routine) (hs : List Happening) (ready : IsRead
   can-fire = record {
     awaits = record { page = ap (λ (c : Contents). c.page) fires.after; frozen = ap (λ (c : Contents). c.frozen) fires.after };
     classes = ap (λ (c : Contents). c.classes) fires.after ∙ h.coming.come.stays.classes ∙ sym classes-now;
-    penalty = subst (λ z. hold_penalty ≤ℤ z) (sym fires.page.penalty) (fired-mild p s set.params set.classes set.whole.machine.goal set.served few h.rs (held_in q) (state_now r q) h.coming fires.stopped (page-quiet q.builder q.store h.whole.builder fires.stopped) of-boxes);
+    penalty = subst (λ z. hold_penalty ≤ℤ z) (sym fires.page.penalty) (fired-mild p s set.params set.classes goal set.served few h.rs (held_in q) (state_now r q) h.coming fires.stopped (page-quiet q.builder q.store h.whole.builder fires.stopped) of-boxes);
     note_bottom = reach-within (notes_left ((fired_whole d page).held ++ (fired_whole d page).rest) (state_of d)) d.machine.note_bottom served-now.bottom;
     body = record {
       live = fires.page.live;

@@ -1,5 +1,5 @@
 -- Places are passed over while a page is filled.
-use Rattle.std.proofs.Common.{◌≡◌, refl, sym, subst, ◌∙◌, ap, ℕ, ◌<◌, ◌≤◌, Bool, true, false, List, [], ◌∷◌, ◌++◌, None, append-nil, arith}
+use Rattle.std.proofs.Common.{◌≡◌, refl, sym, subst, ◌∙◌, ap, ℕ, ◌<◌, ◌≤◌, Bool, true, false, ℤ, List, [], ◌∷◌, ◌++◌, None, Some, append-nil, arith}
 use Rattle.std.proofs.lemmas.Bool.{true≢false}
 use Rattle.tb_node.specs.declared.Act.{Act}
 use Rattle.tb_builder.specs.declared.Ask.{Ask}
@@ -20,8 +20,13 @@ use Rattle.tb_items.specs.Happenings.{noted_try}
 use Rattle.tb_run.specs.Routine.{built_in, held_in, state_of, with_events, IsConsistent, IsReady}
 use Rattle.tb_run.specs.FilledPages.{sent_happenings, IsFilledLast, IsFiring}
 use Rattle.tb_run.specs.RoutinePages.{HasComeTo, HasActed, HasNotActed}
-use Rattle.tb_run.proofs.Filling.FillingLemmas.{IsUnderway, left_of_page, turns_left, underway-tried, fewer-tried, act-fits, underway-acted, fewer-acted, filled-full, filled-over}
-use Rattle.tb_items.specs.ItemsLeft.{pieces_left, AreItemsLeft}
+use Rattle.tb_run.proofs.Filling.FillingLemmas.{state_now, IsAskedFor, IsAskedAct, IsUnderway, left_of_page, turns_left, next-state, underway-tried, fewer-tried, act-fits, underway-acted, fewer-acted, filled-full, filled-over}
+use Rattle.tb_items.specs.ItemsLeft.{nodes_left, pieces_left, AreItemsLeft}
+use Rattle.tb_param.specs.declared.Params.{Params}
+use Rattle.tb_builder.specs.Pageable.{IsGoal}
+use Rattle.tb_output.specs.Act.{act_on}
+use Rattle.tb_steps.specs.Run.{led_by, led_through, led, ask_for}
+use Rattle.tb_run.proofs.Filling.AskedCalls.{goal-behind, act-agrees, tried-agrees}
 use Rattle.tb_run.proofs.Turns.WholeLemmas.{built-whole}
 use Rattle.tb_run.proofs.Filling.MoreLemmas.{IsOpenFor, IsMetBy, next-page, next-going, next-kept, next-open, fired-open, met-try, met-act, met-page}
 use Rattle.tb_run.proofs.Filling.FiringLemmas.{filled-fires}
@@ -36,7 +41,7 @@ pub record IsLastCall (wanted : Bool) (r : Routine) (ask : Ask) (e : Event) (d :
   pub left : d.left ≡ before.left
   pub fewer : left_of_page r before ≤ most_left
 
-module _ (wanted : Bool) (r d : Routine) (hs : List Happening) (ready : IsReady r) (ask : Ask) (asked : ask ≡ ask_of r.machine.params (state_of r)) (e : Event) where
+module _ (wanted : Bool) (r d : Routine) (hs : List Happening) (ready : IsReady r) (ask : Ask) (asked : ask ≡ ask_for r.machine.params (state_of r)) (e : Event) where
   -- an unwanted place is no happening
   none-noted : (b : Bool) → b ≡ false → (x : Try) → hs ≡ hs ++ noted_try b x
   none-noted true is x = absurd (true≢false is)
@@ -44,6 +49,31 @@ module _ (wanted : Bool) (r d : Routine) (hs : List Happening) (ready : IsReady 
 
   open-now : (q : Routine) → IsUnderway wanted r q hs → IsOpenFor q.left (built_in q) ask
   open-now q h = subst (IsOpenFor q.left (built_in q)) (sym asked) h.ends
+
+  -- what the page is made for, behind a call
+  module _ (q x : Routine) (h : IsUnderway wanted r q hs) (v : Event) (n : IsNext q.builder q.store ask v x.builder x.store) (same : x.machine ≡ q.machine) (left : x.left ≡ q.left) where
+    abbrev p : Params
+    p = r.machine.params
+
+    made : IsNext q.builder q.store (ask_for p (state_of r)) v x.builder x.store
+    made = subst (λ a. IsNext q.builder q.store a v x.builder x.store) asked n
+
+    goal-for : (f : ℤ × ℤ) → x.builder.frozen ≡ Some f → IsGoal (ask_for p (state_of r)).goal
+    goal-for = goal-behind p (state_now r q) (led p (state_of r)) (nodes_left q.left) q.builder x.builder q.store x.store v made h.whole.builder h.asked.later h.whole.machine.goal h.asked.goal
+
+    asked-tried : (y : Try) → v ≡ events.Try y → q.builder.stopped ≡ false → IsAskedFor r x
+    asked-tried y is on = record {
+      later = λ none. absurd (tried-agrees p (state_now r q) (led p (state_of r)) (nodes_left q.left) q.builder x.builder q.store x.store v made h.whole.builder h.asked.later on y is none);
+      goal = goal-for;
+    }
+
+    asked-act : state_now r x ≡ state_now r q → (a : Act) → v ≡ events.Act a → q.builder.stopped ≡ false → IsAskedAct r x a
+    asked-act still a is on = record {
+      later = λ none.
+          act-agrees p (state_now r q) (led p (state_of r)) (nodes_left q.left) q.builder x.builder q.store x.store v made h.whole.builder h.asked.later on a is none
+          ∙ (λ i. ask_of p (led_by (λ y. led_through p ((built_in x).waiting ++ nodes_left (sym left i)) y) (sym still i) (act_on p (sym still i) a)));
+      goal = goal-for;
+    }
 
   -- each place that is passed over is one call
   walk : (ps : List PassedOver) (q : Routine) → IsUnderway wanted r q hs → wanted ≡ false → ComesBy ps q.builder q.store ask e d.builder d.store → d.machine ≡ q.machine → d.most ≡ q.most → d.left ≡ q.left → IsLastCall wanted r ask e d hs (left_of_page r q)
@@ -55,7 +85,8 @@ module _ (wanted : Bool) (r d : Routine) (hs : List Happening) (ready : IsReady 
       let page : IsNextOfPage t (held_in q) ask (held_in x) x.store = next-page q x ask t n.0 refl ends (met-try q.left p.place) in
       let kept = next-kept q x ask t n.0 refl ends in
       let after : IsOpenFor x.left (built_in x) ask = next-open q x ask t n.0 refl ends (next-going q x ask t n.0 refl ends (λ f. f)) (met-try q.left p.place) in
-      let u : IsUnderway wanted r x hs = underway-tried wanted r q x hs ready h ask asked t page n.0.sound n.0.keeps refl refl refl kept p.place refl after hs (none-noted wanted unwanted p.place) in
+      let going = next-going q x ask t n.0 refl ends (λ f. f) in
+      let u : IsUnderway wanted r x hs = underway-tried wanted r q x hs ready h ask asked t page n.0.sound n.0.keeps refl refl refl kept p.place refl after (asked-tried q x h t n.0 refl refl p.place refl going) hs (none-noted wanted unwanted p.place) in
       let f : left_of_page r x < left_of_page r q = fewer-tried wanted r q x hs ready h ask asked t page n.0.sound n.0.keeps refl refl refl kept p.place refl in
       let l : IsLastCall wanted r ask e d hs (left_of_page r x) = walk ps x u unwanted n.1 same most left in
       let k = l.fewer in
@@ -97,7 +128,7 @@ module _ (wanted : Bool) (r d : Routine) (hs : List Happening) (ready : IsReady 
       going-here = next-going l.before d ask e l.next l.left ends (λ f. subst (λ v. FiresWith v (built_in l.before) ask (built_in d) d.store) is f)
 
       pub come-tried : (new : List Happening) → new ≡ hs ++ noted_try wanted x → IsUnderway wanted r d new
-      come-tried = underway-tried wanted r l.before d hs ready l.underway ask asked e (page-of met-here) l.next.sound l.next.keeps l.machine l.most l.left kept x is (next-open l.before d ask e l.next l.left ends going-here met-here)
+      come-tried = underway-tried wanted r l.before d hs ready l.underway ask asked e (page-of met-here) l.next.sound l.next.keeps l.machine l.most l.left kept x is (next-open l.before d ask e l.next l.left ends going-here met-here) (asked-tried l.before d l.underway e l.next l.machine l.left x is going-here)
 
       pub come-fewer : turns_left r d < turns_left r q
       come-fewer = turns-so d refl (fewer-tried wanted r l.before d hs ready l.underway ask asked e (page-of met-here) l.next.sound l.next.keeps l.machine l.most l.left kept x is)
@@ -113,16 +144,21 @@ module _ (wanted : Bool) (r d : Routine) (hs : List Happening) (ready : IsReady 
       open-act : IsOpenFor d.left (built_in d) ask
       open-act = next-open l.before d ask e l.next l.left ends going-act met-act-here
 
+      made-act : IsAskedAct r d a
+      made-act =
+          asked-act l.before d l.underway e l.next l.machine l.left
+          (next-state wanted r l.before d hs ready l.underway ask asked e (page-of met-act-here) l.next.sound l.next.keeps l.machine l.most l.left kept) a is going-act
+
       pub come-sized : IsSizedAct a
       come-sized = act-fits wanted r l.before d hs ready l.underway ask asked e (page-of met-act-here) l.next.sound l.next.keeps l.machine l.most l.left kept a is
 
       pub come-acted : (now : Routine) → HasActed a d now → (new : List Happening) → new ≡ hs ++ sent_happenings now.machine.events → IsUnderway wanted r (with_events [] now) new
-      come-acted now acted = underway-acted wanted r l.before d hs ready l.underway ask asked e (page-of met-act-here) l.next.sound l.next.keeps l.machine l.most l.left kept a is now acted open-act
+      come-acted now acted = underway-acted wanted r l.before d hs ready l.underway ask asked e (page-of met-act-here) l.next.sound l.next.keeps l.machine l.most l.left kept a is now acted open-act made-act
 
       pub come-fewer-acted : (now : Routine) → HasActed a d now → turns_left r (with_events [] now) < turns_left r q
       come-fewer-acted now acted =
           turns-so (with_events [] now) acted.left
-          (fewer-acted wanted r l.before d hs ready l.underway ask asked e (page-of met-act-here) l.next.sound l.next.keeps l.machine l.most l.left kept a is now acted open-act)
+          (fewer-acted wanted r l.before d hs ready l.underway ask asked e (page-of met-act-here) l.next.sound l.next.keeps l.machine l.most l.left kept a is now acted open-act made-act)
 
       pub come-full : (now : Routine) (live : ℕ) → HasNotActed a live d now → IsFilledLast wanted r (endings.PoolFull (line_of a) live) now hs
       come-full now live k = filled-full wanted r l.before d hs ready l.underway ask asked e (page-of met-act-here) l.next.sound l.next.keeps l.machine l.most l.left kept a is now live k

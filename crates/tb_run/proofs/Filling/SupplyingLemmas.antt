@@ -25,9 +25,11 @@ use Rattle.tb_run.proofs.Filling.ComingLemmas.{IsComing, start, coming-same}
 use Rattle.tb_run.proofs.Filling.FillingLemmas.{IsUnderway, state_now, left_of_page, turns_left}
 use Rattle.tb_run.proofs.Filling.MoreLemmas.{IsOpenFor}
 use Rattle.tb_run.proofs.Filling.PassingLemmas.{IsLastCall, last-call}
+use Rattle.tb_run.proofs.Filling.AskedCalls.{goal-behind, end-agrees}
+use Rattle.tb_steps.specs.Run.{led_through, led, ask_for}
 
 -- a call that found nothing more: with nothing behind, all is on the page
-module _ (wanted : Bool) (r b d : Routine) (hs : List Happening) (u : IsUnderway wanted r b hs) (n : IsNext b.builder b.store (ask_of r.machine.params (state_of r)) events.Empty d.builder d.store) (same : d.machine ≡ b.machine) (most : d.most ≡ b.most)
+module _ (wanted : Bool) (r b d : Routine) (hs : List Happening) (u : IsUnderway wanted r b hs) (n : IsNext b.builder b.store (ask_for r.machine.params (state_of r)) events.Empty d.builder d.store) (same : d.machine ≡ b.machine) (most : d.most ≡ b.most)
     (l : ItemsLeft) (some : b.left ≡ Some l) where
   abbrev p : Params
   p = r.machine.params
@@ -36,7 +38,7 @@ module _ (wanted : Bool) (r b d : Routine) (hs : List Happening) (u : IsUnderway
   s = state_of r
 
   abbrev ask : Ask
-  ask = ask_of p s
+  ask = ask_for p s
 
   abbrev more : List PlainNode
   more = nodes_of l
@@ -94,6 +96,13 @@ module _ (wanted : Bool) (r b d : Routine) (hs : List Happening) (u : IsUnderway
         by_left None h = tt
         by_left (Some x) h = subst (λ c. IsOpenPage c ask) (sym built-now) (open-supplied (built_in b) (built_in d) ask more ends.ends event.1 event.0 sup.nodes h)
 
+    -- the acts that are still to come are those of the nodes that were left
+    later-now : now.builder.frozen ≡ None → ask ≡ ask_of p (led_through p (held_in now).waiting (state_now r now))
+    later-now none =
+        end-agrees p (state_now r b) (led p s) (nodes_left b.left) b.builder d.builder b.store d.store events.Empty n u.whole.builder u.asked.later going refl (sym (ap (λ (c : Contents). c.frozen) sup.contents) ∙ none)
+        ∙ ap (λ o. ask_of p (led_through p (nodes_left o) (state_now r b))) some
+        ∙ (λ i. ask_of p (led_through p (sym held-now i).waiting (sym state-same i)))
+
     pub underway-supplied : IsUnderway wanted r now hs
     underway-supplied = record {
       rs = u.rs;
@@ -105,6 +114,7 @@ module _ (wanted : Bool) (r b d : Routine) (hs : List Happening) (u : IsUnderway
       most = sup.most ∙ most ∙ u.most;
       left = λ none. let no : Some l ≡ None = sym some ∙ u.left none in cc;
       ends = ends-now;
+      asked = record { later = later-now; goal = λ f k. goal-behind p (state_now r b) (led p s) (nodes_left b.left) b.builder d.builder b.store d.store events.Empty n u.whole.builder u.asked.later u.whole.machine.goal u.asked.goal f (sym (ap (λ (c : Contents). c.frozen) sup.contents) ∙ k) };
     }
 
     -- as much of the page is left
@@ -116,11 +126,11 @@ module _ (wanted : Bool) (r b d : Routine) (hs : List Happening) (u : IsUnderway
         ∙ sym (ap (λ (c : Contents). calls_left c.stopped (length (reach_ahead c ask).reached)) held-before)
 
 -- the same after places that were passed over
-module _ (wanted : Bool) (r d : Routine) (hs : List Happening) (ready : IsReady r) (ask : Ask) (asked : ask ≡ ask_of r.machine.params (state_of r)) (e : Event) (q : Routine) (h : IsUnderway wanted r q hs) (c : HasComeTo wanted e ask q d) (is : e ≡ events.Empty) (l : ItemsLeft) (some : d.left ≡ Some l) where
+module _ (wanted : Bool) (r d : Routine) (hs : List Happening) (ready : IsReady r) (ask : Ask) (asked : ask ≡ ask_for r.machine.params (state_of r)) (e : Event) (q : Routine) (h : IsUnderway wanted r q hs) (c : HasComeTo wanted e ask q d) (is : e ≡ events.Empty) (l : ItemsLeft) (some : d.left ≡ Some l) where
   abbrev last : IsLastCall wanted r ask e d hs (left_of_page r q)
   last = last-call wanted r d hs ready ask asked e q h c
 
-  next : IsNext last.before.builder last.before.store (ask_of r.machine.params (state_of r)) events.Empty d.builder d.store
+  next : IsNext last.before.builder last.before.store (ask_for r.machine.params (state_of r)) events.Empty d.builder d.store
   next = subst (λ a. IsNext last.before.builder last.before.store a events.Empty d.builder d.store) asked (subst (λ v. IsNext last.before.builder last.before.store ask v d.builder d.store) is last.next)
 
   pub come-takes : ends_in_kern (built_in d).page ≡ false

@@ -26,7 +26,7 @@ use Rattle.tb_output.specs.State.{notes_in, with_notes}
 use Rattle.tb_output.specs.Machine.{AreClassesFrom}
 use Rattle.tb_output.specs.Columns.{emptied_boxes}
 use Rattle.tb_output.specs.Clear.{clear_again}
-use Rattle.tb_output.specs.Text.{penalty_nodes, penalty_after, notes_nodes, here_nodes, note_nodes}
+use Rattle.tb_output.specs.Text.{penalty_nodes, penalty_between, notes_nodes, here_nodes, note_nodes}
 use Rattle.tb_sheet.specs.Asked.{hold_penalty}
 use Rattle.tb_output.specs.Output.{blank_column}
 use Rattle.tb_items.specs.GalleyNodes.{IsMild, IsServable, IsGalleyNode}
@@ -101,11 +101,13 @@ module _ (cs : List Class) where
 
   module _ (p : Params) (runs : AreRunnable p) where
     -- the penalty between the lines
-    pub interline-back : (ns : List PlainNode) → AreBack cs (penalty_after p.interlinepenalty ns)
-    interline-back ns = penalty-back p.interlinepenalty _ runs.interline
+    pub interline-back : (nobreak : Bool) (ns : List PlainNode) → AreBack cs (penalty_between p.interlinepenalty nobreak ns)
+    interline-back true ns = (omega (arith, ints), tt)
+    interline-back false ns = penalty-back p.interlinepenalty _ runs.interline
 
-    pub interline-few : (ns : List PlainNode) → node_count (penalty_after p.interlinepenalty ns) ≤ 3
-    interline-few ns = penalty-few p.interlinepenalty _
+    pub interline-few : (nobreak : Bool) (ns : List PlainNode) → node_count (penalty_between p.interlinepenalty nobreak ns) ≤ 3
+    interline-few true ns = omega arith
+    interline-few false ns = penalty-few p.interlinepenalty _
 
     -- a float in the text
     pub here-back : (vert : Bool) (f : Float) → AreBack cs (here_nodes p vert f)

@@ -13,12 +13,12 @@ use Rattle.tb_builder.specs.Pageable.{IsFactor, IsSizedClass}
 use Rattle.tb_column.specs.Ranges.{IsSizedGlue}
 use Rattle.tb_galley.specs.declared.ClassLine.{ClassLine}
 use Rattle.tb_galley.specs.declared.Galley.{Galley}
-use Rattle.tb_galley.specs.Valid.{is_class, is_size, do_classes_rise, IsValid}
+use Rattle.tb_galley.specs.Valid.{is_class, is_size, do_classes_rise, IsValid, may_stand, do_all_stand}
 use Rattle.tb_items.specs.Classes.{foot_class, classes_of}
 use Rattle.tb_output.specs.Machine.{AreClassesFrom}
 use Rattle.tb_steps.specs.Runnable.{AreRunnable, AreRunClasses}
 use Rattle.tb_column.proofs.RangeLemmas.{dimension}
-use Rattle.tb_items.proofs.GalleyClasses.{AreAbove, rising-above, rising-rest, class-small, with_foot, classes-fit}
+use Rattle.tb_items.proofs.GalleyClasses.{AreAbove, rising-above, rising-rest, class-small, with_foot, classes-fit, standing-rule}
 use Rattle.tb_node.proofs.FitLemmas.{dimension_small}
 
 -- ---- a class
@@ -51,23 +51,25 @@ line-sized c h =
 
 -- ---- all of them
 
-module _ (p : Params) (foot : IsSizedGlue p.skipfootins) where
-  rising-from : (n : ℕ) (cs : List ClassLine) → n ≤ 253 → AreAbove n cs → IsTrue (list_all is_class cs) → IsTrue (do_classes_rise cs) → AreClassesFrom (suc n) (with_foot p cs)
-  rising-from n [] small above v r = (omega (arith, small), foot, tt)
-  rising-from n (c ∷ cs) small above v r =
+module _ (p : Params) (foot : IsSizedGlue p.skipfootins) (version : ℕ) where
+  rising-from : (n : ℕ) (cs : List ClassLine) → n ≤ 253 → AreAbove n cs → IsTrue (list_all is_class cs) → IsTrue (do_all_stand version cs) → IsTrue (do_classes_rise cs) → AreClassesFrom (suc n) (with_foot p cs)
+  rising-from n [] small above v s r = (omega (arith, small), foot, tt, tt)
+  rising-from n (c ∷ cs) small above v s r =
       let here = first_so (is_class c) (list_all is_class cs) v in (
         above.0,
         (line-sized c here).skip,
-        rising-from c.number cs (class-small c here) (rising-above c cs r) (second_so (is_class c) (list_all is_class cs) v) (rising-rest c cs r),
+        rising-from c.number cs (class-small c here) (rising-above c cs r) (second_so (is_class c) (list_all is_class cs) v) (second_so (may_stand version c.below) (do_all_stand version cs) s) (rising-rest c cs r),
+        standing-rule version c.below (first_so (may_stand version c.below) (do_all_stand version cs) s),
       )
 
-  rising : (cs : List ClassLine) → IsTrue (list_all is_class cs) → IsTrue (do_classes_rise cs) → AreClassesFrom 0 (with_foot p cs)
-  rising [] v r = (omega arith, foot, tt)
-  rising (c ∷ cs) v r =
+  rising : (cs : List ClassLine) → IsTrue (list_all is_class cs) → IsTrue (do_all_stand version cs) → IsTrue (do_classes_rise cs) → AreClassesFrom 0 (with_foot p cs)
+  rising [] v s r = (omega arith, foot, tt, tt)
+  rising (c ∷ cs) v s r =
       let here = first_so (is_class c) (list_all is_class cs) v in (
         omega arith,
         (line-sized c here).skip,
-        rising-from c.number cs (class-small c here) (rising-above c cs r) (second_so (is_class c) (list_all is_class cs) v) (rising-rest c cs r),
+        rising-from c.number cs (class-small c here) (rising-above c cs r) (second_so (is_class c) (list_all is_class cs) v) (second_so (may_stand version c.below) (do_all_stand version cs) s) (rising-rest c cs r),
+        standing-rule version c.below (first_so (may_stand version c.below) (do_all_stand version cs) s),
       )
 
   all-sized : (cs : List ClassLine) → IsTrue (list_all is_class cs) → AllByRecursion IsSizedClass (with_foot p cs)
@@ -85,7 +87,7 @@ galley-classes g runs v =
     let each = first_so (list_all is_class g.classes) (do_classes_rise g.classes) v.classes in
     let rise = second_so (list_all is_class g.classes) (do_classes_rise g.classes) v.classes in
     record {
-      rising = rising g.params foot g.classes each rise;
+      rising = rising g.params foot g.version g.classes each v.standing rise;
       fit = classes-fit g v (foot-fits g.params foot);
-      sized = All-from_recursion IsSizedClass (classes_of g) (all-sized g.params foot g.classes each);
+      sized = All-from_recursion IsSizedClass (classes_of g) (all-sized g.params foot g.version g.classes each);
     }

@@ -208,11 +208,11 @@ module _ (cs : List Class) (left : ℕ) where
   kept-leave n w k = kept-blanks (w.state.two_columns && not w.state.first_column)
     where
       told : Work
-      told = sends (warned (warnings.Floats w.state.page)) w
+      told = sends (warned (warnings.Floats w.state.number)) w
 
       kept-blanks : (t : Bool) → Kept cs left (n + 4) (puts (if t then Output.blank_column ++ Output.blank_column else Output.blank_column) told)
-      kept-blanks true = kept-puts n (Output.blank_column ++ Output.blank_column) told (back-append cs Output.blank_column Output.blank_column (blank-back cs) (blank-back cs)) (kept-sends n (warned (warnings.Floats w.state.page)) w k)
-      kept-blanks false = kept-more (n + 2) (n + 4) (puts Output.blank_column told) (omega arith) (kept-puts n Output.blank_column told (blank-back cs) (kept-sends n (warned (warnings.Floats w.state.page)) w k))
+      kept-blanks true = kept-puts n (Output.blank_column ++ Output.blank_column) told (back-append cs Output.blank_column Output.blank_column (blank-back cs) (blank-back cs)) (kept-sends n (warned (warnings.Floats w.state.number)) w k)
+      kept-blanks false = kept-more (n + 2) (n + 4) (puts Output.blank_column told) (omega arith) (kept-puts n Output.blank_column told (blank-back cs) (kept-sends n (warned (warnings.Floats w.state.number)) w k))
 
   kept-goal : (n : ℕ) (g : ℤ) (w : Work) → Kept cs left n w → Kept cs left (n + 4) (Output.with_goal g w)
   kept-goal n g w k = kept-more n (n + 4) (Output.with_goal g w) (omega arith)

@@ -126,11 +126,11 @@ module _ (cs : List Class) (left : ℕ) where
       (let a = ap notes_taken now in let b = ap notes_taken e in omega (arith, a, b))
 
   module _ (p : Params) (runs : AreRunnable p) where
-    kept-interline : (n : ℕ) (w : Work) → Kept cs left n w → Kept cs left (n + 3) (Text.puts_interline p w)
-    kept-interline n w k = kept-puts_few cs left n 3 (Text.penalty_after p.interlinepenalty w.put_back) w (interline-back cs p runs w.put_back) (interline-few cs p runs w.put_back) k
+    kept-interline : (nobreak : Bool) (n : ℕ) (w : Work) → Kept cs left n w → Kept cs left (n + 3) (Text.puts_interline p nobreak w)
+    kept-interline nobreak n w k = kept-puts_few cs left n 3 (Text.penalty_between p.interlinepenalty nobreak w.put_back) w (interline-back cs p runs nobreak w.put_back) (interline-few cs p runs nobreak w.put_back) k
 
-    kept-then : (n : ℕ) (w : Work) → Kept cs left n w → Kept cs left (n + 8) (Text.puts_interline p w)
-    kept-then n w k = kept-more cs left (n + 3) (n + 8) (Text.puts_interline p w) (omega arith) (kept-interline n w k)
+    kept-then : (nobreak : Bool) (n : ℕ) (w : Work) → Kept cs left n w → Kept cs left (n + 8) (Text.puts_interline p nobreak w)
+    kept-then nobreak n w k = kept-more cs left (n + 3) (n + 8) (Text.puts_interline p nobreak w) (omega arith) (kept-interline nobreak n w k)
 
     kept-defer : (n : ℕ) (f : Float) (es : List Entry) (w : Work) → w.state.floats.current ≡ entries.Float f ∷ es → Kept cs left n w → Kept cs left n (Text.defer p f (record w.state.floats { current = es }) w)
     kept-defer n f es w e k =
@@ -143,11 +143,11 @@ module _ (cs : List Class) (left : ℕ) where
     kept-float : (n : ℕ) (vert : Bool) (f : Float) (es : List Entry) (w : Work) (place : Where) → w.state.floats.current ≡ entries.Float f ∷ es → Kept cs left n w → Kept cs left (n + 8) (Text.float_goes p vert f (record w.state.floats { current = es }) w place)
     kept-float n vert f es w places.Here e k =
         let c = FloatMoves.place_float p places.Here f (record w.state.floats { current = es }) w in
-        kept-more cs left (n + 3 + 5) (n + 8) (puts (Text.here_nodes p vert f) (Text.puts_interline p c)) (omega arith)
-        (kept-puts_few cs left (n + 3) 5 (Text.here_nodes p vert f) (Text.puts_interline p c) (here-back cs p runs vert f) (here-few cs p runs vert f) (kept-interline n c (kept-placed n p places.Here f f es w e k)))
-    kept-float n vert f es w places.Top e k = kept-then n (FloatMoves.place_float p places.Top f (record w.state.floats { current = es }) w) (kept-placed n p places.Top f f es w e k)
-    kept-float n vert f es w places.Bottom e k = kept-then n (FloatMoves.place_float p places.Bottom f (record w.state.floats { current = es }) w) (kept-placed n p places.Bottom f f es w e k)
-    kept-float n vert f es w place e k = kept-then n (Text.defer p f (record w.state.floats { current = es }) w) (kept-defer n f es w e k)
+        kept-more cs left (n + 3 + 5) (n + 8) (puts (Text.here_nodes p vert f) (Text.puts_interline p f.nobreak c)) (omega arith)
+        (kept-puts_few cs left (n + 3) 5 (Text.here_nodes p vert f) (Text.puts_interline p f.nobreak c) (here-back cs p runs vert f) (here-few cs p runs vert f) (kept-interline f.nobreak n c (kept-placed n p places.Here f f es w e k)))
+    kept-float n vert f es w places.Top e k = kept-then f.nobreak n (FloatMoves.place_float p places.Top f (record w.state.floats { current = es }) w) (kept-placed n p places.Top f f es w e k)
+    kept-float n vert f es w places.Bottom e k = kept-then f.nobreak n (FloatMoves.place_float p places.Bottom f (record w.state.floats { current = es }) w) (kept-placed n p places.Bottom f f es w e k)
+    kept-float n vert f es w place e k = kept-then f.nobreak n (Text.defer p f (record w.state.floats { current = es }) w) (kept-defer n f es w e k)
 
     -- ---- a note is placed
 
@@ -168,14 +168,14 @@ module _ (cs : List Class) (left : ℕ) where
     kept-note : (n : ℕ) (high depth : ℤ) (m : Margin) (es : List Entry) (w : Work) → IsWithin 9007203549708288 high → IsSizedMargin m → AllByRecursion IsSizedEntry es → suc (notes_taken es) ≤ notes_taken w.state.floats.current → Kept cs left n w
         → Kept cs left (n + 8) (Text.note_at p high depth m (record w.state.floats { current = es }) w)
     kept-note n high depth m es w at margin sized fewer k =
-        let to = placed_note p w.state.page w.state.two_columns w.state.first_column high w.state.note_bottom m in
+        let to = placed_note p w.state.number w.state.two_columns w.state.first_column high w.state.note_bottom m in
         let a = Text.with_note_bottom to.bottom (with_floats (record w.state.floats { current = es }) w) in
         let b = Text.moved_warning m to a in
         let c = puts (Text.note_nodes depth m to) b in
         let total = left + notes_taken w.state.floats.current in
-        let reach = note-reach p w.state.page w.state.two_columns w.state.first_column high w.state.note_bottom m (reach_where total) runs margin at k.bottom (reach-least total k.notes) in
-        kept-more cs left (n + 3 + 3) (n + 8) (Text.puts_interline p c) (omega arith)
-        (kept-interline (n + 3) c
+        let reach = note-reach p w.state.number w.state.two_columns w.state.first_column high w.state.note_bottom m (reach_where total) runs margin at k.bottom (reach-least total k.notes) in
+        kept-more cs left (n + 3 + 3) (n + 8) (Text.puts_interline p m.nobreak c) (omega arith)
+        (kept-interline m.nobreak (n + 3) c
         (kept-puts cs left n (Text.note_nodes depth m to) b (note-back cs depth m to)
         (let moved = kept-moved n m to es w sized fewer reach k in kept-if cs left n to.moved (sends (warned (warnings.Moved m.name to.shift)) a) a (kept-sends cs left n (warned (warnings.Moved m.name to.shift)) a moved) moved)))
 
@@ -186,8 +186,8 @@ module _ (cs : List Class) (left : ℕ) where
     kept-first n vert high depth page_height (entries.Float f ∷ es) w at e sized k = kept-float n vert f es w (current_place p w.state.floats w.state.suppress page_height f) e k
     kept-first n vert high depth page_height (entries.Left m ∷ []) w at e sized k = kept-note n high depth m [] w at sized.0 tt (let a = ap notes_taken e in omega (arith, a)) k
     kept-first n vert high depth page_height (entries.Left m ∷ x ∷ es) w at e sized k = kept-note n high depth m es w at sized.0 sized.1.1 (let a = ap notes_taken e in omega (arith, a)) k
-    kept-first n vert high depth page_height (entries.Right m ∷ es) w at e sized k = kept-then n w k
-    kept-first n vert high depth page_height [] w at e sized k = kept-then n w k
+    kept-first n vert high depth page_height (entries.Right m ∷ es) w at e sized k = kept-then false n w k
+    kept-first n vert high depth page_height [] w at e sized k = kept-then false n w k
 
     -- ---- the list so far goes back
 

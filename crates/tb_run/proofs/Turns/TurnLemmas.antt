@@ -30,7 +30,7 @@ use Rattle.tb_run.specs.declared.routine.Routine.{Routine}
 use Rattle.tb_run.specs.declared.routine.Ending.{Ending}
 use Rattle.tb_run.specs.declared.routine.Ending.TheVariants as endings
 use Rattle.tb_items.specs.RunEvents.{RunEvent, sent}
-use Rattle.tb_steps.specs.Run.{done, dead_cycles, page_limit, node_limit, Progress, Step, ends, goes_on, after_firing, fire, after_progress, step, held_count, firing_step, step_events}
+use Rattle.tb_steps.specs.Run.{done, dead_cycles, page_limit, node_limit, Progress, Step, ends, goes_on, after_firing, fire, after_progress, ask_for, step, held_count, firing_step, step_events}
 use Rattle.tb_steps.specs.Runnable.{AreRunnable, AreRunClasses}
 use Rattle.tb_items.specs.Happenings.{events_of, noted, happened_lists, IsPage, ArePages}
 use Rattle.tb_run.specs.Routine.{held_in, state_of, with_events, IsConsistent, IsReady, EndsAs, IsTurned, AreHappened, IsEnded}
@@ -70,8 +70,8 @@ module _ (p : Params) (s : State) where
   events-unfired true x e = absurd (true≢false e)
   events-unfired false x e = refl
 
-  events-by-fault : (o : Option (ℕ × ℕ)) → (o ≡ None → (reach_in p s).fires ≡ false) → step_events (after_progress p (reach_in p s) whole-page o) ≡ whole-page.events
-  events-by-fault None f = events-unfired (reach_in p s).fires (fire p (reach_in p s) whole-page) (f refl)
+  events-by-fault : (o : Option (ℕ × ℕ)) → (o ≡ None → (reach_in p s).fires ≡ false) → step_events (after_progress p (ask_for p s) (reach_in p s) whole-page o) ≡ whole-page.events
+  events-by-fault None f = events-unfired (reach_in p s).fires (fire p (ask_for p s) (reach_in p s) whole-page) (f refl)
   events-by-fault (Some x) f = refl
 
   -- the events of the step are those of its page
@@ -317,8 +317,8 @@ module _ (wanted : Bool) (r q : Routine) (page : Page) (hs : List Happening) (h 
   pub step-is : step start-params start-state ≡ firing_step q.machine.params done-so-far.events done-so-far.records (state_of q) (fired_whole q page)
   unfolding step
   step-is =
-      ap (after_progress start-params (reach_in start-params start-state) done-so-far) h.fires.none
-      ∙ then-step (reach_in start-params start-state).fires (fire start-params (reach_in start-params start-state) done-so-far) _ h.fires.fires
+      ap (after_progress start-params (ask_for start-params start-state) (reach_in start-params start-state) done-so-far) h.fires.none
+      ∙ then-step (reach_in start-params start-state).fires (fire start-params (ask_for start-params start-state) (reach_in start-params start-state) done-so-far) _ h.fires.fires
       ∙ (λ i. firing_step start-params done-so-far.events done-so-far.records (sym h.filled.state i) (sym h.fires.fired i))
       ∙ firing-same start-params done-so-far.events done-so-far.records q.store start-state.boxes (held_in q).boxes start-state.waiting (held_in q).waiting q.machine (fired_whole q page)
       ∙ ap (λ x. firing_step x done-so-far.events done-so-far.records (state_of q) (fired_whole q page)) (sym h.filled.params)

@@ -123,6 +123,7 @@ module _ (p : Params) where
   place-few next two b l items.OneColumn h = absurd (no-place b h)
   place-few next two b l items.TwoColumn h = absurd (no-place b h)
   place-few next two b l (items.Suppress area) h = absurd (no-place b h)
+  place-few next two b l (items.Page n) h = absurd (no-place b h)
   place-few next two b l k h = omega arith
 
   -- ---- one item of a galley with breaks

@@ -15,7 +15,7 @@ use Rattle.tb_steps.specs.Run.{End, Step, ends, goes_on, step, step_events, firi
 use Rattle.tb_rate.specs.declared.Rating.{Rating}
 use Rattle.tb_rate.specs.declared.PlacePenalty.{PlacePenalty}
 use Rattle.tb_rate.specs.Rating.{rating, rated}
-use Rattle.tb_rate.specs.Tries.{later_champion, champion_or, last_champion}
+use Rattle.tb_rate.specs.Tries.{later_champion, champion_or, last_champion, first_number}
 use Rattle.tb_rate.specs.RatedRun.{Rated, happens, rates, if_rated, rating_by, rated_after, rated_from, rated_of_state, floats_waiting, insertions_first}
 use Rattle.tb_best.specs.BestLines.{BrokenColumn, broken_at, broken_columns}
 use Rattle.tb_top.specs.declared.rated_pages.RatedColumn.{RatedColumn}
@@ -69,7 +69,7 @@ rating-placed p places page (Some t) w h = either-placed (int_lt t.penalty eject
 
 step-placed : (p : Params) (places : List PlacePenalty) (s : State) (x : Step) → RatedAt (last_champion (step_events x)) (rating_by p places s x)
 step-placed p places s (ends es rs e) = tt
-step-placed p places s (goes_on es rs t) = rating-placed p places s.page (last_champion es) (floats_waiting t.floats) (insertions_first t.waiting)
+step-placed p places s (goes_on es rs t) = rating-placed p places (first_number t.number es) (last_champion es) (floats_waiting t.floats) (insertions_first t.waiting)
 
 own-here : (o best : Option Try) (r : Rating) → RatedAt o (Some r) → later_or o best ≡ o
 own-here None best r h = absurd h
@@ -153,12 +153,12 @@ module _ (p : Params) (places : List PlacePenalty) where
     goes-by-step (goes_on es rs u) is h more page put = subst (λ y. ColumnsGoing y whole more) (sym h) (goes-by going.fuel s u es rs whole found more page is put going.enough going.left)
 
     -- it goes on, with the column that the turn put out
-    pub columns-go : (page : ℕ) → page ≡ s.page → (r : Option Rating) → r ≡ rating_now p places s q page o (events_of q.store hs) → (after : State) → after ≡ state_of q → o ≡ None → (more : List BrokenColumn) → 1 ≤ s.page
+    pub columns-go : (r : Option Rating) → r ≡ rating_now p places s q o (events_of q.store hs) → (after : State) → after ≡ state_of q → o ≡ None → (more : List BrokenColumn) → 1 ≤ s.page
         → more ≡ found ++ turn_columns (events_of q.store hs) r → ColumnsGoing after whole more
-    columns-go page same r value after is none more low put =
+    columns-go r value after is none more low put =
         subst (λ y. ColumnsGoing y whole more) (sym is)
         (goes-by-step (step p s) refl (subst (λ x. EndsAs q x (step p s)) none shows.ended) more low
-        (put ∙ (λ i. found ++ turn_columns (events-are p places s q hs o shows i) ((value ∙ rating-is p places s q hs o shows page same) i))))
+        (put ∙ (λ i. found ++ turn_columns (events-are p places s q hs o shows i) ((value ∙ rating-is p places s q hs o shows) i))))
 
     ends-by-step : (ending : Ending) (x : Step) → step p s ≡ x → EndsAs q (Some ending) x → whole ≡ found
     ends-by-step ending (goes_on es rs u) is h = absurd h

@@ -30,7 +30,7 @@ use Rattle.tb_rate.specs.declared.PlacePenalty.{PlacePenalty}
 use Rattle.tb_rate.specs.Rating.{rating, IsTried}
 use Rattle.tb_rate.specs.RatedRun.{floats_waiting, insertions_first, rating_by, demerits_if, more_demerits, demerits_at, demerits_of_state}
 use Rattle.tb_rate.specs.RatingLines.{demerits_line}
-use Rattle.tb_rate.specs.Tries.{last_champion}
+use Rattle.tb_rate.specs.Tries.{last_champion, first_number}
 use Rattle.tb_rate.proofs.TriedLemmas.{step-tried, last-tried}
 use Rattle.tb_top.specs.declared.View.TheVariants as views
 use Rattle.tb_top.specs.declared.PageFault.{PageFault}
@@ -54,30 +54,30 @@ all-noted (sent e ∷ es) = ap (λ fs. sent e ∷ fs) (all-noted es)
 
 module _ (p : Params) (places : List PlacePenalty) (s : State) (q : Routine) where
   -- the rating as it is computed after a turn
-  abbrev pub rating_now : ℕ → Option Ending → List RunEvent → Option Rating
-  rating_now page o es = unless_ended o (rating p places page (last_champion es) (floats_waiting (state_of q).floats) (insertions_first (state_of q).waiting))
+  abbrev pub rating_now : Option Ending → List RunEvent → Option Rating
+  rating_now o es = unless_ended o (rating p places (first_number (state_of q).number es) (last_champion es) (floats_waiting (state_of q).floats) (insertions_first (state_of q).waiting))
 
-  rating-by-step : (page : ℕ) → page ≡ s.page → (o : Option Ending) (x : Step) → EndsAs q o x → rating_now page o (step_events x) ≡ rating_by p places s x
-  rating-by-step page is None (ends es rs e) h = absurd h
-  rating-by-step page is None (goes_on es rs u) h = λ i. rating p places (is i) (last_champion es) (floats_waiting (h i).floats) (insertions_first (h i).waiting)
-  rating-by-step page is (Some ending) (ends es rs e) h = refl
-  rating-by-step page is (Some ending) (goes_on es rs u) h = absurd h
+  rating-by-step : (o : Option Ending) (x : Step) → EndsAs q o x → rating_now o (step_events x) ≡ rating_by p places s x
+  rating-by-step None (ends es rs e) h = absurd h
+  rating-by-step None (goes_on es rs u) h = λ i. rating p places (first_number (h i).number es) (last_champion es) (floats_waiting (h i).floats) (insertions_first (h i).waiting)
+  rating-by-step (Some ending) (ends es rs e) h = refl
+  rating-by-step (Some ending) (goes_on es rs u) h = absurd h
 
   module _ (hs : List Happening) (o : Option Ending) (shows : ShowsStep p true s q hs o) where
     pub events-are : events_of q.store hs ≡ step_events (step p s)
     events-are = shows.events ∙ all-noted (step_events (step p s))
 
     -- it is that of the step
-    pub rating-is : (page : ℕ) → page ≡ s.page → rating_now page o (events_of q.store hs) ≡ rating_by p places s (step p s)
-    rating-is page is = ap (rating_now page o) events-are ∙ rating-by-step page is o (step p s) shows.ended
+    pub rating-is : rating_now o (events_of q.store hs) ≡ rating_by p places s (step p s)
+    rating-is = ap (rating_now o) events-are ∙ rating-by-step o (step p s) shows.ended
 
     -- the place at which the page broke is as the page builder tries it
     pub break-tried : IfSome (last_champion (events_of q.store hs)) IsTried
     break-tried = subst (λ es. IfSome (last_champion es) IsTried) (sym events-are) (last-tried (step_events (step p s)) (step-tried p s))
 
     -- the lines that are written are those of the step
-    pub lines-are : (page : ℕ) → page ≡ s.page → (r : Option Rating) → r ≡ rating_now page o (events_of q.store hs) → turn_lines (events_of q.store hs) r ≡ step_lines p places s (step p s)
-    lines-are page is r value = λ i. turn_lines (events-are i) ((value ∙ rating-is page is) i)
+    pub lines-are : (r : Option Rating) → r ≡ rating_now o (events_of q.store hs) → turn_lines (events_of q.store hs) r ≡ step_lines p places s (step p s)
+    lines-are r value = λ i. turn_lines (events-are i) ((value ∙ rating-is) i)
 
 -- ---- the range of the sum
 
@@ -146,12 +146,12 @@ pub record RatedClosesAt (p : Params) (places : List PlacePenalty) (r : Routine)
   pub closing : RatedClosing p places end old now d all total whole
 
 module _ (p : Params) (places : List PlacePenalty) (s : State) (old now mid : Option (List ℕ)) (d : ℤ) (all : List RunEvent) (total : Option ℤ) (whole : List ℕ) (going : RatedGoing p places s old now d all total whole) (low : 1 ≤ s.page)
-    (q : Routine) (hs : List Happening) (o : Option Ending) (shows : ShowsStep p true s q hs o) (page : ℕ) (same : page ≡ s.page) (r : Option Rating) (value : r ≡ rating_now p places s q page o (events_of q.store hs)) where
+    (q : Routine) (hs : List Happening) (o : Option Ending) (shows : ShowsStep p true s q hs o) (r : Option Rating) (value : r ≡ rating_now p places s q o (events_of q.store hs)) where
   lines : turn_lines (events_of q.store hs) r ≡ step_lines p places s (step p s)
-  lines = lines-are p places s q hs o shows page same r value
+  lines = lines-are p places s q hs o shows r value
 
   rated : r ≡ rating_by p places s (step p s)
-  rated = value ∙ rating-is p places s q hs o shows page same
+  rated = value ∙ rating-is p places s q hs o shows
 
   -- writing it was cut short
   pub turn-cut : AppendsPrefix now mid (turn_lines (events_of q.store hs) r) → AppendsPrefix old mid whole

@@ -13,17 +13,18 @@ use Rattle.tb_break.specs.Places.{legal_penalty}
 use Rattle.tb_break.specs.PageTop.{pruned_at, pruned_nodes}
 use Rattle.tb_insert.specs.Terms.{Terms}
 use Rattle.tb_insert.specs.Account.{terms_after}
+use Rattle.tb_builder.specs.declared.Ask.{Ask}
 use Rattle.tb_builder.specs.Reach.{Reached, acted, tried, Reach, also_reached, page_place, reach_at, reach_node, reach_from, stopped_at}
 use Rattle.tb_builder.specs.FiredPages.{Fired, reach_of, fired_of, frozen_for}
 use Rattle.tb_sheet.specs.Sheet.{PlainSent, warned}
 use Rattle.tb_sheet.specs.declared.Warn.{Warn}
 use Rattle.tb_float.specs.Lists.{live_count}
-use Rattle.tb_output.specs.State.{State, Work, Recorded, ask_of, begun, emptied}
+use Rattle.tb_output.specs.State.{State, Work, Recorded, begun, emptied}
 use Rattle.tb_output.specs.Act.{Acted, went, full, act_on}
 use Rattle.tb_output.specs.Output.{out, after_page}
 use Rattle.tb_laws.proofs.StepLaws.SentCounts.{warning_count, page_count, warnings-append, pages-append, SendsFew, out-few}
 use Rattle.tb_items.specs.RunEvents.{RunEvent, offered, sent}
-use Rattle.tb_steps.specs.Run.{done, dead_cycles, page_limit, node_limit, Progress, progress_by, progress, Step, ends, goes_on, held_count, after_firing, fire, after_progress, step}
+use Rattle.tb_steps.specs.Run.{done, dead_cycles, page_limit, node_limit, Progress, progress_by, progress, Step, ends, goes_on, held_count, after_firing, fire, after_progress, step, ask_for}
 use Rattle.tb_laws.specs.DviPages.{sent_among}
 use Rattle.tb_laws.proofs.Defined.FuelLemmas.{SameCounts, progress-counts}
 
@@ -72,6 +73,7 @@ act-once : (p : Params) (s : State) (a : Act) → WarnsOnce (act_on p s a)
 act-once p s (acts.Take f) = unfolding_room (int_le p.pool (pos (live_count s.floats))) _ _ _ _ _ (large-once p _ _)
 act-once p s (acts.TakeMargin m) = unfolding_room (int_lt p.pool (pos (live_count s.floats + 2))) _ _ _ _ _ (omega arith)
 act-once p s (acts.Suppress area) = omega arith
+act-once p s (acts.Page n) = omega arith
 act-once p s (acts.Columns two) = omega arith
 
 abbrev acts_among : List Reached → ℕ
@@ -161,32 +163,32 @@ module _ (p : Params) (s : State) (es : List RunEvent) (rs : List Recorded) (w :
 quiet-in : (p : Params) (s : State) (es : List RunEvent) → Counts (length s.waiting + 1) 0 es → SendsIn p s es
 quiet-in p s es h = let a = h.few in let b = h.all in record { warnings = omega (arith, a); limit = λ k. omega (arith, b, k) }
 
-fire-sends : (p : Params) (s : State) (w : Reach) (q : Progress) → SameCounts s q.state → Counts (length s.waiting + 1) 0 q.events → SendsBy p s (fire p w q)
-fire-sends p s w q same few = by_cycles (int_lt (pos q.state.dead_cycles) p.maxdeadcycles)
+fire-sends : (p : Params) (s : State) (a : Ask) (w : Reach) (q : Progress) → SameCounts s q.state → Counts (length s.waiting + 1) 0 q.events → SendsBy p s (fire p a w q)
+fire-sends p s a w q same few = by_cycles (int_lt (pos q.state.dead_cycles) p.maxdeadcycles)
   where
     f : Fired
-    f = fired_of (ask_of p q.state) q.state.classes q.state.boxes w
+    f = fired_of a q.state.classes q.state.boxes w
 
     by_cycles : (t : Bool) → SendsBy p s (if t then after_firing p q.events q.records (out p q.state f) else ends q.events q.records (dead_cycles q.state.dead_cycles))
     by_cycles true = after-sends p s q.events q.records (out p q.state f) (begun (after_page q.state f)) refl same.0 few (out-few p q.state f)
     by_cycles false = quiet-in p s q.events few
 
-progress-sends : (p : Params) (s : State) (w : Reach) (q : Progress) (o : Option (ℕ × ℕ)) → SameCounts s q.state → Counts (length s.waiting + 1) 0 q.events → SendsBy p s (after_progress p w q o)
-progress-sends p s w q None same few = by_firing w.fires
+progress-sends : (p : Params) (s : State) (a : Ask) (w : Reach) (q : Progress) (o : Option (ℕ × ℕ)) → SameCounts s q.state → Counts (length s.waiting + 1) 0 q.events → SendsBy p s (after_progress p a w q o)
+progress-sends p s a w q None same few = by_firing w.fires
   where
-    by_firing : (t : Bool) → SendsBy p s (if t then fire p w q else ends q.events (q.records ++ emptied q.state.floats ∷ []) (done w.passed))
-    by_firing true = fire-sends p s w q same few
+    by_firing : (t : Bool) → SendsBy p s (if t then fire p a w q else ends q.events (q.records ++ emptied q.state.floats ∷ []) (done w.passed))
+    by_firing true = fire-sends p s a w q same few
     by_firing false = quiet-in p s q.events few
-progress-sends p s w q (Some f) same few = quiet-in p s q.events few
+progress-sends p s a w q (Some f) same few = quiet-in p s q.events few
 
 -- what a step of a run sends
 pub step-sends : (p : Params) (s : State) → SendsBy p s (step p s)
 unfolding step
 step-sends p s =
-    let w = reach_of (ask_of p s) s.classes s.boxes [] s.waiting in
+    let w = reach_of (ask_for p s) s.classes s.boxes [] s.waiting in
     let q = progress p w.reached awful_bad s in
     let c = progress-few p w.reached awful_bad s in
-    let a = from-acts (ask_of p s).max_depth (terms_after (frozen_for (ask_of p s) s.classes s.boxes)) [] (pruned_nodes (ask_of p s).top_skip s.waiting) in
-    let b = pruned-longest (ask_of p s).top_skip s.waiting in
+    let a = from-acts (ask_for p s).max_depth (terms_after (frozen_for (ask_for p s) s.classes s.boxes)) [] (pruned_nodes (ask_for p s).top_skip s.waiting) in
+    let b = pruned-longest (ask_for p s).top_skip s.waiting in
     let f = c.few in
-    progress-sends p s w q q.fault (progress-counts p w.reached awful_bad s) (record { few = omega (arith, f, a, b); all = c.all })
+    progress-sends p s (ask_for p s) w q q.fault (progress-counts p w.reached awful_bad s) (record { few = omega (arith, f, a, b); all = c.all })

@@ -1,6 +1,6 @@
 -- Nodes whose names have no line feed. The page builder and the columns only move nodes of the galley, and make nodes that
 -- have no name or that of a float.
-use Rattle.std.proofs.Common.{ℕ, ℤ, pos, Bool, true, false, List, [], ◌∷◌, ◌++◌, length, map, filter, take, drop, Option, Some, None}
+use Rattle.std.proofs.Common.{ℕ, ℤ, pos, Bool, true, false, List, [], ◌∷◌, ◌++◌, length, map, filter, take, drop, Option, Some, None, unwrap_or}
 use Rattle.std.specs.Prelude.{◌==◌, not, if◌then◌else◌}
 use Rattle.std.specs.List.{AllByRecursion}
 use Rattle.tb_break.proofs.EachLemmas.{all-join, all-take, all-drop}
@@ -23,7 +23,7 @@ use Rattle.tb_insert.specs.Account.{Frozen, Labelled, Label, whole, split, late,
 use Rattle.tb_builder.specs.Reach.{Reached, acted, tried, Reach, also_reached, page_place, stopped_at, reach_at_place, reach_at, reach_node, reach_from}
 use Rattle.tb_builder.specs.FiredPages.{Boxed, Fired, page_break, from_break, spent_kind, with_spent_break, given_by, given_to, is_given, content_of, box_after, unless_empty, held_of, held_insertions, fired_by}
 use Rattle.tb_float.specs.Lists.{FloatLists}
-use Rattle.tb_column.specs.Column.{Notes, is_no_glue, glue_if_any, rule_if_any, kern_if_any, foot_kern, floats_with, floats_above, floats_below, floats_after, floats_column, feet_above, class_below, notes_below, notes_among, text_above_feet, text_nodes, closing_glue, text_column, pair_floats}
+use Rattle.tb_column.specs.Column.{Notes, is_no_glue, glue_if_any, rule_if_any, kern_if_any, foot_kern, floats_with, floats_above, floats_below, floats_after, floats_column, feet_above, above_class, class_below, notes_below, notes_among, text_above_feet, text_nodes, closing_glue, text_column, pair_floats}
 use Rattle.tb_column.proofs.ColumnParts.{below-has, among-have}
 use Rattle.tb_sheet.specs.Sheet.{PlainSheet, one, wide, two}
 use Rattle.tb_text.specs.Lines.{IsUnended}
@@ -44,6 +44,7 @@ abbrev pub CleanAct : Act → Type 0
 CleanAct (acts.Take f) = IsPlainFloat f
 CleanAct (acts.TakeMargin m) = CleanNote m
 CleanAct (acts.Suppress area) = Unit {0}
+CleanAct (acts.Page n) = Unit {0}
 CleanAct (acts.Columns pair) = Unit {0}
 
 abbrev pub CleanKind : PlainKind → Type 0
@@ -288,9 +289,9 @@ class-notes p kern n h = by_class (n.class == 254)
     feet : CleanNodes (feet_above p kern)
     feet = nodes-join (kern_if_any kern ++ glue_if_any p.footfill) _ (nodes-join (kern_if_any kern) (glue_if_any p.footfill) (kern-if kern) (glue-if p.footfill)) (tt, foot-rule p.footrule)
 
-    by_class : (t : Bool) → CleanNodes (if t then feet_above p kern ++ map leaf_node n.inner else made (skip n.skip) ∷ map leaf_node n.inner)
+    by_class : (t : Bool) → CleanNodes (if t then feet_above p kern ++ map leaf_node n.inner else above_class n.skip n.below ++ map leaf_node n.inner)
     by_class true = nodes-join (feet_above p kern) (map leaf_node n.inner) feet (leaf-nodes n.inner h)
-    by_class false = (tt, leaf-nodes n.inner h)
+    by_class false = nodes-join (above_class n.skip n.below) (map leaf_node n.inner) (tt, foot-rule (unwrap_or n.below None)) (leaf-nodes n.inner h)
 
 all-notes : (p : Params) (kern : Option ℤ) (ns : List Notes) → CleanNotes ns → CleanNodes (notes_below p kern ns)
 all-notes p kern [] h = tt

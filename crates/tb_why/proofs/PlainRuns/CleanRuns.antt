@@ -25,16 +25,17 @@ use Rattle.tb_galley.specs.Valid.{is_size, is_leaf, is_float, is_margin, is_item
 use Rattle.tb_insert.specs.declared.Class.{Class}
 use Rattle.tb_insert.specs.Account.{terms_after}
 use Rattle.tb_break.specs.PageTop.{pruned_nodes}
+use Rattle.tb_builder.specs.declared.Ask.{Ask}
 use Rattle.tb_builder.specs.Reach.{Reached, acted, tried, Reach}
 use Rattle.tb_builder.specs.FiredPages.{frozen_for, reach_of, fired_of}
 use Rattle.tb_float.specs.declared.Entry.TheVariants as entries
 use Rattle.tb_float.specs.Lists.{FloatLists}
 use Rattle.tb_sheet.specs.declared.Warn.{Warn}
 use Rattle.tb_sheet.specs.Sheet.{PlainSent, warned}
-use Rattle.tb_output.specs.State.{State, Work, Recorded, emptied, ask_of, first_state, void_boxes}
+use Rattle.tb_output.specs.State.{State, Work, Recorded, emptied, first_state, void_boxes}
 use Rattle.tb_output.specs.Act.{Acted, went, full, act_on, taken_float, lists_with_taken, large_warning, with_taken, with_current}
 use Rattle.tb_output.specs.Output.{out}
-use Rattle.tb_steps.specs.Run.{Run, End, done, dead_cycles, page_limit, node_limit, Progress, progress_by, progress, Step, ends, goes_on, held_count, after_firing, fire, after_progress, step, run_by, run_from, firings_left, run_of}
+use Rattle.tb_steps.specs.Run.{Run, End, done, dead_cycles, page_limit, node_limit, Progress, progress_by, progress, Step, ends, goes_on, held_count, after_firing, fire, after_progress, step, run_by, run_from, firings_left, run_of, ask_for}
 use Rattle.tb_items.specs.RunEvents.{RunEvent, sent}
 use Rattle.tb_items.specs.Classes.{classes_of}
 use Rattle.tb_why.proofs.PlainRuns.CleanNodes.{CleanLeaves, CleanNote, CleanKind, CleanAct, CleanNodes, nodes-join, nodes-pruned, CleanReached, CleanReach, reached-clean, CleanBoxes, CleanFired, fired-clean}
@@ -136,6 +137,7 @@ module _ (p : Params) where
   acts-on s (acts.TakeMargin m) h g =
       acted-if _ _ _ (with_current s (entries.Left m ∷ entries.Right m ∷ [])) [] [] (h.0, h.1, h.2, (all-join _ s.floats.current (entries.Left m ∷ entries.Right m ∷ []) h.3.0 (g, (tt, tt)), h.3.1, h.3.2, h.3.3, h.3.4, h.3.5, h.3.6), h.4) tt
   acts-on s (acts.Suppress area) h g = (h, tt)
+  acts-on s (acts.Page n) h g = (h, tt)
   acts-on s (acts.Columns pair) h g = ((h.0, h.1, h.2, h.3, tt), tt)
 
   -- ---- one page and the firing after it
@@ -166,26 +168,26 @@ module _ (p : Params) where
   step-if false x y h k = k
 
   abbrev page_of : State → Reach
-  page_of s = reach_of (ask_of p s) s.classes s.boxes [] s.waiting
+  page_of s = reach_of (ask_for p s) s.classes s.boxes [] s.waiting
 
   page-reached : (s : State) → CleanState s → CleanReach (page_of s)
-  page-reached s h = reached-clean (ask_of p s).max_depth (terms_after (frozen_for (ask_of p s) s.classes s.boxes)) [] (pruned_nodes p.topskip s.waiting) tt (nodes-pruned p.topskip s.waiting h.0)
+  page-reached s h = reached-clean (ask_for p s).max_depth (terms_after (frozen_for (ask_for p s) s.classes s.boxes)) [] (pruned_nodes p.topskip s.waiting) tt (nodes-pruned p.topskip s.waiting h.0)
 
-  abbrev fired_at : Reach → State → Fired
-  fired_at w s = fired_of (ask_of p s) s.classes s.boxes w
+  abbrev fired_at : Ask → Reach → State → Fired
+  fired_at a w s = fired_of a s.classes s.boxes w
 
-  fired-at : (w : Reach) (s : State) → CleanReach w → CleanState s → CleanFired (fired_at w s)
-  fired-at w s h k = fired-clean (frozen_for (ask_of p s) s.classes s.boxes) s.boxes w k.1 h
+  fired-at : (a : Ask) (w : Reach) (s : State) → CleanReach w → CleanState s → CleanFired (fired_at a w s)
+  fired-at a w s h k = fired-clean (frozen_for a s.classes s.boxes) s.boxes w k.1 h
 
   after-firing : (es : List RunEvent) (rs : List Recorded) (w : Work) → CleanState w.state → CleanStep (after_firing p es rs w)
   after-firing es rs w h =
       step-if w.refused (ends (es ++ map sent w.sent) (rs ++ w.records) (page_limit (pred w.state.page))) _ tt
       (step-if (int_lt p.maxnodes (pos (held_count w.state))) (ends (es ++ map sent w.sent) (rs ++ w.records) (node_limit (held_count w.state))) (goes_on (es ++ map sent w.sent) (rs ++ w.records) w.state) tt h)
 
-  fires : (w : Reach) (q : Progress) → CleanReach w → CleanProgress q → CleanStep (fire p w q)
-  fires w q h k =
-      step-if (int_lt (pos q.state.dead_cycles) p.maxdeadcycles) (after_firing p q.events q.records (out p q.state (fired_at w q.state))) (ends q.events q.records (dead_cycles q.state.dead_cycles))
-      (after-firing q.events q.records (out p q.state (fired_at w q.state)) (out-clean p q.state (fired_at w q.state) k.0 (fired-at w q.state h k.0)).0) tt
+  fires : (a : Ask) (w : Reach) (q : Progress) → CleanReach w → CleanProgress q → CleanStep (fire p a w q)
+  fires a w q h k =
+      step-if (int_lt (pos q.state.dead_cycles) p.maxdeadcycles) (after_firing p q.events q.records (out p q.state (fired_at a w q.state))) (ends q.events q.records (dead_cycles q.state.dead_cycles))
+      (after-firing q.events q.records (out p q.state (fired_at a w q.state)) (out-clean p q.state (fired_at a w q.state) k.0 (fired-at a w q.state h k.0)).0) tt
 
   steps : (s : State) → CleanState s → CleanStep (step p s)
   unfolding step
@@ -197,8 +199,8 @@ module _ (p : Params) where
       k : CleanProgress q
       k = progresses (page_of s).reached awful_bad s (page-reached s h).reached h
 
-      by_fault : (o : Option (ℕ × ℕ)) → CleanStep (after_progress p (page_of s) q o)
-      by_fault None = step-if (page_of s).fires (fire p (page_of s) q) (ends q.events (q.records ++ emptied q.state.floats ∷ []) (done (page_of s).passed)) (fires (page_of s) q (page-reached s h) k) (page-reached s h).passed
+      by_fault : (o : Option (ℕ × ℕ)) → CleanStep (after_progress p (ask_for p s) (page_of s) q o)
+      by_fault None = step-if (page_of s).fires (fire p (ask_for p s) (page_of s) q) (ends q.events (q.records ++ emptied q.state.floats ∷ []) (done (page_of s).passed)) (fires (ask_for p s) (page_of s) q (page-reached s h) k) (page-reached s h).passed
       by_fault (Some f) = tt
 
   -- what is shown of a firing
@@ -210,8 +212,8 @@ module _ (p : Params) where
   step-plain : (s : State) → CleanState s → ArePlainNames (step_shown p s)
   unfolding step_shown
   step-plain s h =
-      names-join (all_happen q.events) (wait_tales s q.state ++ fired_shown p (page_of s) q q.fault) (happen-plain q.events k.1)
-      (names-join (wait_tales s q.state) (fired_shown p (page_of s) q q.fault) (waits-plain q.state (drop (length s.floats.second) q.state.floats.second) (all-drop IsPlainFloat (length s.floats.second) q.state.floats.second k.0.3.5)) (by_fault q.fault))
+      names-join (all_happen q.events) (wait_tales s q.state ++ fired_shown p (ask_for p s) (page_of s) q q.fault) (happen-plain q.events k.1)
+      (names-join (wait_tales s q.state) (fired_shown p (ask_for p s) (page_of s) q q.fault) (waits-plain q.state (drop (length s.floats.second) q.state.floats.second) (all-drop IsPlainFloat (length s.floats.second) q.state.floats.second k.0.3.5)) (by_fault q.fault))
     where
       q : Progress
       q = progress p (page_of s).reached awful_bad s
@@ -219,8 +221,8 @@ module _ (p : Params) where
       k : CleanProgress q
       k = progresses (page_of s).reached awful_bad s (page-reached s h).reached h
 
-      by_fault : (o : Option (ℕ × ℕ)) → ArePlainNames (fired_shown p (page_of s) q o)
-      by_fault None = names-if (page_of s).fires (firing_shown p q.state (fired_at (page_of s) q.state)) [] (firing-plain q.state (fired_at (page_of s) q.state) k.0 (fired-at (page_of s) q.state (page-reached s h) k.0)) tt
+      by_fault : (o : Option (ℕ × ℕ)) → ArePlainNames (fired_shown p (ask_for p s) (page_of s) q o)
+      by_fault None = names-if (page_of s).fires (firing_shown p q.state (fired_at (ask_for p s) (page_of s) q.state)) [] (firing-plain q.state (fired_at (ask_for p s) (page_of s) q.state) k.0 (fired-at (ask_for p s) (page_of s) q.state (page-reached s h) k.0)) tt
       by_fault (Some f) = tt
 
   -- ---- a run
@@ -316,6 +318,7 @@ item-clean p pair n (items.NoPageBreak q) v = (tt, tt)
 item-clean p pair n items.OneColumn v = (tt, (tt, (tt, (tt, (tt, (tt, tt))))))
 item-clean p pair n items.TwoColumn v = (tt, (tt, (tt, (tt, (tt, (tt, tt))))))
 item-clean p pair n (items.Suppress area) v = (tt, tt)
+item-clean p pair n (items.Page k) v = (tt, tt)
 
 items-clean : (p : Params) (pair : Bool) (ns : List Item) → IsTrue (list_all (λ n. is_item n.line n.kind) ns) → CleanNodes (item_nodes p pair ns)
 items-clean p pair [] v = tt

@@ -34,7 +34,7 @@ use Rattle.tb_output.specs.State.{State, Work, Recorded, placed, output, begun, 
 use Rattle.tb_output.specs.FloatMoves.{joined_to, is_placed, place_float}
 use Rattle.tb_output.specs.Pages.{ship, wide_wanted, left_or, without_double}
 use Rattle.tb_output.specs.Columns.{emptied_boxes, single_wanted, ordinary}
-use Rattle.tb_output.specs.Text.{penalty_nodes, penalty_after, puts_interline, without_firing_box, notes_nodes, notes_height, list_back, here_nodes, only_here, with_top, defer, float_goes, note_nodes, moved_warning, with_note_bottom, note_goes, first_goes, float_or_note}
+use Rattle.tb_output.specs.Text.{penalty_nodes, penalty_between, puts_interline, without_firing_box, notes_nodes, notes_height, list_back, here_nodes, only_here, with_top, defer, float_goes, note_nodes, moved_warning, with_note_bottom, note_goes, first_goes, float_or_note}
 use Rattle.tb_sheet.specs.Asked.{clear_penalty, par_penalty, vert_penalty, hold_penalty}
 use Rattle.tb_output.specs.Clear.{clear_again, cleared_front, deferred_again, double_again, clear}
 use Rattle.tb_output.specs.Output.{is_int, hold, output_by, with_goal, blank_column, is_crowded, leave_column, goal_by, next_goal, after_page, out}
@@ -166,7 +166,7 @@ module _ (p : Params) where
   -- ---- pages
 
   pub ships : (sheet : PlainSheet) (w : Work) → CleanSheet sheet → CleanWork w → CleanWork (ship p sheet w)
-  ships sheet w h k = by-ship CleanWork p sheet w (λ r. k) (λ r. k) (λ r e. (k.0, k.1, all-join CleanSent w.sent (shipped w.state.page sheet ∷ []) k.2 (h, tt)))
+  ships sheet w h k = by-ship CleanWork p sheet w (λ r. k) (λ r. k) (λ r e. (k.0, k.1, all-join CleanSent w.sent (shipped w.state.number sheet ∷ []) k.2 (h, tt)))
 
   pub left-column : (c : PlainColumn) (o : Option PlainColumn) → CleanNodes c.nodes → CleanLeft o → CleanNodes (left_or c o).nodes
   left-column c None h k = h
@@ -192,6 +192,10 @@ module _ (p : Params) where
   penalties : (n : ℤ) (o : Option Glue) → CleanNodes (penalty_nodes n o)
   penalties n None = (tt, tt)
   penalties n (Some g) = (tt, (tt, (tt, tt)))
+
+  between : (n : ℤ) (nobreak : Bool) (ns : List PlainNode) → CleanNodes (penalty_between n nobreak ns)
+  between n true ns = (tt, tt)
+  between n false ns = penalties n _
 
   notes-back : (ns : List Notes) → CleanNotes ns → CleanNodes (notes_nodes p ns)
   notes-back [] h = tt
@@ -255,8 +259,8 @@ module _ (p : Params) where
 
   -- ---- floats and notes in the text
 
-  interline : (w : Work) → CleanWork w → CleanWork (puts_interline p w)
-  interline w k = puts-more (penalty_after p.interlinepenalty w.put_back) w (penalties p.interlinepenalty _) k
+  interline : (nobreak : Bool) (w : Work) → CleanWork w → CleanWork (puts_interline p nobreak w)
+  interline nobreak w k = puts-more (penalty_between p.interlinepenalty nobreak w.put_back) w (between p.interlinepenalty nobreak w.put_back) k
 
   defers : (f : Float) (left : FloatLists) (w : Work) → IsPlainFloat f → CleanLists left → CleanWork w → CleanWork (defer p f left w)
   defers f left w h k g =
@@ -267,18 +271,18 @@ module _ (p : Params) where
   float-goes : (vert : Bool) (f : Float) (left : FloatLists) (w : Work) (place : Where) → IsPlainFloat f → CleanLists left → CleanWork w → CleanWork (float_goes p vert f left w place)
   float-goes vert f left w places.Here h k g =
       let a = place_float p places.Here f left w in
-      puts-more (here_nodes p vert f) (puts_interline p a) (stands vert f h) (interline a (goes-to places.Here f left w h k g))
-  float-goes vert f left w places.Top h k g = interline (place_float p places.Top f left w) (goes-to places.Top f left w h k g)
-  float-goes vert f left w places.Bottom h k g = interline (place_float p places.Bottom f left w) (goes-to places.Bottom f left w h k g)
-  float-goes vert f left w places.Page h k g = interline (defer p f left w) (defers f left w h k g)
-  float-goes vert f left w places.Double h k g = interline (defer p f left w) (defers f left w h k g)
-  float-goes vert f left w places.Deferred h k g = interline (defer p f left w) (defers f left w h k g)
+      puts-more (here_nodes p vert f) (puts_interline p f.nobreak a) (stands vert f h) (interline f.nobreak a (goes-to places.Here f left w h k g))
+  float-goes vert f left w places.Top h k g = interline f.nobreak (place_float p places.Top f left w) (goes-to places.Top f left w h k g)
+  float-goes vert f left w places.Bottom h k g = interline f.nobreak (place_float p places.Bottom f left w) (goes-to places.Bottom f left w h k g)
+  float-goes vert f left w places.Page h k g = interline f.nobreak (defer p f left w) (defers f left w h k g)
+  float-goes vert f left w places.Double h k g = interline f.nobreak (defer p f left w) (defers f left w h k g)
+  float-goes vert f left w places.Deferred h k g = interline f.nobreak (defer p f left w) (defers f left w h k g)
 
   note-goes : (depth : ℤ) (m : Margin) (left : FloatLists) (w : Work) (at : Placed) → CleanNote m → CleanLists left → CleanWork w → CleanWork (note_goes p depth m left w at)
   note-goes depth m left w at h k g =
       let b = with_note_bottom at.bottom (with_floats left w) in
       let moved = work-if at.moved (sends (warned (warnings.Moved m.name at.shift)) b) b (sends-more (warned (warnings.Moved m.name at.shift)) b h (has-floats left w k g)) (has-floats left w k g) in
-      interline (puts (note_nodes depth m at) (moved_warning m at b)) (puts-more (note_nodes depth m at) (moved_warning m at b) (tt, (h, (tt, tt))) moved)
+      interline m.nobreak (puts (note_nodes depth m at) (moved_warning m at b)) (puts-more (note_nodes depth m at) (moved_warning m at b) (tt, (h, (tt, tt))) moved)
 
   first : (vert : Bool) (height depth page_height : ℤ) (es : List Entry) (w : Work) → CleanEntries es → CleanWork w → CleanWork (first_goes p vert height depth page_height es w)
   first vert height depth page_height (entries.Float f ∷ es) w h k =
@@ -286,12 +290,12 @@ module _ (p : Params) where
       float-goes vert f (record w.state.floats { current = es }) w (current_place p w.state.floats w.state.suppress page_height f) h.0 (h.1, l.1, l.2, l.3, l.4, l.5, l.6) k
   first vert height depth page_height (entries.Left m ∷ []) w h k =
       let l = k.0.3 in
-      note-goes depth m (record w.state.floats { current = [] }) w (placed_note p w.state.page w.state.two_columns w.state.first_column height w.state.note_bottom m) h.0 (tt, l.1, l.2, l.3, l.4, l.5, l.6) k
+      note-goes depth m (record w.state.floats { current = [] }) w (placed_note p w.state.number w.state.two_columns w.state.first_column height w.state.note_bottom m) h.0 (tt, l.1, l.2, l.3, l.4, l.5, l.6) k
   first vert height depth page_height (entries.Left m ∷ e ∷ es) w h k =
       let l = k.0.3 in
-      note-goes depth m (record w.state.floats { current = es }) w (placed_note p w.state.page w.state.two_columns w.state.first_column height w.state.note_bottom m) h.0 (h.1.1, l.1, l.2, l.3, l.4, l.5, l.6) k
-  first vert height depth page_height (entries.Right m ∷ es) w h k = interline w k
-  first vert height depth page_height [] w h k = interline w k
+      note-goes depth m (record w.state.floats { current = es }) w (placed_note p w.state.number w.state.two_columns w.state.first_column height w.state.note_bottom m) h.0 (h.1.1, l.1, l.2, l.3, l.4, l.5, l.6) k
+  first vert height depth page_height (entries.Right m ∷ es) w h k = interline false w k
+  first vert height depth page_height [] w h k = interline false w k
 
   text-float : (vert : Bool) (body : List PlainNode) (w : Work) → CleanNodes body → CleanWork w → CleanWork (float_or_note p vert body w)
   text-float vert body w h k =
@@ -320,7 +324,7 @@ module _ (p : Params) where
       let two = w.state.two_columns && not w.state.first_column in
       work-if (is_int n hold_penalty) (with_goal max_dimen w) (goal_by p room w) k
       (work-if (is_crowded p room) (leave_column w) (with_goal room w)
-      (puts-more (if two then blank_column ++ blank_column else blank_column) (sends (warned (warnings.Floats w.state.page)) w) (blank-nodes two) (sends-more (warned (warnings.Floats w.state.page)) w tt k)) k)
+      (puts-more (if two then blank_column ++ blank_column else blank_column) (sends (warned (warnings.Floats w.state.number)) w) (blank-nodes two) (sends-more (warned (warnings.Floats w.state.number)) w tt k)) k)
 
   -- the firing of a page
   pub out-clean : (s : State) (f : Fired) → CleanState s → CleanFired f → CleanWork (out p s f)

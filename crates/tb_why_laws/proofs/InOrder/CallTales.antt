@@ -252,7 +252,7 @@ module _ (p : Params) (K : ℕ → Type 0) where
           let place = current_place p w.state.floats w.state.suppress page_height f in
           let x = called Before f fs w known c.0 c.1 c.2 place (current-call p w.state.floats w.state.suppress page_height f) (spot_of w.state) page_height (call_decides p w.state.floats w.state.suppress page_height f) m a in
           record { order = x.order; after = fit-goes vert place (current-call p w.state.floats w.state.suppress page_height f) f (record w.state.floats { current = fs }) w (after_tales (Calls (spot_of w.state) f page_height ∷ decisions f (told_call p w.state.floats w.state.suppress page_height f)) m) x.after }
-      by_first (entries.Left n ∷ []) h = record { order = (tt, tt); after = fit-note depth n (record w.state.floats { current = [] }) w (placed_note p w.state.page w.state.two_columns w.state.first_column height w.state.note_bottom n) m now }
-      by_first (entries.Left n ∷ e ∷ fs) h = record { order = (tt, tt); after = fit-note depth n (record w.state.floats { current = fs }) w (placed_note p w.state.page w.state.two_columns w.state.first_column height w.state.note_bottom n) m now }
+      by_first (entries.Left n ∷ []) h = record { order = (tt, tt); after = fit-note depth n (record w.state.floats { current = [] }) w (placed_note p w.state.number w.state.two_columns w.state.first_column height w.state.note_bottom n) m now }
+      by_first (entries.Left n ∷ e ∷ fs) h = record { order = (tt, tt); after = fit-note depth n (record w.state.floats { current = fs }) w (placed_note p w.state.number w.state.two_columns w.state.first_column height w.state.note_bottom n) m now }
       by_first (entries.Right n ∷ fs) h = record { order = tt; after = now }
       by_first [] h = record { order = tt; after = now }

@@ -106,17 +106,17 @@ module _ (p : Params) where
 
   pub warns-first : (vert : Bool) (height depth page_height : ℤ) (es : List Entry) (w : Work) → Warns w (first_goes p vert height depth page_height es w)
   warns-first vert height depth page_height (entries.Float f ∷ es) w = warns-goes vert f (record w.state.floats { current = es }) w (current_place p w.state.floats w.state.suppress page_height f)
-  warns-first vert height depth page_height (entries.Left m ∷ []) w = warns-note depth m (record w.state.floats { current = [] }) w (placed_note p w.state.page w.state.two_columns w.state.first_column height w.state.note_bottom m)
-  warns-first vert height depth page_height (entries.Left m ∷ e ∷ es) w = warns-note depth m (record w.state.floats { current = es }) w (placed_note p w.state.page w.state.two_columns w.state.first_column height w.state.note_bottom m)
-  warns-first vert height depth page_height (entries.Right m ∷ es) w = warns-none w (puts_interline p w) refl
-  warns-first vert height depth page_height [] w = warns-none w (puts_interline p w) refl
+  warns-first vert height depth page_height (entries.Left m ∷ []) w = warns-note depth m (record w.state.floats { current = [] }) w (placed_note p w.state.number w.state.two_columns w.state.first_column height w.state.note_bottom m)
+  warns-first vert height depth page_height (entries.Left m ∷ e ∷ es) w = warns-note depth m (record w.state.floats { current = es }) w (placed_note p w.state.number w.state.two_columns w.state.first_column height w.state.note_bottom m)
+  warns-first vert height depth page_height (entries.Right m ∷ es) w = warns-none w (puts_interline p false w) refl
+  warns-first vert height depth page_height [] w = warns-none w (puts_interline p false w) refl
 
   pub warns-goal : (n : ℤ) (w : Work) → Warns w (next_goal p n w)
   warns-goal n w =
       let room = column_room_of p w.state.floats in
-      let b = sends (warned (warnings.Floats w.state.page)) w in
+      let b = sends (warned (warnings.Floats w.state.number)) w in
       warns-if w (is_int n hold_penalty) (with_goal max_dimen w) (goal_by p room w) (warns-none w (with_goal max_dimen w) refl)
-      (warns-if w (is_crowded p room) (leave_column w) (with_goal room w) (warns-back w b (leave_column w) refl (warns-one (warnings.Floats w.state.page) w)) (warns-none w (with_goal room w) refl))
+      (warns-if w (is_crowded p room) (leave_column w) (with_goal room w) (warns-back w b (leave_column w) refl (warns-one (warnings.Floats w.state.number) w)) (warns-none w (with_goal room w) refl))
 
 -- warnings are in order, and change nothing
 pub warned-order : (es : List PlainSent) → AllByRecursion IsWarned es → (later : List Shown) (m : SummaryView) → IsOrderly later m → IsOrderly (all_shown (all_sent es) ++ later) m
@@ -156,7 +156,7 @@ module _ (p : Params) (K : ℕ → Type 0) (n : ℤ) where
     where
       by_tests : (a b : Bool) → FitState p K (if a then with_goal max_dimen w else (if b then leave_column w else with_goal (column_room_of p w.state.floats) w)).state m
       by_tests true b = h
-      by_tests false true = by-sends (λ c. FitState p K c.state m) (warned (warnings.Floats w.state.page)) w h h
+      by_tests false true = by-sends (λ c. FitState p K c.state m) (warned (warnings.Floats w.state.number)) w h h
       by_tests false false = h
 
   goal-goes : (w : Work) → (next_goal p n w).refused ≡ w.refused
@@ -164,7 +164,7 @@ module _ (p : Params) (K : ℕ → Type 0) (n : ℤ) where
     where
       by_tests : (a b : Bool) → (if a then with_goal max_dimen w else (if b then leave_column w else with_goal (column_room_of p w.state.floats) w)).refused ≡ w.refused
       by_tests true b = refl
-      by_tests false true = by-sends (λ c. c.refused ≡ w.refused) (warned (warnings.Floats w.state.page)) w refl refl
+      by_tests false true = by-sends (λ c. c.refused ≡ w.refused) (warned (warnings.Floats w.state.number)) w refl refl
       by_tests false false = refl
 
   -- what is shown up to a work, with the goal of the next page

@@ -82,11 +82,11 @@ module _ (p : Params) (K : ℕ → Type 0) where
 
   -- a page is sent on which no float is that waits: the lists are as they were when it was made
   page-shown : (sheet : PlainSheet) (w : Work) (m : SummaryView) (P : SummaryView → Type 0) → ((ship p sheet w).refused ≡ true → P m) → (w.refused ≡ false → FitPut w.state m)
-      → (w.refused ≡ false → (ship p sheet w).refused ≡ false → (ship p sheet w).sent ≡ w.sent ++ shipped w.state.page sheet ∷ [] → (line : ℕ) (place : Where) → HoldsFloat line place sheet → Waits w.state line → ⊥)
+      → (w.refused ≡ false → (ship p sheet w).refused ≡ false → (ship p sheet w).sent ≡ w.sent ++ shipped w.state.number sheet ∷ [] → (line : ℕ) (place : Where) → HoldsFloat line place sheet → Waits w.state line → ⊥)
       → ((n : SummaryView) → FitPut w.state n → P n) → Shows w (ship p sheet w) (ship_pieces p w) m P
   page-shown sheet w m P stop fit apart after =
       shows-page p sheet w m P stop
-      (λ r q e. (are-not-on K (Waits w.state) NoLine (Waits w.state) (λ line place. HoldsFloat line place sheet) m.sheets (apart r q e) m.stories (fit r), after (after_page w.state.page sheet m) (lands K (Waits w.state) NoLine (Waits w.state) w.state.page sheet m.sheets m.stories (fit r))))
+      (λ r q e. (are-not-on K (Waits w.state) NoLine (Waits w.state) (λ line place. HoldsFloat line place sheet) m.sheets (apart r q e) m.stories (fit r), after (after_page w.state.number sheet m) (lands K (Waits w.state) NoLine (Waits w.state) w.state.number sheet m.sheets m.stories (fit r))))
 
   -- ---- companies
 
@@ -178,7 +178,7 @@ module _ (p : Params) (K : ℕ → Type 0) where
           (λ b y. shows-then w u (wide_pages p clearing n u) (ship_pieces p w) (wide_pieces p clearing n u) b (Stand p K u) (Stand p K (wide_pages p clearing n u))
           (shows-behind w v u (ship_pieces p w) b (Stand p K u) refl
           (page-shown sheet v b (Stand p K u) (λ r. stand-stopped p K u b r) y
-          (λ r q e line place f g. sent-apart nothing u sent q w.sent w.state.page sheet e line place f (subst (λ l. IsAmong line (waiting_lines l)) (sym (ship-floats sheet v)) g))
+          (λ r q e line place f g. sent-apart nothing u sent q w.sent w.state.number sheet e line place f (subst (λ l. IsAmong line (waiting_lines l)) (sym (ship-floats sheet v)) g))
           (λ c z. stand-shipped p K sheet v c (λ r. fit-put v.state c (empty-placed (wide_part p) (wide-waits p) (left_floats cs) w.state e) z))))
           (λ c z. again u sent (wide-empty cs w e) c z)))
 
@@ -206,7 +206,7 @@ module _ (p : Params) (K : ℕ → Type 0) where
       shows-then w u (ship_pair p c w) (ship_pieces p w) (after_pair p u) m (Stand p K u) (Stand p K (ship_pair p c w))
       (shows-before w (ship p sheet w) u (ship_pieces p w) m (Stand p K u) (Stand p K u) refl (λ n x. x)
       (page-shown sheet w m (Stand p K u) (λ r. stand-stopped p K u m r) fit
-      (λ r q e line place f g. sent-apart nothing u sent q w.sent w.state.page sheet e line place f (subst (λ l. IsAmong line (waiting_lines l)) (sym (ship-floats sheet w)) g))
+      (λ r q e line place f g. sent-apart nothing u sent q w.sent w.state.number sheet e line place f (subst (λ l. IsAmong line (waiting_lines l)) (sym (ship-floats sheet w)) g))
       (λ n x. pair-stands sheet w n b (λ r. x))))
       (λ n x. shows-then u v (fill_double p v) (all_wide_pieces p false u) (fill_double_pieces p v) n (Stand p K v) (Stand p K (fill_double p v))
       (wide-shown false (length (wide_waiting p u.state.floats)) u sent (pair-empty sheet w b) n x)
@@ -228,7 +228,7 @@ module _ (p : Params) (K : ℕ → Type 0) where
           → Shows a (if not two then ship p (one c) a else (if first then keep_left c a else ship_pair p c a)) (if not two then ship_pieces p a else (if first then [] else pair_pieces p c a)) m (Stand p K (if not two then ship p (one c) a else (if first then keep_left c a else ship_pair p c a)))
       by_columns false first t f =
           page-shown (one c) a m (Stand p K (ship p (one c) a)) (λ r. stand-stopped p K (ship p (one c) a) m r) fit
-          (λ r q e line place g i. sent-apart nothing (ship p (one c) a) (column-once {p = p} (ships_column c a t) once) q a.sent a.state.page (one c) e line place g (subst (λ l. IsAmong line (waiting_lines l)) (sym (ship-floats (one c) a)) i))
+          (λ r q e line place g i. sent-apart nothing (ship p (one c) a) (column-once {p = p} (ships_column c a t) once) q a.sent a.state.number (one c) e line place g (subst (λ l. IsAmong line (waiting_lines l)) (sym (ship-floats (one c) a)) i))
           (λ n x. stand-shipped p K (one c) a n (λ r. fit-put a.state n (none-placed a.state b (one-column a.state.two_columns a.state.first_column (float_lines a.state.floats.double) t)) x))
       by_columns true true t f =
           shows-none a (keep_left c a) m (Stand p K (keep_left c a)) refl (λ r. fit-put (keep_left c a).state m (none-placed (keep_left c a).state b (second-column a.state.two_columns (float_lines a.state.floats.double))) (fit r))

@@ -18,7 +18,7 @@ use Rattle.tb_output.specs.Act.{Acted, went, full, act_on}
 use Rattle.tb_output.specs.Output.{out}
 use Rattle.tb_items.specs.RunEvents.{RunEvent, offered, sent}
 use Rattle.tb_items.specs.Classes.{classes_of}
-use Rattle.tb_steps.specs.Run.{End, done, pool_full, dead_cycles, page_limit, node_limit, Progress, progress_by, progress, Step, ends, goes_on, held_count, after_firing, fire, after_progress, step, firings_left}
+use Rattle.tb_steps.specs.Run.{End, done, pool_full, dead_cycles, page_limit, node_limit, Progress, progress_by, progress, Step, ends, goes_on, held_count, after_firing, fire, after_progress, step, firings_left, ask_for}
 use Rattle.tb_told.specs.declared.Tale.TheVariants as tale
 use Rattle.tb_story.specs.Summary.{SummaryView, no_stories, by_width, after_tale}
 use Rattle.tb_why.specs.Firing.{spot_of, firing_pieces, woven}
@@ -238,7 +238,7 @@ module _ (p : Params) where
     abbrev waited : SummaryView
     waited = after-waits (now p s o).state (drop (length s.floats.second) (now p s o).state.floats.second) m
 
-    firing-shown : (now p s o).fault ≡ None → StepShown p (fire p (page_of p s) (now p s o)) (firing_shown p (now p s o).state (fires p s o)) waited
+    firing-shown : (now p s o).fault ≡ None → StepShown p (fire p (ask_for p s) (page_of p s) (now p s o)) (firing_shown p (now p s o).state (fires p s o)) waited
     firing-shown e =
         let q = now p s o in
         let x = fired-ends p s o e waited (waiting-fit p s o e m a) in
@@ -247,10 +247,10 @@ module _ (p : Params) where
         (work-shown q.events q.records (out p q.state (fires p s o)) (all_shown (woven (firing_pieces p q.state (fires p s o)) (out p q.state (fires p s o)).sent)) waited x.now x.after x.order)
         (ends-shown q.events q.records (dead_cycles q.state.dead_cycles) waited)
 
-    by_fault : (y : Option (ℕ × ℕ)) → (now p s o).fault ≡ y → StepShown p (after_progress p (page_of p s) (now p s o) y) (fired_shown p (page_of p s) (now p s o) y) waited
+    by_fault : (y : Option (ℕ × ℕ)) → (now p s o).fault ≡ y → StepShown p (after_progress p (ask_for p s) (page_of p s) (now p s o) y) (fired_shown p (ask_for p s) (page_of p s) (now p s o) y) waited
     by_fault None e =
         let q = now p s o in
-        step-if (page_of p s).fires (fire p (page_of p s) q) (ends q.events (q.records ++ emptied q.state.floats ∷ []) (done (page_of p s).passed)) (firing_shown p q.state (fires p s o)) [] waited (firing-shown e)
+        step-if (page_of p s).fires (fire p (ask_for p s) (page_of p s) q) (ends q.events (q.records ++ emptied q.state.floats ∷ []) (done (page_of p s).passed)) (firing_shown p q.state (fires p s o)) [] waited (firing-shown e)
         (ends-shown q.events (q.records ++ emptied q.state.floats ∷ []) (done (page_of p s).passed) waited)
     by_fault (Some f) e = ends-shown (now p s o).events (now p s o).records (pool_full f.0 f.1) waited
 
@@ -258,7 +258,7 @@ module _ (p : Params) where
     unfolding step step_shown
     step-is-shown =
         let q = now p s o in
-        behind-waits (after_progress p (page_of p s) q q.fault) (fired_shown p (page_of p s) q q.fault) q.events q.state (drop (length s.floats.second) q.state.floats.second) m (progress-quiet p (page_of p s).reached awful_bad s) (by_fault q.fault refl)
+        behind-waits (after_progress p (ask_for p s) (page_of p s) q q.fault) (fired_shown p (ask_for p s) (page_of p s) q q.fault) q.events q.state (drop (length s.floats.second) q.state.floats.second) m (progress-quiet p (page_of p s).reached awful_bad s) (by_fault q.fault refl)
 
   -- ---- a run
 

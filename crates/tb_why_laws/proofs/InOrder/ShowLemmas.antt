@@ -74,30 +74,30 @@ shows-tales w ts m P h k = by_refused w.refused refl
 
 -- a page is shipped, unless the page limit was met or is met now
 pub shows-page : (p : Params) (sheet : PlainSheet) (w : Work) (m : SummaryView) (P : SummaryView → Type 0) → ((ship p sheet w).refused ≡ true → P m)
-    → (w.refused ≡ false → (ship p sheet w).refused ≡ false → (ship p sheet w).sent ≡ w.sent ++ shipped w.state.page sheet ∷ [] → IsSentInOrder (shipped w.state.page sheet) m × P (after_page w.state.page sheet m))
+    → (w.refused ≡ false → (ship p sheet w).refused ≡ false → (ship p sheet w).sent ≡ w.sent ++ shipped w.state.number sheet ∷ [] → IsSentInOrder (shipped w.state.number sheet) m × P (after_page w.state.number sheet m))
     → Shows w (ship p sheet w) (ship_pieces p w) m P
 shows-page p sheet w m P h k = by_refused w.refused refl h k
   where
     by_refused : (b : Bool) → w.refused ≡ b → ((if b then w else (if int_lt p.maxpages (pos w.state.page) then record w { refused = true } else ship_now sheet w)).refused ≡ true → P m)
-        → (w.refused ≡ false → (if b then w else (if int_lt p.maxpages (pos w.state.page) then record w { refused = true } else ship_now sheet w)).refused ≡ false → (if b then w else (if int_lt p.maxpages (pos w.state.page) then record w { refused = true } else ship_now sheet w)).sent ≡ w.sent ++ shipped w.state.page sheet ∷ [] → IsSentInOrder (shipped w.state.page sheet) m × P (after_page w.state.page sheet m))
+        → (w.refused ≡ false → (if b then w else (if int_lt p.maxpages (pos w.state.page) then record w { refused = true } else ship_now sheet w)).refused ≡ false → (if b then w else (if int_lt p.maxpages (pos w.state.page) then record w { refused = true } else ship_now sheet w)).sent ≡ w.sent ++ shipped w.state.number sheet ∷ [] → IsSentInOrder (shipped w.state.number sheet) m × P (after_page w.state.number sheet m))
         → Shows w (if b then w else (if int_lt p.maxpages (pos w.state.page) then record w { refused = true } else ship_now sheet w)) (if b then [] else (if int_lt p.maxpages (pos w.state.page) then [] else NextSent ∷ [])) m P
     by_refused true e h k = shows-none w w m P refl (h e)
     by_refused false e h k = by_limit (int_lt p.maxpages (pos w.state.page)) h k
       where
         -- the page is sent
-        sends-it : (c : Bool) → c ≡ false → (if c then record w { state = record w.state { page = w.state.page + 1; dead_cycles = 0 } } else record w { state = record w.state { page = w.state.page + 1; dead_cycles = 0 }; sent = w.sent ++ shipped w.state.page sheet ∷ [] }).sent ≡ w.sent ++ shipped w.state.page sheet ∷ []
+        sends-it : (c : Bool) → c ≡ false → (if c then record w { state = record w.state { page = w.state.page + 1; number = w.state.number + 1; dead_cycles = 0 } } else record w { state = record w.state { page = w.state.page + 1; number = w.state.number + 1; dead_cycles = 0 }; sent = w.sent ++ shipped w.state.number sheet ∷ [] }).sent ≡ w.sent ++ shipped w.state.number sheet ∷ []
         sends-it true i = cc
         sends-it false i = refl
 
-        goes-on : (c : Bool) → c ≡ false → w.refused ≡ false → (if c then record w { state = record w.state { page = w.state.page + 1; dead_cycles = 0 } } else record w { state = record w.state { page = w.state.page + 1; dead_cycles = 0 }; sent = w.sent ++ shipped w.state.page sheet ∷ [] }).refused ≡ false
+        goes-on : (c : Bool) → c ≡ false → w.refused ≡ false → (if c then record w { state = record w.state { page = w.state.page + 1; number = w.state.number + 1; dead_cycles = 0 } } else record w { state = record w.state { page = w.state.page + 1; number = w.state.number + 1; dead_cycles = 0 }; sent = w.sent ++ shipped w.state.number sheet ∷ [] }).refused ≡ false
         goes-on true i e = cc
         goes-on false i e = e
 
         by_limit : (b : Bool) → ((if b then record w { refused = true } else ship_now sheet w).refused ≡ true → P m)
-            → (w.refused ≡ false → (if b then record w { refused = true } else ship_now sheet w).refused ≡ false → (if b then record w { refused = true } else ship_now sheet w).sent ≡ w.sent ++ shipped w.state.page sheet ∷ [] → IsSentInOrder (shipped w.state.page sheet) m × P (after_page w.state.page sheet m))
+            → (w.refused ≡ false → (if b then record w { refused = true } else ship_now sheet w).refused ≡ false → (if b then record w { refused = true } else ship_now sheet w).sent ≡ w.sent ++ shipped w.state.number sheet ∷ [] → IsSentInOrder (shipped w.state.number sheet) m × P (after_page w.state.number sheet m))
             → Shows w (if b then record w { refused = true } else ship_now sheet w) (if b then [] else NextSent ∷ []) m P
         by_limit true h k = shows-none w (record w { refused = true }) m P refl (h refl)
         by_limit false h k =
             let sent = sends-it w.refused e in
             let x = k e (goes-on w.refused e e) sent in
-            record { now = after_page w.state.page sheet m; sent = shipped w.state.page sheet ∷ []; whole = sent; after = x.1; order = λ qs es later o. (x.0, o) }
+            record { now = after_page w.state.number sheet m; sent = shipped w.state.number sheet ∷ []; whole = sent; after = x.1; order = λ qs es later o. (x.0, o) }

@@ -5,7 +5,7 @@ use Rattle.tb_param.specs.declared.Params.{Params}
 use Rattle.tb_output.specs.State.{State, Recorded, Work, emptied}
 use Rattle.tb_output.specs.Output.{out}
 use Rattle.tb_items.specs.RunEvents.{RunEvent, sent}
-use Rattle.tb_steps.specs.Run.{done, dead_cycles, page_limit, node_limit, Step, ends, goes_on, held_count, after_firing, fire, after_progress, step}
+use Rattle.tb_steps.specs.Run.{done, dead_cycles, page_limit, node_limit, Step, ends, goes_on, held_count, after_firing, fire, after_progress, step, ask_for}
 use Rattle.tb_laws.proofs.NothingLost.RunWeights.{page_of}
 use Rattle.tb_why_laws.proofs.OnePlace.OnceStates.{Running, now, fires}
 
@@ -48,10 +48,10 @@ module _ (p : Params) (s : State) (o : Running p s) where
       by_cycles f g true c e = let x = by_refused w.refused refl e in record { fault = f; fired = g; cycles = c; unrefused = x.0; state = x.1 }
       by_cycles f g false c e = cc
 
-      by_firing : (now p s o).fault ≡ None → (u : Bool) → (page_of p s).fires ≡ u → (if u then fire p (page_of p s) (now p s o) else ends (now p s o).events ((now p s o).records ++ emptied (now p s o).state.floats ∷ []) (done (page_of p s).passed)) ≡ goes_on es rs t → GoesOn t
+      by_firing : (now p s o).fault ≡ None → (u : Bool) → (page_of p s).fires ≡ u → (if u then fire p (ask_for p s) (page_of p s) (now p s o) else ends (now p s o).events ((now p s o).records ++ emptied (now p s o).state.floats ∷ []) (done (page_of p s).passed)) ≡ goes_on es rs t → GoesOn t
       by_firing f true g e = by_cycles f g (int_lt (pos (now p s o).state.dead_cycles) p.maxdeadcycles) refl e
       by_firing f false g e = cc
 
-      by_fault : (x : Option (ℕ × ℕ)) → (now p s o).fault ≡ x → after_progress p (page_of p s) (now p s o) x ≡ goes_on es rs t → GoesOn t
+      by_fault : (x : Option (ℕ × ℕ)) → (now p s o).fault ≡ x → after_progress p (ask_for p s) (page_of p s) (now p s o) x ≡ goes_on es rs t → GoesOn t
       by_fault None f e = by_firing f (page_of p s).fires refl e
       by_fault (Some y) f e = cc

@@ -1,6 +1,6 @@
 -- Which floats are in a column: in a text column those that stand in its text and those of the top and bottom, in a column of
 -- floats those of its company.
-use Rattle.std.proofs.Common.{inl, inr, ◌⊎◌, ℕ, ℤ, Bool, true, false, List, [], ◌∷◌, ◌++◌, length, map, Option, Some, None}
+use Rattle.std.proofs.Common.{inl, inr, ◌⊎◌, ℕ, ℤ, Bool, true, false, List, [], ◌∷◌, ◌++◌, length, map, Option, Some, None, unwrap_or}
 use Rattle.std.specs.Prelude.{◌==◌, if◌then◌else◌}
 use Rattle.tb_scaled.specs.declared.Glue.{Glue}
 use Rattle.tb_scaled.specs.Glue.{negated_glue}
@@ -14,7 +14,7 @@ use Rattle.tb_node.specs.PlainNodes.{Matter, hbox, Leaf, leaf_node, PlainKind, p
 use Rattle.tb_param.specs.declared.Params.{Params}
 use Rattle.tb_param.specs.declared.Rule.{Rule}
 use Rattle.tb_float.specs.Lists.{FloatLists}
-use Rattle.tb_column.specs.Column.{Notes, is_no_glue, glue_if_any, rule_if_any, kern_if_any, foot_kern, floats_with, floats_above, floats_below, feet_above, class_below, notes_below, notes_among, text_above_feet, text_nodes, closing_glue, text_column, floats_after, single_floats_column}
+use Rattle.tb_column.specs.Column.{Notes, is_no_glue, glue_if_any, rule_if_any, kern_if_any, foot_kern, floats_with, floats_above, floats_below, feet_above, above_class, class_below, notes_below, notes_among, text_above_feet, text_nodes, closing_glue, text_column, floats_after, single_floats_column}
 use Rattle.tb_column.proofs.ColumnParts.{among-have}
 use Rattle.tb_column.proofs.ColumnParts as parts
 use Rattle.tb_told.specs.Tales.{and_here, here_lines}
@@ -106,10 +106,9 @@ feet-none n place p kern i =
 class-none : (n : ℕ) (place : Where) (p : Params) (kern : Option ℤ) (c : Notes) → FloatlessLeaves c.inner → HasFloat n place (class_below p kern c) → ⊥
 class-none n place p kern c h i = by_class (c.class == 254) i
   where
-    by_class : (t : Bool) → HasFloat n place (if t then feet_above p kern ++ map leaf_node c.inner else made (skip c.skip) ∷ map leaf_node c.inner) → ⊥
+    by_class : (t : Bool) → HasFloat n place (if t then feet_above p kern ++ map leaf_node c.inner else above_class c.skip c.below ++ map leaf_node c.inner) → ⊥
     by_class true j = neither n place (feet_above p kern) (map leaf_node c.inner) (λ k. feet-none n place p kern k) (λ k. leaves-none n place c.inner h k) j
-    by_class false (inl j) = j
-    by_class false (inr j) = leaves-none n place c.inner h j
+    by_class false j = neither n place (above_class c.skip c.below) (map leaf_node c.inner) (λ k. gap-none n place c.skip Footnotes (unwrap_or c.below None) k) (λ k. leaves-none n place c.inner h k) j
 
 notes-none : (n : ℕ) (place : Where) (p : Params) (kern : Option ℤ) (cs : List Notes) → FloatlessNotes cs → HasFloat n place (notes_below p kern cs) → ⊥
 notes-none n place p kern [] h i = i

@@ -19,9 +19,9 @@ use Rattle.tb_break.specs.PageTop.{pruned_nodes}
 use Rattle.tb_builder.specs.FiredPages.{frozen_for}
 use Rattle.tb_items.specs.Classes.{classes_of}
 use Rattle.tb_items.specs.RunEvents.{RunEvent}
-use Rattle.tb_output.specs.State.{State, Recorded, ask_of, first_state, void_boxes, begun}
+use Rattle.tb_output.specs.State.{State, Recorded, first_state, void_boxes, begun}
 use Rattle.tb_output.specs.Output.{after_page}
-use Rattle.tb_steps.specs.Run.{goes_on, step}
+use Rattle.tb_steps.specs.Run.{goes_on, step, ask_for}
 use Rattle.tb_laws.proofs.NothingLost.RunWeights.{page_of}
 use Rattle.tb_why_laws.proofs.OnePlace.Once.{of_line}
 use Rattle.tb_why_laws.proofs.OnePlace.OnceStates.{Running, now, progressed, fires}
@@ -33,7 +33,7 @@ use Rattle.tb_why_laws.proofs.InTime.HereWorks.{Here, HereState, out-here}
 
 module _ (p : Params) (s : State) (o : Running p s) (h : HereState s) where
   page-here : HereReach (page_of p s)
-  page-here = reached-here (ask_of p s).max_depth (terms_after (frozen_for (ask_of p s) s.classes s.boxes)) [] (pruned_nodes p.topskip s.waiting) tt (nodes-pruned p.topskip s.waiting h.waiting)
+  page-here = reached-here (ask_for p s).max_depth (terms_after (frozen_for (ask_for p s) s.classes s.boxes)) [] (pruned_nodes p.topskip s.waiting) tt (nodes-pruned p.topskip s.waiting h.waiting)
 
   module _ (e : (now p s o).fault ≡ None) where
     -- once the page is filled
@@ -44,7 +44,7 @@ module _ (p : Params) (s : State) (o : Running p s) (h : HereState s) where
 
     -- the page that fires
     pub fires-here : HereFired (fires p s o)
-    fires-here = fired-here (frozen_for (ask_of p (now p s o).state) (now p s o).state.classes (now p s o).state.boxes) (now p s o).state.boxes (page_of p s) filled-here.boxes page-here
+    fires-here = fired-here (frozen_for (ask_for p s) (now p s o).state.classes (now p s o).state.boxes) (now p s o).state.boxes (page_of p s) filled-here.boxes page-here
 
     -- where its firing begins
     pub begins-here : Here (begun (after_page (now p s o).state (fires p s o)))

@@ -91,12 +91,16 @@ follows a b x k = record { boxes = subst FloatlessBoxes (sym x.boxes) k.boxes; h
 lists-here : (l : FloatLists) (w : Work) → Here w → Here (with_floats l w)
 lists-here l w k = record { boxes = k.boxes; held = k.held; back = k.back }
 
-interline-here : (p : Params) (w : Work) → Here w → Here (Text.puts_interline p w)
-interline-here p w k = puts-here (Text.penalty_after p.interlinepenalty w.put_back) w (penalties p.interlinepenalty (Text.glue_at_end (last_or (plain (pen p.interlinepenalty)) (map (λ (m : PlainNode). m.kind) w.put_back)))) k
+interline-here : (p : Params) (nobreak : Bool) (w : Work) → Here w → Here (Text.puts_interline p nobreak w)
+interline-here p nobreak w k = puts-here (Text.penalty_between p.interlinepenalty nobreak w.put_back) w (between nobreak) k
   where
     penalties : (n : ℤ) (o : Option Glue) → AllHere (Text.penalty_nodes n o)
     penalties n None = (tt, tt)
     penalties n (Some g) = (tt, (tt, (tt, tt)))
+
+    between : (t : Bool) → AllHere (Text.penalty_between p.interlinepenalty t w.put_back)
+    between true = (tt, tt)
+    between false = penalties p.interlinepenalty (Text.glue_at_end (last_or (plain (pen p.interlinepenalty)) (map (λ (m : PlainNode). m.kind) w.put_back)))
 
 -- ---- columns and pages
 
@@ -153,26 +157,26 @@ stands-here p true f = (tt, (refl, (tt, (tt, (tt, tt)))))
 stands-here p false f = (tt, (refl, (tt, (tt, tt))))
 
 goes-here : (p : Params) (vert : Bool) (f : Float) (left : FloatLists) (w : Work) (place : Where) → Here w → Here (Text.float_goes p vert f left w place)
-goes-here p vert f left w places.Here k = puts-here (Text.here_nodes p vert f) _ (stands-here p vert f) (interline-here p _ (placed-here p places.Here f left w k))
-goes-here p vert f left w places.Top k = interline-here p _ (placed-here p places.Top f left w k)
-goes-here p vert f left w places.Bottom k = interline-here p _ (placed-here p places.Bottom f left w k)
-goes-here p vert f left w places.Page k = interline-here p _ (defers-here p f left w k)
-goes-here p vert f left w places.Double k = interline-here p _ (defers-here p f left w k)
-goes-here p vert f left w places.Deferred k = interline-here p _ (defers-here p f left w k)
+goes-here p vert f left w places.Here k = puts-here (Text.here_nodes p vert f) _ (stands-here p vert f) (interline-here p f.nobreak _ (placed-here p places.Here f left w k))
+goes-here p vert f left w places.Top k = interline-here p f.nobreak _ (placed-here p places.Top f left w k)
+goes-here p vert f left w places.Bottom k = interline-here p f.nobreak _ (placed-here p places.Bottom f left w k)
+goes-here p vert f left w places.Page k = interline-here p f.nobreak _ (defers-here p f left w k)
+goes-here p vert f left w places.Double k = interline-here p f.nobreak _ (defers-here p f left w k)
+goes-here p vert f left w places.Deferred k = interline-here p f.nobreak _ (defers-here p f left w k)
 
 note-here : (p : Params) (depth : ℤ) (m : Margin) (left : FloatLists) (w : Work) (at : Placed) → Here w → Here (Text.note_goes p depth m left w at)
 note-here p depth m left w at k =
     let a = Text.with_note_bottom at.bottom (with_floats left w) in
     let h : Here a = record { boxes = k.boxes; held = k.held; back = k.back } in
-    interline-here p (puts (Text.note_nodes depth m at) (Text.moved_warning m at a))
+    interline-here p m.nobreak (puts (Text.note_nodes depth m at) (Text.moved_warning m at a))
     (puts-here (Text.note_nodes depth m at) (Text.moved_warning m at a) (tt, (tt, (tt, tt))) (either at.moved (sends (warned (warnings.Moved m.name at.shift)) a) a (sends-here (warned (warnings.Moved m.name at.shift)) a h) h))
 
 first-here : (p : Params) (vert : Bool) (height depth page_height : ℤ) (es : List Entry) (w : Work) → Here w → Here (Text.first_goes p vert height depth page_height es w)
 first-here p vert height depth page_height (entries.Float f ∷ es) w k = goes-here p vert f (record w.state.floats { current = es }) w _ k
 first-here p vert height depth page_height (entries.Left m ∷ []) w k = note-here p depth m (record w.state.floats { current = [] }) w _ k
 first-here p vert height depth page_height (entries.Left m ∷ n ∷ es) w k = note-here p depth m (record w.state.floats { current = es }) w _ k
-first-here p vert height depth page_height (entries.Right m ∷ es) w k = interline-here p w k
-first-here p vert height depth page_height [] w k = interline-here p w k
+first-here p vert height depth page_height (entries.Right m ∷ es) w k = interline-here p false w k
+first-here p vert height depth page_height [] w k = interline-here p false w k
 
 text-here : (p : Params) (vert : Bool) (body : List PlainNode) (w : Work) → AllHere body → Here w → Here (Text.float_or_note p vert body w)
 text-here p vert body w h k =
@@ -195,7 +199,7 @@ goal-here p n w k =
     let two = w.state.two_columns && not w.state.first_column in
     either (Output.is_int n hold_penalty) (Output.with_goal max_dimen w) (Output.goal_by p room w) (goal max_dimen)
     (either (Output.is_crowded p room) (Output.leave_column w) (Output.with_goal room w)
-    (puts-here (if two then Output.blank_column ++ Output.blank_column else Output.blank_column) (sends (warned (warnings.Floats w.state.page)) w) (blank two) (sends-here (warned (warnings.Floats w.state.page)) w k)) (goal room))
+    (puts-here (if two then Output.blank_column ++ Output.blank_column else Output.blank_column) (sends (warned (warnings.Floats w.state.number)) w) (blank two) (sends-here (warned (warnings.Floats w.state.number)) w k)) (goal room))
   where
     goal : (g : ℤ) → Here (Output.with_goal g w)
     goal g = record { boxes = k.boxes; held = k.held; back = k.back }

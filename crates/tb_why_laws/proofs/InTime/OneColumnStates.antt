@@ -1,4 +1,4 @@
--- Along the run of a galley without an item `twocolumn` there is one column.
+-- Along the run of a galley without items `twocolumn` and `page` there is one column, and no page number is set.
 use Rattle.std.proofs.Common.{◌≡◌, refl, sym, ◌∙◌, subst, ℕ, pos, ◌+◌, Bool, true, false, List, [], ◌∷◌, None}
 use Rattle.std.specs.Prelude.{ℤ, int_lt, int_le, ◌&&◌, if◌then◌else◌}
 use Rattle.std.specs.List.{AllByRecursion}
@@ -21,9 +21,9 @@ use Rattle.tb_builder.proofs.Cutting.CutLemmas.{acted_of}
 use Rattle.tb_float.specs.Lists.{live_count}
 use Rattle.tb_items.specs.Classes.{classes_of}
 use Rattle.tb_items.specs.RunEvents.{RunEvent}
-use Rattle.tb_output.specs.State.{State, Recorded, ask_of, first_state}
+use Rattle.tb_output.specs.State.{State, Recorded, first_state}
 use Rattle.tb_output.specs.Act.{Acted, went, full, act_on}
-use Rattle.tb_steps.specs.Run.{Progress, progress_by, progress, goes_on, step}
+use Rattle.tb_steps.specs.Run.{Progress, progress_by, progress, goes_on, step, ask_for}
 use Rattle.tb_laws.proofs.ClassesRise.PageLines.{deeds, deeds-append, pruned-deeds}
 use Rattle.tb_laws.proofs.NothingLost.RunWeights.{page_of, cut}
 use Rattle.tb_laws.proofs.NothingLost.ClosingRuns.{progressed, fired_closes}
@@ -34,14 +34,15 @@ use Rattle.tb_why_laws.proofs.OnePlace.CalledLater.{all-deeds, does}
 use Rattle.tb_why_laws.proofs.OnePlace.AfterCalls.{waiting_deeds}
 use Rattle.tb_why_laws.proofs.InTime.GoingOn.{GoesOn, going-on}
 
--- the act does not change to two columns
+-- the act does not change to two columns, and does not set the page number
 abbrev pub IsSingleAct : Act → Type 0
 IsSingleAct (acts.Take f) = Unit {0}
 IsSingleAct (acts.TakeMargin m) = Unit {0}
 IsSingleAct (acts.Suppress area) = Unit {0}
+IsSingleAct (acts.Page n) = ⊥
 IsSingleAct (acts.Columns two) = two ≡ false
 
--- there is one column, and none of the acts that wait changes this
+-- there is one column, and none of the acts that wait changes this or the page number
 pub record OneColumn (s : State) : Type 0 where
   pub two : s.two_columns ≡ false
   pub acts : AllByRecursion IsSingleAct (deeds s.waiting)
@@ -50,7 +51,7 @@ pub record OneColumn (s : State) : Type 0 where
 
 -- they keep the number of the page, and the one column
 record Kept (s t : State) : Type 0 where
-  page : t.page ≡ s.page
+  page : t.number ≡ s.number
   two : s.two_columns ≡ false → t.two_columns ≡ false
 
 Acts : State → Acted → Type 0
@@ -67,6 +68,7 @@ unfolding Acts
 act-kept p s (acts.Take f) h = room-kept s (int_le p.pool (pos (live_count s.floats))) _ _ _ (record { page = refl; two = λ e. e })
 act-kept p s (acts.TakeMargin m) h = room-kept s (int_lt p.pool (pos (live_count s.floats + 2))) _ _ _ (record { page = refl; two = λ e. e })
 act-kept p s (acts.Suppress area) h = record { page = refl; two = λ e. e }
+act-kept p s (acts.Page n) h = absurd h
 act-kept p s (acts.Columns two) h = record { page = refl; two = λ e. h }
 
 by_act-kept : (s : State) (later : State → Progress) → ((t : State) → Kept t (later t).state) → (x : Acted) → Acts s x → Kept s (progress_by later s x).state
@@ -92,7 +94,7 @@ module _ (p : Params) (s : State) (o : Running p s) (one : OneColumn s) where
   done = progress-kept p (page_of p s).reached awful_bad s acts-single
 
   -- the page that is made once the page is filled is the same
-  pub filled-page : (now p s o).state.page ≡ s.page
+  pub filled-page : (now p s o).state.number ≡ s.number
   filled-page = done.page
 
   module _ (e : (now p s o).fault ≡ None) where
@@ -103,7 +105,7 @@ module _ (p : Params) (s : State) (o : Running p s) (one : OneColumn s) where
   pub step-single : (es : List RunEvent) (rs : List Recorded) (t : State) → step p s ≡ goes_on es rs t → OneColumn t
   step-single es rs t e = record {
     two = subst (λ (x : State). x.two_columns ≡ false) (sym g.state)
-        ((fired_closes p o.calm s o.kept o.closing (now p s o).state (λ v. (reached-adds p s o v).after g.fault) ((progressed p o.calm s o.kept o.closing).after g.fault) (frozen_for (ask_of p (now p s o).state) (now p s o).state.classes (now p s o).state.boxes)).1 ∙ filled-single g.fault);
+        ((fired_closes p o.calm s o.kept o.closing (now p s o).state (λ v. (reached-adds p s o v).after g.fault) ((progressed p o.calm s o.kept o.closing).after g.fault) (frozen_for (ask_for p s) (now p s o).state.classes (now p s o).state.boxes)).1 ∙ filled-single g.fault);
     acts = subst (λ (x : State). AllByRecursion IsSingleAct (deeds x.waiting)) (sym g.state)
         (subst (AllByRecursion IsSingleAct) (sym (waiting_deeds p s o g.fault)) (all-back IsSingleAct (acted_of (page_of p s).reached) _ (subst (AllByRecursion IsSingleAct) (does p s o g.fault) one.acts)));
   }
@@ -123,6 +125,7 @@ item-single p two n items.TwoColumn h = absurd h
 item-single p two n items.OneColumn h = (refl, tt)
 item-single p two n (items.Margin m vert) h = (tt, tt)
 item-single p two n (items.Suppress area) h = (tt, tt)
+item-single p two n (items.Page k) h = absurd h
 item-single p two n k h = tt
 
 items-single : (p : Params) (two : Bool) (ns : List Item) → AllByRecursion (λ (n : Item). IsSingleItem n.kind) ns → AllByRecursion IsSingleAct (deeds (item_nodes p two ns))
@@ -131,7 +134,7 @@ items-single p two (n ∷ ns) h =
     subst (AllByRecursion IsSingleAct) (sym (deeds-append (on_line n.line (item_kinds p two n.kind)) (item_nodes p (two_after two n.kind) ns)))
     (all-join IsSingleAct (deeds (on_line n.line (item_kinds p two n.kind))) (deeds (item_nodes p (two_after two n.kind) ns)) (item-single p two n.line n.kind h.0) (items-single p (two_after two n.kind) ns h.1))
 
--- a galley without an item `twocolumn` begins in one column and stays there
+-- a galley without items `twocolumn` and `page` begins in one column and stays there
 pub starts-single : (g : Galley) → HasOneColumn g → OneColumn (first_state g.params (classes_of g) (expanded g))
 unfolding expanded
 starts-single g h = record {

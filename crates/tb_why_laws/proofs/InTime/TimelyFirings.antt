@@ -96,21 +96,21 @@ module _ (p : Params) (vert : Bool) where
       by_moved false = refl
 
   -- the page that is made is the same
-  placed-page : (place : Where) (f : Float) (left : FloatLists) (w : Work) → (place_float p place f left w).state.page ≡ w.state.page
+  placed-page : (place : Where) (f : Float) (left : FloatLists) (w : Work) → (place_float p place f left w).state.number ≡ w.state.number
   placed-page place f left w = by_placed (is_placed place)
     where
-      by_placed : (t : Bool) → (if t then records_also (placed f place w.state.floats (column_height_of p w.state.floats)) w else w).state.page ≡ w.state.page
-      by_placed true = ap (λ (s : State). s.page) (records-state (placed f place w.state.floats (column_height_of p w.state.floats)) w)
+      by_placed : (t : Bool) → (if t then records_also (placed f place w.state.floats (column_height_of p w.state.floats)) w else w).state.number ≡ w.state.number
+      by_placed true = ap (λ (s : State). s.number) (records-state (placed f place w.state.floats (column_height_of p w.state.floats)) w)
       by_placed false = refl
 
-  defer-page : (f : Float) (left : FloatLists) (w : Work) → (defer p f left w).state.page ≡ w.state.page
+  defer-page : (f : Float) (left : FloatLists) (w : Work) → (defer p f left w).state.number ≡ w.state.number
   defer-page f left w = by_places (only_here f)
     where
-      by_places : (t : Bool) → (if t then sends (warned (warnings.Ht f.name)) (place_float p places.Deferred (with_top f) left w) else place_float p places.Deferred f left w).state.page ≡ w.state.page
-      by_places true = let e = placed-page places.Deferred (with_top f) left w in by-sends (λ c. c.state.page ≡ w.state.page) (warned (warnings.Ht f.name)) (place_float p places.Deferred (with_top f) left w) e e
+      by_places : (t : Bool) → (if t then sends (warned (warnings.Ht f.name)) (place_float p places.Deferred (with_top f) left w) else place_float p places.Deferred f left w).state.number ≡ w.state.number
+      by_places true = let e = placed-page places.Deferred (with_top f) left w in by-sends (λ c. c.state.number ≡ w.state.number) (warned (warnings.Ht f.name)) (place_float p places.Deferred (with_top f) left w) e e
       by_places false = placed-page places.Deferred f left w
 
-  goes-page : (f : Float) (left : FloatLists) (w : Work) (place : Where) → (float_goes p vert f left w place).state.page ≡ w.state.page
+  goes-page : (f : Float) (left : FloatLists) (w : Work) (place : Where) → (float_goes p vert f left w place).state.number ≡ w.state.number
   goes-page f left w places.Here = placed-page places.Here f left w
   goes-page f left w places.Top = placed-page places.Top f left w
   goes-page f left w places.Bottom = placed-page places.Bottom f left w
@@ -118,25 +118,25 @@ module _ (p : Params) (vert : Bool) where
   goes-page f left w places.Double = defer-page f left w
   goes-page f left w places.Deferred = defer-page f left w
 
-  note-page : (depth : ℤ) (m : Margin) (left : FloatLists) (w : Work) (at : Placed) → (note_goes p depth m left w at).state.page ≡ w.state.page
+  note-page : (depth : ℤ) (m : Margin) (left : FloatLists) (w : Work) (at : Placed) → (note_goes p depth m left w at).state.number ≡ w.state.number
   note-page depth m left w at = by_moved at.moved
     where
       a : Work
       a = with_note_bottom at.bottom (with_floats left w)
 
-      by_moved : (t : Bool) → (if t then sends (warned (warnings.Moved m.name at.shift)) a else a).state.page ≡ w.state.page
-      by_moved true = by-sends (λ c. c.state.page ≡ w.state.page) (warned (warnings.Moved m.name at.shift)) a refl refl
+      by_moved : (t : Bool) → (if t then sends (warned (warnings.Moved m.name at.shift)) a else a).state.number ≡ w.state.number
+      by_moved true = by-sends (λ c. c.state.number ≡ w.state.number) (warned (warnings.Moved m.name at.shift)) a refl refl
       by_moved false = refl
 
-  pub first-page : (height depth page_height : ℤ) (es : List Entry) (v : Work) → (first_goes p vert height depth page_height es v).state.page ≡ v.state.page
+  pub first-page : (height depth page_height : ℤ) (es : List Entry) (v : Work) → (first_goes p vert height depth page_height es v).state.number ≡ v.state.number
   first-page height depth page_height (entries.Float f ∷ es) v = goes-page f (record v.state.floats { current = es }) v (current_place p v.state.floats v.state.suppress page_height f)
-  first-page height depth page_height (entries.Left m ∷ []) v = note-page depth m (record v.state.floats { current = [] }) v (placed_note p v.state.page v.state.two_columns v.state.first_column height v.state.note_bottom m)
-  first-page height depth page_height (entries.Left m ∷ n ∷ es) v = note-page depth m (record v.state.floats { current = es }) v (placed_note p v.state.page v.state.two_columns v.state.first_column height v.state.note_bottom m)
+  first-page height depth page_height (entries.Left m ∷ []) v = note-page depth m (record v.state.floats { current = [] }) v (placed_note p v.state.number v.state.two_columns v.state.first_column height v.state.note_bottom m)
+  first-page height depth page_height (entries.Left m ∷ n ∷ es) v = note-page depth m (record v.state.floats { current = es }) v (placed_note p v.state.number v.state.two_columns v.state.first_column height v.state.note_bottom m)
   first-page height depth page_height (entries.Right m ∷ es) v = refl
   first-page height depth page_height [] v = refl
 
   -- the first float or note of the current list
-  first-timely : (height depth page_height : ℤ) (es : List Entry) (v : Work) (m : SummaryView) → v.state.page ≡ m.sheets + 1 → DueIn (IsInColumn v.state.floats) m → TellsTimely (first_tales p height page_height es v.state) m (IsInColumn (first_goes p vert height depth page_height es v).state.floats)
+  first-timely : (height depth page_height : ℤ) (es : List Entry) (v : Work) (m : SummaryView) → v.state.number ≡ m.sheets + 1 → DueIn (IsInColumn v.state.floats) m → TellsTimely (first_tales p height page_height es v.state) m (IsInColumn (first_goes p vert height depth page_height es v).state.floats)
   first-timely height depth page_height (entries.Float f ∷ es) v m e a =
       let place = current_place p v.state.floats v.state.suppress page_height f in
       let left = record v.state.floats { current = es } in
@@ -145,11 +145,11 @@ module _ (p : Params) (vert : Bool) where
       (λ n i. subst (λ x. IsInColumn v.state.floats n ⊎ ((n ≡ f.line) × (is_deferred x ≡ false))) (sym (call_decides p v.state.floats v.state.suppress page_height f)) (goes-lists f left v place n i)) m e a
   first-timely height depth page_height (entries.Left m ∷ []) v s e a =
       let left = record v.state.floats { current = [] } in
-      subst (λ l. TellsTimely (first_tales p height page_height (entries.Left m ∷ []) v.state) s (IsInColumn l)) (sym (note-lists depth m left v (placed_note p v.state.page v.state.two_columns v.state.first_column height v.state.note_bottom m)))
+      subst (λ l. TellsTimely (first_tales p height page_height (entries.Left m ∷ []) v.state) s (IsInColumn l)) (sym (note-lists depth m left v (placed_note p v.state.number v.state.two_columns v.state.first_column height v.state.note_bottom m)))
       (timely-more _ [] s (IsInColumn left) tt refl (timely-none (IsInColumn left) s a))
   first-timely height depth page_height (entries.Left m ∷ n ∷ es) v s e a =
       let left = record v.state.floats { current = es } in
-      subst (λ l. TellsTimely (first_tales p height page_height (entries.Left m ∷ n ∷ es) v.state) s (IsInColumn l)) (sym (note-lists depth m left v (placed_note p v.state.page v.state.two_columns v.state.first_column height v.state.note_bottom m)))
+      subst (λ l. TellsTimely (first_tales p height page_height (entries.Left m ∷ n ∷ es) v.state) s (IsInColumn l)) (sym (note-lists depth m left v (placed_note p v.state.number v.state.two_columns v.state.first_column height v.state.note_bottom m)))
       (timely-more _ [] s (IsInColumn left) tt refl (timely-none (IsInColumn left) s a))
   first-timely height depth page_height (entries.Right m ∷ es) v s e a = timely-none (IsInColumn v.state.floats) s a
   first-timely height depth page_height [] v s e a = timely-none (IsInColumn v.state.floats) s a
@@ -175,14 +175,14 @@ module _ (p : Params) (n : ℤ) where
   -- the goal of the next page leaves the lists, the number of the page and the page limit
   record SameCourse (a b : Work) : Type 0 where
     floats : b.state.floats ≡ a.state.floats
-    page : b.state.page ≡ a.state.page
+    page : b.state.number ≡ a.state.number
     refused : b.refused ≡ a.refused
 
   goal-same : (w : Work) → SameCourse w (next_goal p n w)
   goal-same w = by_tests (is_int n hold_penalty) (is_crowded p (column_room_of p w.state.floats))
     where
-      told : SameCourse w (sends (warned (warnings.Floats w.state.page)) w)
-      told = by-sends (λ c. SameCourse w c) (warned (warnings.Floats w.state.page)) w (record { floats = refl; page = refl; refused = refl }) (record { floats = refl; page = refl; refused = refl })
+      told : SameCourse w (sends (warned (warnings.Floats w.state.number)) w)
+      told = by-sends (λ c. SameCourse w c) (warned (warnings.Floats w.state.number)) w (record { floats = refl; page = refl; refused = refl }) (record { floats = refl; page = refl; refused = refl })
 
       by_tests : (a b : Bool) → SameCourse w (if a then with_goal max_dimen w else (if b then leave_column w else with_goal (column_room_of p w.state.floats) w))
       by_tests true b = record { floats = refl; page = refl; refused = refl }
@@ -212,7 +212,7 @@ module _ (p : Params) (n : ℤ) where
       let y = from-times a b ps m (PunctualAt b) (next_goal p n b).sent g.also e g.whole g.warnings x in
       record { now = y.now; after = goal-punctual b y.now y.after; order = y.order }
 
-  ended-tells : (a b : Work) (ts : List Tale) (m : SummaryView) → a.sent ≡ [] → Warns a b → b.state.page ≡ m.sheets + 1 → TellsTimely ts m (IsInColumn b.state.floats) → Ended b (tales ts) m
+  ended-tells : (a b : Work) (ts : List Tale) (m : SummaryView) → a.sent ≡ [] → Warns a b → b.state.number ≡ m.sheets + 1 → TellsTimely ts m (IsInColumn b.state.floats) → Ended b (tales ts) m
   ended-tells a b ts m e v page x =
       let g = warns-then a b (next_goal p n b) v (warns-goal p n b) in
       record {
@@ -224,8 +224,8 @@ module _ (p : Params) (n : ℤ) where
       }
 
 -- what is shown of a firing in one column comes in time, if it did so before
-pub firing-comes : (p : Params) (s : State) (f : Fired) → AllHere f.body → Here (begun (after_page s f)) → s.two_columns ≡ false → (m : SummaryView) → s.page ≡ m.sheets + 1 → DueIn (IsInColumn s.floats) m
-    → Comes (firing_pieces p s f) (out p s f).sent m (λ k. (out p s f).refused ≡ false → ((out p s f).state.page ≡ k.sheets + 1) × DueIn (IsInColumn (out p s f).state.floats) k)
+pub firing-comes : (p : Params) (s : State) (f : Fired) → AllHere f.body → Here (begun (after_page s f)) → s.two_columns ≡ false → (m : SummaryView) → s.number ≡ m.sheets + 1 → DueIn (IsInColumn s.floats) m
+    → Comes (firing_pieces p s f) (out p s f).sent m (λ k. (out p s f).refused ≡ false → ((out p s f).state.number ≡ k.sheets + 1) × DueIn (IsInColumn (out p s f).state.floats) k)
 unfolding out firing_pieces
 firing-comes p s f body here two m e a = ended
   where

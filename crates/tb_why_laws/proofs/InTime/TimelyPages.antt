@@ -67,8 +67,8 @@ fewer-punctual N M h w m x r = let y = x r in (y.0, fewer-due N M h m.sheets m.s
 module _ (p : Params) where
   -- ---- a column is put out
 
-  ships-on : (sheet : PlainSheet) (w : Work) → (ship p sheet w).refused ≡ false → w.refused ≡ false → (ship p sheet w).state.page ≡ w.state.page + 1
-  ships-on sheet w = by-ship (λ c. c.refused ≡ false → w.refused ≡ false → c.state.page ≡ w.state.page + 1) p sheet w (λ r q z. absurd (stopped w.refused r z)) (λ r q z. cc) (λ r e q z. refl)
+  ships-on : (sheet : PlainSheet) (w : Work) → (ship p sheet w).refused ≡ false → w.refused ≡ false → (ship p sheet w).state.number ≡ w.state.number + 1
+  ships-on sheet w = by-ship (λ c. c.refused ≡ false → w.refused ≡ false → c.state.number ≡ w.state.number + 1) p sheet w (λ r q z. absurd (stopped w.refused r z)) (λ r q z. cc) (λ r e q z. refl)
 
   records-refuse : (r : Recorded) (w : Work) → (records_also r w).refused ≡ w.refused
   records-refuse r w = by-records (λ c. c.refused ≡ w.refused) r w refl refl
@@ -80,10 +80,10 @@ module _ (p : Params) where
   leaving-timely : (N : ℕ → Type 0) (c : PlainColumn) → ((n : ℕ) (place : Where) → HasFloat n place c.nodes → N n) → (v : Work) (m : SummaryView) → Leaving N v m → Times v (ship p (one c) v) (ship_pieces p v) m (Punctual NoLine (ship p (one c) v))
   leaving-timely N c holds v m x =
       times-page p (one c) v m (Punctual NoLine (ship p (one c) v)) (λ r q. absurd (stopped (ship p (one c) v).refused r q))
-      (λ r q e. let y = x r in (placed_for y.before (sym y.page) m.stories y.due, λ z. (ships-on (one c) v q r ∙ ap (λ n. n + 1) (y.page ∙ sym y.sheets), none-due NoLine (λ n i. i) m.sheets (after_page v.state.page (one c) m).stories)))
+      (λ r q e. let y = x r in (placed_for y.before (sym y.page) m.stories y.due, λ z. (ships-on (one c) v q r ∙ ap (λ n. n + 1) (y.page ∙ sym y.sheets), none-due NoLine (λ n i. i) m.sheets (after_page v.state.number (one c) m).stories)))
     where
-      placed_for : (before : ℕ) → before + 1 ≡ v.state.page → (ss : List StoryView) → AllDue N before ss → AllByRecursion (IsPlacedFor v.state.page (one c)) ss
-      placed_for before e ss a = all-map (IsDue N before) (IsPlacedFor v.state.page (one c)) (λ s d o place i. ap (λ n. n + 1) (d o (holds s.float.line place i)) ∙ e) ss a
+      placed_for : (before : ℕ) → before + 1 ≡ v.state.number → (ss : List StoryView) → AllDue N before ss → AllByRecursion (IsPlacedFor v.state.number (one c)) ss
+      placed_for before e ss a = all-map (IsDue N before) (IsPlacedFor v.state.number (one c)) (λ s d o place i. ap (λ n. n + 1) (d o (holds s.float.line place i)) ∙ e) ss a
 
   pub put-timely : (N : ℕ → Type 0) (c : PlainColumn) → ((n : ℕ) (place : Where) → HasFloat n place c.nodes → N n) → (w : Work) → w.state.two_columns ≡ false → (m : SummaryView) → Punctual N w m → Times w (put_out p c w) (put_out_pieces p c w) m (Punctual NoLine (put_out p c w))
   put-timely N c holds w two m h =
@@ -92,7 +92,7 @@ module _ (p : Params) where
       (by_two (records_also (output c) w) (records_also (output c) w).state.two_columns (ap (λ (s : State). s.two_columns) (records-state (output c) w) ∙ two) k (recorded k x)))
     where
       recorded : (k : SummaryView) → Leaving N w k → Leaving N (records_also (output c) w) k
-      recorded k x r = let y = x (sym (records-refuse (output c) w) ∙ r) in record { before = y.before; sheets = y.sheets; page = ap (λ (s : State). s.page) (records-state (output c) w) ∙ y.page; due = y.due }
+      recorded k x r = let y = x (sym (records-refuse (output c) w) ∙ r) in record { before = y.before; sheets = y.sheets; page = ap (λ (s : State). s.number) (records-state (output c) w) ∙ y.page; due = y.due }
 
       by_two : (v : Work) (b : Bool) → b ≡ false → (k : SummaryView) → Leaving N v k
           → Times v (after_column (if not b then ship p (one c) v else (if v.state.first_column then keep_left c v else ship_pair p c v))) (if not b then ship_pieces p v else (if v.state.first_column then [] else pair_pieces p c v)) k
@@ -186,7 +186,7 @@ module _ (p : Params) where
     area-timely place more area is =
         let r = placed f place w.state.floats (column_height_of p w.state.floats) in
         times-before w w (moved place) (unless_over w (tales (decisions f ts))) m (Punctual (IsInColumn (joined place)) w) (Punctual (IsInColumn (joined place)) (moved place)) (records-send r w)
-        (λ k x q. let y = x (sym (records-refuse r w) ∙ q) in (ap (λ (s : State). s.page) (records-state r w) ∙ y.0, y.1))
+        (λ k x q. let y = x (sym (records-refuse r w) ∙ q) in (ap (λ (s : State). s.number) (records-state r w) ∙ y.0, y.1))
         (times-tales w (decisions f ts) m (IsInColumn w.state.floats) (IsInColumn (joined place)) h (λ q a. decision-timely (IsInColumn w.state.floats) (IsInColumn (joined place)) f ts (λ n i. by_more n (more n i)) m a))
       where
         by_more : (n : ℕ) → IsInColumn w.state.floats n ⊎ (n ≡ f.line) → IsInColumn w.state.floats n ⊎ ((n ≡ f.line) × (is_deferred (place_told ts) ≡ false))

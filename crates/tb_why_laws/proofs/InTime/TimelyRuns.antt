@@ -14,7 +14,7 @@ use Rattle.tb_output.specs.State.{State, first_state}
 use Rattle.tb_output.specs.Output.{out}
 use Rattle.tb_items.specs.RunEvents.{RunEvent, offered, sent}
 use Rattle.tb_items.specs.Classes.{classes_of}
-use Rattle.tb_steps.specs.Run.{Step, ends, goes_on, held_count, step, firings_left}
+use Rattle.tb_steps.specs.Run.{Step, ends, goes_on, held_count, step, firings_left, ask_for}
 use Rattle.tb_told.specs.declared.Tale.{Tale}
 use Rattle.tb_told.specs.declared.Tale.TheVariants.{Waits}
 use Rattle.tb_story.specs.Summary.{SummaryView, no_stories, after_tale}
@@ -60,7 +60,7 @@ waits-map s (f ∷ fs) = ap (λ l. tells (Waits (spot_of s) f) ∷ l) (waits-map
 -- between two firings: the page that is made has the number of the next sheet, and the floats at its top and bottom were placed
 -- since the last one
 pub record InTime (s : State) (m : SummaryView) : Type 0 where
-  pub page : s.page ≡ m.sheets + 1
+  pub page : s.number ≡ m.sheets + 1
   pub due : DueIn (IsInColumn s.floats) m
 
 both_ways : (b : Bool) → b ≡ true → b ≡ false → ⊥
@@ -86,7 +86,7 @@ module _ (p : Params) (s : State) (o : Running p s) (one : OneColumn s) (here : 
   nothing-shown : (k : SummaryView) → ((t : State) → GoesOn p s o t → ⊥) → StepComes [] k
   nothing-shown k none = record { done = k; order = λ later h. h; after = λ t g. absurd (none t g) }
 
-  page-is : next.page ≡ m.sheets + 1
+  page-is : next.number ≡ m.sheets + 1
   page-is = filled-page p s o one ∙ a.page
 
   module _ (e : (now p s o).fault ≡ None) where
@@ -102,7 +102,7 @@ module _ (p : Params) (s : State) (o : Running p s) (one : OneColumn s) (here : 
     fired-comes =
         let x = wait-timely (IsInColumn next.floats) (spot_of next) news m page-is filled in
         let y = firing-comes p next (fires p s o) (fires-here p s o here e).body (begins-here p s o here e) (filled-single p s o one e) waited (page-is ∙ ap (λ n. n + 1) (sym x.sheets)) x.due in
-        record { done = y.now; order = y.order; after = λ t g. let z = y.after g.unrefused in record { page = ap (λ (u : State). u.page) g.state ∙ z.0; due = subst (λ (u : State). DueIn (IsInColumn u.floats) y.now) (sym g.state) z.1 } }
+        record { done = y.now; order = y.order; after = λ t g. let z = y.after g.unrefused in record { page = ap (λ (u : State). u.number) g.state ∙ z.0; due = subst (λ (u : State). DueIn (IsInColumn u.floats) y.now) (sym g.state) z.1 } }
 
     by_cycles : (b : Bool) → int_lt (pos next.dead_cycles) p.maxdeadcycles ≡ b → StepComes (if b then all_shown (woven (firing_pieces p next (fires p s o)) (out p next (fires p s o)).sent) else []) waited
     by_cycles true c = fired-comes
@@ -112,7 +112,7 @@ module _ (p : Params) (s : State) (o : Running p s) (one : OneColumn s) (here : 
     by_fires true c = by_cycles (int_lt (pos next.dead_cycles) p.maxdeadcycles) refl
     by_fires false c = nothing-shown waited (λ t g. both_ways (page_of p s).fires g.fired c)
 
-  by_fault : (x : Option (ℕ × ℕ)) → (now p s o).fault ≡ x → StepComes (fired_shown p (page_of p s) (now p s o) x) waited
+  by_fault : (x : Option (ℕ × ℕ)) → (now p s o).fault ≡ x → StepComes (fired_shown p (ask_for p s) (page_of p s) (now p s o) x) waited
   by_fault None e = by_fires e (page_of p s).fires refl
   by_fault (Some f) e = nothing-shown waited (λ t g. none-some f (sym g.fault ∙ e))
 
@@ -123,7 +123,7 @@ module _ (p : Params) (s : State) (o : Running p s) (one : OneColumn s) (here : 
   -- what is shown of the step
   step-comes : StepComes (step_shown p s) m
   unfolding step_shown
-  step-comes = behind (fired_shown p (page_of p s) (now p s o) (now p s o).fault) (by_fault (now p s o).fault refl)
+  step-comes = behind (fired_shown p (ask_for p s) (page_of p s) (now p s o) (now p s o).fault) (by_fault (now p s o).fault refl)
     where
       behind : (xs : List Shown) → StepComes xs waited → StepComes (all_happen (now p s o).events ++ (wait_tales s next ++ xs)) m
       behind xs h = record {

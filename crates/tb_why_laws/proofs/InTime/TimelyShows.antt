@@ -46,13 +46,13 @@ AreTimely (x ∷ xs) m = IsShownTimely x m × AreTimely xs (after_shown x m)
 -- unless the page limit was met, the page that is made has the number of the next sheet, and the floats of these lines were placed
 -- since the last sheet
 abbrev pub Punctual : (ℕ → Type 0) → Work → SummaryView → Type 0
-Punctual N w m = w.refused ≡ false → (w.state.page ≡ m.sheets + 1) × DueIn N m
+Punctual N w m = w.refused ≡ false → (w.state.number ≡ m.sheets + 1) × DueIn N m
 
 -- a column was put out, and its page is not sent yet
 pub record Leaves (N : ℕ → Type 0) (w : Work) (m : SummaryView) : Type 0 where
   pub before : ℕ
   pub sheets : m.sheets ≡ before + 1
-  pub page : w.state.page ≡ before + 1
+  pub page : w.state.number ≡ before + 1
   pub due : AllDue N before m.stories
 
 abbrev pub Leaving : (ℕ → Type 0) → Work → SummaryView → Type 0
@@ -131,30 +131,30 @@ times-output w m N h = by_refused w.refused refl
 
 -- a page is shipped, unless the page limit was met or is met now
 pub times-page : (p : Params) (sheet : PlainSheet) (w : Work) (m : SummaryView) (P : SummaryView → Type 0) → ((ship p sheet w).refused ≡ true → P m)
-    → (w.refused ≡ false → (ship p sheet w).refused ≡ false → (ship p sheet w).sent ≡ w.sent ++ shipped w.state.page sheet ∷ [] → IsSentTimely (shipped w.state.page sheet) m × P (after_page w.state.page sheet m))
+    → (w.refused ≡ false → (ship p sheet w).refused ≡ false → (ship p sheet w).sent ≡ w.sent ++ shipped w.state.number sheet ∷ [] → IsSentTimely (shipped w.state.number sheet) m × P (after_page w.state.number sheet m))
     → Times w (ship p sheet w) (ship_pieces p w) m P
 times-page p sheet w m P h k = by_refused w.refused refl h k
   where
     by_refused : (b : Bool) → w.refused ≡ b → ((if b then w else (if int_lt p.maxpages (pos w.state.page) then record w { refused = true } else ship_now sheet w)).refused ≡ true → P m)
-        → (w.refused ≡ false → (if b then w else (if int_lt p.maxpages (pos w.state.page) then record w { refused = true } else ship_now sheet w)).refused ≡ false → (if b then w else (if int_lt p.maxpages (pos w.state.page) then record w { refused = true } else ship_now sheet w)).sent ≡ w.sent ++ shipped w.state.page sheet ∷ [] → IsSentTimely (shipped w.state.page sheet) m × P (after_page w.state.page sheet m))
+        → (w.refused ≡ false → (if b then w else (if int_lt p.maxpages (pos w.state.page) then record w { refused = true } else ship_now sheet w)).refused ≡ false → (if b then w else (if int_lt p.maxpages (pos w.state.page) then record w { refused = true } else ship_now sheet w)).sent ≡ w.sent ++ shipped w.state.number sheet ∷ [] → IsSentTimely (shipped w.state.number sheet) m × P (after_page w.state.number sheet m))
         → Times w (if b then w else (if int_lt p.maxpages (pos w.state.page) then record w { refused = true } else ship_now sheet w)) (if b then [] else (if int_lt p.maxpages (pos w.state.page) then [] else NextSent ∷ [])) m P
     by_refused true e h k = times-none w w m P refl (h e)
     by_refused false e h k = by_limit (int_lt p.maxpages (pos w.state.page)) h k
       where
         -- the page is sent
-        sends-it : (c : Bool) → c ≡ false → (if c then record w { state = record w.state { page = w.state.page + 1; dead_cycles = 0 } } else record w { state = record w.state { page = w.state.page + 1; dead_cycles = 0 }; sent = w.sent ++ shipped w.state.page sheet ∷ [] }).sent ≡ w.sent ++ shipped w.state.page sheet ∷ []
+        sends-it : (c : Bool) → c ≡ false → (if c then record w { state = record w.state { page = w.state.page + 1; number = w.state.number + 1; dead_cycles = 0 } } else record w { state = record w.state { page = w.state.page + 1; number = w.state.number + 1; dead_cycles = 0 }; sent = w.sent ++ shipped w.state.number sheet ∷ [] }).sent ≡ w.sent ++ shipped w.state.number sheet ∷ []
         sends-it true i = cc
         sends-it false i = refl
 
-        goes-on : (c : Bool) → c ≡ false → w.refused ≡ false → (if c then record w { state = record w.state { page = w.state.page + 1; dead_cycles = 0 } } else record w { state = record w.state { page = w.state.page + 1; dead_cycles = 0 }; sent = w.sent ++ shipped w.state.page sheet ∷ [] }).refused ≡ false
+        goes-on : (c : Bool) → c ≡ false → w.refused ≡ false → (if c then record w { state = record w.state { page = w.state.page + 1; number = w.state.number + 1; dead_cycles = 0 } } else record w { state = record w.state { page = w.state.page + 1; number = w.state.number + 1; dead_cycles = 0 }; sent = w.sent ++ shipped w.state.number sheet ∷ [] }).refused ≡ false
         goes-on true i e = cc
         goes-on false i e = e
 
         by_limit : (b : Bool) → ((if b then record w { refused = true } else ship_now sheet w).refused ≡ true → P m)
-            → (w.refused ≡ false → (if b then record w { refused = true } else ship_now sheet w).refused ≡ false → (if b then record w { refused = true } else ship_now sheet w).sent ≡ w.sent ++ shipped w.state.page sheet ∷ [] → IsSentTimely (shipped w.state.page sheet) m × P (after_page w.state.page sheet m))
+            → (w.refused ≡ false → (if b then record w { refused = true } else ship_now sheet w).refused ≡ false → (if b then record w { refused = true } else ship_now sheet w).sent ≡ w.sent ++ shipped w.state.number sheet ∷ [] → IsSentTimely (shipped w.state.number sheet) m × P (after_page w.state.number sheet m))
             → Times w (if b then record w { refused = true } else ship_now sheet w) (if b then [] else NextSent ∷ []) m P
         by_limit true h k = times-none w (record w { refused = true }) m P refl (h refl)
         by_limit false h k =
             let sent = sends-it w.refused e in
             let x = k e (goes-on w.refused e e) sent in
-            record { now = after_page w.state.page sheet m; sent = shipped w.state.page sheet ∷ []; whole = sent; after = x.1; order = λ qs es later o. (x.0, o) }
+            record { now = after_page w.state.number sheet m; sent = shipped w.state.number sheet ∷ []; whole = sent; after = x.1; order = λ qs es later o. (x.0, o) }

@@ -104,6 +104,7 @@ act-done p s (acts.Take f) = room-done s (acts.Take f) (int_le p.pool (pos (live
     by_list false = joins (acts.Take f) s (entries.Float (taken_float p s f) ∷ []) (λ v. omega arith)
 act-done p s (acts.TakeMargin m) = room-done s (acts.TakeMargin m) (int_lt p.pool (pos (live_count s.floats + 2))) _ _ _ (λ e. joins (acts.TakeMargin m) s (entries.Left m ∷ entries.Right m ∷ []) (λ v. omega arith))
 act-done p s (acts.Suppress area) = λ e. record { here = refl; top = refl; bottom = refl; deferred = refl; double = refl; news = []; second = sym (append-nil s.floats.second); columns = inl (refl, refl); taken = λ v. refl }
+act-done p s (acts.Page n) = λ e. record { here = refl; top = refl; bottom = refl; deferred = refl; double = refl; news = []; second = sym (append-nil s.floats.second); columns = inl (refl, refl); taken = λ v. refl }
 act-done p s (acts.Columns two) = λ e. record { here = refl; top = refl; bottom = refl; deferred = refl; double = refl; news = []; second = sym (append-nil s.floats.second); columns = inr (ap (λ (l : FloatLists). l.double) e.0); taken = λ v. refl }
 
 -- ---- all acts of a page

@@ -8,7 +8,8 @@ use Rattle.tb_builder.proofs.Cutting.CutLemmas.{held-ins}
 use Rattle.tb_builder.proofs.FiredPages.PageWeights.{labelled-class}
 use Rattle.tb_float.specs.declared.Entry.{Entry}
 use Rattle.tb_float.specs.declared.Entry.TheVariants as entries
-use Rattle.tb_output.specs.State.{State, ask_of}
+use Rattle.tb_output.specs.State.{State}
+use Rattle.tb_steps.specs.Run.{ask_for}
 use Rattle.tb_output.specs.Output.{out}
 use Rattle.tb_laws.proofs.ClassesRise.RisingLists.{IsAmong}
 use Rattle.tb_laws.proofs.ClassesRise.PageLines.{deeds, ins-deeds}
@@ -32,7 +33,7 @@ module _ (p : Params) (s : State) (o : Running p s) (e : (now p s o).fault ≡ N
   notes_held : deeds (fires p s o).held ≡ []
   notes_held =
       let ks = class_numbers s.classes in
-      let z = frozen_for (ask_of p next) next.classes next.boxes in
+      let z = frozen_for (ask_for p s) next.classes next.boxes in
       let before = take (page_break (page_of p s)).place (page_of p s).passed in
       ins-deeds ks (fires p s o).held (held-ins ks (labelled z before) (labelled-class ks z [] [] before tt (cut_feet (of_line 0) p o.calm s o.kept).0))
 

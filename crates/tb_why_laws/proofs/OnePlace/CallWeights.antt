@@ -63,8 +63,7 @@ deeds-among n (a ∷ ds) i = by_part a (λ j. deeds-among n ds j) (among-parts n
     by_act : (a : Act) → IsAmong n (taken_line a) → 1 ≤ act_weight (of_line n) a + deeds_weight (of_line n) ds
     by_act (acts.Take f) i = taken-float n f (deeds_weight (of_line n) ds) i
     by_act (acts.TakeMargin m) i = absurd i
-    by_act (acts.Suppress area) i = absurd i
-    by_act (acts.Columns two) i = absurd i
+    by_act a i = absurd i
 
     by_part : (a : Act) → (IsAmong n (act_takes ds) → 1 ≤ deeds_weight (of_line n) ds) → IsAmong n (taken_line a) ⊎ IsAmong n (act_takes ds) → 1 ≤ act_weight (of_line n) a + deeds_weight (of_line n) ds
     by_part a again (inl j) = by_act a j
@@ -81,8 +80,7 @@ among-deeds n (acts.Take f ∷ ds) l = by_line (λ h. among-deeds n ds h) (one-o
     by_line again (inl h) = among-front n (f.line ∷ []) (act_takes ds) (weight-among n (f ∷ []) h)
     by_line again (inr h) = inr (again h)
 among-deeds n (acts.TakeMargin m ∷ ds) l = among-deeds n ds (same (deeds_weight (of_line n) ds) l)
-among-deeds n (acts.Suppress area ∷ ds) l = among-deeds n ds (same (deeds_weight (of_line n) ds) l)
-among-deeds n (acts.Columns two ∷ ds) l = among-deeds n ds (same (deeds_weight (of_line n) ds) l)
+among-deeds n (a ∷ ds) l = among-deeds n ds (same (deeds_weight (of_line n) ds) l)
 
 -- ---- both
 

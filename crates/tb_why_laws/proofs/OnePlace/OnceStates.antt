@@ -11,13 +11,13 @@ use Rattle.tb_galley.specs.GalleyNodes.{expanded}
 use Rattle.tb_insert.specs.Account.{labelled}
 use Rattle.tb_builder.specs.FiredPages.{Fired, page_break, fired_of, frozen_for}
 use Rattle.tb_builder.proofs.FiredPages.PageWeights.{AllOfClass, acted_weight, boxes_weight, numbers, fired_weight, fired-weight}
-use Rattle.tb_output.specs.State.{State, begun, ask_of, first_state}
+use Rattle.tb_output.specs.State.{State, begun, first_state}
 use Rattle.tb_output.specs.Output.{after_page}
 use Rattle.tb_output.proofs.StepLaws.Moves.{of_text}
 use Rattle.tb_items.specs.Classes.{classes_of}
 use Rattle.tb_items.specs.RunEvents.{RunEvent}
 use Rattle.tb_output.specs.State.{Recorded}
-use Rattle.tb_steps.specs.Run.{Progress, progress, goes_on, step}
+use Rattle.tb_steps.specs.Run.{Progress, progress, goes_on, step, ask_for}
 use Rattle.tb_laws.proofs.NothingLost.StateWeights.{state_weight, lists_weight, left_weight, class_numbers, BoxesFit}
 use Rattle.tb_laws.proofs.NothingLost.RunWeights.{Kept, StepWeighs, After, Progressed, page_of, cut_feet, reached, step-weighs, progress-adds, box-fired, fit-numbers, events_weight}
 use Rattle.tb_laws.proofs.NothingLost.ClosingRuns.{StepCloses, changes-fit, step-closes}
@@ -66,7 +66,7 @@ module _ (p : Params) (s : State) (o : Running p s) where
 
   -- the firing of the page
   abbrev pub fires : Fired
-  fires = fired_of (ask_of p now.state) now.state.classes now.state.boxes (page_of p s)
+  fires = fired_of (ask_for p s) now.state.classes now.state.boxes (page_of p s)
 
   module _ (e : now.fault ≡ None) where
     after : (v : Weight) → After v (acted_weight v (page_of p s).reached) s now.state
@@ -88,7 +88,7 @@ module _ (p : Params) (s : State) (o : Running p s) where
         let v = of_line n in
         let w = page_of p s in
         let b = after v in
-        let i : fired_weight v fires ≡ boxes_weight v now.state.boxes + (nodes_weight v w.passed + nodes_weight v w.beyond) = fired-weight v (frozen_for (ask_of p now.state) now.state.classes now.state.boxes) now.state.boxes w whole in
+        let i : fired_weight v fires ≡ boxes_weight v now.state.boxes + (nodes_weight v w.passed + nodes_weight v w.beyond) = fired-weight v (frozen_for (ask_for p s) now.state.classes now.state.boxes) now.state.boxes w whole in
         let k : lists_weight v now.state.floats + left_weight v now.state.left_column ≡ lists_weight v s.floats + left_weight v s.left_column + acted_weight v w.reached = b.weight in
         let j : nodes_weight v w.passed + acted_weight v w.reached + nodes_weight v w.beyond ≡ nodes_weight v s.waiting = reached v p calm s o.kept in
         let l : boxes_weight v now.state.boxes ≡ boxes_weight v s.boxes = ap (boxes_weight v) b.boxes in
@@ -100,7 +100,7 @@ module _ (p : Params) (s : State) (o : Running p s) where
 
     -- where the firing begins, with the page in hand
     pub fires-once : Once (of_text fires.body) (begun (after_page now.state fires))
-    fires-once r = (record { box = box-fired (labelled (frozen_for (ask_of p now.state) now.state.classes now.state.boxes) before) now.state.classes now.state.boxes fit; columns = (after (of_line 0)).sound.columns; entries = (after (of_line 0)).sound.entries }, λ n. all n)
+    fires-once r = (record { box = box-fired (labelled (frozen_for (ask_for p s) now.state.classes now.state.boxes) before) now.state.classes now.state.boxes fit; columns = (after (of_line 0)).sound.columns; entries = (after (of_line 0)).sound.entries }, λ n. all n)
       where
         sums : (F B H R Ht Lt Ct : ℕ) → B + F + H + R + (Ht + Lt + Ct) ≤ 1 → B + (0 + F + Ht + Lt + Ct + 0 + 0) ≤ 1
         sums F B H R Ht Lt Ct x = omega arith

@@ -66,6 +66,10 @@ penalty-deeds : (n : ℤ) (o : Option Glue) → deeds (Text.penalty_nodes n o) �
 penalty-deeds n None = refl
 penalty-deeds n (Some g) = refl
 
+between-deeds : (n : ℤ) (nobreak : Bool) (ns : List PlainNode) → deeds (Text.penalty_between n nobreak ns) ≡ []
+between-deeds n true ns = refl
+between-deeds n false ns = penalty-deeds n (Text.glue_at_end (last_or (plain (pen n)) (map (λ (m : PlainNode). m.kind) ns)))
+
 here-deeds : (p : Params) (vert : Bool) (f : Float) → deeds (Text.here_nodes p vert f) ≡ []
 here-deeds p true f = refl
 here-deeds p false f = refl
@@ -100,8 +104,8 @@ puts-brings ns w e = record { quiet = λ h. both-deeds w.put_back ns h e; curren
 then-puts : (a b : Work) (ns : List PlainNode) → deeds ns ≡ [] → Brings a b → Brings a (puts ns b)
 then-puts a b ns e x = brings-then a b (puts ns b) x (puts-brings ns b e)
 
-interline-brings : (p : Params) (a b : Work) → Brings a b → Brings a (Text.puts_interline p b)
-interline-brings p a b x = then-puts a b (Text.penalty_after p.interlinepenalty b.put_back) (penalty-deeds p.interlinepenalty (Text.glue_at_end (last_or (plain (pen p.interlinepenalty)) (map (λ (m : PlainNode). m.kind) b.put_back)))) x
+interline-brings : (p : Params) (nobreak : Bool) (a b : Work) → Brings a b → Brings a (Text.puts_interline p nobreak b)
+interline-brings p nobreak a b x = then-puts a b (Text.penalty_between p.interlinepenalty nobreak b.put_back) (between-deeds p.interlinepenalty nobreak b.put_back) x
 
 follows : (a b : Work) → Follows (λ f. Unit {0}) a b → Brings a b
 follows a b x = same a b x.back x.current
@@ -157,8 +161,8 @@ pub record Leaves (es : List Entry) (a b : Work) : Type 0 where
   pub quiet : deeds a.put_back ≡ [] → deeds b.put_back ≡ []
   pub current : b.state.floats.current ≡ es
 
-leaves-interline : (p : Params) (es : List Entry) (a b : Work) → Leaves es a b → Leaves es a (Text.puts_interline p b)
-leaves-interline p es a b x = record { quiet = λ h. (interline-brings p b b (same b b refl refl)).quiet (x.quiet h); current = x.current }
+leaves-interline : (p : Params) (nobreak : Bool) (es : List Entry) (a b : Work) → Leaves es a b → Leaves es a (Text.puts_interline p nobreak b)
+leaves-interline p nobreak es a b x = record { quiet = λ h. (interline-brings p nobreak b b (same b b refl refl)).quiet (x.quiet h); current = x.current }
 
 placed-leaves : (p : Params) (place : Where) (f : Float) (left : FloatLists) (w : Work) → Leaves left.current w (FloatMoves.place_float p place f left w)
 placed-leaves p place f left w = record { quiet = λ h. ap deeds (stays (place_float-step p (no_law p) place f left w tt)).put_back ∙ h; current = joined-current place f left }
@@ -177,15 +181,15 @@ defer-leaves p f left w = by_places (Text.only_here f)
     by_places false = placed-leaves p places.Deferred f left w
 
 goes-leaves : (p : Params) (vert : Bool) (f : Float) (left : FloatLists) (w : Work) (place : Where) → Leaves left.current w (Text.float_goes p vert f left w place)
-goes-leaves p vert f left w places.Here = puts-leaves left.current w (Text.here_nodes p vert f) _ (here-deeds p vert f) (leaves-interline p left.current w _ (placed-leaves p places.Here f left w))
-goes-leaves p vert f left w places.Top = leaves-interline p left.current w _ (placed-leaves p places.Top f left w)
-goes-leaves p vert f left w places.Bottom = leaves-interline p left.current w _ (placed-leaves p places.Bottom f left w)
-goes-leaves p vert f left w places.Page = leaves-interline p left.current w _ (defer-leaves p f left w)
-goes-leaves p vert f left w places.Double = leaves-interline p left.current w _ (defer-leaves p f left w)
-goes-leaves p vert f left w places.Deferred = leaves-interline p left.current w _ (defer-leaves p f left w)
+goes-leaves p vert f left w places.Here = puts-leaves left.current w (Text.here_nodes p vert f) _ (here-deeds p vert f) (leaves-interline p f.nobreak left.current w _ (placed-leaves p places.Here f left w))
+goes-leaves p vert f left w places.Top = leaves-interline p f.nobreak left.current w _ (placed-leaves p places.Top f left w)
+goes-leaves p vert f left w places.Bottom = leaves-interline p f.nobreak left.current w _ (placed-leaves p places.Bottom f left w)
+goes-leaves p vert f left w places.Page = leaves-interline p f.nobreak left.current w _ (defer-leaves p f left w)
+goes-leaves p vert f left w places.Double = leaves-interline p f.nobreak left.current w _ (defer-leaves p f left w)
+goes-leaves p vert f left w places.Deferred = leaves-interline p f.nobreak left.current w _ (defer-leaves p f left w)
 
 note-leaves : (p : Params) (depth : ℤ) (m : Margin) (left : FloatLists) (w : Work) (at : Placed) → Leaves left.current w (Text.note_goes p depth m left w at)
-note-leaves p depth m left w at = leaves-interline p left.current w _ (puts-leaves left.current w (Text.note_nodes depth m at) _ refl (by_moved at.moved))
+note-leaves p depth m left w at = leaves-interline p m.nobreak left.current w _ (puts-leaves left.current w (Text.note_nodes depth m at) _ refl (by_moved at.moved))
   where
     a : Work
     a = Text.with_note_bottom at.bottom (with_floats left w)
@@ -208,8 +212,8 @@ first-brings p vert height depth page_height (entries.Left m ∷ n ∷ es) w e =
     behind v (entries.Float f) = omega arith
     behind v (entries.Left m) = omega arith
     behind v (entries.Right m) = omega arith
-first-brings p vert height depth page_height (entries.Right m ∷ es) w e = interline-brings p w w (same w w refl refl)
-first-brings p vert height depth page_height [] w e = interline-brings p w w (same w w refl refl)
+first-brings p vert height depth page_height (entries.Right m ∷ es) w e = interline-brings p false w w (same w w refl refl)
+first-brings p vert height depth page_height [] w e = interline-brings p false w w (same w w refl refl)
 
 -- the list of the page goes back before it
 back-brings : (p : Params) (ns : List PlainNode) (w : Work) → deeds ns ≡ [] → Brings w (Text.list_back p ns w)
@@ -259,9 +263,9 @@ goal-leaves p n w = by_hold (Output.is_int n hold_penalty) (Output.is_crowded p 
     blank true = refl
     blank false = refl
 
-    by_hold : (h c t : Bool) → Leaves w.state.floats.current w (if h then Output.with_goal max_dimen w else (if c then puts (if t then Output.blank_column ++ Output.blank_column else Output.blank_column) (sends (warned (warnings.Floats w.state.page)) w) else Output.with_goal (column_room_of p w.state.floats) w))
+    by_hold : (h c t : Bool) → Leaves w.state.floats.current w (if h then Output.with_goal max_dimen w else (if c then puts (if t then Output.blank_column ++ Output.blank_column else Output.blank_column) (sends (warned (warnings.Floats w.state.number)) w) else Output.with_goal (column_room_of p w.state.floats) w))
     by_hold true c t = record { quiet = λ h. h; current = refl }
-    by_hold false true t = puts-leaves w.state.floats.current w _ _ (blank t) (sent-leaves w.state.floats.current w (warned (warnings.Floats w.state.page)) w (record { quiet = λ h. h; current = refl }))
+    by_hold false true t = puts-leaves w.state.floats.current w _ _ (blank t) (sent-leaves w.state.floats.current w (warned (warnings.Floats w.state.number)) w (record { quiet = λ h. h; current = refl }))
     by_hold false false t = record { quiet = λ h. h; current = refl }
 
 -- so the work as a whole

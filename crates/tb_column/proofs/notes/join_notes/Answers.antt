@@ -1,59 +1,47 @@
-use Rattle.std.proofs.Common.{◌≡◌, ◌+◌, ◌<◌, sym, ap, subst, ◌∙◌, ◌++◌, ◌∷◌, [], append-nil, length, take, IsSome, true, arith}
-use Rattle.std.specs.Prelude.{if◌then◌else◌}
-use Rattle.tb_pool.specs.Lists.{Lists}
-use Rattle.tb_node.specs.declared.Node.{Node}
-use Rattle.std.proofs.lemmas.List.{take_more}
-use Rattle.tb_column.specs.declared.NoteBox.{NoteBox}
-use Rattle.tb_column.specs.Column.{is_among}
-use Rattle.tb_column.specs.Notes.{boxes_among}
-use Rattle.tb_column.proofs.NoteLemmas.{JoinedSoFar, IsTurn, next_turn, next_same, joined_begin, joined_go, among-more}
-use Rattle.tb_column.proofs.notes.join_notes.Goals.{After-is_among, then-is_among, else-is_among}
+use Rattle.std.proofs.Common.{◌≡◌, ◌+◌, ◌≤◌, ◌++◌, sym, subst, arith}
+use Rattle.tb_pool.specs.Lists.{list_at}
+use Rattle.tb_column.specs.declared.Standing.TheVariants as standings
+use Rattle.tb_column.specs.Notes.{AreApart, boxes_at, boxes_among}
+use Rattle.tb_column.specs.ColumnChanges.{AreJoined}
+use Rattle.tb_column.specs.TextColumns.{above_count, notes_list}
+use Rattle.tb_column.proofs.NoteLemmas.{above_count-append}
+use Rattle.tb_column.proofs.StandingLemmas.{first-apart, second-apart, second-text, second-joined}
 use Rattle.tb_column.proofs.notes.join_notes.Goals as goal
 
-pub loop-note-init : goal.loop-note-init
-loop-note-init c = joined_begin c.args.p.now c.args.kern c.args.body c.args.store.now c.requires.live
+pub join_standing-requires-clause-notes : goal.join_standing-requires-clause-notes
+join_standing-requires-clause-notes c =
+    let can = subst (λ t. AreApart c.args.store.now c.args.body (boxes_among t c.args.notes.now)) c.if-feet.true c.requires.notes in
+    first-apart c.args.body (boxes_at standings.Feet c.args.notes.now) (boxes_at standings.Below c.args.notes.now) c.args.store.now can
 
-turn : (c : After-is_among) → c.is_among.result ≡ true
-    → IsTurn c.args.store.now c.args.body (boxes_among c.args.feet (take c.loop-note.note-index c.args.notes.now)) c.note-item.result (boxes_among c.args.feet c.args.notes.now)
-turn c e =
-    let lt : c.loop-note.note-index < length c.args.notes.now = omega arith in
-    let among : is_among c.args.feet c.note-item.result.class ≡ true = sym c.is_among.ensures ∙ e in
-    next_turn c.args.store.now c.args.body c.args.feet c.args.notes.now c.loop-note.note-index c.note-item.result c.requires.notes lt c.note-item.is among
+pub join_standing-requires-clause-room : goal.join_standing-requires-clause-room
+join_standing-requires-clause-room c =
+    let room = subst (λ t. above_count (boxes_among t c.args.notes.now) ≤ c.args.store.now.spare) c.if-feet.true c.requires.room in
+    omega (arith, room, above_count-append (boxes_at standings.Feet c.args.notes.now) (boxes_at standings.Below c.args.notes.now))
 
-pub join_class-requires-clause-note : goal.join_class-requires-clause-note
-join_class-requires-clause-note c =
-    let t = turn (goal.at.join_class-requires-clause-note c).After-is_among c.if-is_among.true in
-    subst (λ o. IsSome o) (sym (next_same c.args.p.now c.args.kern c.args.body c.args.store.now (boxes_among c.args.feet (take c.loop-note.note-index c.args.notes.now)) c.note-item.result c.loop-note.store t.next c.loop-note.invariant)) t.live
+pub join_standing-requires-then-feet-clause-notes : goal.join_standing-requires-then-feet-clause-notes
+join_standing-requires-then-feet-clause-notes c =
+    let can = subst (λ t. AreApart c.args.store.now c.args.body (boxes_among t c.args.notes.now)) c.if-feet.true c.requires.notes in
+    second-apart c.args.body (boxes_at standings.Feet c.args.notes.now) (boxes_at standings.Below c.args.notes.now) c.args.store.now can c.join_standing.new.store c.join_standing.ensures.lists
 
-pub join_class-requires-clause-apart : goal.join_class-requires-clause-apart
-join_class-requires-clause-apart c = let t = turn (goal.at.join_class-requires-clause-apart c).After-is_among c.if-is_among.true in λ e. t.next.text (sym e)
+pub join_standing-requires-then-feet-clause-room : goal.join_standing-requires-then-feet-clause-room
+join_standing-requires-then-feet-clause-room c =
+    let room = subst (λ t. above_count (boxes_among t c.args.notes.now) ≤ c.args.store.now.spare) c.if-feet.true c.requires.room in
+    omega (arith, room, c.join_standing.ensures.spare, above_count-append (boxes_at standings.Feet c.args.notes.now) (boxes_at standings.Below c.args.notes.now))
 
-pub join_class-requires-clause-room : goal.join_class-requires-clause-room
-join_class-requires-clause-room c = let t = turn (goal.at.join_class-requires-clause-room c).After-is_among c.if-is_among.true in omega (arith, t.room, c.loop-note.invariant.spare, c.requires.room)
+pub returns-then-feet-clause-text : goal.returns-then-feet-clause-text
+returns-then-feet-clause-text c =
+    let can = subst (λ t. AreApart c.args.store.now c.args.body (boxes_among t c.args.notes.now)) c.if-feet.true c.requires.notes in
+    subst (λ t. list_at c.join_standing-then-feet.new.store c.args.body ≡ list_at c.args.store.now c.args.body ++ notes_list c.args.p.now c.args.kern c.args.store.now (boxes_among t c.args.notes.now)) (sym c.if-feet.true)
+    (second-text c.args.body (boxes_at standings.Feet c.args.notes.now) (boxes_at standings.Below c.args.notes.now) c.args.store.now can c.join_standing.new.store c.join_standing.ensures.lists c.join_standing-then-feet.new.store c.args.p.now c.args.kern
+    c.join_standing.ensures.text c.join_standing-then-feet.ensures.text)
 
--- those among the first classes and the next one
-next : (c : goal.Joined-is_among) → boxes_among c.args.feet (take (c.loop-note.note-index + 1) c.args.notes.now) ≡ boxes_among c.args.feet (take c.loop-note.note-index c.args.notes.now) ++ (if c.is_among.result then c.note-item.result ∷ [] else [])
-next c =
-    let i = c.loop-note.note-index in
-    let ns = c.args.notes.now in
-    let lt : i < length ns = omega arith in
-    ap (boxes_among c.args.feet) (take_more ns i c.note-item.result lt ∙ ap (λ (m : NoteBox). take i ns ++ m ∷ []) (sym c.note-item.is))
-    ∙ among-more c.args.feet c.is_among.result (take i ns) c.note-item.result (sym c.is_among.ensures)
+pub returns-then-feet-clause-lists : goal.returns-then-feet-clause-lists
+returns-then-feet-clause-lists c =
+    let can = subst (λ t. AreApart c.args.store.now c.args.body (boxes_among t c.args.notes.now)) c.if-feet.true c.requires.notes in
+    subst (λ t. AreJoined c.args.body (boxes_among t c.args.notes.now) c.args.store.now c.join_standing-then-feet.new.store) (sym c.if-feet.true)
+    (second-joined c.args.body (boxes_at standings.Feet c.args.notes.now) (boxes_at standings.Below c.args.notes.now) c.args.store.now can c.join_standing.new.store c.join_standing.ensures.lists c.join_standing-then-feet.new.store c.join_standing-then-feet.ensures.lists)
 
-pub loop-note-preserved : goal.loop-note-preserved
-loop-note-preserved c =
-    let done = boxes_among c.args.feet (take c.loop-note.note-index c.args.notes.now) in
-    let n = c.note-item.result in
-    let taken = next c in
-    elim c.if-is_among.branch [
-      | then-is_among w ↦
-          let t = turn (goal.at.loop-note-preserved c).After-is_among w.if-is_among.true in
-          let more = taken ∙ ap (λ b. done ++ (if b then n ∷ [] else [])) w.if-is_among.true in
-          let go = joined_go c.args.p.now c.args.kern c.args.body c.args.store.now done n c.loop-note.store w.join_class.new.store t.next c.loop-note.invariant w.join_class.ensures.lists w.join_class.ensures.spare in
-          subst (λ (s : Lists Node). JoinedSoFar c.args.p.now c.args.kern c.args.body c.args.store.now (boxes_among c.args.feet (take (c.loop-note.note-index + 1) c.args.notes.now)) s) (sym w.store-is)
-          (subst (λ ns. JoinedSoFar c.args.p.now c.args.kern c.args.body c.args.store.now ns w.join_class.new.store) (sym more) go)
-      | else-is_among w ↦
-          let more = taken ∙ ap (λ b. done ++ (if b then n ∷ [] else [])) w.if-is_among.false ∙ append-nil done in
-          subst (λ (s : Lists Node). JoinedSoFar c.args.p.now c.args.kern c.args.body c.args.store.now (boxes_among c.args.feet (take (c.loop-note.note-index + 1) c.args.notes.now)) s) (sym w.store-is)
-          (subst (λ ns. JoinedSoFar c.args.p.now c.args.kern c.args.body c.args.store.now ns c.loop-note.store) (sym more) c.loop-note.invariant)
-    ]
+pub returns-then-feet-clause-spare : goal.returns-then-feet-clause-spare
+returns-then-feet-clause-spare c =
+    subst (λ t. c.args.store.now.spare ≤ c.join_standing-then-feet.new.store.spare + above_count (boxes_among t c.args.notes.now)) (sym c.if-feet.true)
+    (omega (arith, c.join_standing.ensures.spare, c.join_standing-then-feet.ensures.spare, above_count-append (boxes_at standings.Feet c.args.notes.now) (boxes_at standings.Below c.args.notes.now)))

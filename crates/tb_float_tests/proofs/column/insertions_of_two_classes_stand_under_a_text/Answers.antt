@@ -1,11 +1,12 @@
-use Rattle.std.proofs.Common.{◌≡◌, ◌≢◌, sym, subst, ap, ◌∙◌, ℕ, ◌+◌, ◌≤◌, List, [], ◌∷◌, length, Option, is_some, arith}
+use Rattle.std.proofs.Common.{◌≡◌, ◌≢◌, sym, subst, ap, ◌∙◌, ℕ, ◌+◌, ◌≤◌, List, [], ◌∷◌, length, Option, is_some, arith, None, unwrap_or}
 use Rattle.std.proofs.lemmas.Bool.{true≢false}
 use Rattle.std.specs.FinMap.{get}
 use Rattle.tb_pool.specs.Lists.{Lists, list_at}
 use Rattle.tb_node.specs.declared.Node.{Node}
+use Rattle.tb_param.specs.declared.Rule.{Rule}
 use Rattle.tb_column.specs.declared.NoteBox.{NoteBox}
 use Rattle.tb_column.specs.Page.{IsPageList}
-use Rattle.tb_column.specs.Ranges.{IsSizedGlue}
+use Rattle.tb_column.specs.Ranges.{IsSizedGlue, IsSizedRule}
 use Rattle.tb_column.specs.Notes.{note_count, AreNotes}
 use Rattle.tb_column.specs.ColumnChanges.{IsOpened}
 use Rattle.tb_column.proofs.StoreLemmas.{list-get}
@@ -41,16 +42,19 @@ module _ (s1 s2 s3 : Lists Node) (a b d : ℕ) (first : IsPageList s1 a) (one : 
     notes-few : length (list_at s3 a) + note_count s3 (m ∷ n ∷ []) ≤ 8355840
     notes-few = omega (arith, first-two, second-two, three, ap (λ (q : ℕ). length (list_at s3 q)) at_m, ap (λ (q : ℕ). length (list_at s3 q)) at_n)
 
-    two-notes : m.class ≡ 3 → n.class ≡ 254 → IsSizedGlue m.skip → IsSizedGlue n.skip → AreNotes s3 a (m ∷ n ∷ [])
-    two-notes low high above below = record {
+    no-rule : (b : Option (Option Rule)) → b ≡ None → IsSizedRule (unwrap_or b None)
+    no-rule b e = subst (λ (o : Option (Option Rule)). IsSizedRule (unwrap_or o None)) (sym e) tt
+
+    two-notes : m.class ≡ 3 → n.class ≡ 254 → m.below ≡ None → n.below ≡ None → IsSizedGlue m.skip → IsSizedGlue n.skip → AreNotes s3 a (m ∷ n ∷ [])
+    two-notes low high bare_m bare_n above below = record {
       rising = (omega (arith, low), (omega (arith, low, high), tt));
       apart = (
         ((λ e. apart s1 s2 b a after_first first (sym e ∙ at_m)), ((λ e. apart s2 s3 d a after_second first-between (sym e ∙ at_n)), tt)),
         (((λ e. apart s2 s3 d b after_second second (sym at_m ∙ sym e ∙ at_n)), tt), (tt, tt)),
       );
       each = (
-        record { list = subst (IsPageList s3) (sym at_m) second-page; skip = above },
-        (record { list = subst (IsPageList s3) (sym at_n) third; skip = below }, tt),
+        record { list = subst (IsPageList s3) (sym at_m) second-page; rule = no-rule m.below bare_m; skip = above },
+        (record { list = subst (IsPageList s3) (sym at_n) third; rule = no-rule n.below bare_n; skip = below }, tt),
       );
     }
 
@@ -63,7 +67,7 @@ pub make_column-requires-clause-notes : goal.make_column-requires-clause-notes
 make_column-requires-clause-notes g c =
     two-notes c.list_of.new.store c.list_of-2.new.store c.list_of-3.new.store c.in_ok-body.body c.in_ok-third.third c.in_ok-feet.feet c.in_ok-body.ensures.page c.in_ok-body.ensures.two
     c.in_ok-third.ensures.opened c.in_ok-third.ensures.page c.in_ok-third.ensures.two c.in_ok-feet.ensures.opened c.in_ok-feet.ensures.page c.in_ok-feet.ensures.two
-    c.note_box.result c.note_box-2.result c.note_box.ensures.list c.note_box-2.ensures.list c.note_box.ensures.class c.note_box-2.ensures.class c.note_box.ensures.skip c.note_box-2.ensures.skip
+    c.note_box.result c.note_box-2.result c.note_box.ensures.list c.note_box-2.ensures.list c.note_box.ensures.class c.note_box-2.ensures.class c.note_box.ensures.below c.note_box-2.ensures.below c.note_box.ensures.skip c.note_box-2.ensures.skip
 
 pub make_column-requires-clause-few : goal.make_column-requires-clause-few
 make_column-requires-clause-few g c =

@@ -1,8 +1,9 @@
 use Rattle.std.proofs.Common.{sym, subst, ap, ◌∙◌, append-nil}
 use Rattle.tb_sheet.specs.ApartLists.{AreNoneOf}
-use Rattle.tb_output.specs.Machine.{MachineView, machine_lists, state_shown}
+use Rattle.tb_sheet.specs.Asked.{IsSizedAct}
+use Rattle.tb_output.specs.Machine.{MachineView, IsMachine, machine_lists, state_shown}
 use Rattle.tb_output.specs.ActCalls.{IsActed, acted_in, dropped_lists}
-use Rattle.tb_output.proofs.Acts.ActingLemmas.{float-stands, float-takes, columns-drop}
+use Rattle.tb_output.proofs.Acts.ActingLemmas.{float-stands, float-takes, columns-drop, machine-numbered}
 use Rattle.tb_output.proofs.Machine.act.Goals as goal
 
 pub returns-in-Take-clause-machine : goal.returns-in-Take-clause-machine
@@ -24,3 +25,12 @@ pub returns-in-Columns-clause-acted : goal.returns-in-Columns-clause-acted
 returns-in-Columns-clause-acted c = λ store boxes waiting.
     subst (λ a. IsActed store boxes waiting c.args.self.now c.begin_columns.new.self (acted_in store boxes waiting c.args.self.now a)) (sym c.in-Columns.is)
     (record { state = ap (state_shown store boxes waiting) c.begin_columns.ensures; sent = ap (λ (m : MachineView). m.events) c.begin_columns.ensures ∙ sym (append-nil c.args.self.now.events) })
+
+pub returns-in-Page-clause-acted : goal.returns-in-Page-clause-acted
+returns-in-Page-clause-acted c = λ store boxes waiting.
+    subst (λ a. IsActed store boxes waiting c.args.self.now c.set_number.new.self (acted_in store boxes waiting c.args.self.now a)) (sym c.in-Page.is)
+    (record { state = ap (state_shown store boxes waiting) c.set_number.ensures; sent = ap (λ (m : MachineView). m.events) c.set_number.ensures ∙ sym (append-nil c.args.self.now.events) })
+
+pub returns-in-Page-clause-machine : goal.returns-in-Page-clause-machine
+returns-in-Page-clause-machine c = λ store is.
+    subst (λ m. IsMachine m store) (sym c.set_number.ensures) (machine-numbered c.in-Page.number c.args.self.now store is (subst IsSizedAct c.in-Page.is c.requires.act))

@@ -31,7 +31,7 @@ returns-clause-ok c =
     let step = λ (w : Work). defer m.params c.args.f.now (without_first w.state.floats) w in
     let waits : Done c.args.back m c.defer_first.new.self c.args.store.now c.args.store.now step = deferred-done c.args.back m c.defer_first.new.self c.args.store.now c.requires.machine c.requires.back (only_here c.args.f.now) c.args.f.now c.in_ok-defer_first.ensures.ok refl in
     ok-map c.put_interline.result _ _
-    (λ y. λ (vert : Bool). then-interline c.args.back m c.defer_first.new.self c.defer_first.new.self c.args.store.now c.args.store.now c.put_interline.new.store step waits y)
+    (λ y. λ (vert : Bool). then-interline c.args.back m c.defer_first.new.self c.defer_first.new.self c.args.store.now c.args.store.now c.put_interline.new.store step waits c.args.f.now.nobreak y)
     c.put_interline.ensures.ok
 
 pub returns-clause-err : goal.returns-clause-err
@@ -40,7 +40,7 @@ returns-clause-err c =
     let step = λ (w : Work). defer m.params c.args.f.now (without_first w.state.floats) w in
     let waits : Done c.args.back m c.defer_first.new.self c.args.store.now c.args.store.now step = deferred-done c.args.back m c.defer_first.new.self c.args.store.now c.requires.machine c.requires.back (only_here c.args.f.now) c.args.f.now c.in_ok-defer_first.ensures.ok refl in
     err-map c.put_interline.result _ _
-    (λ e y. λ (vert : Bool). then-interline_cut c.args.back m c.defer_first.new.self c.defer_first.new.self c.args.store.now c.args.store.now c.put_interline.new.store step waits e y)
+    (λ e y. λ (vert : Bool). then-interline_cut c.args.back m c.defer_first.new.self c.defer_first.new.self c.args.store.now c.args.store.now c.put_interline.new.store step waits c.args.f.now.nobreak e y)
     c.put_interline.ensures.err
 
 pub returns-clause-keeps : goal.returns-clause-keeps

@@ -31,9 +31,9 @@ returns-clause-ok c =
     let step = λ (w : Work). place_float m.params (place_of c.args.to) c.args.f.now (without_first w.state.floats) w in
     let moved : Done c.args.back m mid c.args.store.now c.args.store.now step = area-done c.args.back m mid c.args.store.now c.requires.machine c.requires.back c.args.to c.args.f.now (area-column c.args.to c.requires.area) (c.move_first.ensures c.args.f.now c.requires.first) in
     ok-map c.put_interline.result _ _
-    (λ y. λ (vert : Bool). does-same (shows_back c.args.back m c.args.store.now) (shows_back c.args.back mid c.put_interline.new.store) (λ w. puts_interline m.params (step w)) (float_placed m.params vert c.args.f.now (place_of c.args.to))
+    (λ y. λ (vert : Bool). does-same (shows_back c.args.back m c.args.store.now) (shows_back c.args.back mid c.put_interline.new.store) (λ w. puts_interline m.params c.args.f.now.nobreak (step w)) (float_placed m.params vert c.args.f.now (place_of c.args.to))
     (λ b w h. area-places c.args.to m.params vert c.args.f.now w c.requires.area)
-    (then-interline c.args.back m mid mid c.args.store.now c.args.store.now c.put_interline.new.store step moved y))
+    (then-interline c.args.back m mid mid c.args.store.now c.args.store.now c.put_interline.new.store step moved c.args.f.now.nobreak y))
     c.put_interline.ensures.ok
 
 pub returns-clause-err : goal.returns-clause-err
@@ -43,9 +43,9 @@ returns-clause-err c =
     let step = λ (w : Work). place_float m.params (place_of c.args.to) c.args.f.now (without_first w.state.floats) w in
     let moved : Done c.args.back m mid c.args.store.now c.args.store.now step = area-done c.args.back m mid c.args.store.now c.requires.machine c.requires.back c.args.to c.args.f.now (area-column c.args.to c.requires.area) (c.move_first.ensures c.args.f.now c.requires.first) in
     err-map c.put_interline.result _ _
-    (λ e y. λ (vert : Bool). does-same (shows_back c.args.back m c.args.store.now) (IsCutShort e mid c.put_interline.new.store) (λ w. puts_interline m.params (step w)) (float_placed m.params vert c.args.f.now (place_of c.args.to))
+    (λ e y. λ (vert : Bool). does-same (shows_back c.args.back m c.args.store.now) (IsCutShort e mid c.put_interline.new.store) (λ w. puts_interline m.params c.args.f.now.nobreak (step w)) (float_placed m.params vert c.args.f.now (place_of c.args.to))
     (λ b w h. area-places c.args.to m.params vert c.args.f.now w c.requires.area)
-    (then-interline_cut c.args.back m mid mid c.args.store.now c.args.store.now c.put_interline.new.store step moved e y))
+    (then-interline_cut c.args.back m mid mid c.args.store.now c.args.store.now c.put_interline.new.store step moved c.args.f.now.nobreak e y))
     c.put_interline.ensures.err
 
 pub returns-clause-keeps : goal.returns-clause-keeps

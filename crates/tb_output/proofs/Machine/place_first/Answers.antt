@@ -1,4 +1,4 @@
-use Rattle.std.proofs.Common.{◌≡◌, ℕ, Bool, List, sym, ap, ◌∙◌, Some, w64, to_z, of_z}
+use Rattle.std.proofs.Common.{◌≡◌, ℕ, Bool, false, List, sym, ap, ◌∙◌, Some, w64, to_z, of_z}
 use Rattle.std.proofs.lemmas.Int.{to_z-of_z}
 use Rattle.tb_scaled.proofs.AmountLemmas.{amount_fits}
 use Rattle.tb_pool.specs.Lists.{Lists}
@@ -29,10 +29,10 @@ float_is c =
 note_is : (c : In-Some-Left) → PlacesFirst c.args.back c.args.self.now c.args.store.now c.args.vert c.args.size.now (note_placed c.args.self.now.params c.args.size.now c.in-Some-Left.m)
 note_is c = note-first c.args.back c.args.self.now c.args.store.now c.args.vert c.args.size.now _ (sym c.in-Some-Left.ensures.value ∙ ap (λ (e : Entry). Some e) c.in-Some-Left.field-0-is)
 
-right_is : (c : In-Some-Right) → PlacesFirst c.args.back c.args.self.now c.args.store.now c.args.vert c.args.size.now (puts_interline c.args.self.now.params)
+right_is : (c : In-Some-Right) → PlacesFirst c.args.back c.args.self.now c.args.store.now c.args.vert c.args.size.now (puts_interline c.args.self.now.params false)
 right_is c = right-first c.args.back c.args.self.now c.args.store.now c.args.vert c.args.size.now c.in-Some-Right.field-0-0 (sym c.in-Some-Right.ensures.value ∙ ap (λ (e : Entry). Some e) c.in-Some-Right.field-0-is)
 
-none_is : (c : In-None) → PlacesFirst c.args.back c.args.self.now c.args.store.now c.args.vert c.args.size.now (puts_interline c.args.self.now.params)
+none_is : (c : In-None) → PlacesFirst c.args.back c.args.self.now c.args.store.now c.args.vert c.args.size.now (puts_interline c.args.self.now.params false)
 none_is c = none-first c.args.back c.args.self.now c.args.store.now c.args.vert c.args.size.now (sym c.in-None.ensures.value)
 
 pub returns-in-Some-Float-clause-ok : goal.returns-in-Some-Float-clause-ok

@@ -29,7 +29,7 @@ returns-in_err-retire_note-clause-keeps c =
     (no-room _ _ _ _ _ _ c.requires.machine c.requires.back c.in_err-retire_note.ensures.err refl (continues-note_placed c.args.self.now.params c.args.size.now c.args.m.now)).keeps
 
 -- where the note goes
-place_is : (c : After-set_note_bottom) → (let m = c.args.self.now in c.place_note-at.result ≡ placed_note m.params m.page m.two_columns m.first_column c.args.size.now.height m.note_bottom c.args.m.now)
+place_is : (c : After-set_note_bottom) → (let m = c.args.self.now in c.place_note-at.result ≡ placed_note m.params m.number m.two_columns m.first_column c.args.size.now.height m.note_bottom c.args.m.now)
 place_is c = note-place c.args.self.now (the_view c.self.inside) c.args.size.now c.args.m.now c.place_note-at.result c.self.view_is c.requires.height c.requires.note_bottom c.place_note-at.ensures
 
 -- the machine keeps its bottom

@@ -1,4 +1,4 @@
-use Rattle.std.proofs.Common.{sym, subst, ◌∙◌, ◌≤◌, ◌∷◌, [], FitsSigned, w64, rules}
+use Rattle.std.proofs.Common.{sym, subst, ◌∙◌, ◌+◌, ◌≤◌, ◌∷◌, [], FitsSigned, w64, rules}
 use Rattle.std.proofs.lemmas.Int.{to_z-of_z}
 use Rattle.tb_column.specs.StoredColumns.{column_shown}
 use Rattle.tb_sheet.specs.declared.Sheet.TheVariants as sheets
@@ -60,7 +60,7 @@ returns-in_err-tops c =
 pub ship-requires : goal.ship-requires
 ship-requires c =
     let same = sym c.in_ok-tops.ensures.machine in
-    record { first = subst (λ (n : MachineView). 1 ≤ n.page) same c.requires.machine.first; last = subst (λ (n : MachineView). n.page ≤ 4194305) same c.requires.machine.last }
+    record { first = subst (λ (n : MachineView). 1 ≤ n.page) same c.requires.machine.first; last = subst (λ (n : MachineView). n.page ≤ 4194305) same c.requires.machine.last; numbered = subst (λ (n : MachineView). n.number ≤ n.page + 1000000) same c.requires.machine.numbered }
 
 -- the page was not shipped
 pub returns-in_err-ship : goal.returns-in_err-ship

@@ -68,7 +68,7 @@ taken c =
 pub ship-requires : goal.ship-requires
 ship-requires c =
     let is = page-machine _ _ _ _ _ _ _ (taken (goal.at.ship-requires c).In_ok-column) in
-    record { first = is.first; last = is.last }
+    record { first = is.first; last = is.last; numbered = is.numbered }
 
 -- the page was not shipped
 pub returns-in_err-ship : goal.returns-in_err-ship

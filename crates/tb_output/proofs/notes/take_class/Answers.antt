@@ -39,5 +39,5 @@ returns-clause-taken c =
 pub returns-clause-frame : goal.returns-clause-frame
 returns-clause-frame c =
     box-frame c.args.b.now c.args.store.now c.add_list.new.self c.in_ok-list.list c.requires.sound c.in_ok-list.ensures.fresh c.in_ok-list.ensures.opened c.args.class.now
-    (record { class = c.args.class.now.number; skip = c.args.class.now.skip; list = c.in_ok-list.list }) c.take_box.new.self c.take_box.new.store refl
+    (record { class = c.args.class.now.number; below = c.args.class.now.below; skip = c.args.class.now.skip; list = c.in_ok-list.list }) c.take_box.new.self c.take_box.new.store refl
     (sym (c.is_void.ensures c.args.store.now) ∙ c.if-is_void.false) c.take_box.ensures.contents c.take_box.ensures.taken c.take_box.ensures.keeps c.take_box.ensures.others

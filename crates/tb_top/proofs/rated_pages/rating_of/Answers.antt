@@ -4,6 +4,9 @@ use Rattle.std.proofs.lemmas.Option.{MatchOption-at_none}
 use Rattle.tb_node.specs.PlainNodes.{plain_list}
 use Rattle.tb_items.specs.ItemsLeft.{nodes_left}
 use Rattle.tb_rate.specs.Rating.{rating, IsTried}
+use Rattle.tb_output.specs.declared.reading.Standing.{Standing}
+use Rattle.tb_items.specs.Happenings.{events_of}
+use Rattle.tb_rate.specs.Tries.{first_number}
 use Rattle.tb_rate.specs.RatedRun.{insertions_first}
 use Rattle.tb_top.proofs.Rated.RatedTurns.{few-first}
 use Rattle.tb_top.proofs.rated_pages.rating_of.Goals as goal
@@ -29,4 +32,5 @@ returns-clause-value c =
     let place = c.last_champion.ensures store in
     let waiting = c.floats_waiting-waiting.ensures.value in
     let held = c.insertions_first-held.ensures ∙ ap (λ l. insertions_first (plain_list store l ++ nodes_left c.args.routine.now.left)) c.waiting.ensures in
-    rw (c.in_default.is) (c.rate.ensures.value ∙ (λ i. rating c.args.params.now c.args.places.now c.args.page (place i) (waiting i) (held i)))
+    let page = c.first_number-page.ensures store ∙ ap (λ n. first_number n (events_of store c.args.happened.now)) (ap (λ (v : Standing). v.number) c.standing.ensures) in
+    rw (c.in_default.is) (c.rate.ensures.value ∙ (λ i. rating c.args.params.now c.args.places.now (page i) (place i) (waiting i) (held i)))

@@ -100,13 +100,6 @@ firing-init g c =
       later = c.in_ok-show.ensures.later;
     }
 
-pub overflow_add-page : goal.overflow_add-page
-overflow_add-page g c =
-    let a = c.firing.invariant.tally.pages in
-    let b = c.firing.invariant.tally.limit in
-    let d = (few-firings c.args.params.now c.requires.ranges).pages in
-    omega (arith, a, b, d)
-
 pub returns-in_err-ending-clause-refused : goal.returns-in_err-ending-clause-refused
 returns-in_err-ending-clause-refused g c =
     let p = err_from_is_err_and c.from_residual-in_err-ending.result c.from_residual-in_err-ending.ensures.1 in
@@ -141,11 +134,11 @@ returns-in_err-send-clause-refused g c =
     let q = c.turn.new.self in
     let shows = turn g (goal.at.returns-in_err-send-clause-refused g c).In_ok-ending in
     let failed = err_from_is_err_and c.from_residual-in_err-send.result c.from_residual-in_err-send.ensures.1 in
-    let value = c.rating_of-rating.ensures.value ∙ ap (λ hs. rating_now p c.args.places.now s q (c.firing.totals.pages + 1) c.in_ok-ending.ending (events_of q.store hs)) c.deref.ensures.value in
+    let value = c.rating_of-rating.ensures.value ∙ ap (λ hs. rating_now p c.args.places.now s q c.in_ok-ending.ending (events_of q.store hs)) c.deref.ensures.value in
     let part = subst (λ hs. AppendsPrefix (g.K.Sink.held c.firing.out) (g.K.Sink.held c.send.new.out) (turn_lines (events_of q.store hs) c.rating_of-rating.result)) c.deref-in-firing.ensures.value c.in_err-send.ensures.shown.part in
     rw (failed.1, failed.2)
     (refuses-text _ _ _ _ c.in_err-send.field-0.0
-    (turn-cut p c.args.places.now s _ _ _ _ _ _ _ c.firing.invariant.rated c.firing.invariant.going.page q c.turn.new.happened.items c.in_ok-ending.ending shows (c.firing.totals.pages + 1) c.firing.invariant.tally.pages c.rating_of-rating.result value part))
+    (turn-cut p c.args.places.now s _ _ _ _ _ _ _ c.firing.invariant.rated c.firing.invariant.going.page q c.turn.new.happened.items c.in_ok-ending.ending shows c.rating_of-rating.result value part))
 
 -- ---- the turn was the last
 
@@ -156,11 +149,11 @@ returns-in-Some-ending-clause-done g c =
     let q = c.turn.new.self in
     let run = run_of_state p (state_of c.args.routine.now) in
     let shows = turn g (goal.at.returns-in-Some-ending-clause-done g c).In_ok-ending in
-    let value = c.rating_of-rating.ensures.value ∙ ap (λ hs. rating_now p c.args.places.now s q (c.firing.totals.pages + 1) c.in_ok-ending.ending (events_of q.store hs)) c.deref.ensures.value in
+    let value = c.rating_of-rating.ensures.value ∙ ap (λ hs. rating_now p c.args.places.now s q c.in_ok-ending.ending (events_of q.store hs)) c.deref.ensures.value in
     let shown = subst (λ hs. Appends (g.K.Sink.held c.firing.out) (g.K.Sink.held c.send.new.out) (turn_lines (events_of q.store hs) c.rating_of-rating.result)) c.deref-in-firing.ensures.value c.in_ok-send.ensures.shown.whole in
     let counted = c.in_ok-send.ensures.counted ∙ ap (λ hs. with_events (events_of q.store hs) c.firing.totals) c.deref-in-firing.ensures.value in
     let closing = turn-closing p views.Trace s None None c.firing.totals run c.firing.invariant.going q c.turn.new.happened.items c.in_ok-ending.ending shows None c.send.new.totals c.in-Some-ending.ending c.in-Some-ending.is tt counted in
-    let rated = turn-closes p c.args.places.now s _ _ _ _ _ _ _ c.firing.invariant.rated c.firing.invariant.going.page q c.turn.new.happened.items c.in_ok-ending.ending shows (c.firing.totals.pages + 1) c.firing.invariant.tally.pages c.rating_of-rating.result value c.in-Some-ending.ending c.in-Some-ending.is shown in
+    let rated = turn-closes p c.args.places.now s _ _ _ _ _ _ _ c.firing.invariant.rated c.firing.invariant.going.page q c.turn.new.happened.items c.in_ok-ending.ending shows c.rating_of-rating.result value c.in-Some-ending.ending c.in-Some-ending.is shown in
     IfOk-weaker c.finish-in-Some-ending.result _ _ (λ u h. ends-rated p c.args.places.now q c.send.new.totals _ c.in-Some-ending.ending _ _ _ run _ _ closing rated u h) c.finish-in-Some-ending.ensures.done
 
 pub returns-in-Some-ending-clause-refused : goal.returns-in-Some-ending-clause-refused
@@ -170,11 +163,11 @@ returns-in-Some-ending-clause-refused g c =
     let q = c.turn.new.self in
     let run = run_of_state p (state_of c.args.routine.now) in
     let shows = turn g (goal.at.returns-in-Some-ending-clause-refused g c).In_ok-ending in
-    let value = c.rating_of-rating.ensures.value ∙ ap (λ hs. rating_now p c.args.places.now s q (c.firing.totals.pages + 1) c.in_ok-ending.ending (events_of q.store hs)) c.deref.ensures.value in
+    let value = c.rating_of-rating.ensures.value ∙ ap (λ hs. rating_now p c.args.places.now s q c.in_ok-ending.ending (events_of q.store hs)) c.deref.ensures.value in
     let shown = subst (λ hs. Appends (g.K.Sink.held c.firing.out) (g.K.Sink.held c.send.new.out) (turn_lines (events_of q.store hs) c.rating_of-rating.result)) c.deref-in-firing.ensures.value c.in_ok-send.ensures.shown.whole in
     let counted = c.in_ok-send.ensures.counted ∙ ap (λ hs. with_events (events_of q.store hs) c.firing.totals) c.deref-in-firing.ensures.value in
     let closing = turn-closing p views.Trace s None None c.firing.totals run c.firing.invariant.going q c.turn.new.happened.items c.in_ok-ending.ending shows None c.send.new.totals c.in-Some-ending.ending c.in-Some-ending.is tt counted in
-    let rated = turn-closes p c.args.places.now s _ _ _ _ _ _ _ c.firing.invariant.rated c.firing.invariant.going.page q c.turn.new.happened.items c.in_ok-ending.ending shows (c.firing.totals.pages + 1) c.firing.invariant.tally.pages c.rating_of-rating.result value c.in-Some-ending.ending c.in-Some-ending.is shown in
+    let rated = turn-closes p c.args.places.now s _ _ _ _ _ _ _ c.firing.invariant.rated c.firing.invariant.going.page q c.turn.new.happened.items c.in_ok-ending.ending shows c.rating_of-rating.result value c.in-Some-ending.ending c.in-Some-ending.is shown in
     IfErr-weaker c.finish-in-Some-ending.result _ _ (λ f h. stops-rated p c.args.places.now q c.send.new.totals _ c.in-Some-ending.ending _ _ _ run _ _ closing rated _ _ f h) c.finish-in-Some-ending.ensures.refused
 
 pub returns-in-Some-ending-clause-range : goal.returns-in-Some-ending-clause-range
@@ -197,10 +190,10 @@ returns-in_err-note_column-clause-refused g c =
     let q = c.turn.new.self in
     let shows = turn g (goal.at.returns-in_err-note_column-clause-refused g c).In_ok-ending in
     let failed = err_from_is_err_and c.from_residual-in_err-note_column.result c.from_residual-in_err-note_column.ensures.1 in
-    let value = c.rating_of-rating.ensures.value ∙ ap (λ hs. rating_now p c.args.places.now s q (c.firing.totals.pages + 1) c.in_ok-ending.ending (events_of q.store hs)) c.deref.ensures.value in
+    let value = c.rating_of-rating.ensures.value ∙ ap (λ hs. rating_now p c.args.places.now s q c.in_ok-ending.ending (events_of q.store hs)) c.deref.ensures.value in
     let shown = subst (λ hs. Appends (g.K.Sink.held c.firing.out) (g.K.Sink.held c.send.new.out) (turn_lines (events_of q.store hs) c.rating_of-rating.result)) c.deref-in-firing.ensures.value c.in_ok-send.ensures.shown.whole in
     rw (failed.1, failed.2)
-    (turn-cut p c.args.places.now s _ _ _ _ _ _ _ c.firing.invariant.rated c.firing.invariant.going.page q c.turn.new.happened.items c.in_ok-ending.ending shows (c.firing.totals.pages + 1) c.firing.invariant.tally.pages c.rating_of-rating.result value
+    (turn-cut p c.args.places.now s _ _ _ _ _ _ _ c.firing.invariant.rated c.firing.invariant.going.page q c.turn.new.happened.items c.in_ok-ending.ending shows c.rating_of-rating.result value
     (prefix_whole (g.K.Sink.held c.firing.out) (g.K.Sink.held c.send.new.out) _ shown))
 
 pub demerits_with-demerits-requires-clause-high : goal.demerits_with-demerits-requires-clause-high
@@ -224,7 +217,7 @@ firing-preserved g c =
     let run = run_of_state p (state_of c.args.routine.now) in
     let shows = turn g (goal.at.firing-preserved g c).In_ok-ending in
     let few = few-firings p c.requires.ranges in
-    let value = c.rating_of-rating.ensures.value ∙ ap (λ hs. rating_now p c.args.places.now s q (c.firing.totals.pages + 1) c.in_ok-ending.ending (events_of q.store hs)) c.deref.ensures.value in
+    let value = c.rating_of-rating.ensures.value ∙ ap (λ hs. rating_now p c.args.places.now s q c.in_ok-ending.ending (events_of q.store hs)) c.deref.ensures.value in
     let shown = subst (λ hs. Appends (g.K.Sink.held c.firing.out) (g.K.Sink.held c.send.new.out) (turn_lines (events_of q.store hs) c.rating_of-rating.result)) c.deref-in-firing.ensures.value c.in_ok-send.ensures.shown.whole in
     let counted = c.in_ok-send.ensures.counted ∙ ap (λ hs. with_events (events_of q.store hs) c.firing.totals) c.deref-in-firing.ensures.value in
     let fewer = subst (λ x. firings_left p x < firings_left p s) (sym c.make_room.ensures.state) (turn-fewer p s q c.firing.invariant.going.page true hs o shows c.in_default-ending.is) in
@@ -238,8 +231,8 @@ firing-preserved g c =
       going = turn-going p views.Trace s None None c.firing.totals run c.firing.invariant.going q hs o shows None c.send.new.totals after c.make_room.ensures.state c.in_default-ending.is tt counted;
       tally = turn-tally p views.Trace s None None c.firing.totals run c.firing.invariant.going q hs o shows few c.firing.invariant.tally (few-wait c.firing.routine c.firing.invariant.ready) c.in_ok-ending.ensures.pages c.send.new.totals after c.make_room.ensures.state c.in_default-ending.is counted;
       rated = subst (λ d. RatedGoing p c.args.places.now after (g.K.Sink.held c.args.out.now) (g.K.Sink.held c.send.new.out) d run.events (demerits_of_state p c.args.places.now (state_of c.args.routine.now)) (rated_text p c.args.places.now (state_of c.args.routine.now))) (sym same)
-          (turn-goes p c.args.places.now s _ _ _ _ _ _ _ c.firing.invariant.rated c.firing.invariant.going.page q hs o shows (c.firing.totals.pages + 1) c.firing.invariant.tally.pages c.rating_of-rating.result value after c.make_room.ensures.state c.in_default-ending.is shown);
-      columns = columns-go p c.args.places.now s q hs o shows _ _ c.firing.invariant.columns (c.firing.totals.pages + 1) c.firing.invariant.tally.pages c.rating_of-rating.result value after c.make_room.ensures.state c.in_default-ending.is (shown_columns c.note_column.new.columns.items) c.firing.invariant.going.page
+          (turn-goes p c.args.places.now s _ _ _ _ _ _ _ c.firing.invariant.rated c.firing.invariant.going.page q hs o shows c.rating_of-rating.result value after c.make_room.ensures.state c.in_default-ending.is shown);
+      columns = columns-go p c.args.places.now s q hs o shows _ _ c.firing.invariant.columns c.rating_of-rating.result value after c.make_room.ensures.state c.in_default-ending.is (shown_columns c.note_column.new.columns.items) c.firing.invariant.going.page
           (c.in_ok-note_column.ensures q.store ∙ ap (λ hs. shown_columns c.firing.columns.items ++ turn_columns (events_of q.store hs) c.rating_of-rating.result) c.deref-in-firing-2.ensures.value);
       sum = subst (λ d. IsSum p d after) (sym same) (sum-next p _ s after c.firing.invariant.sum fewer c.rating_of-rating.result c.rating_of-rating.ensures.range);
       later = omega (arith, start, later);

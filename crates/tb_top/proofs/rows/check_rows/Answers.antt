@@ -1,8 +1,10 @@
 use Rattle.tb_top.proofs.WorkedTexts.WorkedRows.{worked_rows}
 use Rattle.tb_top.proofs.WorkedTexts.FloatRowLemmas.{float_rows}
 use Rattle.tb_top.proofs.WorkedTexts.ColumnRowLemmas.{column_rows}
+use Rattle.tb_top.proofs.WorkedTexts.ColumnEndRowLemmas.{column_end_rows}
 use Rattle.tb_top.proofs.WorkedTexts.VersionRowLemmas.{version_rows}
 use Rattle.tb_top.proofs.WorkedTexts.RateRowLemmas.{rate_rows}
+use Rattle.tb_top.proofs.WorkedTexts.BestRowLemmas.{best_rows}
 use Rattle.tb_top.proofs.WorkedTexts.WhyRowLemmas.{why_rows}
 use Rattle.tb_top.proofs.WorkedTexts.WhyWideRowLemmas.{why_wide_rows}
 use Rattle.tb_top.proofs.WorkedTexts.LinesRowLemmas.{lines_rows}
@@ -18,11 +20,17 @@ returns-clause-floats c = float_rows
 pub returns-clause-columns : goal.returns-clause-columns
 returns-clause-columns c = column_rows
 
+pub returns-clause-column_ends : goal.returns-clause-column_ends
+returns-clause-column_ends c = column_end_rows
+
 pub returns-clause-versions : goal.returns-clause-versions
 returns-clause-versions c = version_rows
 
 pub returns-clause-ratings : goal.returns-clause-ratings
 returns-clause-ratings c = rate_rows
+
+pub returns-clause-best : goal.returns-clause-best
+returns-clause-best c = best_rows
 
 pub returns-clause-told : goal.returns-clause-told
 returns-clause-told c = why_rows
