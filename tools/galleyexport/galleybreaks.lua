@@ -48,7 +48,7 @@ end
 
 -- Whether the last box or rule before the last record has this name. An empty box may be a float's, which is no line.
 local function is_after(name)
-  if name == "-" or name:find("^skip%.") then return true end      -- nothing of the document stands before it
+  if name == "-" then return true end      -- nothing of the document stands before it
   for k = #nodes.records - 1, 1, -1 do
     local own = name_of(nodes.records[k])
     if own == name then return true end

@@ -15,6 +15,8 @@ local ORDERS = { [0] = "", "sfil", "sfil", "sfill", "sfilll" }
 
 M.queue = {}           -- floats and marginal notes, in the order in which the page builder meets them
 local by_number = {}   -- these and the titles
+local notes = {}       -- the marginal notes among them
+local beside = 0       -- how many of these the output routine has put beside their lines
 local named = {}       -- how many there are of each name
 
 local function new(float, name)
@@ -74,6 +76,13 @@ function M.margin(left, right, no_break)
   number(l, note, LEFT)
   number(r, note, RIGHT)
   M.queue[#M.queue + 1] = note
+  notes[#notes + 1] = note
+end
+
+-- The output routine puts the next note beside its line, on the page of this number.
+function M.beside(page)
+  beside = beside + 1
+  if notes[beside] then notes[beside].page = page end
 end
 
 local function add_title(box, height)
@@ -81,6 +90,7 @@ local function add_title(box, height)
   if M.of(b) then return end
   if not b then return log.lost("a box over both columns that is void (it is left out)") end
   if height ~= b.height then log.lost("a box over both columns that takes other room than its height") end
+  if height < 0 then log.lost("a box over both columns of negative height (0 is written)") end
   local title = new({ kind = "title", height = math.max(height, 0) }, "title")
   number(b, title)
   nodes.add { kind = "title", float = title }

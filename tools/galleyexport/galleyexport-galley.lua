@@ -4,6 +4,7 @@ local log = require("galleyexport-log")
 local nodes = require("galleyexport-nodes")
 local floats = require("galleyexport-floats")
 local parameters = require("galleyexport-parameters")
+local numbers = require("galleyexport-numbers")
 local sides = require("galleyexport-sides")
 
 local M = {}
@@ -49,8 +50,8 @@ local function past(k, kinds)
   return k
 end
 
-local ROOM = { glue = true, kern = true }
-local CLEARED = { glue = true, kern = true, mark = true, note = true }
+local ROOM = { glue = true, kern = true, page = true }
+local CLEARED = { glue = true, kern = true, mark = true, note = true, page = true }
 
 -- A float or marginal note begins at k: -10004, perhaps glue, an empty box, -10002 or -10003. Gives its last place.
 local function float_end(k)
@@ -141,7 +142,24 @@ local function put_float(put, record)
   end
 end
 
+-- \enlargethispage is an insertion of glue as high as the room that is taken back, below a box with a star.
+local function put_enlargement(put, record)
+  local by, star = 0, ""
+  for _, leaf in ipairs(record.leaves) do
+    if leaf.kind == "box" then star = " star" end
+    if leaf.kind == "glue" then
+      by = by - leaf.width
+      if leaf.stretch ~= 0 or leaf.shrink ~= 0 then
+        log.lost("\\enlargethispage by a size that stretches or shrinks (its width is kept)", record.place)
+      end
+    end
+  end
+  parameters.use_new()
+  put("enlarge " .. by .. star)
+end
+
 local function put_insertion(part, put, record)
+  if parameters.is_enlargement(record) then return put_enlargement(put, record) end
   local class = parameters.class_of(record)
   if class then
     part.classes[class] = true
@@ -155,7 +173,7 @@ local function put_insertion(part, put, record)
   put("endfoot")
 end
 
-local BEFORE_TITLE = { title = true, note = true, mark = true, glue = true, kern = true, suppress = true }
+local BEFORE_TITLE = { title = true, note = true, mark = true, glue = true, kern = true, suppress = true, page = true }
 
 -- The boxes over both columns at the head of what stands between the places first and last.
 local function titles_at(first, last)
@@ -167,29 +185,45 @@ local function titles_at(first, last)
   return out
 end
 
--- A galley has no word for a box over both columns. It is called as a float on a page of its own before, whose boxes
--- are named skip; the float is then the first that the next page takes, and all below it stands as LaTeX has it.
-local function put_titles(part, stretch, put)
-  local titles = titles_at(stretch.first, stretch.last)
-  if #titles == 0 then return end
-  part.titled = part.titled or counts.boxes == 0
-  stretch.titled = true
-  local name = titles[1].float.name
-  put("# a box over both columns: called on a page of its own before")
-  put("box skip." .. name .. ".1 0 0")
-  for _, record in ipairs(titles) do
-    put(string.format("float %s %d double !t %d vert", record.float.name, floats.class(record.float), record.float.height))
+-- The line of the box over both columns at the head of a stretch, nil without one.
+local function head_line(stretch)
+  local line
+  for _, record in ipairs(titles_at(stretch.first, stretch.last)) do
+    if line then log.lost("a second box over both columns above the same ones (the first is written)", record.place) end
+    line = line or string.format("head %s %d", record.float.name, record.float.height)
     record.done = true
   end
-  put("newpage")
-  put("box skip." .. name .. ".2 0 0")
-  put("newpage")
-  put("note " .. name)
+  return line
 end
 
--- What a clear or float was made of has no line in a galley, and so no name on a page.
-local function unname(first, last)
-  for k = first, last do records[k].name = nil end
+-- A box over both columns stands directly below the word by which they begin.
+local function put_head(part, stretch, put)
+  local line = head_line(stretch)
+  if not line then return end
+  parameters.use_new()
+  if #part.lines == 0 then
+    part.two_columns, part.head = true, line
+  else
+    part.lines[#part.lines] = "twocolumn"
+    put(line)
+  end
+end
+
+-- What a clear or float was made of has no line in a galley, and so no name on a page. Gives the page's number that LaTeX
+-- set meanwhile, which holds behind it.
+local function number_within(first, last)
+  local number
+  for k = first, last do
+    records[k].name = nil
+    if records[k].kind == "page" then number = records[k].number end
+  end
+  return number
+end
+
+local function put_number(put, number)
+  if not number then return end
+  parameters.use_new()
+  put("page " .. number)
 end
 
 -- Puts the line or lines that begin with the record at k, and gives the next place. With `last_clear` at k or after,
@@ -199,11 +233,11 @@ local function put_record(part, put, k, last_clear)
   local float_last, clear_last = float_end(k), clear_end(k)
   if float_last then
     put_float(put, records[float_last])
-    unname(k, float_last)
+    put_number(put, number_within(k, float_last))
     return float_last + 1
   elseif clear_last then
     if clear_last < last_clear then put(records[clear_last].columns or "clearpage") end
-    unname(k, clear_last)
+    part.number = number_within(k, clear_last)
     return clear_last + 1
   elseif is_filling(record) and is_penalty(records[k + 1], NEW_PAGE) then
     put("newpage")
@@ -213,6 +247,8 @@ local function put_record(part, put, k, last_clear)
     if k < last_clear then put(record.columns or "clearpage") end
   elseif record.kind == "insertion" then
     put_insertion(part, put, record)
+  elseif record.kind == "page" then
+    put_number(put, record.number)
   elseif record.kind == "penalty" and page_break(record) then
     put(page_break(record))
   else
@@ -230,7 +266,9 @@ local function put_stretch(part, stretch, ends_part)
     part.lines[#part.lines + 1] = line
     part.begins[#part.lines], begins = begins, nil
   end
-  put_titles(part, stretch, put)
+  put_head(part, stretch, put)
+  put_number(put, part.number)
+  part.number = nil
   local last_clear = ends_part and stretch.last or math.huge
   local k = stretch.first
   while k <= stretch.last do
@@ -254,14 +292,13 @@ local function stretches()
   return out
 end
 
--- The galleys: stretches whose pages have the same measures, and follow one another as odd and even ones.
-local function parts(pages)
-  local out, values, two, jumps = {}, nil, two_columns, sides.jumps(pages)
+-- The galleys: stretches whose pages have the same measures.
+local function parts()
+  local out, values, two = {}, nil, two_columns
   for k, stretch in ipairs(stretches()) do
     local own = parameters.of_part(k - 1)
     local part = out[#out]
-    local turns = jumps and (jumps[k - 1] or #titles_at(stretch.first, stretch.last) > 0)
-    if not part or turns or (own and values and parameters.differ(own, values)) then
+    if not part or (own and values and parameters.differ(own, values)) then
       part = { lines = {}, begins = {}, classes = {}, stretches = {}, two_columns = two, first_clear = k - 1 }
       out[#out + 1] = part
     end
@@ -297,11 +334,9 @@ local function write_part(part, path, title)
   put("# " .. title)
   for _, line in ipairs(parameters.lines(part.values)) do put(line) end
   for _, line in ipairs(parameters.class_lines(part.classes)) do put(line) end
+  if part.begins_with then put("page " .. part.begins_with) end
   if part.two_columns then put("twocolumn") end
-  for column = 1, part.even and (part.two_columns and 2 or 1) or 0 do
-    put("box skip.even." .. column .. " 0 0")
-    put("newpage")
-  end
+  if part.head then put(part.head) end
   for k = 1, part.start_notes do put("note start." .. k) end
   for k, line in ipairs(part.lines) do
     put(line)
@@ -312,11 +347,12 @@ local function write_part(part, path, title)
   map:close()
 end
 
--- How many whatsits a part's first page begins with: those that the class left, or the one of the clear before. Below a
--- box over both columns one stands already.
-local function notes_at_start(part, is_first)
-  if is_first then return part.titled and 0 or start_notes end
-  return part.stretches[1].titled and 0 or 1
+-- The number of a part's first page, where it begins with another than 1 and no word of the document tells it.
+local function first_number(part, first_page)
+  local number = first_page and first_page.number
+  if not number or number == 1 or number < 0 or number > numbers.MOST or (part.lines[1] or ""):find("^page ") then return nil end
+  parameters.use_new()
+  return number
 end
 
 local function has_footnotes()
@@ -329,7 +365,7 @@ end
 -- Writes all galleys of the document. Gives their number, and the counts of what stands in them.
 function M.write(job, pages)
   parameters.settle(has_footnotes())
-  local list = parts(pages)
+  local list = parts()
   for _, part in ipairs(list) do
     part.values = part.values or parameters.whole()
     for k, stretch in ipairs(part.stretches) do put_stretch(part, stretch, k == #part.stretches) end
@@ -337,8 +373,13 @@ function M.write(job, pages)
   parameters.settle_parskip()
   for k = queued + 1, #floats.queue do log.lost("a float that never reached the page builder", floats.queue[k].place) end
   for k, part in ipairs(list) do
-    sides.choose(part, sides.pages_of(part, list[k + 1], pages))
-    part.start_notes = notes_at_start(part, k == 1)
+    local own = sides.pages_of(part, list[k + 1], pages)
+    sides.choose(part, own)
+    -- The first page begins with the whatsits that the class left, that of a later part with the one of the clear before.
+    part.start_notes = k == 1 and start_notes or 1
+    part.begins_with = k > 1 and first_number(part, own[1])
+  end
+  for k, part in ipairs(list) do
     local title = string.format("%s%s, written by galleyexport from %s", job,
       #list > 1 and string.format(", part %d of %d", k, #list) or "", status.banner:sub(1, 60))
     write_part(part, job .. (k > 1 and "." .. k or "") .. ".galley", title)

@@ -10,6 +10,7 @@
 --   insertion    class, cost, split_depth, leaves (records)
 --   title        float (a box over both columns), put in by galleyexport-floats
 --   suppress     area, likewise
+--   page         number, put in by galleyexport-numbers
 local log = require("galleyexport-log")
 
 local M = {}

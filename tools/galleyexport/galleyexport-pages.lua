@@ -5,6 +5,7 @@ local log = require("galleyexport-log")
 local nodes = require("galleyexport-nodes")
 local floats = require("galleyexport-floats")
 local parameters = require("galleyexport-parameters")
+local numbers = require("galleyexport-numbers")
 
 local NODE = nodes.NODE
 local M = {}
@@ -170,7 +171,7 @@ local function inner_list(v, depth)
   end
 end
 
--- The column within a box of \enlargethispage*: a box with glue that may shrink below it.
+-- The column within a box of \enlargethispage: it has another height than the room, and glue below it that may shrink.
 local function enlarged_list(v)
   local n = v.head
   if n and n.id == NODE.vlist and not nodes.record_of(n) and not floats.of(n) then
@@ -199,9 +200,8 @@ function M.column(box, of_floats, two_columns, number)
   local column = { kind = of_floats and "floats" or "text", number = two_columns and number or 1, height = v.height }
   local inner = enlarged_list(v)
   if inner then
-    column.set = setting(inner)
+    column.set, column.height = setting(inner), inner.height
     column.enlarged = inner.height - v.height
-    column.set.natural = column.set.natural - column.enlarged
     v = inner
   else
     if v.id == NODE.hlist then v = inner_list(v, 0) or v end
@@ -242,13 +242,15 @@ function M.page(box, two_columns, text_height, number)
   local v = tex.box[box]
   if not v or node.get_attribute(v, DONE) == 2 then return end
   node.set_attribute(v, DONE, 2)
+  numbers.shipped(number)
   local page = { number = number, columns = waiting, clears = parameters.current(), kind = "one" }
   waiting = {}
   if #page.columns == 2 then
     page.kind = "two"
     local room
     page.wide, room = wide_floats(v)
-    page.at = text_height - page.columns[1].height + (#page.wide > 0 and room or 0)
+    local first = page.columns[1]
+    page.at = text_height - first.height + (first.enlarged or 0) + (#page.wide > 0 and room or 0)
   elseif #page.columns == 0 then
     page.kind = "wide"
     local column = { kind = "floats", number = 1, height = v.height, set = setting(v), items = {} }
@@ -264,6 +266,7 @@ end
 -- ---- The report
 
 local function float_text(item, where)
+  if item.float.kind == "title" then return string.format("head %s %d %d", item.float.name, item.top, item.height) end
   return string.format("float %s %d %s %d %d", item.float.name, floats.class(item.float), where, item.top, item.height)
 end
 
@@ -299,8 +302,8 @@ function M.write(path)
     out:write(LINE_OF[item.kind](item), "\n")
   end
   out:write("report 1\n")
-  for number, page in ipairs(M.list) do
-    out:write(string.format("page %d %s\n", number, page.at and "two at " .. page.at or page.kind))
+  for _, page in ipairs(M.list) do
+    out:write(string.format("page %d %s\n", page.number, page.at and "two at " .. page.at or page.kind))
     for _, item in ipairs(page.wide or {}) do put(item) end
     for _, column in ipairs(page.columns) do
       out:write(string.format("column %d %s height %d natural %d set %s\n", column.number, column.kind, column.height,

@@ -262,9 +262,10 @@ function M.settle_parskip()
   tell_others("parskip at a float between paragraphs", parskips, own.parskip, "")
 end
 
-local is_new = false   -- whether a parameter of version 3 has another value than in an earlier version, or a float or a class needs that version
+-- Whether version 3 is needed: a parameter of it has another value than in an earlier version, or a line of it is written.
+local is_new = false
 
--- A float or marginal note needs version 3.
+-- A line of version 3 is written.
 function M.use_new() is_new = true end
 
 -- The values of the part after so many clears, nil where LaTeX made no column in it.
@@ -313,8 +314,7 @@ local FORMS = {
   end,
 }
 
--- The version of the galleys: 3 if one of its parameters or a class below the footnotes is needed, or by a float, else that of the words
--- that a galley has.
+-- The version of the galleys: 3 if it is needed, else that of the words that a galley has.
 function M.version(has_classes)
   return is_new and 3 or has_classes and 2 or 1
 end
@@ -341,18 +341,19 @@ function M.whole() return own end
 -- ---- Classes of insertions
 
 local FOOT, ENLARGED = "foot", "enlarged"
-local ENLARGED_NUMBER = 253
 local classes = {}     -- TeX's number of the insertion -> its class
 
 function M.insertions(kind, number, factor, limit, skip)
-  classes[number] = { kind = kind, factor = factor, limit = limit, skip = skip,
-    number = kind == ENLARGED and ENLARGED_NUMBER or number % 250 }
+  classes[number] = { kind = kind, factor = factor, limit = limit, skip = skip, number = number % 250 }
 end
 
-function M.is_footnote(record)
+local function is_of(record, kind)
   local class = classes[record.class]
-  return class ~= nil and class.kind == FOOT
+  return class ~= nil and class.kind == kind
 end
+
+function M.is_footnote(record) return is_of(record, FOOT) end
+function M.is_enlargement(record) return is_of(record, ENLARGED) end
 
 local FIRST_SERIES = 100
 local below = {}       -- TeX's number of the insertion -> the rule of a series below the footnotes, and its place
@@ -373,10 +374,7 @@ function M.class_of(record)
   end
   local class = classes[record.class]
   if class.kind == FOOT then return nil end
-  if class.kind == ENLARGED then
-    log.lost(#record.leaves > 1 and "\\enlargethispage* (an insertion of class 253 is written)"
-      or "\\enlargethispage (an insertion of class 253 is written)", record.place)
-  elseif below[record.class] then
+  if below[record.class] then
     local own = below[record.class]
     class.below, class.number = own.rule, FIRST_SERIES + own.order
     is_new = true

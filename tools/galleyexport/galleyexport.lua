@@ -3,6 +3,7 @@
 --   galleyexport-nodes        the nodes that are contributed to the main vertical list, as records
 --   galleyexport-floats       floats, marginal notes, boxes over both columns
 --   galleyexport-parameters   parameters, and the classes of insertions
+--   galleyexport-numbers      the numbers of pages
 --   galleyexport-pages        the columns and pages that LaTeX made
 --   galleyexport-sides        the sides of marginal notes, by LaTeX's pages
 --   galleyexport-galley       records as the lines of galleys
@@ -19,6 +20,7 @@ local M = {
   nodes = require("galleyexport-nodes"),
   floats = require("galleyexport-floats"),
   parameters = require("galleyexport-parameters"),
+  numbers = require("galleyexport-numbers"),
   pages = require("galleyexport-pages"),
   galley = require("galleyexport-galley"),
 }
@@ -43,12 +45,14 @@ local function before_page_builder(info)
     if info == "after_output" then
       M.floats.suppressed(false)
       M.parameters.watch(true)
+      M.numbers.watch()
       M.nodes.skip_routine()
     else
       M.floats.suppressed(true)
       M.parameters.watch(false)
       M.parameters.enter(M.nodes.clears)
       M.floats.titles()
+      M.numbers.watch()
       M.nodes.take()
     end
   end)

@@ -13,7 +13,7 @@ FORCED = -10000
 STRENGTHS = {'0': 0, '1': 51, '2': 151, '3': 301, '4': 10000}      # the penalties of nopagebreak, by its number
 HEADER = ('galley', 'set', 'class')
 PASSED = ('penalty', 'pagebreak', 'nopagebreak', 'mark', 'note', 'foot', 'float', 'margin', 'suppressfloats',
-          'page')   # no room
+          'page', 'enlarge')   # no room
 CHOICES = 16            # the status where there are too many choices
 WAITING_DEMERITS = 10000    # demerits for each float that waits and each insertion that is held
 
@@ -29,7 +29,7 @@ class BestFault(Exception):
 @dataclass
 class Break:
     line: int            # of the galley: the break goes before it
-    page: int            # that ends there, 0 if none does
+    page: int            # the number of the one that ends there, 0 if none does
     after: str           # the name of the last box or rule before it, `-` without one
 
 
@@ -46,7 +46,7 @@ class Choice:
 @dataclass
 class Ending:
     """Where a text column ends, and how good it is."""
-    page: int
+    page: int            # counted from 1
     column: int          # 1 or 2
     line: int            # of the galley without breaks, at the place where it ends; 0 for a place of the output routine
     badness: str         # `*` if it is too full
@@ -202,8 +202,13 @@ def _broken(trace):
 
 
 def _rated(text):
-    """The rated lines of the mode rate but their sum, as words."""
-    return [words for words in map(str.split, text.splitlines()) if words[:1] == ['rated'] and words[1] != 'demerits']
+    """The rated lines of the mode rate but their sum, as words, each with how many pages were shipped before."""
+    found, pages = [], 0
+    for words in map(str.split, text.splitlines()):
+        pages += words[0] == 'page'
+        if words[0] == 'rated' and words[1] != 'demerits':
+            found.append((pages, words))
+    return found
 
 
 def _demerits(words, penalty):
@@ -217,13 +222,21 @@ def _demerits(words, penalty):
 
 def _columns(pages, own):
     """By page its text columns, each with how many boxes of the text stand up to its end."""
-    found, boxes = {}, 0
+    found, boxes = [], 0
     for page in pages:
+        found.append([])
         for column in page.columns:
             boxes += own.in_column(column)
             if column.kind == 'text':
-                found.setdefault(page.number, []).append((column.number, boxes))
+                found[-1].append((column.number, boxes))
     return found
+
+
+def _page_of(number, shipped, pages, columns):
+    """The place of the page on which a rated column stands, by its number: it is the last that was shipped, or of the first
+    of two columns the one that is being made."""
+    last = pages[shipped - 1] if shipped else None
+    return shipped if last and last.number == number and columns[shipped - 1] else shipped + 1
 
 
 def side(program, galley, breaks):
@@ -235,11 +248,11 @@ def side(program, galley, breaks):
     if len(rated) != len(broken):
         raise BestFault('the modes rate and trace tell of %d and %d columns' % (len(rated), len(broken)))
     columns, endings = _columns(made.pages, own), []
-    for words, place in zip(rated, broken):
-        page, chosen = int(words[1]), place.line in put
+    for (shipped, words), place in zip(rated, broken):
+        page, chosen = _page_of(int(words[1]), shipped, made.pages, columns), place.line in put
         line = put[place.line] if chosen else place.line - bisect_left(sorted(put), place.line)
         penalty = own.penalty(line) if chosen else int(words[5])
-        column, boxes = columns[page].pop(0)
+        column, boxes = columns[page - 1].pop(0)
         endings.append(Ending(page, column, line, words[3], penalty, int(words[7]), int(words[9]), _demerits(words, penalty),
                               place.goal - place.total, place.stretch, chosen, boxes))
     return Side(endings, made)

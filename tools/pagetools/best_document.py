@@ -4,7 +4,7 @@ import os
 import re
 from dataclasses import dataclass
 
-from . import best, best_words, document
+from . import best, best_words
 from .latex_document import Refusal, say
 
 MOST_ROUNDS = 3         # of choosing and of LaTeX: with other page numbers in it, a text may become another
@@ -94,15 +94,13 @@ def set_again(program, doc, parts):
 # ---- What is said
 
 def labels(parts):
-    """For each part what its pages are called in the document, before and after: pages that the exporter put in have no
-    name."""
+    """For each part what its pages are called in the document, before and after."""
     at, found = [0, 0], []
     for part in parts:
         names = []
         for side, own in enumerate((part.before, part.after)):
-            shown = document.shown_pages(own.report.pages)
-            names.append({page.number: at[side] + k for k, page in enumerate(shown, 1)})
-            at[side] += len(shown)
+            names.append({page.place: at[side] + page.place for page in own.report.pages})
+            at[side] += len(own.report.pages)
         found.append(best_words.Labels(*names))
     return found
 

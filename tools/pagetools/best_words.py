@@ -18,22 +18,22 @@ SPLITS = {'widow': 'a widow (the last line of a paragraph alone on the next page
 
 @dataclass
 class Labels:
-    """What pages are called: the numbers that a document's pages have, by those of its report."""
+    """What pages are called, by their places in the report."""
     before: dict
     after: dict
 
-    def names(self, number):
+    def names(self, place):
         """`page 12`, or `page 13 (page 12 before)`."""
-        old, new = self.before.get(number), self.after.get(number)
+        old, new = self.before.get(place), self.after.get(place)
         if new is None or old is None or new == old:
-            return 'page %d' % (new or old or number)
+            return 'page %d' % (new or old or place)
         return 'page %d (page %d before)' % (new, old)
 
 
 def own_labels(before, after):
     """The labels of a galley alone: its own numbers."""
-    return Labels({page.number: page.number for page in before.report.pages},
-                  {page.number: page.number for page in after.report.pages})
+    return Labels({page.place: page.number for page in before.report.pages},
+                  {page.place: page.number for page in after.report.pages})
 
 
 def count(number, word):
@@ -210,7 +210,7 @@ def ranges(numbers):
 def data(choice, before, after):
     """The same as plain data (docs/JSON.md)."""
     def columns(side):
-        return [{'page': it.page, 'column': it.column, 'line': it.line or None, 'badness': badness(it),
+        return [{'page': side.report.pages[it.page - 1].number, 'column': it.column, 'line': it.line or None, 'badness': badness(it),
                  'penalty': it.penalty, 'waiting': it.waiting, 'held': it.held, 'demerits': it.demerits,
                  'short': it.short, 'chosen': it.chosen} for it in side.endings]
     return {'best': 1, 'greedy': choice.greedy, 'least': choice.least,

@@ -9,6 +9,7 @@ from .places import FORCED
 PT = 65536.0
 LANE = 46.0              # the width of the lane at the right where places are told
 SMALLEST_GAP = 0.05
+SHOWN_ENLARGED = 16      # sp: a column that differs so much from the room of its page was enlarged
 SHOWN_BEYOND = 3         # so many places past a column's end are told
 HOPELESS = '100000'      # the cost of a place where the page would be far too short: a mark without its cost
 STRIP = 24.0             # the width of the strip at the right of boxes where penalties stand
@@ -56,6 +57,14 @@ def draw_float_rule(drawing, item, x, y, width):
     drawing.line(x, middle, x + width, middle, 'floatrule', width=0.9)
 
 
+def draw_head(drawing, item, x, y, width):
+    """A box over both columns, such as a title."""
+    height = item.height / PT
+    drawing.rect(x, y, width, height, 'head', 'head %s, over both columns, height %.2fpt' % (item.name, height), radius=2)
+    size = min(9.0, max(4.5, height - 2))
+    drawing.text(x + width / 2, y + height / 2 + size * 0.35, '%s \u00b7 head' % item.name, size, 'quiet', 'middle')
+
+
 def draw_float(drawing, item, x, y, width):
     """A float, hatched in the colour of its class, with its name and area."""
     height = item.height / PT
@@ -87,6 +96,7 @@ class Around:
     calls: float = 0.0   # of the lane at its left, for the calls of floats
     notes: dict = field(default_factory=dict)   # why a marginal note was moved, by the ids of items
     marked: object = None       # the item with the first difference from LaTeX's page
+    room: int = 0        # sp: how high a text column is, if it is not enlarged; 0 where that is not known
 
 
 class ColumnDrawing:
@@ -117,6 +127,7 @@ class ColumnDrawing:
         self.drawing.lines(self.box_x, self.box_x + self.box_width, self.baselines, 'baseline')
         self._foot(bottom, begun)
         self.drawing.rect(self.x, self.y, self.width, self.height, 'frame')
+        self._room_line()
         self._label(passes)
         ends = reasons.of_column(marks, galley) if galley else []
         self._ends(ends)
@@ -146,6 +157,8 @@ class ColumnDrawing:
             self.drawing.line(self.box_x, middle, self.box_x + self.box_width * 0.4, middle, 'footrule', width=0.9)
         elif item.kind == 'floatrule':
             draw_float_rule(self.drawing, item, self.box_x, top, self.box_width)
+        elif item.kind == 'head':
+            draw_head(self.drawing, item, self.box_x, top, self.width - 13)
         elif item.kind == 'rule':
             self.drawing.rect(self.box_x, top, self.box_width, max((item.height + item.depth) / PT, 0.4), 'rule',
                               'rule ' + item.name)
@@ -233,6 +246,21 @@ class ColumnDrawing:
             if left > 14:
                 self.drawing.text(self.box_x, self.y + (bottom + self.height) / 2 + 1.7, '%.1f' % left, 5.2, shape)
 
+    # ---- A column that \\enlargethispage made higher or lower
+
+    def _enlarged(self):
+        """By how many points the column is higher than the room of its page, 0 if it is as high."""
+        by = self.column.height - self.around.room if self.around.room and self.column.kind == 'text' else 0
+        return by / PT if abs(by) > SHOWN_ENLARGED else 0.0
+
+    def _room_line(self):
+        """Where the column would end."""
+        by = self._enlarged()
+        if by:
+            y = self.y + self.height - by
+            self.drawing.line(self.x, y, self.x + self.width, y, 'room', 'the height of the other columns, %.2fpt' % (
+                self.around.room / PT))
+
     # ---- What is written below a column
 
     def _setting(self):
@@ -253,6 +281,7 @@ class ColumnDrawing:
             self.drawing.text(self.x + self.width, foot, 'overfull %.2fpt' % over, 5.6, 'alarm', 'end')
         label = 'column %d  %s   natural %.1f of %.1fpt   %s' % (
             column.number, column.kind, column.natural / PT, self.height, self._setting())
+        label += '   enlarged by %.1fpt' % self._enlarged() if self._enlarged() else ''
         if passes > 1:
             label += '   built %d times' % passes
         self.drawing.text(self.x, foot, label, 5.6, 'quiet')

@@ -11,9 +11,9 @@ from . import document, report
 
 USAGE = """Compares the pages that LaTeX made of a document (NAME.pages, by galleyexport) with the reports on its
 galleys. A line for each page that differs tells whether it agrees in its contents (the same boxes, rules, footnotes,
-floats and notes in the same order and column, floats in the same area), in the natural height and glue set of each
-column, in every place, and in the rules above footnotes and beside floats; then come the totals and the first
-difference. Pages that the exporter put in are left out.
+heads, floats and notes in the same order and column, floats in the same area), in the natural height and glue set of each
+column, in every place, in the rules above footnotes and beside floats, and in its printed number; then come the totals and
+the first difference. Pages are counted from 1, whatever number is printed on them.
 The exit status is 0 if all agrees, 1 if anything differs, 2 if a file can't be read."""
 
 # What takes no part in the comparison of contents and places: LaTeX may have it otherwise than a galley says.
@@ -29,16 +29,21 @@ PAGE_MADE, WAITS = 'galleyexport: page ', 'galleyexport: waits '
 @dataclass
 class Verdict:
     """How two pages that belong together agree. Either may be missing."""
-    latex: int           # numbers of the pages, 0 for a missing one
+    latex: int           # the places of the pages, 0 for a missing one
     report: int
     contents: bool = False
     setting: bool = False
     places: bool = False
     rule: bool = True    # the rules of the output routine
+    number: bool = True  # the number that is printed
     difference: str = ''
 
     def agrees(self):
-        return self.contents and self.setting and self.places and self.rule
+        return self.contents and self.setting and self.places and self.rule and self.number
+
+    def others(self):
+        """What else differs, for the end of a line."""
+        return ''.join('  other ' + what for what, same in (('rules', self.rule), ('number', self.number)) if not same)
 
 
 def key(item):
@@ -97,7 +102,7 @@ def place_difference(page, other):
 
 def compare_pages(page, other):
     """The verdict on a page of LaTeX and one of the report."""
-    verdict = Verdict(page.number, other.number)
+    verdict = Verdict(page.place, other.place, number=page.number == other.number)
     a, b = contents(page), contents(other)
     verdict.contents = a == b
     if not verdict.contents:
@@ -116,6 +121,8 @@ def compare_pages(page, other):
     verdict.places = not verdict.difference
     if not verdict.difference and not verdict.rule:
         verdict.difference = 'a rule above footnotes or beside floats has another size, or stands on one of the two alone'
+    elif not verdict.difference and not verdict.number:
+        verdict.difference = 'the page has the number %d in LaTeX, %d in the report' % (page.number, other.number)
     return verdict
 
 
@@ -151,13 +158,13 @@ class Comparison:
             if page and other:
                 self.verdicts.append(compare_pages(page, other))
             else:
-                self.verdicts.append(Verdict(page.number if page else 0, other.number if other else 0,
+                self.verdicts.append(Verdict(page.place if page else 0, other.place if other else 0,
                                              difference='the page stands in %s alone' % ('LaTeX' if page else 'the report')))
 
     def _note(self, side, page, where):
         below = 0                                    # the column whose footnotes have begun
         for number, item in page.items():
-            if item.kind in ('float', 'margin'):
+            if item.kind in ('head', 'float', 'margin'):
                 self.floats[side][item.name] = (where, number, item.place)
                 below = 0 if item.kind == 'float' else below
             elif item.kind == 'footrule':
@@ -190,8 +197,7 @@ def table(comparison, every):
     for verdict in shown:
         yield '%4s  %-8s  %-8s  %-6s  %s%s' % (
             verdict.latex or '-', mark[verdict.contents], mark[verdict.setting] if verdict.contents else '-',
-            mark[verdict.places] if verdict.setting else '-', verdict.report or '-',
-            '' if verdict.rule else '  other rules')
+            mark[verdict.places] if verdict.setting else '-', verdict.report or '-', verdict.others())
     others = len(comparison.verdicts) - len(shown)
     if others:
         which = '%d %spage%s' % (others, 'other ' if shown else '', ' is' if others == 1 else 's are')
@@ -230,7 +236,7 @@ def report_warnings(pages):
     for page in pages:
         for warning in page.warnings:
             kind, name = warning.split()[:2]
-            found[kind].append(('' if kind == 'floats' else name + ' ') + 'page %d' % page.number)
+            found[kind].append(('' if kind == 'floats' else name + ' ') + 'page %d' % page.place)
     return found
 
 

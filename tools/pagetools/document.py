@@ -2,20 +2,18 @@
 from . import report
 
 
-def shown_pages(all_pages):
-    """The pages without those that the exporter put in, whose warnings go to the page after."""
-    shown, warnings = [], []
-    for page in all_pages:
-        page.warnings = warnings + page.warnings
-        warnings = page.warnings if page.is_skipped() else []
-        if not page.is_skipped():
-            shown.append(page)
-    return shown
-
-
 def pages(paths):
-    """The pages of a document, by the reports of its parts, numbered through."""
-    found = [page for path in paths for page in shown_pages(report.read(path).pages)]
-    for number, page in enumerate(found, 1):
-        page.number = number
+    """The pages of a document, by the reports of its parts, counted through."""
+    return counted([page for path in paths for page in report.read(path).pages])
+
+
+def counted(found):
+    """The same pages, each with its place among them."""
+    for place, page in enumerate(found, 1):
+        page.place = place
     return found
+
+
+def title(page):
+    """What a page is called: its place, and the number that is printed on it, where that is another."""
+    return 'page %d' % page.place + (', with the number %d' % page.number if page.number != page.place else '')

@@ -6,7 +6,9 @@ from .tries import scaled
 
 # What may stand between two boxes: room, and what says whether a page may end there.
 BETWEEN = ('glue', 'kern', 'penalty', 'newpage', 'clearpage', 'onecolumn', 'twocolumn', 'pagebreak', 'nopagebreak',
-           'suppressfloats', 'page')
+           'suppressfloats', 'page', 'enlarge')
+NAMED = ('box', 'rule', 'head', 'float', 'margin')      # lines with a name that a page shows by a shape of its own
+TEXT_HEIGHT = 36044800          # sp, where a galley sets no other
 UNITS = {'fil': 'fil', 'fill': 'fill', 'filll': 'filll'}
 
 
@@ -31,6 +33,8 @@ class Galley:
     entries: dict = field(default_factory=dict)     # (word, name) -> its entries in order
     lines: list = field(default_factory=list)       # those of the text, in order
     numbers: list = field(default_factory=list)     # the numbers of these lines
+    text_height: int = TEXT_HEIGHT
+    rule_room: int = 0   # of the rule below double floats
 
     def add(self, line):
         self.lines.append(line)
@@ -43,6 +47,22 @@ class Galley:
     def word(self, number):
         """The word of a line, '' if it is none of the text."""
         return next((line.word for line in self.between(number - 1, number + 1)), '')
+
+    def set(self, name, values):
+        """A `set` line."""
+        if name == 'textheight':
+            self.text_height = sp(values[0])
+        elif name == 'dblrule':
+            self.rule_room = 0 if values[0] == 'none' else sum(map(sp, values))
+
+    def room(self, page):
+        """How high a text column of a page is, if `enlarge` makes it no other. Above two columns a double float has a depth
+        of 1sp, and no rule stands below a head."""
+        if page.kind != 'two':
+            return self.text_height
+        floats = sum(item.kind == 'float' for item in page.wide)
+        has_rule = floats and all(item.kind != 'head' for item in page.wide)
+        return self.text_height - page.at + floats + (self.rule_room if has_rule else 0)
 
     def take(self, kind, name):
         """The entry of the next item with this word and name, None if there is none left."""
@@ -71,6 +91,8 @@ def read(path):
             words = line.split()
             if not words or words[0].startswith('#'):
                 continue
+            if words[0] == 'set' and len(words) > 2:
+                galley.set(words[1], words[2:])
             if not foot:
                 galley.add(text_line(number, words))
             if words[0] in ('foot', 'endfoot'):
@@ -78,7 +100,7 @@ def read(path):
                 before[True] = []
             elif words[0] in BETWEEN:
                 before[foot].append(line.strip())
-            elif words[0] in ('box', 'rule', 'float', 'margin') and len(words) > 1:
+            elif words[0] in NAMED and len(words) > 1:
                 entry = Entry(number, before[foot], foot)
                 galley.entries.setdefault((words[0], words[1]), []).append(entry)
                 if words[0] in ('box', 'rule'):

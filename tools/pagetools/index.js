@@ -23,9 +23,11 @@ function show(number) {
 }
 
 function step(direction) {
-  const pair = main.className === 'spread' && !figures[current].classList.contains('pair')
-  // from the right page of a spread the next one is the left page after it
-  show(current + direction * (pair && figures[current].classList.contains('left') ? 2 : 1))
+  const next = figures[current + 1]
+  // from the left page of a spread the next one is past the right page beside it
+  const beside = main.className === 'spread' && figures[current].classList.contains('left') &&
+    !figures[current].classList.contains('pair') && next && next.classList.contains('right')
+  show(current + direction * (beside ? 2 : 1))
 }
 
 function view(name) {

@@ -70,7 +70,7 @@ class Facts:
     told: list = field(default_factory=list)         # lines as they are
     totals: list = field(default_factory=list)       # of the comparison with LaTeX's pages and places
     losses: list = field(default_factory=list)       # what the galley can't say
-    warnings: list = field(default_factory=list)     # the number of the page, the words of the report
+    warnings: list = field(default_factory=list)     # the place of the page, the words of the report
     floats: list = field(default_factory=list)       # a FloatRow for each
     unshipped: list = field(default_factory=list)    # the stories of floats that are on no page
 
@@ -107,7 +107,7 @@ def text_lines(pages, entries):
         for _, item in page.items():
             entry = entries.get(id(item))
             if entry and item.kind == 'box' and not entry.foot:
-                lines.setdefault(entry.part, []).append((entry.line, page.number))
+                lines.setdefault(entry.part, []).append((entry.line, page.place))
     return {part: sorted(rows) for part, rows in lines.items()}
 
 
@@ -121,7 +121,7 @@ def float_rows(pages, entries, told):
                 entry = entries.get(id(item))
                 text = lines.get(entry.part, []) if entry else []
                 called = text[max(bisect_right(text, (entry.line, 0)) - 1, 0)][1] if text else 0
-                rows.append(FloatRow(item, page.number, called, known.get(id(item))))
+                rows.append(FloatRow(item, page.place, called, known.get(id(item))))
     return rows
 
 
@@ -156,7 +156,7 @@ def unshipped_text(story):
 
 def story_cells(story):
     """How late a float is, and why."""
-    if story is None or story.skipped:
+    if story is None:
         return '<td><td>'
     return '<td>%d<td>%s' % (story.late(), escape(stories.reason(story)))
 
@@ -192,13 +192,13 @@ class Figure:
 
 def figure(sheet, drawings, beside):
     """The figure of a sheet with its drawings, the other page's first."""
-    number, verdict = sheet.number(), sheet.verdict
+    number, verdict = sheet.place(), sheet.verdict
     difference = verdict.difference if verdict else ''
     names = ['%s%d' % (beside.page if k < len(drawings) - 1 else 'page ', number) for k in range(len(drawings))]
     if not sheet.page:
         names = ['%s%d' % (beside.page, number)]
     ratio = sum(drawing.width / drawing.height for drawing in drawings)
-    kinds = ['left' if number % 2 == 0 else 'right'] + (['pair'] if len(drawings) > 1 else [])
+    kinds = ['left' if (sheet.page or sheet.other).number % 2 == 0 else 'right'] + (['pair'] if len(drawings) > 1 else [])
     link = '<a href="page%03d%s.svg">%s</a>' % (number, '' if sheet.page else '-' + beside.file, names[-1])
     told = ' <em>%s</em>' % escape(difference) if difference else beside.same if verdict else ''
     pictures = '\n'.join(drawing.inline(name) for drawing, name in zip(drawings, names))

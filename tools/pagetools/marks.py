@@ -31,14 +31,10 @@ def names(page):
 
 
 def of_pages(pages):
-    """The marks of each page, without the pages that the exporter put in: a mark there counts for the page after."""
-    found, bottom, before = [], None, []
+    """The marks of each page."""
+    found, bottom = [], None
     for page in pages:
-        own = before + names(page)
-        if page.is_skipped():
-            before = own
-            continue
-        top, before = bottom, []
+        own, top = names(page), bottom
         bottom = own[-1] if own else top
         found.append(PageMarks(top, own[0] if own else top, bottom))
     return found

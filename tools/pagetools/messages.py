@@ -16,12 +16,16 @@ GALLEY_LINES = {
     'margin': 'margin NAME LEFT-HEIGHT LEFT-DEPTH RIGHT-HEIGHT RIGHT-DEPTH par|vert [nobreak]', 'newpage': 'newpage',
     'clearpage': 'clearpage', 'pagebreak': 'pagebreak 0..4', 'nopagebreak': 'nopagebreak 0..4', 'onecolumn': 'onecolumn',
     'twocolumn': 'twocolumn', 'suppressfloats': 'suppressfloats [t|b]', 'page': 'page NUMBER',
+    'head': 'head NAME HEIGHT', 'enlarge': 'enlarge AMOUNT [star]',
     'end': 'end',
 }
 PARAGRAPH_LINES = {
     'lines': 'lines 1', 'set': 'set NAME VALUE', 'par': 'par NAME', 'endpar': 'endpar', 'word': 'word WIDTH HEIGHT DEPTH',
     'space': 'space WIDTH STRETCH SHRINK', 'pen': 'pen NUMBER', 'end': 'end',
 }
+
+# Words that came later: the versions of the galley that have them.
+VERSIONS = {'class': '`galley 2` and `galley 3`', 'page': '`galley 3`', 'head': '`galley 3`', 'enlarge': '`galley 3`'}
 
 # What each cause means and what to do. A galley and a text of paragraphs share most of them.
 CAUSES = {
@@ -35,6 +39,7 @@ CAUSES = {
     'NestedFoot': 'a foot is open already. End it by `endfoot` before another `foot`',
     'NotInFoot': 'this may not be in a foot. End the foot by `endfoot` above it',
     'StrayEndfoot': 'no foot is open. Remove this line, or write `foot` where the footnote begins',
+    'StrayHead': '`head` stands directly behind `twocolumn`. Move it there, or remove this line',
     'UnclosedFoot': 'a foot is open still. Write `endfoot` where the footnote ends',
     'NestedPar': 'a paragraph is open already. End it by `endpar` before another `par`',
     'NotInPar': '{inside}',
@@ -188,8 +193,8 @@ def _limit_advice(name, line):
 
 
 def _pool_advice(source):
-    """A marginal note takes two boxes of the pool, a float one."""
-    boxes = source.count(('float',)) + 2 * source.count(('margin',))
+    """A marginal note takes two boxes of the pool, a float or a head one."""
+    boxes = source.count(('float', 'head')) + 2 * source.count(('margin',))
     if boxes <= POOL_MOST:
         return '`set pool %d` is always enough here' % boxes
     return '`set pool 4096` is the most; a `clearpage` in between puts out those that wait'
@@ -203,8 +208,8 @@ def _sentence(cause, line, number, source):
     form = forms.get(words[0]) if words else None
     header = 'lines 1' if is_lines else 'galley 1'
     choice = 'Lines begin with ' + ', '.join(sorted(forms))
-    if words[:1] == ['class']:
-        choice = '`class` is a word of `galley 2` and `galley 3`'
+    if words and words[0] in VERSIONS:
+        choice = '`%s` is a word of %s' % (words[0], VERSIONS[words[0]])
     split = {'lines': 'Split it between paragraphs', 'dvilist': 'Make it of fewer pages'}
     return CAUSES.get(cause, 'this is refused').format(
         header=header,

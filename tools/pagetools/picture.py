@@ -7,7 +7,7 @@ from dataclasses import dataclass
 from . import calls, compare, document, index, marks, places, report, stories, tries, why
 from . import galley as galleys
 from .calls import page_file
-from .column import LANE, PT, Around, ColumnDrawing, cut, draw_float, draw_float_rule, mark_first, words
+from .column import LANE, PT, Around, ColumnDrawing, cut, draw_float, draw_float_rule, draw_head, mark_first, words
 from .svg import Drawing
 
 USAGE = """Draws the pages of a report. Frames are columns; boxes stand with their baseline and words; a spring is the
@@ -26,7 +26,14 @@ COLUMN_GAP = 22.0
 MARGIN_ROOM = 96.0
 EDGE = 38.0
 TOP = 40.0
+DRAW_WIDE = {'head': draw_head, 'float': draw_float, 'floatrule': draw_float_rule}     # above both columns
 FOOT = 64.0              # the room below the columns: what is written of them, and links
+
+
+def over_both(page):
+    """What stands above the two columns of a page, in a word."""
+    kinds = {item.kind for item in page.wide}
+    return 'head and floats' if {'head', 'float'} <= kinds else 'head' if 'head' in kinds else 'floats'
 
 
 class PageDrawing:
@@ -44,21 +51,22 @@ class PageDrawing:
         edge = MARGIN_ROOM if margins else EDGE
         self.left, self.right = edge + self.around.calls, edge + self.around.lane
 
-    def draw(self, galley=None, title='', marked=None):
-        """The drawing. `galley` is that of the page, `marked` the item with the first difference."""
+    def draw(self, galley=None, title='', marked=None, room=None):
+        """The drawing. `galley` is that of the page, `room` the one by which its columns have their height, `marked` the item
+        with the first difference."""
         page, left = self.page, self.left
         self.around.marked = marked
+        self.around.room = room.room(page) if room else 0
         drawing = Drawing(self.width + left + self.right, self.height + TOP + FOOT + 6)
         drawing.rect(6, 4, drawing.width - 12, drawing.height - 8, 'sheet', radius=3)
-        drawing.text(left, 23, title or 'page %d' % page.number, 10, 'title')
-        told = page.kind + (', floats over both columns %.1fpt' % self.at if page.at else '')
+        drawing.text(left, 23, title or document.title(page), 10, 'title')
+        told = page.kind + (', %s over both columns %.1fpt' % (over_both(page), self.at) if page.at else '')
         drawing.text(left + self.width, 23, told, 7, 'quiet', 'end')
         if page.warnings:
             told = '; '.join(index.warning_text(warning) for warning in page.warnings[:3])
             drawing.text(left, 32, 'warning: ' + told, 6.5, 'warning')
         for item in page.wide:
-            draw = draw_float_rule if item.kind == 'floatrule' else draw_float
-            draw(drawing, item, left, TOP + item.top / PT, self.width)
+            DRAW_WIDE[item.kind](drawing, item, left, TOP + item.top / PT, self.width)
             if item is marked:
                 mark_first(drawing, left - 3, TOP + item.top / PT - 2, self.width + 6, item.height / PT + 4)
         self._marks(drawing)
@@ -67,8 +75,8 @@ class PageDrawing:
                    for column, x in zip(page.columns, self.columns_x)}
         for column, (own, passes) in zip(columns.values(), weighed):
             column.draw(own, passes, galley)
-        if page.number in self.book.drawn and self.book.is_own(page):
-            calls.PageCalls(drawing, page.number, columns, (left, TOP, self.width), self.book.drawn).draw(self.book.stories)
+        if page.place in self.book.drawn and self.book.is_own(page):
+            calls.PageCalls(drawing, page.place, columns, (left, TOP, self.width), self.book.drawn).draw(self.book.stories)
         return drawing
 
     def _marks(self, drawing):
@@ -95,12 +103,12 @@ class Sheet:
     other: object = None             # LaTeX's page, or that before a change, where it differs
     verdict: object = None           # of compare; None if nothing was compared
 
-    def number(self):
-        return (self.page or self.other).number
+    def place(self):
+        return (self.page or self.other).place
 
 
 class Book:
-    """All pages of a document: those of its reports without the ones that the exporter put in."""
+    """All pages of a document: those of its reports."""
 
     def __init__(self, options):
         self.sheets, self.entries, self.stories, self.notes = [], {}, [], {}
@@ -113,13 +121,12 @@ class Book:
             if galley:
                 self.entries.update(entries_of(own.pages, galley, k))
             self._tell(own, k, options)
-            for page in document.shown_pages(own.pages):
+            for page in own.pages:
                 self.sheets.append(Sheet(page, galley))
-        for number, sheet in enumerate(self.sheets, 1):
-            sheet.page.number = number
+        document.counted([sheet.page for sheet in self.sheets])
         stories.find_calls(self.stories, self.pages(), self.entries)
         self.marks = {id(page): own for page, own in zip(self.pages(), marks.of_pages(read))}
-        self.drawn = {sheet.number() for sheet in chosen(self.sheets, options.pages)}
+        self.drawn = {sheet.place() for sheet in chosen(self.sheets, options.pages)}
         self.own = set(map(id, self.pages()))
         self.beside = index.BEFORE if options.before else index.LATEX
         self.comparison = self._compare(options) if options.latex or options.before else None
@@ -171,7 +178,7 @@ def entries_of(pages, galley, part):
     entries = {}
     for page in pages:
         for _, item in page.items():
-            entry = galley.take(item.kind, item.name) if item.kind in ('box', 'rule', 'float', 'margin') else None
+            entry = galley.take(item.kind, item.name) if item.kind in galleys.NAMED else None
             if entry:
                 entry.part = part
                 entries[id(item)] = entry
@@ -183,7 +190,7 @@ def chosen(sheets, asked):
     if not asked:
         return sheets
     first, _, last = asked.partition('-')
-    return [sheet for sheet in sheets if int(first) <= sheet.number() <= int(last or first)]
+    return [sheet for sheet in sheets if int(first) <= sheet.place() <= int(last or first)]
 
 
 # ---- Files
@@ -196,10 +203,10 @@ def drawings(sheet, book, measures):
     out = []
     if sheet.other:
         page = PageDrawing(sheet.other, book, *measures)
-        out.append(page.draw(title=book.beside.title % sheet.other.number, marked=theirs))
+        out.append(page.draw(title=book.beside.title % sheet.other.place, marked=theirs, room=sheet.galley))
     if sheet.page:
-        title = book.beside.own_title % sheet.page.number if sheet.other else ''
-        out.append(PageDrawing(sheet.page, book, *measures).draw(sheet.galley, title, ours))
+        title = book.beside.own_title % sheet.page.place if sheet.other else ''
+        out.append(PageDrawing(sheet.page, book, *measures).draw(sheet.galley, title, ours, sheet.galley))
     return out
 
 
@@ -218,21 +225,21 @@ def write_sheets(folder, book, sheets):
     """Writes the SVG files. Gives the figures of the index."""
     figures = []
     measures = (book.text_height(), book.has_margins())
-    numbers = [sheet.page.number for sheet in sheets if sheet.page]
+    numbers = [sheet.page.place for sheet in sheets if sheet.page]
     for sheet in sheets:
         shapes = drawings(sheet, book, measures)
         figures.append(index.figure(sheet, shapes, book.beside))
         if sheet.page:
-            add_links(shapes[-1], sheet.page.number, numbers)
-            shapes[-1].write(os.path.join(folder, page_file(sheet.page.number)))
+            add_links(shapes[-1], sheet.page.place, numbers)
+            shapes[-1].write(os.path.join(folder, page_file(sheet.page.place)))
         if sheet.other:
-            shapes[0].write(os.path.join(folder, page_file(sheet.other.number, book.beside.file)))
+            shapes[0].write(os.path.join(folder, page_file(sheet.other.place, book.beside.file)))
     return figures
 
 
 def facts(book, options):
     """What the index says of the whole document."""
-    out = index.Facts(warnings=[(page.number, warning) for page in book.pages() for warning in page.warnings],
+    out = index.Facts(warnings=[(page.place, warning) for page in book.pages() for warning in page.warnings],
                       floats=index.float_rows(book.pages(), book.entries, book.stories),
                       unshipped=[story for story in book.stories if not story.page])
     if book.comparison and options.latex:

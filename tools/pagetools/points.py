@@ -5,8 +5,8 @@ ORDERS = {'normal': 'pt', 'fil': 'fil', 'fill': 'fill', 'filll': 'filll'}
 
 # By the word of a line: which of its fields are sizes, counted from 0.
 SIZES = {
-    'box': (2, 3, 4), 'rule': (2, 3, 4), 'footrule': (1, 2, 3), 'floatrule': (1, 2, 3), 'mark': (2,), 'note': (2,), 'float': (4, 5),
-    'margin': (3, 4, 5, 6), 'page': (4,), 'warn': (3,),
+    'box': (2, 3, 4), 'rule': (2, 3, 4), 'footrule': (1, 2, 3), 'floatrule': (1, 2, 3), 'mark': (2,), 'note': (2,),
+    'head': (2, 3), 'float': (4, 5), 'margin': (3, 4, 5, 6), 'page': (4,), 'warn': (3,),
 }
 
 

@@ -15,7 +15,8 @@ class ReportFault(Exception):
 
 @dataclass
 class Item:
-    """A line below a column, or above the first: a box, rule, footrule, floatrule, mark, note, float or marginal note."""
+    """A line below a column, or above the first: a box, rule, footrule, floatrule, mark, note, head, float or marginal
+    note."""
     kind: str
     name: str = ''
     top: int = 0
@@ -68,25 +69,22 @@ class Try:
 
 @dataclass
 class Page:
-    number: int
+    number: int          # as the report has it: the one that is printed on the page
     kind: str            # one, two or wide
     at: int = 0          # of a pair: how far its columns stand below the page's top
-    wide: list = field(default_factory=list)        # floats over both columns, and the rule below them
+    wide: list = field(default_factory=list)        # the head and the floats over both columns, and the rule below them
     columns: list = field(default_factory=list)
     warnings: list = field(default_factory=list)    # lines without `warn`, that stand before the page
     tries: list = field(default_factory=list)       # those that stand before the page
+    place: int = 0       # counted from 1 through the report, or through the reports of a document
 
     def items(self):
-        """Each item with the number of its column, 0 for the floats over both."""
+        """Each item with the number of its column, 0 for those over both."""
         for item in self.wide:
             yield 0, item
         for column in self.columns:
             for item in column.items:
                 yield column.number, item
-
-    def is_skipped(self):
-        """Whether the exporter put the page in, for what a galley can't say."""
-        return any(item.name.startswith('skip.') for _, item in self.items())
 
 
 @dataclass
@@ -117,6 +115,8 @@ def _column(words):
 def _item(kind, words):
     if kind == 'float':
         return Item(kind, words[0], int(words[3]), int(words[4]), 0, words[2], int(words[1]))
+    if kind == 'head':
+        return Item(kind, words[0], int(words[1]), int(words[2]))
     if kind == 'margin':
         return Item(kind, words[0], int(words[3]), int(words[4]), int(words[5]), words[1], int(words[2]))
     if kind in RULES:
@@ -143,7 +143,7 @@ class _Reader:
         pages = self.report.pages
         if word == 'page':
             page = Page(int(words[0]), words[1], int(words[3]) if words[1] == 'two' else 0,
-                        warnings=self.warnings, tries=self.tries)
+                        warnings=self.warnings, tries=self.tries, place=len(pages) + 1)
             self.warnings, self.tries = [], []
             pages.append(page)
         elif word == 'column':
@@ -155,7 +155,7 @@ class _Reader:
             self.report.warnings.append(' '.join(words))
         elif word == 'end':
             self.report.end = ' '.join(['end'] + words)
-        elif word in ('box', 'rule', 'mark', 'note', 'float', 'margin', *RULES):
+        elif word in ('box', 'rule', 'mark', 'note', 'head', 'float', 'margin', *RULES):
             page = pages[-1]
             (page.columns[-1].items if page.columns else page.wide).append(_item(word, words))
         elif word == 'left':
@@ -236,7 +236,7 @@ def _item_data(item):
     out['top'] = item.top
     if item.kind not in ('mark', 'note'):
         out['height'] = item.height
-    if item.kind not in ('mark', 'note', 'float'):
+    if item.kind not in ('mark', 'note', 'head', 'float'):
         out['depth'] = item.depth
     return out
 

@@ -30,8 +30,7 @@ class Story:
     told: why.Float
     part: int            # which of the document's galleys it stands in
     source: Told         # what is told of that part
-    shown: object        # the number that the document gives to a page of that part
-    skipped: bool        # whether it was called on a page that the exporter put in
+    pages_before: int    # how many pages of the document come before that part
     item: object = None  # of the report, None if it was not shipped
     page: int = 0        # where it stands, 0 for nowhere
     column: int = 0      # 0 above both columns
@@ -39,9 +38,13 @@ class Story:
     call_column: int = 0
     call_y: int = 0      # sp below the top of that column
 
+    def shown(self, place):
+        """The place in the document of a page of that part."""
+        return self.pages_before + place
+
     def late(self):
-        """How many columns and wide pages were put out while it waited; 0 where the exporter made it wait."""
-        return 0 if self.skipped else self.told.late()
+        """How many columns and wide pages were put out while it waited."""
+        return self.told.late()
 
     def late_words(self):
         """How late it is, in columns or pages; '' if it is not late."""
@@ -60,29 +63,20 @@ class Story:
 def of_part(part, own, told, known):
     """The stories of the floats of a part, by its report, whose pages count from 1 still. So many pages and stories are
     `known` before it."""
-    pages = own.pages
-    skipped = [page.number for page in pages if page.is_skipped()]
-    items = [(page, column, item) for page in pages for column, item in page.items() if item.kind == 'float']
+    items = [(page, column, item) for page in own.pages for column, item in page.items() if item.kind == 'float']
     found = []
     for it in told.run.floats:
-        story = Story(known[1] + len(found) + 1, it, part, told, _counted(skipped, known[0]),
-                      it.spot.page in skipped)
+        story = Story(known[1] + len(found) + 1, it, part, told, known[0])
         at = next((k for k, (page, column, item) in enumerate(items)
-                   if (item.name, page.number, item.place) == (it.name, it.landed, it.where)
+                   if (item.name, page.place, item.place) == (it.name, it.place, it.where)
                    and it.column == (0 if page.kind == 'wide' else column)), None)
         if at is not None:
             page, story.column, story.item = items.pop(at)
-            story.page = story.shown(page.number)
+            story.page = story.shown(page.place)
         elif it.landed:
             raise report.ReportFault('%s tells of other pages than %s' % (told.path, own.path))
         found.append(story)
     return found
-
-
-def _counted(skipped, before):
-    """The function from the number of a page in its report to that in the document, where those that the exporter put in
-    are not counted."""
-    return lambda number: before + number - sum(1 for other in skipped if other < number)
 
 
 def find_calls(stories, pages, entries):
@@ -93,12 +87,12 @@ def find_calls(stories, pages, entries):
         for column, item in page.items():
             entry = entries.get(id(item))
             if entry and item.kind in ('box', 'rule') and not entry.foot:
-                lines.setdefault(entry.part, []).append((entry.line, page.number, column, item.bottom()))
+                lines.setdefault(entry.part, []).append((entry.line, page.place, column, item.bottom()))
     for part in lines.values():
         part.sort()
     for story in stories:
         text = lines.get(story.part)
-        if text and not story.skipped:
+        if text:
             at = bisect_left(text, (story.told.line,))
             _, story.call_page, story.call_column, story.call_y = text[max(at - 1, 0)]
             story.call_y *= at > 0
@@ -119,7 +113,7 @@ def title(it):
 def journey(story):
     """Where it was called and where it stands, in a sentence."""
     it = story.told
-    made = story.shown(it.spot.page)
+    made = story.shown(it.spot.place)
     told = 'called while page %d was made' % made + (', column %d' % it.spot.column if story.two() else '')
     if story.call_page and story.call_page != made:
         told += '; the words before it stand on page %d' % story.call_page
@@ -136,7 +130,7 @@ def place_of(story, decision):
     spot = decision.spot
     column = ', column %d' % spot.column if spot.column else ', over both columns'
     when = {'call': ', at its call', 'start': '', 'clear': ', at a clear'}[decision.kind]
-    return 'page %d' % story.shown(spot.page) + (column if story.two() else '') + when
+    return 'page %d' % story.shown(spot.place) + (column if story.two() else '') + when
 
 
 def verdict(test):
@@ -208,8 +202,6 @@ def group_lines(story, group):
 
 def lines_of(story):
     """All that is told of a float, by lines with their shapes: its title, where it went, and its decisions."""
-    if story.skipped:
-        return [(title(story.told), 'title'), ('galleyexport called it on a page of its own before, to stand here', 'words')]
     found = groups(story)
     left_out = len(found) - SHOWN if len(found) > SHOWN + 1 else 0
     lines = [(title(story.told), 'title'), (journey(story), 'words')]

@@ -9,6 +9,8 @@ STYLE = [
     ('alone', 'background:#e9ebee;display:block;margin:auto', 'background:#15171a'),
     ('sheet', 'fill:#fdfdfb;stroke:#c4cad1;stroke-width:.8', 'fill:#1f2328;stroke:#3a4149'),
     ('frame', 'fill:none;stroke:#5b6b7b;stroke-width:.7', 'stroke:#8794a2'),
+    ('room', 'stroke:#5b6b7b;stroke-width:.6;stroke-dasharray:4 2', 'stroke:#8794a2'),
+    ('head', 'fill:#eef1f4;stroke:#5b6b7b;stroke-width:.7', 'fill:#2a3037;stroke:#8794a2'),
     ('box', 'fill:#fff;stroke:#9fb3c8;stroke-width:.4', 'fill:#2a3037;stroke:#52667b'),
     ('rule', 'fill:#444', 'fill:#c8ced4'),
     ('empty', 'stroke:#c9d3dd;stroke-width:.6', 'stroke:#4a545e'),

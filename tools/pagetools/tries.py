@@ -75,16 +75,8 @@ def without_first_clear(places):
 
 
 def program_pages(path):
-    """The same of a trace, and the numbers of the pages that begin with a clear of LaTeX's. A page that the exporter put
-    in is left out with its places; in LaTeX the next page begins with a clear there."""
-    pages, begun, skipped = [], [0], False
-    for page in report.read(path).pages:
-        if not page.is_skipped():
-            if skipped:
-                begun.append(len(pages))
-            pages.append([place.sums() for place in page.tries])
-        skipped = page.is_skipped()
-    return pages, begun
+    """The same of a trace."""
+    return [[place.sums() for place in page.tries] for page in report.read(path).pages]
 
 
 class Comparison:
@@ -123,11 +115,9 @@ def of_files(log, traces):
     latex, program = tex_pages(log), []
     for trace in traces:
         first = len(program)
-        pages, begun = program_pages(trace)
-        program += pages
+        program += program_pages(trace)
         for side in (latex, program):
-            for k in begun:
-                side[first + k:first + k + 1] = [without_first_clear(places) for places in side[first + k:first + k + 1]]
+            side[first:first + 1] = [without_first_clear(places) for places in side[first:first + 1]]
     return Comparison(latex, program)
 
 

@@ -22,8 +22,9 @@ class WhyFault(Exception):
 @dataclass(frozen=True)
 class Spot:
     """A page and a column, 1 or 2; column 0 stands for the whole page where a float over both columns is looked for."""
-    page: int
+    page: int            # its number
     column: int
+    place: int = 0       # of the page, counted from 1: two pages may have one number
 
 
 @dataclass(eq=False)
@@ -111,8 +112,9 @@ class Float:
     high: int
     waits: bool          # whether it waits without a call, as in release 2014
     decisions: list = field(default_factory=list)
-    called: int = 0      # the page, by the summary
-    landed: int = 0      # 0 if it was not shipped
+    called: int = 0      # the number of the page, by the summary
+    landed: int = 0      # likewise, where it stands; 0 if it was not shipped
+    place: int = 0       # of that page, counted from 1
     where: str = ''      # here, top, bottom, wide or page; of one that was not shipped also deferred
     column: int = 0      # in which it landed; 0 over both columns, and for one that was not shipped
     reasons: list = field(default_factory=list)
@@ -155,7 +157,7 @@ class Run:
 
     def pages(self):
         """How many pages were shipped."""
-        return max((spot.page for spot in self.heights), default=0)
+        return max((spot.place for spot in self.heights), default=0)
 
     def in_two_columns(self):
         """Whether any page has two columns."""
@@ -194,7 +196,7 @@ class _Reader:
         self.run = Run()
         self.waiting = {}           # the floats that wait, by name, those of one name in order
         self.taken_back = []        # by the clear that comes next, in order
-        self.kind, self.spot, self.height = 'call', Spot(1, 1), 0
+        self.kind, self.spot, self.height = 'call', Spot(1, 1, 1), 0
         self.open = {}              # (id of a float) -> its decision in this pass
         self.is_made = False        # whether a column of floats was made in this pass
         self.asked = set()          # (area, id of a float) in this pass
@@ -202,7 +204,12 @@ class _Reader:
         self.current = None         # the float that is being decided on
         self.in_column = {}         # the floats that were placed in the text or at the bottom, by spot
         self.page, self.column, self.is_wide = 0, 0, False
-        self.shipped = {}           # (name, page, where) -> the columns in which such floats were shipped
+        self.place = 0              # how many pages were shipped
+        self.shipped = {}           # (name, page, where) -> the places and columns in which such floats were shipped
+
+    def spot_of(self, known):
+        """A column of the page that is being made."""
+        return Spot(known['page'], known.get('column', 0), self.place + 1)
 
     # ---- which float a line names
 
@@ -236,7 +243,7 @@ class _Reader:
         """A pass over the floats that wait begins: a column starts, or a clear looks for floats."""
         self.end_pass()
         known = values([it for it in words if it != 'wide'])
-        self.kind, self.spot, self.height = kind, Spot(known['page'], known.get('column', 0)), known['height']
+        self.kind, self.spot, self.height = kind, self.spot_of(known), known['height']
         self.open, self.asked, self.head, self.company = {}, set(), None, []
         if kind == 'clear' and self.taken_back:
             self.give_back()
@@ -275,7 +282,7 @@ class _Reader:
 
     def called(self, word, words):
         known = values(words[2:])
-        it = Float(words[0], int(words[1]), Spot(known['page'], known['column']), int(known['class']),
+        it = Float(words[0], int(words[1]), self.spot_of(known), int(known['class']),
                    known['places'], known['width'], known['high'], word == 'wait')
         self.run.floats.append(it)
         those = self.run.names.setdefault(it.name, [])
@@ -341,13 +348,13 @@ class _Reader:
         """Of the floats of this name that stand there, the first on the latest page goes back."""
         found = [it for it in self.run.named(name) if it.decisions and it.decisions[-1].goes == where
                  and it not in self.taken_back]
-        it = min(found, key=lambda one: (-one.decisions[-1].spot.page, -one.decisions[-1].spot.column))
+        it = min(found, key=lambda one: (-one.decisions[-1].spot.place, -one.decisions[-1].spot.column))
         it.decisions[-1].back = where
         self.taken_back.append(it)
 
     def beside(self, words):
         known = values(words[2:])
-        self.run.notes.append(Note(words[0], int(words[1]), Spot(known['page'], known['column']), known['text'],
+        self.run.notes.append(Note(words[0], int(words[1]), self.spot_of(known), known['text'],
                                    known['reach'], known['high'], known['shift'], known[''][0]))
 
     def summary(self, words):
@@ -365,19 +372,22 @@ class _Reader:
         """A line of the trace, of which columns and floats are kept."""
         if word == 'page':
             self.page, self.column, self.is_wide = int(words[0]), 0, words[1] == 'wide'
+            self.place += 1
         elif word == 'column':
             self.column = 0 if self.is_wide else int(words[0])
-            self.run.heights[Spot(self.page, self.column)] = int(words[3])
+            self.run.heights[Spot(self.page, self.column, self.place)] = int(words[3])
         elif word == 'float':
-            self.shipped.setdefault((words[0], self.page, words[2]), []).append(self.column)
+            self.shipped.setdefault((words[0], self.page, words[2]), []).append((self.place, self.column))
         elif word == 'end':
             self.run.done = True
 
     def finish(self):
         self.end_pass()
         for it in self.run.floats:
-            columns = self.shipped.get((it.name, it.landed, it.where))
-            it.column = columns.pop(0) if columns else 0
+            found = [at for at in self.shipped.get((it.name, it.landed, it.where), ()) if at[0] >= it.spot.place]
+            if found:
+                it.place, it.column = found[0]
+                self.shipped[it.name, it.landed, it.where].remove(found[0])
             for decision in it.decisions:
                 decision.height = decision.height or self.run.heights.get(decision.spot, 0)
         return self.run
@@ -386,8 +396,9 @@ class _Reader:
 @dataclass(frozen=True)
 class Landing:
     """Where one float landed, for comparing runs."""
-    landed: int          # the page, 0 if it was not shipped
+    landed: int          # the number of the page, 0 if it was not shipped
     where: str
+    place: int           # of that page, counted from 1
     column: int
     times: int           # how many columns and wide pages were put out while it waited
 
@@ -402,28 +413,37 @@ def landing_of(text, name, line):
         return None
     words = text[at + 1:].split('\n', 1)[0].split()
     if words[5] != 'landed':
-        return Landing(0, words[6], 0, 0)
+        return Landing(0, words[6], 0, 0, 0)
     page, where = int(words[6]), words[7]
-    return Landing(page, where, _column_of(text, name, page, where), sum(int(it) for it in words[13::5]))
+    return Landing(page, where, *_spot_of(text, name, page, where), sum(int(it) for it in words[13::5]))
 
 
-def _column_of(text, name, page, where):
-    """The column of a float on a page, 0 over both columns."""
+def _spot_of(text, name, page, where):
+    """The place of the page of this number on which a float stands, and its column, 0 over both columns."""
     start = text.find('\npage %d ' % page) + 1
-    end = text.find('\npage ', start)
-    lines, column = text[start:None if end < 0 else end].split('\n'), 0
+    while start:
+        end = text.find('\npage ', start)
+        column = _column_of(text[start:None if end < 0 else end].split('\n'), name, where)
+        if column is not None:
+            return text.count('\npage ', 0, start + len('page ')), column
+        start = text.find('\npage %d ' % page, start) + 1
+    return 0, 0
+
+
+def _column_of(lines, name, where):
+    """The column of a float among the lines of a page, None where it is not."""
+    column = 0
     for words in map(str.split, lines):
         if words[:1] == ['column'] and lines[0].split()[2] != 'wide':
             column = int(words[1])
         elif words[:2] == ['float', name] and words[3] == where:
             return column
-    return 0
+    return None
 
 
 def pages_of(text):
     """How many pages were shipped."""
-    at = text.rfind('\npage ')
-    return int(text[at:].split(None, 2)[1]) if at >= 0 else 0
+    return text.count('\npage ')
 
 
 def read(text):

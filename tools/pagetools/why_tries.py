@@ -89,7 +89,10 @@ def landing_in(told, it, first, moved):
     if it.is_alone_with_its_name:
         return why.landing_of(told, it.name, line)
     found = why.read(told).named(it.name, line)
-    return why.Landing(found[0].landed, found[0].where, found[0].column, found[0].late()) if found else None
+    if not found:
+        return None
+    it = found[0]
+    return why.Landing(it.landed, it.where, it.place, it.column, it.late())
 
 
 def further(told, target, first, moved, change, settings):
@@ -142,7 +145,7 @@ def tried(program, text, it, settings):
         more = [(it, one) for one in every if one.value != it.places and one not in tried_before]
         more = tried_of(program, text, it, more, settings)
         helps, others = helps + more[0], sorted(others + more[1], key=lambda pair: pair[1] == CLEAR)
-    helps.sort(key=lambda one: (one.found.landed, one.found.column))
+    helps.sort(key=lambda one: (one.found.place, one.found.column))
     first = {}
     for one in helps:
         first.setdefault((id(one.target), one.change.what if one.change.what != 'places' else one.change), one)
@@ -160,4 +163,4 @@ def tried_of(program, text, it, pairs, settings):
 
 def is_earlier(found, it):
     """Whether a float lands on an earlier page, or in an earlier column of its page; one over both columns stands first."""
-    return not it.landed or (found.landed, found.column) < (it.landed, it.column)
+    return not it.landed or (found.place, found.column) < (it.place, it.column)

@@ -18,6 +18,8 @@ PACKAGE = os.path.join(HERE, os.pardir, 'galleyexport')
 PROGRAM = os.environ.get('GALLEY_PAGES')
 sys.path.insert(0, os.path.join(HERE, os.pardir))
 
+from pagetools import compare, tries  # noqa: E402
+
 
 def stored(name):
     return os.path.join(STORED, name)
@@ -97,7 +99,7 @@ class Latex(Scratch):
     def export(self, text, name='test', options='', preamble='', document_class='article'):
         """Compiles a document with the exporter. Gives LaTeX's log."""
         with open(self.path(name + '.tex'), 'w', encoding='utf-8') as out:
-            out.write(r'\documentclass[%s]{%s}\usepackage{galleyexport}\makeatletter %s\makeatother'
+            out.write(r'\documentclass[%s]{%s}\usepackage[trace]{galleyexport}\makeatletter %s\makeatother'
                       r'\begin{document}%s\end{document}' % (options, document_class, preamble, text))
         subprocess.run(['lualatex', '-interaction=nonstopmode', name + '.tex'], cwd=self.folder, check=False,
                        stdin=subprocess.DEVNULL, stdout=subprocess.DEVNULL, stderr=subprocess.DEVNULL, timeout=300,
@@ -107,3 +109,28 @@ class Latex(Scratch):
     def read(self, name):
         with open(self.path(name), encoding='utf-8', errors='replace') as file:
             return file.read()
+
+    def lines(self, name='test.galley'):
+        """The lines of a galley but `set` lines and comments."""
+        return [line for line in self.read(name).splitlines() if not line.startswith(('set ', '#'))]
+
+    def assert_pages(self, *names):
+        """The program makes LaTeX's pages of the galleys (test.galley alone without names), in every place."""
+        if not PROGRAM:
+            return
+        reports = []
+        for name in names or ['test.galley']:
+            reports.append(self.path(name.replace('.galley', '.report')))
+            with open(self.path(name), 'rb') as galley, open(reports[-1], 'wb') as out:
+                subprocess.run([PROGRAM], stdin=galley, stdout=out, check=True)
+        status, said = run(compare.main, self.path('test.pages'), *reports)
+        self.assertEqual(status, 0, said)
+
+    def assert_places(self):
+        """The program weighs the same places as TeX, in test.galley."""
+        if not PROGRAM:
+            return
+        with open(self.path('test.galley'), 'rb') as galley, open(self.path('test.trace'), 'wb') as out:
+            subprocess.run([PROGRAM, '--mode', 'trace'], stdin=galley, stdout=out, check=True)
+        status, said = run(tries.main, self.path('test.log'), self.path('test.trace'), '--quiet')
+        self.assertEqual(status, 0, said)

@@ -15,7 +15,7 @@ class Exporter(Latex):
     def test_void_boxes_do_not_end_latex(self):
         log = self.export(r'\twocolumn[\vbox to 50cm{A head that is too high}] Words. ' + FLOAT % 't')
         self.assertTrue('node lib' not in log and 'Output written' in log)
-        self.assertIn('a box over both columns that is void', self.read('test.galleylog'))
+        self.assertIn('\nhead title.1 ', self.read('test.galley'))
         log = self.export(r'\twocolumn[\begin{center}A [head] \end{center}] Words. ' + FLOAT % 't')
         self.assertTrue('node lib' not in log)
 
@@ -32,14 +32,23 @@ class Exporter(Latex):
 
     def test_odd_and_even_pages_change_places(self):
         self.export(PAGE * 2 + r'\clearpage\setcounter{page}{2}' + PAGE * 2, options='twoside')
-        self.assertNotIn('skip.even', self.read('test.galley'))
-        self.assertIn('box skip.even.1 0 0\nnewpage\nnote start.1\n', self.read('test.2.galley'))
+        lines = self.lines()
+        self.assertEqual(lines[lines.index('page 2') - 1], 'clearpage')
+        self.assertEqual(re.findall(r'^page (\d+) one\n(?:.*\n)*?margin \S+ (\w+) ', self.read('test.pages'), re.M),
+                         [('1', 'right'), ('2', 'left'), ('2', 'left'), ('3', 'right')])
         self.assertNotIn('sides', self.read('test.galleylog'))
+        self.assert_pages()
+
+    def test_a_page_number_between_two_notes_of_a_page(self):
+        self.export(r'Words.\marginpar{note} Words.\par\setcounter{page}{8}Words.\marginpar{note}\par', options='twoside')
+        self.assertEqual(re.findall(r'^margin \S+ (\w+) ', self.read('test.pages'), re.M), ['right', 'left'])
+        self.assertNotIn('sides', self.read('test.galleylog'))
+        self.assert_pages()
 
     def test_a_box_over_both_columns_between_notes(self):
-        self.export(PAGE * 2 + r'\twocolumn[A head]Words. \onecolumn ' + PAGE * 2, options='twoside')
-        self.assertNotIn('skip.', self.read('test.galley'))
-        self.assertIn('\nbox skip.title.1.1 0 0\n', self.read('test.2.galley'))
+        self.export(PAGE * 2 + r'\twocolumn[A head\par]Words. \onecolumn ' + PAGE * 2, options='twoside')
+        self.assertEqual([line for line in self.lines() if line.split()[0] in ('head', 'page', 'onecolumn', 'twocolumn')][1:],
+                         ['head title.1 0', 'onecolumn'])
         self.assertNotIn('sides', self.read('test.galleylog'))
 
     def test_what_the_output_routine_changes(self):

@@ -5,8 +5,7 @@ import shutil
 import subprocess
 import unittest
 
-from pagetools import compare
-from support import PROGRAM, Latex, run
+from support import Latex
 
 FLOAT = r'\begin{%s}[%s]\vbox to 3cm{}\caption{A}\end{%s} '
 LINES = 'Words that fill some lines of the page, so that it has text. ' * 6 + '\n\n'
@@ -48,15 +47,6 @@ class NewParameters(Latex):
         self.assertEqual(values, {**KERNEL, **others})
         self.assertNotIn("can't say", self.read('test.galleylog'))
         self.assert_pages()
-
-    def assert_pages(self):
-        """The program makes LaTeX's pages of the galley, in every place."""
-        if not PROGRAM:
-            return
-        with open(self.path('test.galley'), 'rb') as galley, open(self.path('test.report'), 'wb') as out:
-            subprocess.run([PROGRAM], stdin=galley, stdout=out, check=True)
-        status, said = run(compare.main, self.path('test.pages'), self.path('test.report'))
-        self.assertEqual(status, 0, said)
 
     def test_a_document_that_asks_for_none(self):
         self.export(document())

@@ -33,11 +33,15 @@ mark m 20
 note n 20
 margin p left 3 4 5 6
 column 2 text height 40 natural 0 set none
+page 7 two at 9
+head t 0 9
+column 1 text height 45 natural 45 set none
+column 2 text height 40 natural 0 set none
 try 7 t 0 s 0 0 0 0 z 0 g 40 b * p -10000 c *
 warn moved p 3
 left mark q
 left note s
-end pages 2 boxes 3 floats 2 warnings 4
+end pages 3 boxes 3 floats 3 warnings 4
 """
 
 
@@ -106,6 +110,8 @@ class Data(unittest.TestCase):
         self.assertEqual(report.text(data), RARE)
         self.assertEqual(data['pages'][0]['columns'][0]['set'], {'sign': 'shrink', 'order': None, 'ratio': [10, 5]})
         self.assertEqual([it['kind'] for it in data['pages'][0]['before']['warnings']], ['large', 'ht', 'floats'])
+        self.assertEqual(data['pages'][2]['number'], 7)
+        self.assertEqual(data['pages'][2]['floats'], [{'kind': 'head', 'name': 't', 'top': 0, 'height': 9}])
 
     def test_a_run_that_was_refused(self):
         data = self.data('report 1\npage 1 one\ncolumn 1 text height 1 natural 1 set none\n')
@@ -152,10 +158,11 @@ class Points(unittest.TestCase):
         lines = points.in_points(RARE).splitlines()
         self.assertEqual(len(lines), len(RARE.splitlines()))
         for line in ('warn large a 0.0003pt', 'page 1 wide', 'page 2 two at 0.00018pt', 'float c 1 wide 0.0pt 0.00018pt',
+                     'head t 0.0pt 0.00014pt',
                      'column 1 floats height 0.00046pt natural 0.0003pt set shrink 0.00015pt/0.00008pt overfull 0.00008pt',
                      'column 1 text height 0.00061pt natural 0.0003pt set stretch fil 0.0003pt/1.0fil',
                      'footrule 0.00015pt 0.4pt 0.0pt', 'margin p left 0.00005pt 0.00006pt 0.00008pt 0.00009pt',
-                     'end pages 2 boxes 3 floats 2 warnings 4'):
+                     'end pages 3 boxes 3 floats 3 warnings 4'):
             self.assertIn(line, lines)
 
     def test_points_are_read_back(self):

@@ -56,13 +56,12 @@ column 2 text height 100 natural 0 set none
 end pages 4 boxes 5 floats 1 warnings 0
 """
 
-# The page 1 was put in by the exporter, and a mark stands on it.
-SKIPPED = """report 1
+# Two pages with one number.
+NUMBERED = """report 1
 page 1 one
 column 1 text height 100 natural 0 set none
-box skip.f.1 0 0 0
 mark s 0
-page 2 one
+page 1 one
 column 1 text height 100 natural 100 set none
 box a 0 100 0
 mark t 100
@@ -85,8 +84,8 @@ class Marks(Scratch):
     def test_marks_go_on_in_the_next_report(self):
         self.assertEqual(of(ONE_COLUMN, TWO_COLUMNS)[3:5], [['m3', 'a1', 'b2'], ['b2', 'b2', 'b2']])
 
-    def test_a_mark_on_a_page_that_was_put_in_counts_for_the_page_after(self):
-        self.assertEqual(of(SKIPPED), [[None, 's', 't']])
+    def test_pages_with_one_number(self):
+        self.assertEqual(of(NUMBERED), [[None, 's', 's'], ['s', 't', 't']])
 
     def test_a_document_without_marks(self):
         pages = marks.of_reports([report.read(document('paper.report'))])
@@ -105,7 +104,7 @@ class Marks(Scratch):
     def test_the_lines(self):
         self.assertEqual(self.told(ONE_COLUMN), 'page 1 top - first - bottom -\npage 2 top - first m1 bottom m3\n'
                                                 'page 3 top m3 first m3 bottom m3\nleft m4\n')
-        self.assertTrue(self.told(ONE_COLUMN, SKIPPED).endswith('page 4 top m3 first s bottom t\nleft m4\n'))
+        self.assertTrue(self.told(ONE_COLUMN, NUMBERED).endswith('page 5 top s first t bottom t\nleft m4\n'))
 
     def test_the_marks_in_the_document(self):
         _, said = run(marks.main, os.path.join(TOP, 'examples', 'chapter.report'))

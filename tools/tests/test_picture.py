@@ -38,7 +38,7 @@ class Pictures(Scratch):
     def test_floats_of_the_index(self):
         self.draw(document('paper.report'), '--galley', document('paper.galley'))
         rows = re.findall(r'<tr><td>(.*?)<td>\d+<td>.*?page (\d+)</a><td>.*?page (\d+)</a><td>(\w+)<td>', self.index())
-        self.assertEqual(len(rows), 9)
+        self.assertEqual(len(rows), 8)
         self.assertIn(('figure.1', '1', '1', 'top'), rows)
         self.assertIn(('table.2', '2', '3', 'wide'), rows)
 
@@ -106,15 +106,15 @@ class Pictures(Scratch):
 
     def test_items_of_a_page(self):
         self.draw(document('paper.report'), '--galley', document('paper.galley'))
-        pages = [page for page in report.read(document('paper.report')).pages if not page.is_skipped()]
-        for number, page in enumerate(pages, 1):
-            name = 'page%03d.svg' % number
+        for page in report.read(document('paper.report')).pages:
+            name = 'page%03d.svg' % page.place
             kinds = [item.kind for _, item in page.items()]
             boxes = [item for _, item in page.items() if item.kind == 'box' and item.height + item.depth > 3276]
             self.assertEqual(len(self.shapes(name, 'box')), len(boxes))
             self.assertEqual(len(self.shapes(name, 'margin')), kinds.count('margin'))
             self.assertEqual(len(self.shapes(name, 'frame')), len(page.columns))
             self.assertEqual(len(self.shapes(name, 'footrule')), kinds.count('footrule'))
+            self.assertEqual(len(self.shapes(name, 'head')), kinds.count('head'))
         self.assertIn('moved down by 19.10pt', ' '.join(self.shapes('page003.svg', 'margin')))
 
     def test_rules_beside_floats(self):

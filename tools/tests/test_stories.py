@@ -114,14 +114,25 @@ class Stories(Base):
         story = self.book(self.path('a')).stories[0]
         self.assertEqual((story.call_page, story.call_column, story.call_y), (1, 1, 0))
 
-    def test_what_the_exporter_put_in_is_not_late(self):
+    def test_a_head_has_no_story(self):
         book = self.book(document('paper'))
-        title = next(story for story in book.stories if story.told.name == 'title.1')
-        self.assertEqual((title.skipped, title.late(), title.call_page, title.page, title.told.late()), (True, 0, 0, 1, 2))
-        self.assertEqual(stories.lines_of(title)[1][0], 'galleyexport called it on a page of its own before, to stand here')
-        # the page that the exporter put in is not counted
+        self.assertIn('title.1', [item.name for page in book.pages() for _, item in page.items() if item.kind == 'head'])
+        self.assertNotIn('title.1', [story.told.name for story in book.stories])
         wide = next(story for story in book.stories if story.told.name == 'table.2')
-        self.assertEqual((wide.call_page, wide.page, wide.told.landed), (2, 3, 4))
+        self.assertEqual((wide.call_page, wide.page, wide.told.landed), (2, 3, 3))
+
+    def test_pages_with_numbers_of_their_own(self):
+        # the page of the call has the number 7, that of the landing 7 again
+        for name, text in (('a.galley', GALLEY.replace('galley 1', 'galley 3')),
+                           ('a.report', REPORT.replace('page 1 ', 'page 7 ').replace('page 2 ', 'page 7 ')),
+                           ('a.why', WHY.replace('page 1 ', 'page 7 ').replace('page 2 ', 'page 7 ').replace(
+                               'called 1 landed 1', 'called 7 landed 7').replace('called 1 landed 2', 'called 7 landed 7'))):
+            with open(self.path(name), 'w', encoding='latin-1') as out:
+                out.write(text)
+        low, late = self.book(self.path('a')).stories
+        self.assertEqual([(it.page, it.call_page, it.told.landed, it.told.place) for it in (low, late)], [(1, 1, 7, 1), (2, 1, 7, 2)])
+        self.assertEqual(stories.lines_of(late)[1][0],
+                         'called while page 1 was made; stands on page 2, on a page of floats, 1 page late')
 
     def test_what_is_told_of_a_float(self):
         low, late = (stories.lines_of(story) for story in self.book(self.path('a')).stories)
@@ -226,7 +237,7 @@ class Drawings(Base):
             text = file.read()
         rows = re.findall(r'<tr><td>([\w.]+)<td>.*?pt<td>(\d*)<td>([^<]*)', text)
         self.assertEqual([(name, late) for name, late, _ in rows], [
-            ('title.1', ''), ('figure.1', '1'), ('table.1', '0'), ('figure.2', '1'), ('table.2', '1'), ('figure.3', '0'),
+            ('figure.1', '1'), ('table.1', '0'), ('figure.2', '1'), ('table.2', '1'), ('figure.3', '0'),
             ('figure.4', '0'), ('figure.5', '1'), ('figure.6', '1')])
         self.assertEqual({name for name, _, why in rows if why},
                          {'figure.1', 'figure.2', 'table.2', 'figure.5', 'figure.6'})

@@ -24,7 +24,7 @@ class Reports(Scratch):
         self.assertEqual(areas['table.2'], 'wide')
         self.assertEqual(areas['figure.5'], 'page')
         self.assertEqual(paper.warnings, ['moved margin.5 1252000'])
-        self.assertTrue(paper.pages[0].is_skipped())
+        self.assertEqual([item.name for _, item in paper.pages[0].items() if item.kind == 'head'], ['title.1'])
 
     def test_places_are_read(self):
         pages = report.read(stored('notes.trace')).pages

@@ -52,7 +52,7 @@ class Reading(unittest.TestCase):
         run, _ = row('clear-takes-a-top-float-back')
         it, = run.floats
         self.assertEqual((it.name, it.line, it.spot, it.number, it.places, it.width, it.high),
-                         ('F', 18, Spot(1, 1), 1, 'tp', 'single', 45))
+                         ('F', 18, Spot(1, 1, 1), 1, 'tp', 'single', 45))
         self.assertEqual([(one.kind, one.spot.page, one.goes, one.back) for one in it.decisions],
                          [('call', 1, 'deferred', ''), ('start', 2, 'top', 'top'), ('clear', 2, 'page', '')])
         self.assertEqual((it.called, it.landed, it.where, it.column), (1, 2, 'page', 1))
@@ -68,7 +68,7 @@ class Reading(unittest.TestCase):
         self.assertEqual(enter.blocking, run.named('W')[0])
         that, reason, decision = why_words.end_of_chain(enter)
         self.assertEqual(why_words.root_of(enter), (reason, decision))
-        self.assertEqual((that.name, reason.area, reason.failed, decision.spot), ('W', 'enter', 'wide', Spot(1, 1)))
+        self.assertEqual((that.name, reason.area, reason.failed, decision.spot), ('W', 'enter', 'wide', Spot(1, 1, 1)))
 
     def test_who_shares_a_page_of_floats(self):
         run, _ = row('company-of-two-heads')
@@ -84,7 +84,7 @@ class Reading(unittest.TestCase):
         run, _ = row('clear-in-two-columns')
         self.assertTrue(run.in_two_columns())
         self.assertEqual([(it.name, it.landed, it.column) for it in run.floats], [('W', 2, 0), ('S', 3, 1)])
-        self.assertEqual(run.heights[Spot(2, 1)], 70)
+        self.assertEqual(run.heights[Spot(2, 1, 2)], 70)
         run, _ = row('clear-takes-a-wide-float-back')
         self.assertEqual((run.floats[0].landed, run.floats[0].column), (2, 0))
 
