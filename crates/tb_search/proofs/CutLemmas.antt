@@ -22,7 +22,7 @@ use Rattle.tb_search.specs.Continues.{IsSearchedBy, IsSearchedAsGoodBy, IsLater,
 use Rattle.tb_search.proofs.AheadLemmas.{next_ahead, flag-of-next, number-of-next}
 use Rattle.tb_search.proofs.LaterLemmas.{later-itself}
 use Rattle.tb_search.proofs.ReachedWays.{shown-cut}
-use Rattle.tb_search.proofs.SearchSteps.{refused-searched, fired-searched, cut-searched, cut-quiet, fired-refused}
+use Rattle.tb_search.proofs.SearchSteps.{over-searched, refused-searched, fired-searched, cut-searched, cut-quiet, fired-refused}
 
 -- what was taken from a copy was taken from the first
 pub taken-copy : (b c e : Branch) → shown c ≡ shown b → c.ahead ≡ b.ahead → c.routine.machine.params ≡ b.routine.machine.params → HasTaken (break_before c.ahead ++ next_of c.ahead) c e → HasTaken (break_before b.ahead ++ next_of b.ahead) b e
@@ -92,6 +92,13 @@ module _ (t : Table) (k : ℕ) (x : Start) (some : suc k ≤ length (all_ahead t
         (λ _ box.
         subst (λ z. IsSearchedBy u z (items_ahead t.galley.now k) (x.way.demerits +ℤ pos 1000) (c.number ∷ reverse x.way.breaks.items)) shown-is
         (fired-searched t u later page after (items_ahead t.galley.now k) a (x.way.demerits +ℤ pos 1000) (c.number ∷ reverse x.way.breaks.items) fired h))
+
+    -- the page fired, and costs too much
+    pub cut-paid-over : (after : Branch) (a : ℤ) → HasFired t.galley.now.params (place_penalties t.galley.now.items) a page after → t.bound <ℤ ((x.way.demerits +ℤ pos 1000) +ℤ a)
+        → IsCutSearched t s (items_ahead t.galley.now (suc k)) x.way.demerits (reverse x.way.breaks.items)
+    cut-paid-over after a fired h =
+        cut-fired t after a (later-itself t) fired
+        (over-searched t t (later-itself t) (shown after) (items_ahead t.galley.now k) ((x.way.demerits +ℤ pos 1000) +ℤ a) (c.number ∷ reverse x.way.breaks.items) h)
 
     -- no run goes on after the break
     pub cut-refused : IsRefusal (unlimited_step t.galley.now.params (shown page)) → IsCutSearched t s (items_ahead t.galley.now (suc k)) x.way.demerits (reverse x.way.breaks.items)

@@ -15,24 +15,11 @@ use Rattle.tb_search.specs.FilledBranches.{HasFired, IsRefused, IsRefusal, IsQui
 use Rattle.tb_search.specs.AheadInCode.{items_ahead}
 use Rattle.tb_search.specs.Starts.{row_of, IsReached, MayTake}
 use Rattle.tb_search.specs.KeptStarts.{IsNoWorseWay}
-use Rattle.tb_search.specs.Continues.{IsSearchedBy, IsSearchedAsGoodBy, Continues, HasSearched, IsCutSearched}
+use Rattle.tb_search.specs.Continues.{IsSearchedBy, IsSearchedAsGoodBy, IsSearchedFrom, IsTakenOn, Continues, HasSearched, IsCutSearched}
 use Rattle.tb_search.proofs.LaterLemmas.{later-itself, later-through, searched-itself, continues-searched, searched-through, one-searched}
 use Rattle.tb_search.proofs.ReachedWays.{reached-taken, reached-fired, shown-taken}
 use Rattle.tb_search.proofs.SumLemmas.{held, sum-fits, sum-is, within-range, page-few}
 use Rattle.tb_search.proofs.SearchSteps.{refused-searched, end-searched, no-end-searched, fired-searched, taken-searched}
-
--- this state of a table with so many items ahead is searched
-abbrev pub IsSearchedFrom : Galley → ℕ → Start → Table → Type 0
-IsSearchedFrom g left x u = IsSearchedBy u (shown x.branch) (items_ahead g left) x.way.demerits (reverse x.way.breaks.items)
-
--- items were taken from the first state to the second, and the table went on from the first to the second: if the second state is searched later, so is the first
-pub record IsTakenOn (t : Table) (left : ℕ) (x : Start) (u : Table) (behind : ℕ) (y : Start) : Type 0 where
-  pub searched : HasSearched [] t u
-  pub levels : length u.starts.items ≡ length t.starts.items
-  pub reached : IsReached u.galley.now behind y
-  pub below : behind ≤ left
-  pub high : y.way.demerits ≤ℤ u.bound
-  pub back : (v : Table) → HasSearched [] u v → IsSearchedFrom u.galley.now behind y v → IsSearchedFrom t.galley.now left x v
 
 pub none-taken : (t : Table) (left : ℕ) (x : Start) → IsReached t.galley.now left x → x.way.demerits ≤ℤ t.bound → IsTakenOn t left x t left x
 none-taken t left x h k = record { searched = searched-itself t; levels = refl; reached = h; below = omega arith; high = k; back = λ v on s. s }

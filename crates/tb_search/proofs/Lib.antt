@@ -3,6 +3,7 @@ pub mod ServedLemmas
 pub mod StartLemmas
 pub mod TakenLemmas
 pub mod BoxLemmas
+pub mod CalmLemmas
 pub mod OrderLemmas
 pub mod AheadLemmas
 pub mod PlaceFlags

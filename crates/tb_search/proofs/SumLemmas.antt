@@ -105,3 +105,11 @@ module _ (a b d : ℤ) (low : pos 0 ≤ℤ a) (high : (a +ℤ pos 1000) ≤ℤ b
 
   pub paid-high : held (held (held a +ℤ pos 1000) +ℤ held d) ≤ℤ (b +ℤ pos 1000000000000)
   paid-high = subst (λ x. x ≤ℤ (b +ℤ pos 1000000000000)) (sym paid-sum) sum-high
+
+  paid-held : held (held (held a +ℤ pos 1000) +ℤ held d) ≡ held (held (held (held a +ℤ pos 1000) +ℤ held d))
+  paid-held = sym (to_z-of_z w128 _ (demerits-fit _ (subst (λ x. pos 0 ≤ℤ x) (sym paid-sum) (omega (arith, ints, low, more))) (subst (λ x. x ≤ℤ pos 2000000000000000000000000000) (sym paid-sum) (omega (arith, ints, high, few, range)))))
+
+  pub paid-above : int_lt (held b) (held (held (held (held a +ℤ pos 1000) +ℤ held d))) ≡ true → b <ℤ ((a +ℤ pos 1000) +ℤ d)
+  paid-above e =
+      let t : int_lt b ((a +ℤ pos 1000) +ℤ d) ≡ true = (λ i. int_lt (sym (to_z-of_z w128 b (cost-bound a b low before-paid range)) i) ((sym paid-sum ∙ paid-held) i)) ∙ e in
+      grind (arith, ints, t)

@@ -1,12 +1,16 @@
 -- A table after a part of the search, against that before.
-use Rattle.std.specs.Prelude.{◌≡◌, true, ℕ, ℤ, pos, ◌+ℤ◌, List, [], ◌∷◌, ◌++◌, length, reverse}
+use Rattle.std.specs.Prelude.{◌≡◌, ◌≤◌, true, ℕ, ℤ, pos, ◌+ℤ◌, ◌≤ℤ◌, List, [], ◌∷◌, ◌++◌, length, reverse}
+use Rattle.tb_galley.specs.declared.Galley.{Galley}
 use Rattle.tb_builder.specs.Reach.{holds_box}
 use Rattle.tb_output.specs.State.{State}
 use Rattle.tb_best.specs.ItemsAhead.{Ahead, forced, state_with}
 use Rattle.tb_best.specs.ClosedTables.{Row, rows_know, IsNoBetter}
+use Rattle.tb_search.specs.declared.table.Start.{Start}
 use Rattle.tb_search.specs.declared.table.Table.{Table}
+use Rattle.tb_search.specs.Branches.{shown}
+use Rattle.tb_search.specs.AheadInCode.{items_ahead}
 use Rattle.tb_search.specs.Searched.{IsSearched, IsSearchedAsGood, KnowsMore}
-use Rattle.tb_search.specs.Starts.{rows_of}
+use Rattle.tb_search.specs.Starts.{rows_of, IsReached}
 
 -- the best way of a table is no worse than that of another
 abbrev pub IsNoWorse : Table → Table → Type 0
@@ -36,6 +40,19 @@ pub record Continues (t u : Table) : Type 0 where
 pub record HasSearched (rows : List Row) (t u : Table) : Type 0 where
   pub later : IsLater t u
   pub all : (s : State) (cs : List Ahead) (d : ℤ) (breaks : List ℕ) → rows_know (rows ++ rows_of t) s cs d breaks → IsSearchedBy u s cs d breaks
+
+-- this state of a table with so many items ahead is searched
+abbrev pub IsSearchedFrom : Galley → ℕ → Start → Table → Type 0
+IsSearchedFrom g left x u = IsSearchedBy u (shown x.branch) (items_ahead g left) x.way.demerits (reverse x.way.breaks.items)
+
+-- items were taken from the first state to the second, and the table went on from the first to the second: if the second state is searched later, so is the first
+pub record IsTakenOn (t : Table) (left : ℕ) (x : Start) (u : Table) (behind : ℕ) (y : Start) : Type 0 where
+  pub searched : HasSearched [] t u
+  pub levels : length u.starts.items ≡ length t.starts.items
+  pub reached : IsReached u.galley.now behind y
+  pub below : behind ≤ left
+  pub high : y.way.demerits ≤ℤ u.bound
+  pub back : (v : Table) → HasSearched [] u v → IsSearchedFrom u.galley.now behind y v → IsSearchedFrom t.galley.now left x v
 
 -- the ways on which a break is put in before the first of these items are searched
 abbrev pub IsCutSearched : Table → State → List Ahead → ℤ → List ℕ → Type 0

@@ -3,6 +3,7 @@ pub mod FilledBranches
 pub mod SameStates
 pub mod Ways
 pub mod AheadInCode
+pub mod Calm
 pub mod Searched
 pub mod Starts
 pub mod Continues

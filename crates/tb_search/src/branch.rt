@@ -1,7 +1,7 @@
 //! A state of the search, with its moves.
 
 ghost use Rattle.std.specs.List.{AllByRecursion};
-ghost use Rattle.std.specs.Prelude.{◌≡◌, ◌<◌, ◌++◌, pos, ◌≤ℤ◌, true, false, IfOk, IfSome, OnOk};
+ghost use Rattle.std.specs.Prelude.{◌≡◌, ◌<◌, ◌++◌, pos, ◌≤ℤ◌, true, false, None, IfOk, IfSome, OnOk};
 ghost use Rattle.tb_builder.specs.Reach.{holds_box};
 ghost use Rattle.tb_galley.specs.GalleyNodes.{expanded};
 ghost use Rattle.tb_items.specs.Classes.{classes_of};
@@ -17,6 +17,8 @@ ghost use Rattle.tb_rate.specs.Rating.{rating, IsTried};
 ghost use Rattle.tb_rate.specs.RatedRun.{demerits_if, floats_waiting, insertions_first};
 ghost use Rattle.tb_rate.specs.Tries.{last_champion};
 ghost use Rattle.tb_best.specs.ItemsAhead.{all_ahead, empty_start};
+ghost use Rattle.tb_best.specs.PlanDemerits.{reach_in};
+ghost use Rattle.tb_run.specs.declared.routine.Ending.TheVariants.{Done};
 ghost use Rattle.tb_search.specs.AheadInCode.{HasAhead};
 ghost use Rattle.tb_search.specs.FilledBranches.{stopped, unfired, unserved, FillsTo};
 ghost use Rattle.tb_search.specs.Branches.{shown, nodes_ahead, next_of, break_before, IsBranch, HasTaken};
@@ -143,6 +145,21 @@ impl<'a> Branch<'a> {
         })
     }
 
+    /// Fills the page of what waits, and returns the line of its stop if it fires, or none if no page fires. If the run ends in
+    /// another way, the line is 0. The state is not to be used then. It fails only if memory runs out.
+    pub(crate) fn stop_line(&mut self, alloc: Global) -> Result<Option<u32>, AllocError>
+        requires { IsBranch self.old }
+
+        ensures { IfOk result (λ o. o ≡ None → (reach_in self.old.routine.machine.params (shown self.old)).fires ≡ false) }
+    {
+        let mut happened = Vec::new(alloc);
+        let filled = self.routine.fill(true, &mut happened)?;
+        match filled {
+            PageFilled::Fires(_) => Ok(Some(last_line(&happened))),
+            PageFilled::Ends(ending) => Ok(line_of_end(ending)),
+        }
+    }
+
     /// Fills the page of what waits and serves it if it fires. `params` are the galley's, `places` the penalties at its places.
     ///
     /// If it does not fire, the search goes on from a copy that was made before. It fails only if memory runs out.
@@ -171,6 +188,27 @@ impl<'a> Branch<'a> {
         // What was shipped is closed, so that no copy holds it.
         self.routine.done_with(&happened);
         Ok(Filled::Fired { demerits })
+    }
+}
+
+// The line of the last place that was tried; 0 if none was.
+fn last_line(happened: &[Happening]) -> u32 {
+    let mut line = 0;
+    for happening in happened {
+        if let Happening::Tried(tried) = happening {
+            line = tried.line;
+        }
+    }
+    line
+}
+
+// No line if a run ends well, else 0.
+fn line_of_end(ending: Ending) -> Option<u32>
+    ensures { result ≡ None → ending ≡ Done }
+{
+    match ending {
+        Ending::Done => None,
+        _ => Some(0),
     }
 }
 

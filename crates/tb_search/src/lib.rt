@@ -3,6 +3,7 @@
 #![tactic(auto)]
 
 mod branch;
+mod calm;
 mod moves;
 mod same;
 mod search;

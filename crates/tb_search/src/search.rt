@@ -13,7 +13,7 @@ ghost use Rattle.tb_search.specs.Branches.{shown, IsBranch};
 ghost use Rattle.tb_search.specs.FilledBranches.{FillsTo, IsQuiet};
 ghost use Rattle.tb_search.specs.AheadInCode.{items_ahead};
 ghost use Rattle.tb_search.specs.Starts.{row_of, rows_of, IsReached, IsStart, IsTable};
-ghost use Rattle.tb_search.specs.Continues.{IsLater, Continues, HasSearched, IsSearchedAsGoodBy, IsCutSearched};
+ghost use Rattle.tb_search.specs.Continues.{IsLater, IsTakenOn, Continues, HasSearched, IsSearchedAsGoodBy, IsCutSearched};
 
 use crate::table::{Start, Table, Way, breaks_with};
 use crate::{Branch, Filled};
@@ -178,8 +178,54 @@ impl<'a> Table<'a> {
         Ok(())
     }
 
-    // All pages that may come next after a state: items are taken while no page fires, and at each place a break is put in.
+    // All pages that may come next after a state.
     fn expand(&mut self, alloc: Global, left: usize, start: Start<'a>) -> Result<(), BestFault>
+        requires table { IsTable self.old }
+        requires level { left ≤ length self.old.starts.items }
+        requires inside { left ≤ length (all_ahead self.old.galley.now) }
+        requires start { IsStart self.old.galley.now self.old.bound left start }
+
+        ensures table { OnOk result (IsTable self.new) }
+        ensures levels { OnOk result (length self.new.starts.items ≡ length self.old.starts.items) }
+        ensures searched { OnOk result (HasSearched (row_of self.old.galley.now left start.entry ∷ []) self.old self.new) }
+    {
+        let (behind, last) = self.pass(alloc, left, start)?;
+        self.step_on(alloc, behind, last)
+    }
+
+    // Items are taken before a page can fire, and at each place a break is put in. Returns how many items are ahead then, and
+    // the state.
+    fn pass(
+        &mut self,
+        alloc: Global,
+        left: usize,
+        start: Start<'a>,
+    ) -> Result<(usize, Start<'a>), BestFault>
+        requires table { IsTable self.old }
+        requires level { left ≤ length self.old.starts.items }
+        requires inside { left ≤ length (all_ahead self.old.galley.now) }
+        requires start { IsStart self.old.galley.now self.old.bound left start }
+
+        ensures table { OnOk result (IsTable self.new) }
+        ensures taken { IfOk result (λ x. IsTakenOn self.old left start.entry self.new x.0 x.1) }
+        ensures start { IfOk result (λ x. IsStart self.new.galley.now self.new.bound x.0 x.1) }
+    {
+        let mut calm = self.calm_items(alloc, left, &start)?;
+        let Start { mut branch, way } = start;
+        let mut left = left;
+        'items: while calm > 0 {
+            self.cut(alloc, left, &branch, &way)?;
+            if !branch.take()? {
+                return Err(BestFault::Choices);
+            }
+            left -= 1;
+            calm -= 1;
+        }
+        Ok((left, Start { branch, way }))
+    }
+
+    // The same one item after the other: items are taken while no page fires, and at each place a break is put in.
+    fn step_on(&mut self, alloc: Global, left: usize, start: Start<'a>) -> Result<(), BestFault>
         requires table { IsTable self.old }
         requires level { left ≤ length self.old.starts.items }
         requires inside { left ≤ length (all_ahead self.old.galley.now) }
@@ -286,6 +332,10 @@ impl<'a> Table<'a> {
                     breaks,
                     demerits: way.demerits + 1000 + demerits,
                 };
+                // Most breaks cost too much: the state is not moved for them.
+                if way.demerits > self.bound {
+                    return Ok(());
+                }
                 self.settle(alloc, left - 1, page, way)
             }
             Filled::Quiet | Filled::Full | Filled::Refused => Ok(()),

@@ -11,8 +11,8 @@ use Rattle.tb_search.proofs.AheadLemmas.{next_ahead}
 use Rattle.tb_search.proofs.LaterLemmas.{continues-itself}
 use Rattle.tb_search.proofs.ReachedWays.{reached-cut, reached-fired}
 use Rattle.tb_search.proofs.SearchSteps.{if-both}
-use Rattle.tb_search.proofs.SumLemmas.{paid-fits, paid-sum, paid-high}
-use Rattle.tb_search.proofs.CutLemmas.{IsCutBefore, cut-before, read-back, of-next, cut-fired, cut-unfired}
+use Rattle.tb_search.proofs.SumLemmas.{paid-above, paid-fits, paid-sum, paid-high}
+use Rattle.tb_search.proofs.CutLemmas.{IsCutBefore, cut-before, read-back, of-next, cut-fired, cut-paid-over, cut-unfired}
 use Rattle.tb_search.proofs.table.Table.put_break.Goals as goal
 use Rattle.tb_search.proofs.table.Table.put_break.Goals.{After-fill, In-Fired}
 
@@ -58,15 +58,15 @@ pub settle-requires-clause-high : goal.settle-requires-clause-high
 settle-requires-clause-high c =
     paid-high c.args.way.now.demerits c.args.self.now.bound c.in-Fired.demerits c.requires.reached.low c.requires.high c.requires.table.range (fired (goal.at.settle-requires-clause-high c).In-Fired).low (fired (goal.at.settle-requires-clause-high c).In-Fired).high
 
-pub returns-in-Fired-clause-searched : goal.returns-in-Fired-clause-searched
-returns-in-Fired-clause-searched c =
+pub returns-else-way-self-clause-searched : goal.returns-else-way-self-clause-searched
+returns-else-way-self-clause-searched c =
     let t = c.args.self.now in
     let u = c.settle.new.self in
     let k = c.args.left - 1 in
     let x : Start = record { branch = c.args.branch.now; way = c.args.way.now } in
     let a = c.args.way.now.demerits in
-    let m = made (goal.at.returns-in-Fired-clause-searched c).After-fill in
-    let f = fired (goal.at.returns-in-Fired-clause-searched c).In-Fired in
+    let m = made (goal.at.returns-else-way-self-clause-searched c).After-fill in
+    let f = fired (goal.at.returns-else-way-self-clause-searched c).In-Fired in
     let sum = paid-sum a t.bound c.in-Fired.demerits c.requires.reached.low c.requires.high c.requires.table.range f.low f.high in
     let back : reverse c.in_ok-breaks.breaks.items ≡ (next_ahead t.galley.now k).number ∷ reverse c.args.way.now.breaks.items =
     read-back c.in_ok-breaks.breaks.items c.args.way.now.breaks.items (next_ahead t.galley.now k).number c.args.number
@@ -78,6 +78,22 @@ returns-in-Fired-clause-searched c =
     (cut-fired t k x m.some m.reached m.place c.cut.new.self m.taken u c.fill.new.self c.in-Fired.demerits on.later f
     (subst (λ bs. IsSearchedAsGoodBy u (shown c.fill.new.self) (items_ahead t.galley.now k) ((a +ℤ pos 1000) +ℤ c.in-Fired.demerits) bs) back
     (subst (λ e. IsSearchedAsGoodBy u (shown c.fill.new.self) (items_ahead t.galley.now k) e (reverse c.in_ok-breaks.breaks.items)) sum searched))))
+
+-- ---- it costs too much
+
+pub returns-then-way-self-clause-continues : goal.returns-then-way-self-clause-continues
+returns-then-way-self-clause-continues c = continues-itself c.args.self.now
+
+pub returns-then-way-self-clause-searched : goal.returns-then-way-self-clause-searched
+returns-then-way-self-clause-searched c =
+    let t = c.args.self.now in
+    let k = c.args.left - 1 in
+    let x : Start = record { branch = c.args.branch.now; way = c.args.way.now } in
+    let m = made (goal.at.returns-then-way-self-clause-searched c).After-fill in
+    let f = fired (goal.at.returns-then-way-self-clause-searched c).In-Fired in
+    of-next t c.args.left x t c.requires.some
+    (cut-paid-over t k x m.some m.reached m.place c.cut.new.self m.taken c.fill.new.self c.in-Fired.demerits f
+    (paid-above c.args.way.now.demerits t.bound c.in-Fired.demerits c.requires.reached.low c.requires.high c.requires.table.range f.low f.high c.if-way-self.true))
 
 -- ---- no page fired
 

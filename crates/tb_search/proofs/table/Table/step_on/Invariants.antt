@@ -3,8 +3,8 @@ use Rattle.tb_best.specs.PlanDemerits.{unlimited_step}
 use Rattle.tb_search.specs.Branches.{shown}
 use Rattle.tb_search.specs.FilledBranches.{IsRefusal}
 use Rattle.tb_search.specs.Starts.{IsTable, MayTake}
-use Rattle.tb_search.proofs.ExpandLemmas.{IsTakenOn}
-use Rattle.tb_search.proofs.table.Table.expand.Given as goal
+use Rattle.tb_search.specs.Continues.{IsTakenOn}
+use Rattle.tb_search.proofs.table.Table.step_on.Given as goal
 
 -- items were taken, and no page fires or no run goes on from here; if nothing is ahead, the run does not end well
 abbrev pub invariant-items : goal.invariant-items

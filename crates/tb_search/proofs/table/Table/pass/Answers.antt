@@ -1,0 +1,87 @@
+use Rattle.std.proofs.Common.{◌≡◌, sym, subst, inl, suc, ◌-◌, ◌<◌, ◌≤◌, length, arith}
+use Rattle.std.specs.Borrow.{Bor}
+use Rattle.tb_galley.specs.declared.Galley.{Galley}
+use Rattle.tb_best.specs.ItemsAhead.{all_ahead}
+use Rattle.tb_search.specs.declared.table.Start.{Start}
+use Rattle.tb_search.specs.Branches.{shown}
+use Rattle.tb_search.specs.AheadInCode.{items_ahead}
+use Rattle.tb_search.specs.Calm.{IsCalm}
+use Rattle.tb_search.proofs.CalmLemmas.{calm-now, one-calm}
+use Rattle.tb_search.proofs.ExpandLemmas.{none-taken, next-taken-on, inside-now, level-now}
+use Rattle.tb_search.proofs.ReachedWays.{start-of, start-reached}
+use Rattle.tb_search.proofs.table.Table.pass.Goals as goal
+
+-- ---- the loop
+
+pub calm_items-requires-clause-some : goal.calm_items-requires-clause-some
+calm_items-requires-clause-some c = c.requires.start.some
+
+pub calm_items-requires-clause-reached : goal.calm_items-requires-clause-reached
+calm_items-requires-clause-reached c = start-reached c.args.self.now.galley.now c.args.self.now.bound c.args.left c.args.start c.requires.start
+
+pub items-init : goal.items-init
+items-init c = record {
+  table = c.requires.table;
+  on = none-taken c.args.self.now c.args.left c.args.start (start-reached c.args.self.now.galley.now c.args.self.now.bound c.args.left c.args.start c.requires.start) c.requires.start.high;
+  may = c.requires.start.quiet;
+  fewer = c.in_ok-calm.ensures.fewer;
+  calm = c.in_ok-calm.ensures.calm;
+}
+
+pub cut-requires-clause-some : goal.cut-requires-clause-some
+cut-requires-clause-some c = let test = c.items-test.true in let fewer = c.items.invariant.fewer in omega (arith, test, fewer)
+
+pub cut-requires-clause-level : goal.cut-requires-clause-level
+cut-requires-clause-level c = level-now c.args.self.now c.args.left c.args.start c.items.self c.items.left (record { branch = c.items.branch; way = c.args.start.way }) c.items.invariant.on c.requires.level
+
+pub cut-requires-clause-inside : goal.cut-requires-clause-inside
+cut-requires-clause-inside c = inside-now c.args.self.now c.args.left c.args.start c.items.self c.items.left (record { branch = c.items.branch; way = c.args.start.way }) c.items.invariant.on c.requires.inside
+
+pub cut-requires-clause-reached : goal.cut-requires-clause-reached
+cut-requires-clause-reached c = c.items.invariant.on.reached
+
+pub cut-requires-clause-high : goal.cut-requires-clause-high
+cut-requires-clause-high c = c.items.invariant.on.high
+
+pub take-requires : goal.take-requires
+take-requires c = c.items.invariant.on.reached.branch
+
+-- ---- an item was taken
+
+pub items-preserved : goal.items-preserved
+items-preserved c =
+    let i = c.items.invariant in
+    let t = c.items.self in
+    let u = c.cut.new.self in
+    let x : Start = record { branch = c.items.branch; way = c.args.start.way } in
+    let test = c.items-test.true in
+    let fewer = i.fewer in
+    let some : 0 < c.items.left = omega (arith, test, fewer) in
+    let one : c.items.calm ≡ suc (c.items.calm - 1) = omega (arith, test) in
+    let taken = c.in_ok-take.ensures.taken in
+    let inside = inside-now c.args.self.now c.args.left c.args.start t c.items.left x i.on c.requires.inside in
+    let calm : IsCalm u.galley.now.params (shown c.take.new.self) (items_ahead u.galley.now (c.items.left - 1)) (c.items.calm - 1) =
+    subst (λ (g : Bor Galley). IsCalm g.now.params (shown c.take.new.self) (items_ahead g.now (c.items.left - 1)) (c.items.calm - 1)) (sym c.in_ok-cut.ensures.continues.later.galley)
+    (one-calm t.galley.now x c.items.left c.take.new.self inside some i.on.reached taken t.galley.now.params c.items.calm (c.items.calm - 1) one (i.calm test))
+    in
+    record {
+      table = c.in_ok-cut.ensures.table;
+      on =
+          next-taken-on c.args.self.now c.args.left c.args.start t u c.items.left x c.take.new.self c.requires.inside some i.on i.may c.in_ok-cut.ensures.continues c.in_ok-cut.ensures.searched taken
+          (c.in_ok-take.ensures.branch c.if-not-branch.false);
+      may = inl (calm-now u.galley.now.params (shown c.take.new.self) (items_ahead u.galley.now (c.items.left - 1)) (c.items.calm - 1) calm);
+      fewer = omega (arith, test, fewer);
+      calm = λ _. calm;
+    }
+
+-- ---- the state up to which they were taken
+
+pub returns-clause-taken : goal.returns-clause-taken
+returns-clause-taken c = c.items.invariant.on
+
+pub returns-clause-start : goal.returns-clause-start
+returns-clause-start c =
+    let on = c.items.invariant.on in
+    let fewer = c.items.invariant.fewer in
+    let some : 0 < c.items.left = omega (arith, fewer) in
+    start-of c.items.self.galley.now c.items.self.bound c.items.left (record { branch = c.items.branch; way = c.args.start.way }) on.reached some c.items.invariant.may on.high

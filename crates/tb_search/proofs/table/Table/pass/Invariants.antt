@@ -1,0 +1,20 @@
+use Rattle.std.proofs.Common.{◌<◌}
+use Rattle.tb_search.specs.Branches.{shown}
+use Rattle.tb_search.specs.AheadInCode.{items_ahead}
+use Rattle.tb_search.specs.Calm.{IsCalm}
+use Rattle.tb_search.specs.Continues.{IsTakenOn}
+use Rattle.tb_search.specs.Starts.{IsTable, MayTake}
+use Rattle.tb_search.proofs.table.Table.pass.Given as goal
+
+-- items were taken, and so many more may be taken before a page can fire
+abbrev pub invariant-items : goal.invariant-items
+invariant-items l = record {
+  table : IsTable l.self;
+  on : IsTakenOn l.fn.self l.fn.left l.fn.start l.self l.left (record { branch = l.branch; way = l.way });
+  may : MayTake l.self.galley.now (shown l.branch);
+  fewer : l.calm < l.left;
+  calm : 0 < l.calm → IsCalm l.self.galley.now.params (shown l.branch) (items_ahead l.self.galley.now l.left) l.calm;
+}
+
+abbrev pub decreases-items : goal.decreases-items
+decreases-items l = l.calm

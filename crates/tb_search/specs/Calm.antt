@@ -1,0 +1,17 @@
+-- Items that may be taken before a page can fire.
+use Rattle.std.specs.Prelude.{◌≡◌, false, ℕ, zero, suc, List, [], ◌∷◌, ◌++◌}
+use Rattle.tb_node.specs.PlainNodes.{PlainNode}
+use Rattle.tb_param.specs.declared.Params.{Params}
+use Rattle.tb_output.specs.State.{State}
+use Rattle.tb_best.specs.PlanDemerits.{reach_in}
+use Rattle.tb_best.specs.ItemsAhead.{Ahead, state_with}
+
+-- the nodes of the first so many of these items
+abbrev pub nodes_of_first : ℕ → List Ahead → List PlainNode
+nodes_of_first zero cs = []
+nodes_of_first (suc k) [] = []
+nodes_of_first (suc k) (c ∷ cs) = c.nodes ++ nodes_of_first k cs
+
+-- no page fires in the state once the first so many of these items were taken
+abbrev pub IsCalm : Params → State → List Ahead → ℕ → Type 0
+IsCalm p s cs k = (reach_in p (state_with (nodes_of_first k cs) s)).fires ≡ false
