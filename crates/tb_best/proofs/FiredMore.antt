@@ -119,6 +119,7 @@ fired-more ls boxes w more h = (λ i. record {
   penalty = penalty i;
   cost = (fired_by ls boxes w).cost;
   size = (fired_by ls boxes w).size;
+  shrink = (fired_by ls boxes w).shrink;
   line = line i;
 })
   where

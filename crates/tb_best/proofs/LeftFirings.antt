@@ -20,7 +20,7 @@ use Rattle.tb_fpage.specs.Company.{Choice, company, chosen_floats, left_floats}
 use Rattle.tb_area.specs.Area.{current_place, next_place, double_place}
 use Rattle.tb_margin.specs.declared.Placed.{Placed}
 use Rattle.tb_margin.specs.Margin.{placed_note}
-use Rattle.tb_column.specs.Column.{Notes, PlainColumn, text_column, single_floats_column, wide_floats_column}
+use Rattle.tb_column.specs.Column.{Notes, PlainColumn, standing_notes, single_floats_column, wide_floats_column}
 use Rattle.tb_sheet.specs.declared.Warn.TheVariants as warnings
 use Rattle.tb_sheet.specs.Sheet.{PlainSheet, PlainSent, one, wide, shipped, warned, pair_sheet}
 use Rattle.tb_sheet.specs.Asked.{clear_penalty, par_penalty, vert_penalty, hold_penalty}
@@ -28,8 +28,8 @@ use Rattle.tb_builder.specs.FiredPages.{Fired}
 use Rattle.tb_output.specs.State.{State, Work, Recorded, begun, puts, sends, records_also, output, placed, footnotes, with_floats, has_floats}
 use Rattle.tb_output.specs.FloatMoves.{is_placed, joined_to, still_deferred, place_float, place_waiting, place_next, place_double}
 use Rattle.tb_output.specs.Pages.{ship, wide_wanted, ship_wide, wide_pages_by, wide_pages, all_wide_pages, after_column, keep_left, left_or, without_double, fill_double, ship_pair, put_out_by, put_out, with_deferred}
-use Rattle.tb_output.specs.Columns.{without_column_floats, put_out_text, single_wanted, put_out_company, float_columns_by, float_columns, all_float_columns, fill_column, ordinary}
-use Rattle.tb_output.specs.Clear.{clear_again, cleared_front, deferred_again, double_again, clear_wide, clear_rest, clear_floats, clear_by, clear}
+use Rattle.tb_output.specs.Columns.{text_of, without_column_floats, put_out_text, single_wanted, put_out_company, float_columns_by, float_columns, all_float_columns, fill_column, ordinary}
+use Rattle.tb_output.specs.Clear.{clear_again, cleared_front, deferred_again, double_again, clear_wide, clear_rest, clear_floats, without_notes, clear_by, clear}
 use Rattle.tb_output.specs.Text.{without_firing_box, notes_height, list_back, here_nodes, puts_interline, only_here, with_top, defer, float_goes, note_nodes, moved_warning, with_note_bottom, note_goes, note_at, first_goes, float_or_note_in, float_or_note}
 use Rattle.tb_output.specs.Output.{is_int, hold, output_by, with_goal, is_crowded, leave_column, goal_by, next_goal, after_page, waiting_again, out, blank_column}
 
@@ -157,7 +157,7 @@ module _ (p : Params) where
   -- ---- columns
 
   text-keep : (body : List PlainNode) → Keeps (λ w. put_out_text p body w)
-  text-keep body w c es rs = put-out-keep (text_column p w.state.floats body (footnotes w.state)) (without_column_floats w) c es rs
+  text-keep body w c es rs = put-out-keep (text_of p w.state body) (without_column_floats w) c es rs
 
   columns-by : (clearing : Bool) (n : ℕ) → Keeps (λ w. float_columns p clearing n w) → (o : Option (List Choice)) → Keeps (λ w. float_columns_by (λ v. float_columns p clearing n v) p w o)
   columns-by clearing n ih None w c es rs = (c, es, rs, refl)
@@ -203,7 +203,7 @@ module _ (p : Params) where
       (onto (λ u. clear_wide p u) clear-wide-keep (all_float_columns p true (swapped c es rs v)) (all_float_columns p true v) (all-columns-keep true v c es rs))
 
   clear-by-keep : (body : List PlainNode) (ns : List Notes) → Keeps (λ w. clear_by p body w ns)
-  clear-by-keep body [] w c es rs = clear-floats-keep body w c es rs
+  clear-by-keep body [] w c es rs = clear-floats-keep body (without_notes w) c es rs
   clear-by-keep body (n ∷ ns) w c es rs =
       let all = body ++ made (skip filling_glue) ∷ [] in
       onto (λ v. puts clear_again v) (puts-keep clear_again) (put_out_text p all (swapped c es rs w)) (put_out_text p all w) (text-keep all w c es rs)
@@ -274,7 +274,7 @@ module _ (p : Params) where
   penalty-keep f w c es rs =
       let v = swapped c es rs w in
       either (int_le eject_penalty f.penalty) (ordinary p f.body v) (ordinary p f.body w) _ _ (ordinary-keep f.body w c es rs)
-      (either (is_int f.penalty clear_penalty) (clear p f.body v) (clear p f.body w) _ _ (clear-by-keep f.body (footnotes w.state) w c es rs)
+      (either (is_int f.penalty clear_penalty) (clear p f.body v) (clear p f.body w) _ _ (clear-by-keep f.body (standing_notes (footnotes w.state)) w c es rs)
       (either (is_int f.penalty par_penalty) (float_or_note p false f.body v) (float_or_note p false f.body w) _ _ (held-keep false f.body w c es rs)
       (either (is_int f.penalty vert_penalty) (float_or_note p true f.body v) (float_or_note p true f.body w) (hold f.body v) (hold f.body w) (held-keep true f.body w c es rs) (c, es, rs, refl))))
 

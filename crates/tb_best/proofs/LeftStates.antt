@@ -1,6 +1,6 @@
 -- States that differ only in the left column that is kept have the same runs.
 use Rattle.std.proofs.Common.{◌≡◌, refl, sym, ◌∙◌, ap, subst, ℕ, zero, suc, ◌+◌, ℤ, Bool, true, false, List, [], ◌∷◌, ◌++◌, map, Option, Some, None}
-use Rattle.std.specs.Prelude.{pos, pred, int_le, int_lt, if◌then◌else◌}
+use Rattle.std.specs.Prelude.{pos, pred, int_le, int_lt, if◌then◌else◌, not}
 use Rattle.tb_scaled.specs.Scaled.{awful_bad, min_ℤ, eject_penalty}
 use Rattle.tb_node.specs.PlainNodes.{hbox, rule, skip, kerned, pen, mark, note, whatsit, PlainKind, plain, ins, act, PlainNode}
 use Rattle.tb_node.specs.declared.Act.{Act}
@@ -16,7 +16,7 @@ use Rattle.tb_float.specs.Lists.{live_count}
 use Rattle.tb_column.specs.Column.{PlainColumn}
 use Rattle.tb_sheet.specs.Sheet.{PlainSent, warned}
 use Rattle.tb_output.specs.State.{State, Work, Recorded, ask_of, emptied}
-use Rattle.tb_output.specs.Act.{Acted, went, full, act_on, taken_float, with_taken, with_current, large_warning}
+use Rattle.tb_output.specs.Act.{Acted, went, full, act_on, taken_float, with_taken, with_current, large_warning, has_head_room, taken_head, with_head}
 use Rattle.tb_output.specs.Output.{out}
 use Rattle.tb_items.specs.RunEvents.{RunEvent, offered, sent}
 use Rattle.tb_steps.specs.Run.{dead_cycles, page_limit, done, Progress, progress, progress_by, after_events, Step, ends, goes_on, led_by, led_past, led_through, ask_for}
@@ -52,6 +52,7 @@ act-left p s c (acts.TakeMargin m) =
     (c, either-left c (int_lt p.pool (pos (live_count s.floats + 2))) (full m.line (live_count s.floats)) (went (with_current s (entries.Left m ∷ entries.Right m ∷ [])) [] []))
 act-left p s c (acts.Suppress area) = (c, refl)
 act-left p s c (acts.Page n) = (c, refl)
+act-left p s c (acts.Head f) = (c, either-left c (not (has_head_room p s)) (full f.line (live_count s.floats)) (went (with_head p s (taken_head p f)) [] []))
 act-left p s c (acts.Columns two) = (None, refl)
 
 by-act : (later : State → Progress) (s : State) (c d : Option PlainColumn) (a : Acted) → ((t : State) (b : Option PlainColumn) → (e : Option PlainColumn) × (later (with_left b t) ≡ progress_left e (later t)))

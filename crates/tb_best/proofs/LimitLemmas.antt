@@ -18,7 +18,9 @@ use Rattle.tb_float.specs.Lists.{FloatLists, has_class, wide_part, wide_waiting}
 use Rattle.tb_float.specs.Rooms.{column_height_of}
 use Rattle.tb_fpage.specs.Company.{Choice, company, chosen_floats, left_floats}
 use Rattle.tb_area.specs.Area.{at_top, at_bottom, deferred, where_of, tries_top, tries_bottom, fits_column, fits_above, fits_below, next_separator, text_minimum, may_enter, bottom_or_deferred, top_or_bottom, here_or_area, by_class, current_place, next_place, double_place}
-use Rattle.tb_column.specs.Column.{Notes, PlainColumn, glue_if_any, is_below, foot_kern, class_below, notes_below, notes_among, text_above_feet, with_feet, with_bottoms, with_below, text_nodes, closed_nodes, column_of, floats_above, text_column, single_floats_column}
+use Rattle.tb_pack.specs.Pack.{packed}
+use Rattle.tb_column.specs.declared.Enlarged.{Enlarged}
+use Rattle.tb_column.specs.Column.{Notes, PlainColumn, glue_if_any, is_below, foot_kern, class_below, notes_below, notes_among, text_above_feet, with_feet, with_bottoms, with_below, text_nodes, closed_nodes, packed_nodes, higher_by, standing_notes, enlarged_of, floats_above, text_column, single_floats_column}
 use Rattle.tb_column.specs.declared.ColumnKind.TheVariants as column_kinds
 use Rattle.tb_sheet.specs.Sheet.{one, pair_sheet}
 use Rattle.tb_sheet.specs.Asked.{clear_penalty, par_penalty, vert_penalty}
@@ -27,7 +29,7 @@ use Rattle.tb_output.specs.State.{State, Work, begun, puts, records_also, output
 use Rattle.tb_output.specs.FloatMoves.{still_deferred, place_waiting, place_next, place_double}
 use Rattle.tb_output.specs.Pages.{ship, wide_wanted, ship_wide, wide_pages_by, wide_pages, all_wide_pages, after_column, keep_left, left_or, without_double, ship_pair, put_out, with_deferred}
 use Rattle.tb_output.specs.Columns.{emptied_boxes, without_column_floats, put_out_text, single_wanted, float_columns_by, float_columns, all_float_columns, fill_column, ordinary}
-use Rattle.tb_output.specs.Clear.{clear_again, cleared_front, deferred_again, double_again, clear_wide, clear_rest, clear_floats, clear_by}
+use Rattle.tb_output.specs.Clear.{clear_again, cleared_front, deferred_again, double_again, clear_wide, clear_rest, clear_floats, without_notes, clear_by}
 use Rattle.tb_output.specs.Text.{without_firing_box, notes_again, notes_nodes, notes_height, list_back, float_goes, first_goes, float_or_note_in}
 use Rattle.tb_output.specs.Output.{is_int, hold, output_by, next_goal, after_page, waiting_again, out}
 
@@ -117,11 +119,15 @@ module _ (p : Params) (m : ℤ) where
       below-lim l notes (text_above_feet lim l body notes)
       ∙ ap (λ ms. with_below p l notes ((glue_if_any p.texttop ++ (floats_above places.Top p.floatsep p.toprule p.textfloatsep l.top ++ body)) ++ ms)) (notes-lim None (notes_among false notes))
 
-  text-column-lim : (l : FloatLists) (body : List PlainNode) (notes : List Notes) → text_column lim l body notes ≡ text_column p l body notes
-  text-column-lim l body notes = ap (λ ns. column_of column_kinds.Text (column_height_of p l) p.maxdepth (closed_nodes p ns)) (text-nodes-lim l body notes)
+  -- a text column with these nodes
+  abbrev text_with : FloatLists → Enlarged → List PlainNode → PlainColumn
+  text_with l e ns = record { kind = column_kinds.Text; nodes = closed_nodes p ns; set = packed (column_height_of p l +ℤ higher_by e) p.maxdepth (map node_shape (packed_nodes p (column_height_of p l) e ns)) }
+
+  text-column-lim : (l : FloatLists) (body : List PlainNode) (notes : List Notes) (e : Enlarged) → text_column lim l body notes e ≡ text_column p l body notes e
+  text-column-lim l body notes e = ap (text_with l e) (text-nodes-lim l body notes)
 
   text-lim : (body : List PlainNode) (w : Work) → put_out_text lim body w ≡ put_out_text p body w
-  text-lim body w = λ i. put-out-lim (text-column-lim w.state.floats body (footnotes w.state) i) (without_column_floats w) i
+  text-lim body w = λ i. put-out-lim (text-column-lim w.state.floats body (standing_notes (footnotes w.state)) (enlarged_of w.state.shrink (footnotes w.state)) i) (without_column_floats w) i
 
   columns-by : (clearing : Bool) (n : ℕ) (w : Work) (o : Option (List Choice)) → ((v : Work) → float_columns lim clearing n v ≡ float_columns p clearing n v)
       → float_columns_by (λ v. float_columns lim clearing n v) lim w o ≡ float_columns_by (λ v. float_columns p clearing n v) p w o
@@ -152,7 +158,7 @@ module _ (p : Params) (m : ℤ) where
   clear-floats-lim body w = λ i. clear_rest (clear-wide-lim (all-columns-lim true (with_floats (deferred_again w.state.floats) (puts (cleared_front p body) w)) i) i)
 
   clear-by-lim : (body : List PlainNode) (w : Work) (ns : List Notes) → clear_by lim body w ns ≡ clear_by p body w ns
-  clear-by-lim body w [] = clear-floats-lim body w
+  clear-by-lim body w [] = clear-floats-lim body (without_notes w)
   clear-by-lim body w (n ∷ ns) = ap (puts clear_again) (text-lim (body ++ made (skip filling_glue) ∷ []) w)
 
   -- ---- a float or note
@@ -187,7 +193,7 @@ module _ (p : Params) (m : ℤ) where
   by-penalty : (f : Fired) (w : Work) → output_by lim f w ≡ output_by p f w
   by-penalty f w = λ i.
       if int_le eject_penalty f.penalty then ordinary-lim f.body w i
-      else (if is_int f.penalty clear_penalty then clear-by-lim f.body w (footnotes w.state) i
+      else (if is_int f.penalty clear_penalty then clear-by-lim f.body w (standing_notes (footnotes w.state)) i
       else (if is_int f.penalty par_penalty then float-lim false (w.state.held_page ++ without_firing_box f.body) w i
       else (if is_int f.penalty vert_penalty then float-lim true (w.state.held_page ++ without_firing_box f.body) w i
       else hold f.body w)))

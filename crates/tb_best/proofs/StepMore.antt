@@ -1,6 +1,6 @@
 -- A step of a run looks no further than its stop: what waits behind still waits behind, and changes nothing else.
 use Rattle.std.proofs.Common.{◌≡◌, refl, sym, ◌∙◌, ap, ℕ, suc, ◌+◌, ℤ, Bool, true, false, List, [], ◌∷◌, ◌++◌, map, Option, Some, None, append_assoc}
-use Rattle.std.specs.Prelude.{pos, pred, int_lt, int_le, if◌then◌else◌}
+use Rattle.std.specs.Prelude.{pos, pred, int_lt, int_le, if◌then◌else◌, not}
 use Rattle.tb_scaled.specs.Scaled.{awful_bad, min_ℤ}
 use Rattle.tb_node.specs.PlainNodes.{PlainNode, is_insertion_kind}
 use Rattle.tb_node.specs.declared.Act.{Act}
@@ -15,7 +15,7 @@ use Rattle.tb_float.specs.declared.Entry.TheVariants as entries
 use Rattle.tb_float.specs.Lists.{live_count}
 use Rattle.tb_sheet.specs.Sheet.{warned}
 use Rattle.tb_output.specs.State.{State, Work, Recorded, emptied}
-use Rattle.tb_output.specs.Act.{Acted, went, full, act_on, taken_float, with_taken, with_current, large_warning}
+use Rattle.tb_output.specs.Act.{Acted, went, full, act_on, taken_float, with_taken, with_current, large_warning, has_head_room, taken_head, with_head}
 use Rattle.tb_output.specs.Output.{out}
 use Rattle.tb_items.specs.RunEvents.{RunEvent, offered, sent}
 use Rattle.tb_steps.specs.Run.{dead_cycles, page_limit, done, Progress, progress, progress_by, after_events, Step, ends, goes_on, ask_for}
@@ -58,11 +58,18 @@ note-more : (s : State) (more : List PlainNode) (line : ℕ) (es : List _) (t : 
 note-more s more line es true = refl
 note-more s more line es false = refl
 
+title-more : (p : Params) (s : State) (more : List PlainNode) (f : Float) (t : Bool)
+    → (if t then full f.line (live_count s.floats) else went (with_head p (state_with more s) (taken_head p f)) [] [])
+    ≡ acted_with more (if t then full f.line (live_count s.floats) else went (with_head p s (taken_head p f)) [] [])
+title-more p s more f true = refl
+title-more p s more f false = refl
+
 pub act-more : (p : Params) (s : State) (more : List PlainNode) (a : Act) → act_on p (state_with more s) a ≡ acted_with more (act_on p s a)
 act-more p s more (acts.Take f) = take-more p s more f (int_le p.pool (pos (live_count s.floats)))
 act-more p s more (acts.TakeMargin m) = note-more s more m.line (entries.Left m ∷ entries.Right m ∷ []) (int_lt p.pool (pos (live_count s.floats + 2)))
 act-more p s more (acts.Suppress area) = refl
 act-more p s more (acts.Page n) = refl
+act-more p s more (acts.Head f) = title-more p s more f (not (has_head_room p s))
 act-more p s more (acts.Columns two) = refl
 
 by-act : (later : State → Progress) (s : State) (more : List PlainNode) (a : Acted) → ((t : State) → later (state_with more t) ≡ progress_with more (later t))

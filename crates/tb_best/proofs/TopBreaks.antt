@@ -1,6 +1,6 @@
 -- A break that is put in before the first box of a page vanishes: the run is that without it.
 use Rattle.std.proofs.Common.{◌≡◌, refl, sym, ◌∙◌, ap, ℕ, zero, suc, ◌+◌, ℤ, Bool, true, false, List, [], ◌∷◌, ◌++◌, map, Option, Some, None, arith}
-use Rattle.std.specs.Prelude.{pos, int_lt, int_le, if◌then◌else◌}
+use Rattle.std.specs.Prelude.{pos, int_lt, int_le, if◌then◌else◌, not}
 use Rattle.tb_scaled.specs.Scaled.{awful_bad, min_ℤ}
 use Rattle.tb_node.specs.PlainNodes.{hbox, rule, skip, kerned, pen, mark, note, whatsit, PlainKind, plain, ins, act, PlainNode}
 use Rattle.tb_node.specs.declared.Act.{Act}
@@ -15,7 +15,7 @@ use Rattle.tb_float.specs.declared.Entry.TheVariants as entries
 use Rattle.tb_float.specs.Lists.{live_count}
 use Rattle.tb_sheet.specs.Sheet.{warned}
 use Rattle.tb_output.specs.State.{State, ask_of, emptied}
-use Rattle.tb_output.specs.Act.{Acted, went, full, act_on, taken_float, with_taken, with_current, large_warning}
+use Rattle.tb_output.specs.Act.{Acted, went, full, act_on, taken_float, with_taken, with_current, large_warning, has_head_room, taken_head, with_head}
 use Rattle.tb_output.specs.Output.{out}
 use Rattle.tb_items.specs.RunEvents.{offered, sent}
 use Rattle.tb_steps.specs.Run.{dead_cycles, done, Progress, progress, progress_by, after_events, Step, ends, goes_on, led_by, led_past, led_through, ask_for}
@@ -73,6 +73,7 @@ act-in p s ws (acts.Take f) = either-in ws (int_le p.pool (pos (live_count s.flo
 act-in p s ws (acts.TakeMargin m) = either-in ws (int_lt p.pool (pos (live_count s.floats + 2))) (full m.line (live_count s.floats)) (went (with_current s (entries.Left m ∷ entries.Right m ∷ [])) [] [])
 act-in p s ws (acts.Suppress area) = refl
 act-in p s ws (acts.Page n) = refl
+act-in p s ws (acts.Head f) = either-in ws (not (has_head_room p s)) (full f.line (live_count s.floats)) (went (with_head p s (taken_head p f)) [] [])
 act-in p s ws (acts.Columns two) = refl
 
 by-act : (later : State → Progress) (s : State) (ws : List PlainNode) (a : Acted) → ((t : State) → later (waits ws t) ≡ progress_in ws (later t))

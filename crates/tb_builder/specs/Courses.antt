@@ -53,10 +53,11 @@ pub record Underway (z : Frozen) (k : Course) (page waiting : List PlainNode) : 
   pub course : IsCourseOf z k page (places_by z page waiting)
   pub quiet : NoStop (places_by z page waiting)
 
--- a page at its stop: the place at its end, which was tried last
+-- a page at its stop: the place at its end, which was tried last, with the shrink that the course has
 pub record AtStop (z : Frozen) (k : Course) (page waiting : List PlainNode) : Type 0 where
   pub stop : Breakpoint
   pub course : IsCourseOf z k page (places_by z page waiting ++ stop ∷ [])
+  pub shrink : stop.sums.shrink ≡ k.scan.sums.shrink
   pub reached : breakpoints (reach_from z.limit (terms_after z) [] (page ++ waiting)).reached ≡ places_by z page waiting ++ stop ∷ []
   pub passed : (reach_from z.limit (terms_after z) [] (page ++ waiting)).passed ≡ page
   pub beyond : (reach_from z.limit (terms_after z) [] (page ++ waiting)).beyond ≡ waiting

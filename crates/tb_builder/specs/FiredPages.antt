@@ -4,6 +4,7 @@ use Rattle.std.specs.List.{list_any}
 use Rattle.tb_scaled.specs.Scaled.{inf_penalty}
 use Rattle.tb_node.specs.PlainNodes.{pen, Leaf, leaf_shape, Inserted, PlainKind, plain, ins, PlainNode, without_insertions, on_line}
 use Rattle.tb_node.specs.Sums.{sums_of, size_of}
+use Rattle.tb_break.specs.Places.{last_or}
 use Rattle.tb_break.specs.Best.{Breakpoint, best_or}
 use Rattle.tb_break.specs.Split.{breakpoint_at}
 use Rattle.tb_break.specs.PageTop.{pruned_leaves}
@@ -17,7 +18,7 @@ pub record Boxed : Type 0 where
   pub number : ℕ
   pub content : Option (List Leaf)
 
--- a page that fires, and what waits after it
+-- a page that fires with the shrink of the page at the place where it fired, and what waits after it
 pub record Fired : Type 0 where
   pub body : List PlainNode
   pub boxes : List Boxed
@@ -26,6 +27,7 @@ pub record Fired : Type 0 where
   pub penalty : ℤ
   pub cost : ℤ
   pub size : ℤ
+  pub shrink : ℤ
   pub line : ℕ
 
 -- a place that is never looked at
@@ -35,6 +37,10 @@ no_place = breakpoint_at 0 (sums_of (pos 0) []) (pos 0) (pos 0) (pos 0)
 -- the place where the page breaks
 abbrev pub page_break : Reach → Breakpoint
 page_break w = best_or no_place (breakpoints w.reached)
+
+-- the shrink of a page at the last of these places, with that of the skips of its classes (TeX: The Program §982)
+abbrev pub last_shrink : List Breakpoint → ℤ
+last_shrink bs = last_or (pos 0) (map (λ b. b.sums.shrink) bs)
 
 -- the list from the break on
 abbrev pub from_break : Reach → List PlainNode
@@ -129,6 +135,7 @@ fired_by ls boxes w =
       penalty = penalty_at rest;
       cost = b.cost;
       size = b.goal;
+      shrink = last_shrink (breakpoints w.reached);
       line = line_at rest;
     }
 

@@ -124,10 +124,10 @@ pub record IsClassList (es : List ClassList) (number : ℕ) (e : ClassList) : Ty
 abbrev pub has_class : List Class → ℕ → Bool
 has_class cs k = list_any (λ c. c.number == k) cs
 
--- the numbers differ, are below 255, and the amounts fit
+-- the numbers differ, are below 256, and the amounts fit
 abbrev pub ClassesFit : List Class → Type 0
 ClassesFit [] = Unit {0}
-ClassesFit (c ∷ cs) = (has_class cs c.number ≡ false) × (c.number < 255) × ClassFits c × ClassesFit cs
+ClassesFit (c ∷ cs) = (has_class cs c.number ≡ false) × (c.number < 256) × ClassFits c × ClassesFit cs
 
 -- the class of an insertion is one of these
 abbrev pub is_known : List Class → Kind → Bool

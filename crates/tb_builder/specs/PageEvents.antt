@@ -160,13 +160,15 @@ fired_page c ask = let w = reach_whole c ask in fired_by (labelled (frozen_of c 
 abbrev pub after_fired : Contents → Fired → Contents
 after_fired c f = record { classes = c.classes; boxes = f.boxes; page = []; waiting = f.rest; held = f.held; frozen = None; stopped = false }
 
--- the page is this one, and its list is live
+-- the page is this one, its list is live, and its shrink is an amount
 pub record PageIs (p : Page) (f : Fired) (s : Lists Node) : Type 0 where
   pub live : IsLive s p.body
   pub body : plain_list s p.body ≡ f.body
   pub penalty : p.penalty ≡ f.penalty
   pub cost : p.cost ≡ f.cost
   pub size : p.size ≡ f.size
+  pub shrink : p.shrink ≡ f.shrink
+  pub amount : IsAmount p.shrink
   pub line : p.line ≡ f.line
   pub held : p.held ≡ length f.held
 

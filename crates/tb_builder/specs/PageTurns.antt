@@ -70,6 +70,7 @@ pub record StopsThere (z : Frozen) (line : ℕ) (b : Breakpoint) (k : Course) (c
   pub waiting : d.waiting ≡ c.waiting
   pub stopped : d.stopped ≡ true
   pub course : IsCourseOf z k d.page (places_on z c ++ b ∷ [])
+  pub shrink : b.sums.shrink ≡ k.scan.sums.shrink
   pub reached : breakpoints (reach_from z.limit (terms_after z) [] (d.page ++ d.waiting)).reached ≡ places_on z c ++ b ∷ []
   pub passed : (reach_from z.limit (terms_after z) [] (d.page ++ d.waiting)).passed ≡ d.page
   pub beyond : (reach_from z.limit (terms_after z) [] (d.page ++ d.waiting)).beyond ≡ d.waiting

@@ -49,7 +49,7 @@ pub record IsGoal (z : ℤ) : Type 0 where
   pub low : neg_ℤ (pos 288230376151711744) ≤ℤ z
   pub high : z ≤ℤ pos 288230376151711744
 
--- at most 2^22 nodes, those of insertions and class boxes too, and classes whose numbers differ and are below 255
+-- at most 2^22 nodes, those of insertions and class boxes too, and classes whose numbers differ and are below 256
 pub record IsPageable (c : Contents) (ask : Ask) : Type 0 where
   pub goal : IsGoal (frozen_of c ask).goal
   pub limit : IsExtent (frozen_of c ask).limit

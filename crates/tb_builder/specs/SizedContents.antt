@@ -34,7 +34,7 @@ laid_by false page waiting = laid_out (pos 0) page waiting
 abbrev pub whole_list : Contents → List PlainNode
 whole_list c = laid_by c.stopped c.page c.waiting
 
--- all nodes and classes are sized, and so is what is frozen; the numbers of the classes differ and are below 255
+-- all nodes and classes are sized, and so is what is frozen; the numbers of the classes differ and are below 256
 pub record IsSizedContents (c : Contents) : Type 0 where
   pub nodes : All IsSizedOnPage (whole_list c)
   pub held : All IsSizedOnPage c.held

@@ -4,6 +4,8 @@ ghost use Rattle.std.specs.Prelude.{◌≡◌, ◌==◌, ◌≢◌, true, map, p
 ghost use Rattle.std.specs.FinMap.{get};
 ghost use Rattle.tb_pool.specs.Lists.{IsLive, Lists as StoreOf};
 ghost use Rattle.tb_node.specs.declared.Node.{Node as NodeOf};
+ghost use Rattle.std.specs.List.{list_any};
+ghost use Rattle.tb_node.specs.Shape.{is_box};
 ghost use Rattle.tb_node.specs.PlainNodes.{leaf_shape};
 ghost use Rattle.tb_builder.specs.FiredPages.{box_content, content_of, box_size as size_of_box};
 ghost use Rattle.tb_builder.specs.Contents.{contents_of};
@@ -12,7 +14,7 @@ ghost use Rattle.tb_builder.specs.Courses.{IsSound};
 ghost use Rattle.tb_builder.specs.PageEvents.{SizesFit};
 ghost use Rattle.tb_builder.specs.Contributions.{NoPage, with_void, Taken};
 
-use crate::sizes::list_size;
+use crate::sizes::{has_box, list_size};
 use crate::{Builder, ClassList};
 use tb_node::Node;
 use tb_pool::{ListId, Lists};
@@ -53,6 +55,15 @@ impl Builder {
         ensures { result ≡ size_of_box (box_content (contents_of self.now store.now).boxes class) }
     {
         list_size(store, self.class_list(class).list)
+    }
+
+    /// Whether a box or a rule is among the nodes of the box of this class, one of the builder's.
+    pub fn holds_box(&self, store: &Lists<Node>, class: u8) -> bool
+        requires sound { IsSound self.now store.now }
+        requires known { has_class (contents_of self.now store.now).classes class ≡ true }
+        ensures { result ≡ list_any (λ n. is_box (leaf_shape n)) (content_of (box_content (contents_of self.now store.now).boxes class)) }
+    {
+        has_box(store, self.class_list(class).list)
     }
 
     /// Appends the nodes of the box of this class, one of the builder's, to the list `into`, while the page is empty;

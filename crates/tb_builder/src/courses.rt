@@ -179,7 +179,7 @@ impl Course {
         box_size: i64,
     )
         requires number { class.now.number ≡ ins.now.class }
-        requires most { ins.now.class < 255 }
+        requires most { ins.now.class < 256 }
         requires fits { ArriveFits store.now self.old.account self.old.scan ins.now class.now box_size }
         ensures { (z : Frozen) (page : List PlainNode) (bs : List Breakpoint) (line : ℕ) → IsCourseOf z self.old page bs → ComesTo z page self.old.scan class.now box_size index
             → IsCourseOf z self.new (page ++ record { line = line; kind = an_insertion (inserted_of (list_at store.now) ins.now) } ∷ []) bs }

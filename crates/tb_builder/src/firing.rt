@@ -133,6 +133,7 @@ impl Builder {
         let Some(best) = self.course.scan.best() else {
             unreachable!();
         };
+        let shrink = self.course.scan.sums().shrink;
         store.reserve(1)?;
         let body = store.add_list()?;
         let at = self.cut_page(store, best.index);
@@ -143,6 +144,7 @@ impl Builder {
             penalty: at.penalty,
             cost: best.cost,
             size: self.course.best_goal,
+            shrink,
             line: at.line,
             held: store.len(self.held) as u64,
         })

@@ -37,8 +37,7 @@ fn void_boxes(
     Ok(boxes)
 }
 
-/// A builder with an empty page, nothing waiting and a void box for each class. The class numbers differ and are at
-/// most 254. On an `Err` lists that were opened for it may be left in the store, empty; all other lists are as before.
+/// A builder with an empty page, nothing waiting and a void box for each class. The class numbers differ. On an `Err` lists that were opened for it may be left in the store, empty; all other lists are as before.
 pub fn new_builder(
     alloc: Global,
     store: &mut Lists<Node>,

@@ -54,7 +54,7 @@ fn share_told(cut: Option<(usize, usize)>, last: Option<usize>, index: usize) ->
 impl Course {
     // What becomes of the insertion of this class at this place of the page, if the page breaks at its best place.
     pub(crate) fn share_at(&self, class: u8, index: usize) -> Share
-        requires { class < 255 }
+        requires { class < 256 }
         ensures { (z : Frozen) (page marked : List PlainNode) → IsAccountOf self.now.account z page marked
             → result ≡ share_told (cut_in (labelled z marked) class) (last_let_in (labelled z marked) class) index }
     {

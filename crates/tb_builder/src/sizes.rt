@@ -1,13 +1,16 @@
 //! Sizes and counts of lists.
 
 ghost use Rattle.std.specs.Prelude.{◌≡◌};
+ghost use Rattle.std.specs.List.{list_any};
 ghost use Rattle.tb_pool.specs.Lists.{IsLive};
 ghost use Rattle.tb_node.specs.Fit.{shapes};
+ghost use Rattle.tb_node.specs.PlainNodes.{shape_of};
+ghost use Rattle.tb_node.specs.Shape.{is_box as is_box_shape};
 ghost use Rattle.tb_node.specs.Sums.{size_of};
 ghost use Rattle.tb_builder.specs.PageEvents.{SizesFit};
 ghost use Rattle.tb_builder.specs.Sizes.{RoomFits};
 
-use tb_node::{Node, room_of};
+use tb_node::{Kind, Node, room_of};
 use tb_pool::{ListId, Lists};
 use tb_scaled::sum;
 
@@ -31,4 +34,24 @@ pub(crate) fn pruned_size(store: &Lists<Node>, l: ListId) -> i64
         total = sum(total, room_of(n));
     }
     total
+}
+
+// Whether a node is a box or a rule.
+fn is_box(n: &Node) -> bool
+    ensures { result ≡ is_box_shape (shape_of n.now) }
+{
+    matches!(n.kind, Kind::Hbox { .. } | Kind::Rule { .. })
+}
+
+/// Whether a box or a rule is in a list.
+pub fn has_box(store: &Lists<Node>, l: ListId) -> bool
+    requires { IsLive store.now l }
+    ensures { result ≡ list_any is_box_shape (shapes store.now l) }
+{
+    for n in store.iter(l) {
+        if is_box(n) {
+            return true;
+        }
+    }
+    false
 }

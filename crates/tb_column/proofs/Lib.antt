@@ -7,6 +7,7 @@ pub mod TextLemmas
 pub mod GatherLemmas
 pub mod StandingLemmas
 pub mod ClosingLemmas
+pub mod HigherLemmas
 pub mod PageLemmas
 pub mod RangeLemmas
 pub mod Within

@@ -1,6 +1,6 @@
 -- Floats in a new list are the column of floats of the definitions, or the floats above a pair.
 use Rattle.std.proofs.Common.{◌≡◌, ◌≢◌, refl, sym, ap, subst, ◌∙◌, ℕ, ◌≤◌, ℤ, pos, Bool, true, false, List, [], ◌∷◌, ◌++◌, length, map, Option, None, is_some, arith}
-use Rattle.std.specs.Prelude.{All}
+use Rattle.std.specs.Prelude.{All, if◌then◌else◌}
 use Rattle.std.proofs.lemmas.Bool.{true≢false}
 use Rattle.std.specs.FinMap.{get, insert}
 use Rattle.tb_pool.specs.Lists.{Lists, IsLive, list_at, with_list}
@@ -17,17 +17,17 @@ use Rattle.tb_pack.specs.declared.Set.{Set}
 use Rattle.tb_pack.specs.Pack.{packed}
 use Rattle.tb_float.specs.declared.Part.{Part}
 use Rattle.tb_float.specs.declared.Part.TheVariants as parts
-use Rattle.tb_float.specs.Lists.{FloatLists, IsWaiting, floats_of, entry_count}
+use Rattle.tb_float.specs.Lists.{FloatLists, IsWaiting, floats_of, entry_count, has_class}
 use Rattle.tb_float.specs.Pool.{FloatPool, marked_floats, unmarked_floats}
 use Rattle.tb_float.specs.MarkedFloats.{without_marked}
 use Rattle.tb_float.proofs.MarkLemmas.{marked-false}
 use Rattle.tb_float.specs.Ranges.{IsSizedFloat}
 use Rattle.tb_column.specs.declared.ColumnKind.TheVariants as column_kinds
 use Rattle.tb_column.specs.declared.float_columns.PageGlue.{PageGlue}
-use Rattle.tb_column.specs.Column.{floats_after, floats_column, float_column_of, pair_floats}
+use Rattle.tb_column.specs.Column.{floats_after, floats_column, float_column_of, pair_rule, pair_floats}
 use Rattle.tb_column.specs.StoredColumns.{column_shown}
 use Rattle.tb_column.specs.Page.{AreLeaves, IsPageList}
-use Rattle.tb_column.specs.Ranges.{AreColumnParams}
+use Rattle.tb_column.specs.Ranges.{IsSizedRule, AreColumnParams}
 use Rattle.tb_column.specs.ColumnChanges.{IsOpened}
 use Rattle.tb_column.specs.FloatColumns.{boxes_above, page_list, page_glue}
 use Rattle.tb_column.proofs.ShownLemmas.{shapes-held}
@@ -113,14 +113,21 @@ module _ (old new : Lists Node) (l : ℕ) (is_wide : Bool) (p : Params) (fs : Li
 
 -- ---- the floats above a pair
 
-module _ (old new : Lists Node) (l : ℕ) (p : Params) (fs : FloatLists) (made_lists : new.lists ≡ with_list old l (boxes_above places.Double p.dblfloatsep p.dblrule p.dbltextfloatsep fs.double)) where
+pub pair_rule-sized : (p : Params) (l : FloatLists) → IsSizedRule p.dblrule → IsSizedRule (pair_rule p l)
+pair_rule-sized p l h = by_head (has_class 0 l.double)
+  where
+    by_head : (b : Bool) → IsSizedRule (if b then None else p.dblrule)
+    by_head true = tt
+    by_head false = h
+
+module _ (old new : Lists Node) (l : ℕ) (p : Params) (fs : FloatLists) (made_lists : new.lists ≡ with_list old l (boxes_above places.Double p.dblfloatsep (pair_rule p fs) p.dbltextfloatsep fs.double)) where
   pub pair-shown : plain_list new l ≡ pair_floats p fs
   pair-shown =
-      ap (map (plain_of (list_at new))) (list_same old new l (boxes_above places.Double p.dblfloatsep p.dblrule p.dbltextfloatsep fs.double) made_lists)
-      ∙ boxes_above-held (list_at new) places.Double p.dblfloatsep p.dblrule p.dbltextfloatsep fs.double
+      ap (map (plain_of (list_at new))) (list_same old new l (boxes_above places.Double p.dblfloatsep (pair_rule p fs) p.dbltextfloatsep fs.double) made_lists)
+      ∙ boxes_above-held (list_at new) places.Double p.dblfloatsep (pair_rule p fs) p.dbltextfloatsep fs.double
 
   pub pair-list : get old.lists l ≡ None → AreColumnParams p → All IsSizedFloat fs.double → length fs.double ≤ 4096 → IsPageList new l
   pair-list fresh ranges sized few =
-      opened-page old new l (boxes_above places.Double p.dblfloatsep p.dblrule p.dbltextfloatsep fs.double) fresh made_lists (boxes_above-leaves places.Double p.dblfloatsep p.dblrule p.dbltextfloatsep fs.double)
-      (boxes_above-sized places.Double p.dblfloatsep p.dblrule p.dbltextfloatsep fs.double ranges.dblfloatsep ranges.dblrule ranges.dbltextfloatsep sized)
-      (omega (arith, few, boxes_above-length places.Double p.dblfloatsep p.dblrule p.dbltextfloatsep fs.double))
+      opened-page old new l (boxes_above places.Double p.dblfloatsep (pair_rule p fs) p.dbltextfloatsep fs.double) fresh made_lists (boxes_above-leaves places.Double p.dblfloatsep (pair_rule p fs) p.dbltextfloatsep fs.double)
+      (boxes_above-sized places.Double p.dblfloatsep (pair_rule p fs) p.dbltextfloatsep fs.double ranges.dblfloatsep (pair_rule-sized p fs ranges.dblrule) ranges.dbltextfloatsep sized)
+      (omega (arith, few, boxes_above-length places.Double p.dblfloatsep (pair_rule p fs) p.dbltextfloatsep fs.double))

@@ -1,6 +1,6 @@
 -- A text column in the store is the text column of the definitions.
 use Rattle.std.proofs.Common.{◌≡◌, refl, ◌∙◌, ap, sym, ℕ, ℤ, Bool, true, false, ◌==◌, List, [], ◌∷◌, ◌++◌, map, length, Option, Some, None, unwrap_or}
-use Rattle.std.specs.Prelude.{if◌then◌else◌}
+use Rattle.std.specs.Prelude.{◌+ℤ◌, ◌-ℤ◌, if◌then◌else◌}
 use Rattle.std.specs.List.{AllByRecursion}
 use Rattle.std.proofs.lemmas.List.{map-append}
 use Rattle.tb_pool.specs.Lists.{Lists, list_at}
@@ -9,7 +9,9 @@ use Rattle.tb_node.specs.declared.Kind.{Kind}
 use Rattle.tb_node.specs.declared.Kind.TheVariants as kinds
 use Rattle.tb_node.specs.declared.RuleOf.TheVariants.{Footnotes}
 use Rattle.tb_node.specs.declared.Where.TheVariants as places
-use Rattle.tb_node.specs.Sums.{limited_depth}
+use Rattle.tb_node.specs.Shape.{Shape}
+use Rattle.tb_node.specs.Sums.{size_of, limited_depth}
+use Rattle.tb_scaled.specs.Glue.{fixed_glue}
 use Rattle.tb_node.specs.PlainNodes.{PlainNode, plain, plain_kind, plain_of, made, skip, matter_of, leaf_of, leaf_node, kind_shape, node_shape, shape_of_kind, shape_of, plain_list}
 use Rattle.tb_param.specs.declared.Params.{Params}
 use Rattle.tb_pack.specs.declared.Set.{Set}
@@ -18,14 +20,16 @@ use Rattle.tb_float.specs.Lists.{FloatLists}
 use Rattle.tb_float.specs.Rooms.{column_height_of}
 use Rattle.tb_column.specs.declared.ColumnKind.TheVariants as column_kinds
 use Rattle.tb_column.specs.declared.NoteBox.{NoteBox}
+use Rattle.tb_column.specs.declared.Enlarged.{Enlarged}
+use Rattle.tb_column.specs.declared.Enlarged.TheVariants as enlarged
 use Rattle.tb_column.specs.declared.Standing.{Standing}
 use Rattle.tb_column.specs.declared.Standing.TheVariants as standings
-use Rattle.tb_column.specs.Column.{standing_of, is_at, is_below, notes_at, notes_among, foot_kern, kern_if_any, feet_above, above_class, class_below, notes_below, closing_glue, text_above_feet, with_feet, with_bottoms, with_below, text_nodes, closed_nodes, text_column}
+use Rattle.tb_column.specs.Column.{standing_of, is_at, is_below, notes_at, notes_among, foot_kern, kern_if_any, feet_above, above_class, class_below, notes_below, closing_glue, text_above_feet, with_feet, with_bottoms, with_below, text_nodes, with_closing, closed_nodes, higher_by, shrinking_glue, packed_nodes, text_column}
 use Rattle.tb_column.specs.StoredColumns.{column_shown}
 use Rattle.tb_column.specs.Page.{is_leaf_kind, AreLeaves}
 use Rattle.tb_column.specs.Notes.{note_shown, notes_shown, boxes_at, boxes_among, IsNote}
 use Rattle.tb_column.specs.FloatColumns.{glue_list, rule_list}
-use Rattle.tb_column.specs.TextColumns.{made_node, kern_list, feet_list, under_list, class_above, notes_list, top_list, bottom_list, front_list, footed_list, below_list, text_list, closing_by, closed_list, column_list}
+use Rattle.tb_column.specs.TextColumns.{made_node, kern_list, feet_list, under_list, class_above, notes_list, top_list, bottom_list, front_list, footed_list, below_list, text_list, closing_by, closed_list, shrinking_list, packed_list, column_list}
 use Rattle.tb_column.proofs.FloatLemmas.{rule-held, glue-held, boxes_above-held, boxes_below-held}
 use Rattle.tb_column.proofs.NoteLemmas.{all-among}
 
@@ -143,21 +147,40 @@ module _ (held : ℕ → List Node) (p : Params) (l : FloatLists) (store : Lists
   closed-held : closing_by p.bottom (limited_depth p.maxdepth (map shape_of front)) ≡ closing_glue p texts
   closed-held = ap (λ ns. closing_by p.bottom (limited_depth p.maxdepth ns)) (sym (shapes-held held front) ∙ ap (map node_shape) front-held)
 
-  pub column-held : map (plain_of held) (column_list p l store body notes) ≡ closed_nodes p texts
-  column-held =
-      map-append (plain_of held) (closed_list p front) (glue_list p.textbottom)
-      ∙ ap (λ ns. ns ++ map (plain_of held) (glue_list p.textbottom)) (map-append (plain_of held) front (made_node (kinds.Skip (closing_by p.bottom (limited_depth p.maxdepth (map shape_of front)))) ∷ []))
-      ∙ (λ i. (front-held i ++ made (skip (closed-held i)) ∷ []) ++ glue-held held p.textbottom i)
+  closing-held : map (plain_of held) (closed_list p front) ≡ with_closing p texts
+  closing-held =
+      map-append (plain_of held) front (made_node (kinds.Skip (closing_by p.bottom (limited_depth p.maxdepth (map shape_of front)))) ∷ [])
+      ∙ (λ i. front-held i ++ made (skip (closed-held i)) ∷ [])
 
--- the column of this list, packed to the column's height
+  pub column-held : map (plain_of held) (column_list p l store body notes) ≡ closed_nodes p texts
+  column-held = map-append (plain_of held) (closed_list p front) (glue_list p.textbottom) ∙ (λ i. closing-held i ++ glue-held held p.textbottom i)
+
+  -- what it is packed by
+  shrinking-held : (height : ℤ) (e : Enlarged) (ms : List Shape) (ns : List Shape) → ms ≡ ns → map (plain_of held) (shrinking_list height ms e) ≡ shrinking_glue height ns e
+  shrinking-held height enlarged.No ms ns same = refl
+  shrinking-held height (enlarged.By d) ms ns same = refl
+  shrinking-held height (enlarged.Shrunk s) ms ns same = ap (λ (xs : List Shape). made (skip (fixed_glue (height -ℤ size_of xs +ℤ s))) ∷ []) same
+
+  packed-held : (height : ℤ) (e : Enlarged) → map (plain_of held) (packed_list p height e front) ≡ packed_nodes p height e texts
+  packed-held height e =
+      let shapes : map shape_of (closed_list p front) ≡ map node_shape (with_closing p texts) = sym (shapes-held held (closed_list p front)) ∙ ap (map node_shape) closing-held in
+      map-append (plain_of held) (closed_list p front) (shrinking_list height (map shape_of (closed_list p front)) e ++ glue_list p.textbottom)
+      ∙ ap (λ ns. map (plain_of held) (closed_list p front) ++ ns) (map-append (plain_of held) (shrinking_list height (map shape_of (closed_list p front)) e) (glue_list p.textbottom))
+      ∙ (λ i. closing-held i ++ (shrinking-held height e (map shape_of (closed_list p front)) (map node_shape (with_closing p texts)) shapes i ++ glue-held held p.textbottom i))
+
+  pub packed-shapes : (height : ℤ) (e : Enlarged) → map shape_of (packed_list p height e front) ≡ map node_shape (packed_nodes p height e texts)
+  packed-shapes height e = sym (shapes-held held (packed_list p height e front)) ∙ ap (map node_shape) (packed-held height e)
+
+-- the column of this list, packed to the column's height or higher
 pub column-made : (p : Params) (l : FloatLists) (old new : Lists Node) (body : ℕ) (notes : List NoteBox) → AreLeaves (list_at old body) → AllByRecursion (IsNote old) notes
-    → list_at new body ≡ column_list p l old body notes → (height : ℤ) (s : Set) → height ≡ column_height_of p l → s ≡ packed height p.maxdepth (map shape_of (column_list p l old body notes))
-    → column_shown new (record { kind = column_kinds.Text; list = body; set = s }) ≡ text_column p l (plain_list old body) (notes_shown old notes)
-column-made p l old new body notes leaves each holds height s high e =
+    → list_at new body ≡ column_list p l old body notes → (e : Enlarged) (height : ℤ) (s : Set) → height ≡ column_height_of p l
+    → s ≡ packed (height +ℤ higher_by e) p.maxdepth (map shape_of (packed_list p height e (text_list p l old body notes)))
+    → column_shown new (record { kind = column_kinds.Text; list = body; set = s }) ≡ text_column p l (plain_list old body) (notes_shown old notes) e
+column-made p l old new body notes leaves each holds e height s high is =
     let texts = text_nodes p l (plain_list old body) (notes_shown old notes) in
     let nodes : plain_list new body ≡ closed_nodes p texts =
     ap (map (plain_of (list_at new))) holds ∙ column-held (list_at new) p l old body notes leaves each in
-    let sized : map shape_of (column_list p l old body notes) ≡ map node_shape (closed_nodes p texts) =
-    sym (shapes-held (list_at new) (column_list p l old body notes)) ∙ ap (map node_shape) (column-held (list_at new) p l old body notes leaves each) in
-    let set : s ≡ packed (column_height_of p l) p.maxdepth (map node_shape (closed_nodes p texts)) = e ∙ (λ i. packed (high i) p.maxdepth (sized i)) in
+    let set : s ≡ packed (column_height_of p l +ℤ higher_by e) p.maxdepth (map node_shape (packed_nodes p (column_height_of p l) e texts)) =
+    is ∙ ap (packed (height +ℤ higher_by e) p.maxdepth) (packed-shapes (list_at new) p l old body notes leaves each height e)
+    ∙ ap (λ (h : ℤ). packed (h +ℤ higher_by e) p.maxdepth (map node_shape (packed_nodes p h e texts))) high in
     λ i. record { kind = column_kinds.Text; nodes = nodes i; set = set i }

@@ -4,7 +4,10 @@ use Rattle.tb_scaled.specs.declared.Glue.{Glue}
 use Rattle.tb_node.specs.Fit.{IsDimension, IsExtent}
 use Rattle.tb_param.specs.declared.Params.{Params}
 use Rattle.tb_param.specs.declared.Rule.{Rule}
-use Rattle.tb_float.specs.Ranges.{AreFloatParams}
+use Rattle.tb_node.specs.SmallAmounts.{IsAmount}
+use Rattle.tb_float.specs.Ranges.{IsWithin, AreFloatParams}
+use Rattle.tb_column.specs.declared.Enlarged.{Enlarged}
+use Rattle.tb_column.specs.declared.Enlarged.TheVariants as enlarged
 
 -- the amounts of glue are dimensions
 pub record IsSizedGlue (g : Glue) : Type 0 where
@@ -39,3 +42,9 @@ pub record AreColumnParams (p : Params) : Type 0 where
   pub toprule : IsSizedRule p.toprule
   pub bottomrule : IsSizedRule p.bottomrule
   pub dblrule : IsSizedRule p.dblrule
+
+-- how a column is packed: higher by less than 2^54 in absolute value, or by a shrink that is an amount
+abbrev pub IsEnlarged : Enlarged → Type 0
+IsEnlarged enlarged.No = Unit {0}
+IsEnlarged (enlarged.By d) = IsWithin 18014398509481984 d
+IsEnlarged (enlarged.Shrunk s) = IsAmount s

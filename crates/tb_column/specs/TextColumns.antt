@@ -1,5 +1,5 @@
 -- The nodes of a text column as a store holds them (ltoutput.dtx, \@makecol and \@combinefloats).
-use Rattle.std.specs.Prelude.{ℕ, ℤ, pos, negsuc, neg_ℤ, ◌+◌, ◌==◌, true, false, List, [], ◌∷◌, ◌++◌, length, map, Option, Some, None, unwrap_or, if◌then◌else◌}
+use Rattle.std.specs.Prelude.{ℕ, ℤ, pos, negsuc, neg_ℤ, ◌+ℤ◌, ◌-ℤ◌, ◌+◌, ◌==◌, true, false, List, [], ◌∷◌, ◌++◌, length, map, Option, Some, None, unwrap_or, if◌then◌else◌}
 use Rattle.tb_pool.specs.Lists.{Lists, list_at}
 use Rattle.tb_scaled.specs.declared.Glue.{Glue}
 use Rattle.tb_scaled.specs.declared.Order.TheVariants.{Normal, Fil}
@@ -8,7 +8,11 @@ use Rattle.tb_node.specs.declared.Kind.TheVariants as kinds
 use Rattle.tb_node.specs.declared.RuleOf.TheVariants.{Footnotes}
 use Rattle.tb_node.specs.declared.Where.TheVariants as places
 use Rattle.tb_node.specs.PlainNodes.{shape_of}
-use Rattle.tb_node.specs.Sums.{limited_depth}
+use Rattle.tb_node.specs.Sums.{size_of, limited_depth}
+use Rattle.tb_node.specs.Shape.{Shape}
+use Rattle.tb_scaled.specs.Glue.{fixed_glue}
+use Rattle.tb_column.specs.declared.Enlarged.{Enlarged}
+use Rattle.tb_column.specs.declared.Enlarged.TheVariants as enlarged
 use Rattle.tb_param.specs.declared.Params.{Params}
 use Rattle.tb_param.specs.declared.Rule.{Rule}
 use Rattle.tb_param.specs.declared.Choice.{Choice}
@@ -71,6 +75,15 @@ closed_list p ns = ns ++ made_node (kinds.Skip (closing_by p.bottom (limited_dep
 -- and with the glue at the bottom of a column
 abbrev pub ended_list : Params → List Node → List Node
 ended_list p ns = closed_list p ns ++ glue_list p.textbottom
+
+-- the glue of a page whose contents are shrunk, behind a list: with it the list is higher than this height by the shrink of the page
+abbrev pub shrinking_list : ℤ → List Shape → Enlarged → List Node
+shrinking_list height ns (enlarged.Shrunk s) = made_node (kinds.Skip (fixed_glue (height -ℤ size_of ns +ℤ s))) ∷ []
+shrinking_list height ns _ = []
+
+-- what the nodes of a column of this room are packed by
+abbrev pub packed_list : Params → ℤ → Enlarged → List Node → List Node
+packed_list p height e ns = closed_list p ns ++ (shrinking_list height (map shape_of (closed_list p ns)) e ++ glue_list p.textbottom)
 
 -- the floats at the top of a column, with their glue
 abbrev pub top_list : Params → FloatLists → List Node

@@ -8,10 +8,10 @@ ghost use Rattle.tb_node.specs.PlainNodes.{plain_list};
 ghost use Rattle.tb_float.specs.Lists.{IsWaiting, floats_of};
 ghost use Rattle.tb_float.specs.Pool.{marks_of, marked_floats, without_entries};
 ghost use Rattle.tb_float.specs.MarkedFloats.{without_marked};
-ghost use Rattle.tb_column.specs.Column.{float_column_of, pair_floats};
+ghost use Rattle.tb_column.specs.Column.{float_column_of, pair_floats, pair_rule};
 ghost use Rattle.tb_column.specs.StoredColumns.{column_shown};
 ghost use Rattle.tb_column.specs.Page.{IsPageList, IsPageColumn};
-ghost use Rattle.tb_column.specs.Ranges.{IsSizedGlue, AreColumnParams};
+ghost use Rattle.tb_column.specs.Ranges.{IsSizedGlue, IsSizedRule, AreColumnParams};
 ghost use Rattle.tb_column.specs.ColumnChanges.{IsOpened};
 ghost use Rattle.tb_column.specs.FloatColumns.{boxes_after, page_list, page_glue};
 
@@ -22,7 +22,7 @@ use std::alloc::AllocError;
 use tb_float::{Part, Pool};
 use tb_node::{Kind, Node, Where};
 use tb_pack::pack;
-use tb_param::Params;
+use tb_param::{Params, Rule};
 use tb_pool::{ListId, Lists};
 use tb_scaled::{Glue, negate};
 
@@ -148,6 +148,19 @@ pub fn float_column(
     })
 }
 
+/// The rule below the wide floats above two columns: none if a title, which has class 0, is among them (latex.ltx,
+/// `\@topnewpage`).
+pub fn pair_rule(pool: &Pool, p: &Params) -> Option<Rule>
+    ensures value { result ≡ pair_rule p.now pool.now.lists }
+    ensures sized { IsSizedRule p.now.dblrule → IsSizedRule result }
+{
+    if pool.has_class(Part::Double, 0) {
+        None
+    } else {
+        p.dblrule
+    }
+}
+
 /// Puts the wide floats above two columns into a new list, with the rule and the glue below them (ltoutput.dtx,
 /// `\@combinedblfloats`).
 ///
@@ -168,7 +181,7 @@ pub fn pair_tops(store: &mut Lists<Node>, pool: &mut Pool, p: &Params) -> Result
     let tops = store.add_list()?;
     let gaps = Gaps {
         between: p.dblfloatsep,
-        rule: p.dblrule,
+        rule: pair_rule(pool, p),
         text: p.dbltextfloatsep,
     };
     push_above(store, pool, tops, Part::Double, Where::Double, &gaps);

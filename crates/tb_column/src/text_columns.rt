@@ -10,7 +10,7 @@ ghost use Rattle.tb_float.specs.Pool.{without_entries};
 ghost use Rattle.tb_column.specs.Column.{is_ragged, is_below, text_column};
 ghost use Rattle.tb_column.specs.StoredColumns.{column_shown};
 ghost use Rattle.tb_column.specs.Page.{IsPageList, IsPageColumn};
-ghost use Rattle.tb_column.specs.Ranges.{AreColumnParams};
+ghost use Rattle.tb_column.specs.Ranges.{AreColumnParams, IsEnlarged};
 ghost use Rattle.tb_column.specs.Notes.{notes_shown, note_lists, note_count, boxes_among, AreApart, AreNotes};
 ghost use Rattle.tb_column.specs.FloatColumns.{glue_list};
 ghost use Rattle.tb_column.specs.ColumnChanges.{AreJoined, without_text_floats};
@@ -18,13 +18,13 @@ ghost use Rattle.tb_column.specs.TextColumns.{above_count, closing_by, front_lis
 
 use crate::areas::{clear_here, put_above, put_below, put_top_glue};
 use crate::foot_depths::foot_kern;
+use crate::higher_columns::set_column;
 use crate::nodes::{is_no_glue, made_node, push_made};
 use crate::notes::{above_count, join_notes};
-use crate::{Column, ColumnKind, NoteBox};
+use crate::{Column, ColumnKind, Enlarged, NoteBox};
 use std::alloc::AllocError;
 use tb_float::{Part, Pool};
 use tb_node::{Kind, Node, Sums, add, add_glue, list_sums};
-use tb_pack::pack_sums;
 use tb_param::{Choice, Params};
 use tb_pool::{ListId, Lists};
 use tb_scaled::{Glue, Order};
@@ -225,8 +225,9 @@ fn end_text(store: &mut Lists<Node>, p: &Params, body: ListId) -> Sums
 
 /// Makes the text column of a page: the glue and the floats at its top, the text, the insertions of each class, the floats
 /// at its bottom, then the glue that backs up over the depth and the glue at its bottom. Footnotes, with the classes that
-/// stand below them, are above or below the floats at the bottom. It is packed to the height, in scaled points, that the wide floats leave of a page (ltoutput.dtx,
-/// `\@makecol` and `\@combinefloats`).
+/// stand below them, are above or below the floats at the bottom. It is packed to the height, in scaled points, that the
+/// wide floats leave of a page, or as `enlarged` says (ltoutput.dtx, `\@makecol`, `\@combinefloats` and
+/// `\@makespecialcolbox`).
 ///
 /// The list of the text becomes the column's, and those of the insertions are emptied into it; no node is copied. The
 /// floats in the text, at its top and at its bottom leave the pool. If there is no memory for the new nodes, the pool and
@@ -237,13 +238,15 @@ pub fn make_column(
     p: &Params,
     body: ListId,
     notes: &[NoteBox],
+    enlarged: &Enlarged,
 ) -> Result<Column, AllocError>
     requires params { AreColumnParams p.now }
     requires body { IsPageList store.old body }
     requires notes { AreNotes store.old body notes.now }
     requires few { length (list_at store.old body) + note_count store.old notes.now ≤ 8355840 }
+    requires enlarged { IsEnlarged enlarged.now }
 
-    ensures column { IfOk result (λ c. column_shown store.new c ≡ text_column p.now pool.old.lists (plain_list store.old body) (notes_shown store.old notes.now)) }
+    ensures column { IfOk result (λ c. column_shown store.new c ≡ text_column p.now pool.old.lists (plain_list store.old body) (notes_shown store.old notes.now) enlarged.now) }
     ensures list { IfOk result (λ c. c.list ≡ body) }
     ensures page { IfOk result (λ c. IsPageColumn store.new c) }
 
@@ -259,6 +262,6 @@ pub fn make_column(
     Ok(Column {
         kind: ColumnKind::Text,
         list: body,
-        set: pack_sums(&sums, height),
+        set: set_column(&sums, p, height, enlarged),
     })
 }

@@ -10,8 +10,8 @@ use Rattle.tb_pack.specs.declared.Set.{Set}
 use Rattle.tb_pack.specs.Pack.{top_after}
 use Rattle.tb_column.specs.Column.{PlainColumn}
 use Rattle.tb_sheet.specs.Sheet.{PlainSheet, one, wide, two}
-use Rattle.tb_report.specs.Lines.{where_text, side_text, unset}
-use Rattle.tb_text.specs.Fields.{and_count, and_text}
+use Rattle.tb_report.specs.Lines.{float_label, side_text, unset}
+use Rattle.tb_text.specs.Fields.{and_text}
 
 -- a label at a place of the page, and the height of the rule there, if it has one
 pub record Placement : Type 0 where
@@ -45,7 +45,7 @@ labelled label = Some (record { down = pos 0; label = label; rule = None })
 abbrev pub box_spot : What → ℤ → ℤ → Option Spot
 box_spot (what.Text name) height depth = ruled (height +ℤ depth) (codes "box " ++ name) (height +ℤ depth)
 box_spot what.Blank height depth = None
-box_spot (what.Float name class place item) height depth = ruled height (codes "float " ++ name ++ and_count class ++ and_text (where_text place)) height
+box_spot (what.Float name class place item) height depth = ruled height (float_label name class place) height
 box_spot (what.Margin name side shift rise fall item) height depth = ruled (shift +ℤ fall) (codes "margin " ++ name ++ and_text (side_text side)) (rise +ℤ fall)
 
 -- the label of a rule: that above footnotes has no name

@@ -1,7 +1,7 @@
 //! The bytes of a page's items.
 ghost use Rattle.std.specs.Prelude.{◌≡◌, ◌++◌, ℤ, pos, negsuc, ◌+ℤ◌, ◌≤ℤ◌, ◌∷◌, [], codes, Option, OnOk};
-ghost use Rattle.tb_report.specs.Lines.{where_text, side_text};
-ghost use Rattle.tb_text.specs.Fields.{and_count, and_text};
+ghost use Rattle.tb_report.specs.Lines.{side_text};
+ghost use Rattle.tb_text.specs.Fields.{and_text};
 ghost use Rattle.tb_text.specs.Fronts.{PutsAfter};
 ghost use Rattle.tb_node.specs.PlainNodes.{matter_of};
 ghost use Rattle.tb_dvi.specs.Placement.{box_spot, rule_label, matter_spot, spot_placed};
@@ -11,8 +11,8 @@ ghost use Rattle.tb_dvi.specs.Page.{Writes, Shows};
 use crate::file::{put_four, put_low, put_signed};
 use std::alloc::AllocError;
 use tb_node::{Kind, Name, Node, RuleOf, Side, What, Where};
-use tb_report::{put_named, side_text, where_text};
-use tb_text::{put, put_count, put_text};
+use tb_report::{put_float_label, put_named, side_text};
+use tb_text::{put, put_text};
 
 /// Why an item is not written.
 pub(crate) enum PlaceFault {
@@ -96,14 +96,6 @@ fn put_name(label: &mut Vec<u8>, word: &[u8], name: &Name) -> Result<(), AllocEr
     put_named(label, word, name.as_bytes())
 }
 
-fn put_float(label: &mut Vec<u8>, name: &Name, class: u8, place: Where) -> Result<(), AllocError>
-    ensures { OnOk result (label.new.items ≡ label.old.items ++ (codes "float " ++ name.now ++ and_count class ++ and_text (where_text place))) }
-{
-    put_name(label, b"float ", name)?;
-    put_count(label, u64::from(class))?;
-    put_text(label, where_text(place))
-}
-
 fn put_margin(label: &mut Vec<u8>, name: &Name, side: Side) -> Result<(), AllocError>
     ensures { OnOk result (label.new.items ≡ label.old.items ++ (codes "margin " ++ name.now ++ and_text (side_text side))) }
 {
@@ -165,7 +157,7 @@ fn box_label(
             place,
             ..
         } => {
-            put_float(label, name, *class, *place)?;
+            put_float_label(label, name, *class, *place)?;
             Ok(Some(Extent {
                 height,
                 depth: 0,

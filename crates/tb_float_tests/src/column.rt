@@ -8,7 +8,9 @@ ghost use Rattle.tb_column.specs.ColumnChanges.{IsOpened};
 
 use std::alloc::AllocError;
 use std::test::Fail;
-use tb_column::{Column, ColumnKind, NoteBox, float_column, make_column, pair_tops, push_made};
+use tb_column::{
+    Column, ColumnKind, Enlarged, NoteBox, float_column, make_column, pair_tops, push_made,
+};
 use tb_float::{Entry, Part, Pool, new_pool};
 use tb_node::{Float, Kind, Node, Places, What, name_of};
 use tb_param::{Choice, Params, defaults};
@@ -23,7 +25,14 @@ fn insertions_of_two_classes_stand_under_a_text(rt: HostRuntime) -> Result<(), F
     let third = list_of(&mut store, 10, fixed(0))?;
     let feet = list_of(&mut store, 10, fixed(0))?;
     let notes = [note_box(3, third), note_box(254, feet)];
-    let column = make_column(&mut store, &mut pool, &params(40), body, &notes)?;
+    let column = make_column(
+        &mut store,
+        &mut pool,
+        &params(40),
+        body,
+        &notes,
+        &Enlarged::No,
+    )?;
     assert_eq!(rt; sizes(&column), (40, 30, 10, 65536, 0));
     assert!(rt; matches!(column.kind, ColumnKind::Text));
     assert!(rt; is_made_of(&store, column.list, b"bggbggkrkbgg"));
@@ -39,7 +48,14 @@ fn a_column_stands_under_a_wide_float(rt: HostRuntime) -> Result<(), Fail> {
     put(&mut pool, 20, Part::Top)?;
     put(&mut pool, 5, Part::Bottom)?;
     let body = list_of(&mut store, 10, filling_glue())?;
-    let column = make_column(&mut store, &mut pool, &params(100), body, &[])?;
+    let column = make_column(
+        &mut store,
+        &mut pool,
+        &params(100),
+        body,
+        &[],
+        &Enlarged::No,
+    )?;
     assert_eq!(rt; sizes(&column), (70, 35, 35, 65536, 0));
     assert!(rt; is_made_of(&store, column.list, b"bgggbggbggg"));
     let tops = pair_tops(&mut store, &mut pool, &params(100))?;

@@ -12,8 +12,8 @@ use Rattle.tb_param.specs.declared.table.Form.TheVariants as forms
 use Rattle.tb_param.specs.Table.{Row, row_for}
 use Rattle.tb_galley.specs.declared.Cause.{Cause}
 use Rattle.tb_galley.specs.declared.Cause.TheVariants as causes
-use Rattle.tb_galley.specs.Words.{LineWord, header, setting, class_line, hbox, rule, skip, kern, penalty, mark, note, foot, endfoot, float, margin, newpage, clearpage, pagebreak, nopagebreak, onecolumn, twocolumn, suppressfloats, page_number, end, Line, Phase, at_start, among_sets, among_items, in_foot, ended, phase_after, item_count, content_at, is_item_word, Known, known_after, word_here}
-use Rattle.tb_galley.specs.Fields.{Slot, name_slot, parameter_slot, dimension_slot, least_slot, range_slot, stretch_slot, fraction_slot, word_slot, places_slot, seen_slot, wrong_slot, test_slot, class_slot, slot_cause, text_cause, cause_of_read, row_cause, glue_slots, stretch_slots, shrink_slots, past_one, form_slots, row_slots, set_slots, foot_slots, suppress_slots, word_slots, drawn_slots, rule_slots, nobreak_slots, past_six, ruled_glue_slots, below_slot, standing_slots}
+use Rattle.tb_galley.specs.Words.{LineWord, header, setting, class_line, hbox, rule, skip, kern, penalty, mark, note, foot, endfoot, float, margin, newpage, clearpage, pagebreak, nopagebreak, onecolumn, twocolumn, suppressfloats, page_number, title, enlarge, end, Line, Phase, at_start, among_sets, among_items, after_two, in_foot, ended, phase_after, item_count, content_at, is_item_word, Known, known_after, word_here}
+use Rattle.tb_galley.specs.Fields.{Slot, name_slot, parameter_slot, dimension_slot, least_slot, range_slot, stretch_slot, fraction_slot, word_slot, places_slot, seen_slot, wrong_slot, test_slot, class_slot, slot_cause, text_cause, cause_of_read, row_cause, glue_slots, stretch_slots, shrink_slots, past_one, form_slots, row_slots, set_slots, foot_slots, suppress_slots, star_slots, word_slots, drawn_slots, rule_slots, nobreak_slots, past_six, ruled_glue_slots, below_slot, standing_slots}
 use Rattle.tb_galley.specs.Faults.{cause_rank, cause_if, causes_in, ascii_causes, is_printable, place_causes, item_causes, missing_cause, value_causes, later_causes, all_content_causes, line_causes, end_causes, causes_from}
 use Rattle.tb_galley.proofs.FirstFaults.{is_led}
 
@@ -21,7 +21,7 @@ use Rattle.tb_galley.proofs.FirstFaults.{is_led}
 
 abbrev pub is_placed : List Cause → Bool
 is_placed [] = true
-is_placed (c ∷ []) = nat_le 3 (cause_rank c) && nat_le (cause_rank c) 14
+is_placed (c ∷ []) = nat_le 3 (cause_rank c) && nat_le (cause_rank c) 15
 is_placed (c ∷ d ∷ cs) = false
 
 placed : (p : Phase) (w : Option LineWord) → is_placed (place_causes p w) ≡ true
@@ -34,6 +34,9 @@ placed among_sets (Some _) = refl
 placed among_items None = refl
 placed among_items (Some header) = refl
 placed among_items (Some _) = refl
+placed after_two None = refl
+placed after_two (Some header) = refl
+placed after_two (Some _) = refl
 placed in_foot None = refl
 placed in_foot (Some header) = refl
 placed in_foot (Some _) = refl
@@ -186,6 +189,10 @@ late_suppress : (fs : List (List ℕ)) → list_all is_late_slot (suppress_slots
 late_suppress [] = refl
 late_suppress (f ∷ fs) = refl
 
+late_star : (fs : List (List ℕ)) → list_all is_late_slot (star_slots fs) ≡ true
+late_star [] = refl
+late_star (f ∷ fs) = refl
+
 late_nobreak : (version : ℕ) (fs : List (List ℕ)) → list_all is_late_slot (nobreak_slots version fs) ≡ true
 late_nobreak version [] = refl
 late_nobreak version (f ∷ fs) = by_version (version == 3)
@@ -217,6 +224,8 @@ late_word k fs onecolumn = refl
 late_word k fs twocolumn = refl
 late_word k fs suppressfloats = late_suppress fs
 late_word k fs page_number = refl
+late_word k fs title = refl
+late_word k fs enlarge = late_star (past_one fs)
 late_word k fs end = refl
 
 led_ascii : (a : Bool) → is_led (cause_if a causes.NotAscii) ≡ true
@@ -270,6 +279,7 @@ led_end : (p : Phase) → list_all is_led (end_causes p ∷ []) ≡ true
 led_end at_start = refl
 led_end among_sets = refl
 led_end among_items = refl
+led_end after_two = refl
 led_end in_foot = refl
 led_end ended = refl
 

@@ -24,11 +24,11 @@ use Rattle.tb_galley.specs.declared.contents.Content.TheVariants as contents
 use Rattle.tb_galley.specs.declared.ItemKind.TheVariants as items
 use Rattle.tb_galley.specs.declared.LeafKind.TheVariants as leaves
 use Rattle.tb_galley.specs.declared.fields.At.{At}
-use Rattle.tb_galley.specs.Words.{LineWord, header, setting, class_line, hbox, rule, skip, kern, penalty, mark, note, foot, endfoot, float, margin, newpage, clearpage, pagebreak, nopagebreak, onecolumn, twocolumn, suppressfloats, page_number, end, Known, number_in, version_named, first_field}
-use Rattle.tb_galley.specs.Fields.{Slot, name_slot, dimension_slot, least_slot, range_slot, stretch_slot, fraction_slot, word_slot, places_slot, seen_slot, wrong_slot, slot_cause, word_slots, size_slot, glue_slots, stretch_slots, shrink_slots, past_one, paragraph_slot, form_slots, row_slots, row_cause, class_slot, class_slots, foot_slots, drawn_slots, rule_slots, nobreak_slots, ruled_glue_slots, below_slot, standing_slots}
+use Rattle.tb_galley.specs.Words.{LineWord, header, setting, class_line, hbox, rule, skip, kern, penalty, mark, note, foot, endfoot, float, margin, newpage, clearpage, pagebreak, nopagebreak, onecolumn, twocolumn, suppressfloats, page_number, title, enlarge, end, Known, number_in, version_named, first_field}
+use Rattle.tb_galley.specs.Fields.{Slot, name_slot, dimension_slot, least_slot, range_slot, stretch_slot, fraction_slot, word_slot, places_slot, seen_slot, wrong_slot, slot_cause, word_slots, size_slot, glue_slots, stretch_slots, shrink_slots, past_one, paragraph_slot, form_slots, row_slots, row_cause, class_slot, class_slots, foot_slots, drawn_slots, rule_slots, nobreak_slots, star_slots, ruled_glue_slots, below_slot, standing_slots}
 use Rattle.tb_galley.specs.Faults.{is_printable, cause_if, causes_in, ascii_causes, value_causes, missing_cause}
-use Rattle.tb_galley.specs.Grammar.{content_of, field_at, is_at, dimension_at, stretch_at, glue_at, glue_from, places_at, has_byte, value_by, set_content, class_at, foot_class_at, rule_at, below_at, past_rule, past_below}
-use Rattle.tb_galley.specs.FieldReader.{Left, ◌>>=◌, at_fault, printed, extra_by, minus_next, settled, field_read, dimension_in, integer_in, stretch_in, name_left, dimension_left, stretch_left, least_left, range_left, choice_left, word_left, nobreak_by, nobreak_left, version_left, places_left, sized_left, float_left, margin_left, glue_left, stretch_part, plus_part, shrink_part, end_left, finished, mapped, content_left, area_left, value_left, set_by, set_left, fraction_left, fraction_in, class_left, named_class, foot_left, drawn_left, rule_by, rule_left, below_known, below_by, below_left}
+use Rattle.tb_galley.specs.Grammar.{content_of, field_at, is_at, dimension_at, stretch_at, glue_at, glue_from, places_at, has_byte, value_by, set_content, class_at, foot_class_at, rule_at, below_at, past_rule, past_below, head_float}
+use Rattle.tb_galley.specs.FieldReader.{Left, ◌>>=◌, at_fault, printed, extra_by, minus_next, settled, field_read, dimension_in, integer_in, stretch_in, name_left, dimension_left, stretch_left, least_left, range_left, choice_left, word_left, nobreak_by, nobreak_left, head_left, star_left, enlarge_left, version_left, places_left, sized_left, float_left, margin_left, glue_left, stretch_part, plus_part, shrink_part, end_left, finished, mapped, content_left, area_left, value_left, set_by, set_left, fraction_left, fraction_in, class_left, named_class, foot_left, drawn_left, rule_by, rule_left, below_known, below_by, below_left}
 
 abbrev pub left : ℕ → Cause → List (List ℕ) → Left
 left n m fs = record { number = n; missing = m; fields = fs }
@@ -272,6 +272,38 @@ margin_slots k line m fs =
     (λ f6 gs. nobreak_read (λ r. noted (r >>= λ b. Ok ((margin_made line (f1, dimension_in f2, dimension_in f3) (dimension_in f4) (dimension_in f5) b.0, bytes_eq f6 (codes "vert")), b.1))) (λ e. refl) k.version 8 m gs
     (λ b. contents.Item (items.Margin (margin_made line (f1, dimension_in f2, dimension_in f3) (dimension_in f4) (dimension_in f5) b) (bytes_eq f6 (codes "vert"))))
     (λ b n hs. end_here n m hs (contents.Item (items.Margin (margin_made line (f1, dimension_in f2, dimension_in f3) (dimension_in f4) (dimension_in f5) b) (bytes_eq f6 (codes "vert"))))))))) fs
+
+-- ---- a title, and a page that is made higher
+
+head_slots : (k : Known) (line : ℕ) (m : Cause) (fs : List (List ℕ))
+    → one (λ f. contents.Item (items.Head f)) (head_left line (left 2 m fs)) ≡ settle (first_at 2 (value_causes m (word_slots k fs title) fs)) (content_of k.version line fs title)
+unfolding head_left name_left least_left
+head_slots k line m fs =
+    then_slot (λ r. one (λ f. contents.Item (items.Head f)) (r >>= λ n. least_left (pos 0) causes.Dimension n.1 >>= λ h. Ok (head_float line n.0 h.0, h.1)))
+    (λ e. refl) name_slot (λ f. f) 2 m (size_slot ∷ []) (λ gs. content_of k.version line gs title)
+    (λ f1. then_slot (λ r. one (λ f. contents.Item (items.Head f)) (r >>= λ h. Ok (head_float line f1 h.0, h.1)))
+    (λ e. refl) size_slot dimension_in 3 m [] (λ gs. content_of k.version line (f1 ∷ gs) title)
+    (λ f2 gs. end_here 4 m gs (contents.Item (items.Head (head_float line f1 (dimension_in f2)))))) fs
+
+star_read : {Z : Type 0} (F : Result (Bool × Left) At → Result Z At) → Strict F → (n : ℕ) (m : Cause) (fs : List (List ℕ)) (z : Bool → Z)
+    → ((b : Bool) (k : ℕ) (hs : List (List ℕ)) → F (Ok (b, left k m hs)) ≡ settle (first_at k (value_causes m [] hs)) (z b))
+    → F (star_left (left n m fs)) ≡ settle (first_at n (value_causes m (star_slots fs) fs)) (z (is_at fs 0 (codes "star")))
+unfolding star_left word_left
+star_read F strict n m [] z next = next false n []
+star_read F strict n m (f ∷ fs) z next =
+    cons_slot F strict (word_slot (codes "star" ∷ []) causes.UnknownWord) (λ g. bytes_eq g (codes "star")) n m f fs (value_causes m [] fs) (z (bytes_eq f (codes "star"))) (next (bytes_eq f (codes "star")) (n + 1) fs)
+
+abbrev enlarged : Result ((ℤ × Bool) × Left) At → Result Content At
+enlarged r = one (λ e. contents.Item (items.Enlarge e.0 e.1)) r
+
+enlarge_slots : (k : Known) (line : ℕ) (m : Cause) (fs : List (List ℕ))
+    → one (λ e. contents.Item (items.Enlarge e.0 e.1)) (enlarge_left (left 2 m fs)) ≡ settle (first_at 2 (value_causes m (word_slots k fs enlarge) fs)) (content_of k.version line fs enlarge)
+unfolding enlarge_left dimension_left
+enlarge_slots k line m fs =
+    then_more (λ r. enlarged (r >>= λ w. star_left w.1 >>= λ s. Ok ((w.0, s.0), s.1)))
+    (λ e. refl) dimension_slot dimension_in 2 m (λ gs. star_slots gs) (λ gs. content_of k.version line gs enlarge)
+    (λ f1 gs. star_read (λ r. enlarged (r >>= λ s. Ok ((dimension_in f1, s.0), s.1))) (λ e. refl) 3 m gs (λ b. contents.Item (items.Enlarge (dimension_in f1) b))
+    (λ b n hs. end_here n m hs (contents.Item (items.Enlarge (dimension_in f1) b)))) fs
 
 -- ---- suppressed areas
 
@@ -539,4 +571,6 @@ reads k line fs onecolumn = end_here 2 causes.MissingField fs (contents.Item ite
 reads k line fs twocolumn = end_here 2 causes.MissingField fs (contents.Item items.TwoColumn)
 reads k line fs suppressfloats = area_slots k line causes.MissingField fs
 reads k line fs page_number = one_slot (λ p. contents.Item (items.Page (nat_abs p))) (range_slot (pos 0) (pos 1000000) causes.Parameter) integer_in causes.MissingField fs
+reads k line fs title = head_slots k line causes.MissingField fs
+reads k line fs enlarge = enlarge_slots k line causes.MissingField fs
 reads k line fs end = end_here 2 causes.MissingField fs contents.End

@@ -19,7 +19,7 @@ use Rattle.tb_galley.specs.declared.LeafKind.{LeafKind}
 use Rattle.tb_galley.specs.declared.LeafKind.TheVariants as leaves
 use Rattle.tb_galley.specs.declared.contents.Content.{Content}
 use Rattle.tb_galley.specs.declared.contents.Content.TheVariants as contents
-use Rattle.tb_galley.specs.Words.{LineWord, hbox, skip, kern, penalty, setting, foot, endfoot, newpage, clearpage, onecolumn, twocolumn, suppressfloats, Phase, at_start, among_sets, among_items, in_foot, ended, word_of, is_leaf_word, Known}
+use Rattle.tb_galley.specs.Words.{LineWord, hbox, skip, kern, penalty, setting, foot, endfoot, newpage, clearpage, onecolumn, suppressfloats, Phase, at_start, among_sets, among_items, after_two, in_foot, ended, word_of, is_leaf_word, Known}
 use Rattle.tb_galley.specs.Faults.{place_causes, cause_if}
 use Rattle.tb_galley.specs.FieldReader.{Left, ◌>>=◌, mapped, finished, end_left, settled, at_fault, dimension_left, range_left, sized_left, glue_left, set_left, area_left, foot_left, named_class, content_left}
 use Rattle.tb_galley.specs.Line.{Said, said, first_of, content_line, line_left}
@@ -44,6 +44,7 @@ items_left : (p : Phase) (count : ℕ) → takes_leaf p count ≡ true → first
 items_left at_start count h = cc
 items_left among_sets count h = cc
 items_left among_items count h = ap (λ t. first_of (cause_if t causes.Items)) (many count h)
+items_left after_two count h = cc
 items_left in_foot count h = ap (λ t. first_of (cause_if t causes.Items)) (many count h)
 items_left ended count h = cc
 
@@ -51,6 +52,7 @@ same_phase : (p : Phase) (count : ℕ) → takes_leaf p count ≡ true → item_
 same_phase at_start count h = cc
 same_phase among_sets count h = cc
 same_phase among_items count h = refl
+same_phase after_two count h = cc
 same_phase in_foot count h = refl
 same_phase ended count h = cc
 
@@ -217,11 +219,6 @@ unfolding line_left content_line content_left word_of
 onecolumn_left_alone k n count free =
     ap (λ o. placed None o (said onecolumn (finished (content_left k n onecolumn (past_word []))))) (items_left among_items count free)
 
-twocolumn_left_alone : (k : Known) (n count : ℕ) → takes_leaf among_items count ≡ true → line_left among_items k count n (codes "twocolumn") ≡ Ok (Some (twocolumn, contents.Item items.TwoColumn))
-unfolding line_left content_line content_left word_of
-twocolumn_left_alone k n count free =
-    ap (λ o. placed None o (said twocolumn (finished (content_left k n twocolumn (past_word []))))) (items_left among_items count free)
-
 suppressfloats_left_alone : (k : Known) (n count : ℕ) → takes_leaf among_items count ≡ true → line_left among_items k count n (codes "suppressfloats") ≡ Ok (Some (suppressfloats, contents.Item (items.Suppress areas.All)))
 unfolding line_left content_line content_left word_of area_left
 suppressfloats_left_alone k n count free =
@@ -260,8 +257,6 @@ module _ (s : State) (first : s.first ≡ None) (free : takes_leaf s.phase s.cou
       bare (codes "clearpage") line clearpage items.ClearPage phase e (clearpage_left_alone (known_in s.draft) (s.lines + 1) s.count (subst (λ p. takes_leaf p s.count ≡ true) phase free)) refl
   bare_step line items.OneColumn phase e =
       bare (codes "onecolumn") line onecolumn items.OneColumn phase e (onecolumn_left_alone (known_in s.draft) (s.lines + 1) s.count (subst (λ p. takes_leaf p s.count ≡ true) phase free)) refl
-  bare_step line items.TwoColumn phase e =
-      bare (codes "twocolumn") line twocolumn items.TwoColumn phase e (twocolumn_left_alone (known_in s.draft) (s.lines + 1) s.count (subst (λ p. takes_leaf p s.count ≡ true) phase free)) refl
   bare_step line (items.Suppress areas.All) phase e =
       bare (codes "suppressfloats") line suppressfloats (items.Suppress areas.All) phase e (suppressfloats_left_alone (known_in s.draft) (s.lines + 1) s.count (subst (λ p. takes_leaf p s.count ≡ true) phase free)) refl
   bare_step line _ phase e = absurd e

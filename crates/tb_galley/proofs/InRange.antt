@@ -23,9 +23,9 @@ use Rattle.tb_galley.specs.declared.classes.ClassLine.{ClassLine}
 use Rattle.tb_galley.specs.declared.fields.At.{At}
 use Rattle.tb_galley.specs.Fields.{Slot, name_slot, dimension_slot, least_slot, range_slot, stretch_slot, fraction_slot, places_slot, class_slot, is_class_among, is_foot_class, slot_cause, cause_of_read, cause_unless, are_places, is_place_byte, word_slot}
 use Rattle.tb_galley.specs.Grammar.{read_or, places_at, has_byte}
-use Rattle.tb_galley.specs.FieldReader.{Left, ◌>>=◌, at_fault, settled, next_left, field_read, dimension_in, integer_in, stretch_in, fraction_in, name_left, dimension_left, stretch_left, least_left, range_left, choice_left, places_left, sized_left, word_left, nobreak_by, nobreak_left, float_left, margin_left, glue_left, stretch_part, plus_part, shrink_part, minus_part, minus_next, next_is_by, is_end, mapped, fraction_left, value_left, class_left, named_class, foot_left, version_left, drawn_left, rule_left, rule_by, below_known, below_by, below_left}
+use Rattle.tb_galley.specs.FieldReader.{Left, ◌>>=◌, at_fault, settled, next_left, field_read, dimension_in, integer_in, stretch_in, fraction_in, name_left, dimension_left, stretch_left, least_left, range_left, choice_left, places_left, sized_left, word_left, nobreak_by, nobreak_left, float_left, margin_left, glue_left, stretch_part, plus_part, shrink_part, minus_part, minus_next, next_is_by, is_end, mapped, fraction_left, value_left, class_left, named_class, foot_left, version_left, drawn_left, rule_left, rule_by, below_known, below_by, below_left, head_left, star_left, enlarge_left}
 use Rattle.tb_galley.specs.Words.{Known, number_in, number_or, version_named}
-use Rattle.tb_galley.specs.Valid.{is_size, is_float, is_margin, is_both, fits_kind, is_class, may_stand, is_version}
+use Rattle.tb_galley.specs.Valid.{is_size, is_float, is_margin, is_both, fits_kind, is_class, may_stand, is_version, is_head}
 use Rattle.tb_param.specs.declared.table.Form.{Form}
 use Rattle.tb_param.specs.declared.table.Form.TheVariants as forms
 use Rattle.tb_param.specs.declared.Value.TheVariants as values
@@ -305,6 +305,24 @@ margin_has version line l =
     (λ d in_d. bind_has (λ x. IsMarginOf version line x.0) (choice_left (codes "par") (codes "vert") causes.UnknownWord d.1) _
     (λ v. then_has (λ y. (not y.0 || (version == 3)) ≡ true) (λ x. IsMarginOf version line x.0) (nobreak_left version v.1) _ (nobreak_has version v.1)
     (λ y in_y. (and_from (line == line) _ (same_number line) (and_from (is_sized s.0 && is_size h.0) (is_size d.0) (and_from (is_sized s.0) (is_size h.0) in_s in_h) in_d), in_y))))))
+
+-- ---- a title, and a page that is made higher
+
+abbrev pub is_head_at : ℕ → Float → Bool
+is_head_at line f = (f.line == line) && is_head f
+
+pub head_has : (line : ℕ) (l : Left) → IfOk (head_left line l) (λ x. is_head_at line x.0 ≡ true)
+unfolding head_left
+head_has line l =
+    then_has (λ n. is_name n.0 ≡ true) (λ x. is_head_at line x.0 ≡ true) (name_left l) _ (name_has l)
+    (λ n in_n. then_has (λ h. is_size h.0 ≡ true) (λ x. is_head_at line x.0 ≡ true) (least_left (pos 0) causes.Dimension n.1) _ (least_has (pos 0) causes.Dimension n.1)
+    (λ h in_h. and_from (line == line) _ (same_number line) (and_from (is_name n.0 && is_size h.0) true (and_from (is_name n.0) (is_size h.0) in_n in_h) refl)))
+
+pub enlarge_has : (l : Left) → IfOk (enlarge_left l) (λ x. is_dimen x.0.0 ≡ true)
+unfolding enlarge_left
+enlarge_has l =
+    then_has (λ w. is_dimen w.0 ≡ true) (λ x. is_dimen x.0.0 ≡ true) (dimension_left l) _ (dimension_has l)
+    (λ w in_w. bind_has (λ x. is_dimen x.0.0 ≡ true) (star_left w.1) _ (λ s. in_w))
 
 -- ---- values of parameters
 

@@ -4,6 +4,7 @@ use Rattle.std.specs.Cmp.{first_so, second_so}
 use Rattle.std.specs.Prelude.{codes, decimal, bytes_eq}
 use Rattle.std.specs.Fmt.{signed_decimal}
 use Rattle.std.specs.List.{list_all}
+use Rattle.std.proofs.lemmas.Bool.{eqb-true}
 use Rattle.std.proofs.lemmas.Bool.Decides.{nat_tests}
 use Rattle.tb_node.specs.Names.{is_name, is_between}
 use Rattle.tb_node.specs.declared.Area.{Area}
@@ -12,20 +13,20 @@ use Rattle.tb_node.specs.declared.Places.{Places}
 use Rattle.tb_node.specs.declared.Float.{Float}
 use Rattle.tb_node.specs.declared.Margin.{Margin}
 use Rattle.tb_text.specs.Numbers.{integer_of, dimension_of}
-use Rattle.tb_param.specs.Table.{is_within}
+use Rattle.tb_param.specs.Table.{is_within, is_dimen}
 use Rattle.tb_galley.specs.declared.Cause.TheVariants as causes
 use Rattle.tb_galley.specs.declared.contents.Content.TheVariants as contents
 use Rattle.tb_galley.specs.declared.ItemKind.{ItemKind}
 use Rattle.tb_galley.specs.declared.ItemKind.TheVariants as items
 use Rattle.tb_galley.specs.declared.LeafKind.{LeafKind}
 use Rattle.tb_galley.specs.declared.LeafKind.TheVariants as leaves
-use Rattle.tb_galley.specs.Words.{LineWord, Known, hbox, rule, skip, kern, penalty, mark, note, foot, float, margin, newpage, clearpage, pagebreak, nopagebreak, onecolumn, twocolumn, suppressfloats, page_number}
-use Rattle.tb_galley.specs.Fields.{name_slot, least_slot, range_slot, word_slot, word_slots, nobreak_slots, are_places}
+use Rattle.tb_galley.specs.Words.{LineWord, Known, hbox, rule, skip, kern, penalty, mark, note, foot, float, margin, newpage, clearpage, pagebreak, nopagebreak, onecolumn, twocolumn, suppressfloats, page_number, title, enlarge}
+use Rattle.tb_galley.specs.Fields.{name_slot, least_slot, range_slot, word_slot, word_slots, nobreak_slots, star_slots, are_places}
 use Rattle.tb_galley.specs.Faults.{is_printable}
 use Rattle.tb_galley.specs.Grammar.{read_or, is_at, content_of, places_at, has_byte}
-use Rattle.tb_galley.specs.CanonicalText.{places_text, text_if, sized_text, leaf_text, paragraph_text, ending_text, wide_text, float_text, margin_text, item_text}
+use Rattle.tb_galley.specs.CanonicalText.{places_text, text_if, sized_text, leaf_text, paragraph_text, ending_text, wide_text, float_text, margin_text, head_text, enlarge_text, item_text}
 use Rattle.tb_text.specs.Fields.{and_number, and_text, line, and_count}
-use Rattle.tb_galley.specs.Valid.{is_size, is_leaf, is_float, is_margin, is_item, is_both, fits_kind}
+use Rattle.tb_galley.specs.Valid.{is_size, is_leaf, is_float, is_margin, is_head, is_top_alone, is_item, is_both, fits_kind}
 use Rattle.tb_galley.proofs.FieldTexts.{IsFit, AllFit, tail_text, tail_length, nothing_more}
 use Rattle.tb_galley.proofs.SlotTexts.{ReadsAs, within_small, dimen_small, dimension_fit, size_fit, range_fit, name_text, name_fit, spelling, dimension_read, integer_read, size_small, dimen_length, glue_fields, glue_is, word_text, glue_fit, glue_short, glue_back}
 
@@ -161,6 +162,9 @@ area_fields areas.Bottom = codes "b" ∷ []
 pub nobreak_fields : Bool → List (List ℕ)
 nobreak_fields nobreak = if nobreak then codes "nobreak" ∷ [] else []
 
+pub star_fields : Bool → List (List ℕ)
+star_fields star = if star then codes "star" ∷ [] else []
+
 abbrev float_fields : Float → Bool → List (List ℕ)
 float_fields f vert = f.name ∷ decimal f.class ∷ wide_field f.wide ∷ places_field f.bang f.places ∷ signed_decimal f.height ∷ paragraph_field vert ∷ nobreak_fields f.nobreak
 
@@ -187,6 +191,8 @@ is_single items.OneColumn = true
 is_single items.TwoColumn = true
 is_single (items.Suppress area) = true
 is_single (items.Page n) = true
+is_single (items.Head f) = true
+is_single (items.Enlarge by star) = true
 
 abbrev pub item_word : ItemKind → LineWord
 item_word (items.Hbox name h d) = hbox
@@ -207,6 +213,8 @@ item_word items.OneColumn = onecolumn
 item_word items.TwoColumn = twocolumn
 item_word (items.Suppress area) = suppressfloats
 item_word (items.Page n) = page_number
+item_word (items.Head f) = title
+item_word (items.Enlarge by star) = enlarge
 
 abbrev pub item_fields : ItemKind → List (List ℕ)
 item_fields (items.Hbox name h d) = leaf_fields (leaves.Hbox name h d)
@@ -227,6 +235,8 @@ item_fields items.OneColumn = []
 item_fields items.TwoColumn = []
 item_fields (items.Suppress area) = area_fields area
 item_fields (items.Page n) = decimal n ∷ []
+item_fields (items.Head f) = f.name ∷ signed_decimal f.height ∷ []
+item_fields (items.Enlarge by star) = signed_decimal by ∷ star_fields star
 
 -- the line of an item that is no footnote
 abbrev pub item_line : ItemKind → List ℕ
@@ -278,6 +288,17 @@ margin_is m vert =
     ∙ ap (λ t. t ++ tail_text (nobreak_fields m.nobreak)) (in_turn (codes "margin") (and_text m.name) (and_number m.left_height) (and_number m.left_depth) (and_number m.right_height) (and_number m.right_depth) (32 ∷ paragraph_field vert))
     ∙ six (codes "margin") m.name (signed_decimal m.left_height) (signed_decimal m.left_depth) (signed_decimal m.right_height) (signed_decimal m.right_depth) (paragraph_field vert) (nobreak_fields m.nobreak)
 
+head_is : (f : Float) → head_text f ≡ codes "head" ++ tail_text (f.name ∷ signed_decimal f.height ∷ [])
+head_is f = ap (λ t. codes "head" ++ and_text f.name ++ t) (number_is f.height) ∙ joins (codes "head") f.name (signed_decimal f.height ∷ [])
+
+star_is : (star : Bool) → text_if star (codes " star") ≡ tail_text (star_fields star)
+unfolding star_fields
+star_is true = refl
+star_is false = refl
+
+enlarge_is : (by : ℤ) (star : Bool) → enlarge_text by star ≡ codes "enlarge" ++ tail_text (signed_decimal by ∷ star_fields star)
+enlarge_is by star = ap (λ t. codes "enlarge" ++ and_number by ++ t) (star_is star) ∙ joins (codes "enlarge") (signed_decimal by) (star_fields star)
+
 pub item_is : (version : ℕ) (k : ItemKind) → is_single k ≡ true → item_text version k ≡ line (item_line k)
 unfolding area_fields
 item_is version (items.Mark name) single = ap (λ t. line (codes "mark " ++ t)) (sym (nothing_more name))
@@ -293,6 +314,8 @@ item_is version items.TwoColumn single = refl
 item_is version (items.Suppress areas.All) single = refl
 item_is version (items.Suppress a) single = refl
 item_is version (items.Page n) single = ap (λ t. line (codes "page " ++ t)) (sym (nothing_more (decimal n)))
+item_is version (items.Head f) single = ap line (head_is f)
+item_is version (items.Enlarge by star) single = ap line (enlarge_is by star)
 item_is version k single = cc
 
 -- an item with this line in it
@@ -315,6 +338,8 @@ on_line_kind n items.OneColumn = items.OneColumn
 on_line_kind n items.TwoColumn = items.TwoColumn
 on_line_kind n (items.Suppress area) = items.Suppress area
 on_line_kind n (items.Page k) = items.Page k
+on_line_kind n (items.Head f) = items.Head (record f { line = n })
+on_line_kind n (items.Enlarge by star) = items.Enlarge by star
 
 record ChoiceBack (first second : List ℕ) (choice : Bool) (f : List ℕ) : Type 0 where
   fit : IsFit (word_slot (first ∷ second ∷ []) causes.UnknownWord) f
@@ -431,6 +456,93 @@ margin_back known m vert good fits =
       }) (paragraph.read i)));
     }
 
+-- a title: what it must have but for its name and height
+pub record HeadFlags (class_is_0 wide h t b p bang deep nobreak : Bool) : Type 0 where
+  class : class_is_0 ≡ true
+  across : wide ≡ true
+  here : h ≡ false
+  top : t ≡ true
+  bottom : b ≡ false
+  page : p ≡ false
+  all : bang ≡ true
+  flat : deep ≡ false
+  free : nobreak ≡ false
+
+none_of_two : (a b : Bool) → not (a || b) ≡ true → (a ≡ false) × (b ≡ false)
+none_of_two false false h = (refl, refl)
+none_of_two true b h = cc
+none_of_two false true h = cc
+
+none_of_three : (a b c : Bool) → not (a || b || c) ≡ true → (a ≡ false) × ((b ≡ false) × (c ≡ false))
+none_of_three false false false h = (refl, (refl, refl))
+none_of_three true b c h = cc
+none_of_three false true c h = cc
+none_of_three false false true h = cc
+
+head_flags : (zero_class wide h t b p bang deep nobreak : Bool) → (zero_class && wide && (t && not (h || b || p)) && bang && not (deep || nobreak)) ≡ true → HeadFlags zero_class wide h t b p bang deep nobreak
+head_flags zero_class wide h t b p bang deep nobreak good =
+    let front : (zero_class && wide && (t && not (h || b || p)) && bang) ≡ true = first_so (zero_class && wide && (t && not (h || b || p)) && bang) (not (deep || nobreak)) good in
+    let placing : (zero_class && wide && (t && not (h || b || p))) ≡ true = first_so (zero_class && wide && (t && not (h || b || p))) bang front in
+    let first : (zero_class && wide) ≡ true = first_so (zero_class && wide) (t && not (h || b || p)) placing in
+    let at : (t && not (h || b || p)) ≡ true = second_so (zero_class && wide) (t && not (h || b || p)) placing in
+    let others : (h ≡ false) × ((b ≡ false) × (p ≡ false)) = none_of_three h b p (second_so t (not (h || b || p)) at) in
+    let last : (deep ≡ false) × (nobreak ≡ false) = none_of_two deep nobreak (second_so (zero_class && wide && (t && not (h || b || p)) && bang) (not (deep || nobreak)) good) in
+    record {
+      class = first_so zero_class wide first;
+      across = second_so zero_class wide first;
+      here = others.0;
+      top = first_so t (not (h || b || p)) at;
+      bottom = others.1.0;
+      page = others.1.1;
+      all = second_so (zero_class && wide && (t && not (h || b || p))) bang front;
+      flat = last.0;
+      free = last.1;
+    }
+
+head_back : (known : Known) (f : Float) → is_head f ≡ true → ReadsAs known title (f.name ∷ signed_decimal f.height ∷ []) (λ n. contents.Item (items.Head (record f { line = n })))
+head_back known f good =
+    let sized : (is_name f.name && is_size f.height) ≡ true = first_so (is_name f.name && is_size f.height) ((f.class == 0) && f.wide && is_top_alone f.places && f.bang && not (f.deep || f.nobreak)) good in
+    let named : is_name f.name ≡ true = first_so (is_name f.name) (is_size f.height) sized in
+    let high : is_size f.height ≡ true = second_so (is_name f.name) (is_size f.height) sized in
+    let flags : HeadFlags (f.class == 0) f.wide f.places.h f.places.t f.places.b f.places.p f.bang f.deep f.nobreak =
+    head_flags (f.class == 0) f.wide f.places.h f.places.t f.places.b f.places.p f.bang f.deep f.nobreak (second_so (is_name f.name && is_size f.height) ((f.class == 0) && f.wide && is_top_alone f.places && f.bang && not (f.deep || f.nobreak)) good) in
+    let short : length (signed_decimal f.height) ≤ 11 = dimen_length f.height (size_small f.height high) in
+    record {
+      fit = (name_fit f.name named, (size_fit f.height high, tt));
+      short = omega (arith, (name_text f.name named).short);
+      content = λ n. (λ i. contents.Item (items.Head (record {
+        line = n;
+        name = f.name;
+        class = sym (eqb-true f.class 0 flags.class) i;
+        wide = sym flags.across i;
+        places = record { h = sym flags.here i; t = sym flags.top i; b = sym flags.bottom i; p = sym flags.page i };
+        bang = sym flags.all i;
+        height = dimension_read f.height (size_small f.height high) i;
+        deep = sym flags.flat i;
+        nobreak = sym flags.free i;
+      })));
+    }
+
+record StarBack (star : Bool) (fs : List (List ℕ)) : Type 0 where
+  fit : AllFit (star_slots fs) fs
+  short : tail_length fs ≤ 5
+  read : is_at fs 0 (codes "star") ≡ star
+
+star_back : (star : Bool) → StarBack star (star_fields star)
+unfolding star_fields
+star_back false = record { fit = tt; short = omega arith; read = refl }
+star_back true = record { fit = (record { text = word_text (codes "star") refl (omega arith); slot = refl }, tt); short = omega arith; read = refl }
+
+enlarge_back : (known : Known) (by : ℤ) (star : Bool) → is_dimen by ≡ true → ReadsAs known enlarge (signed_decimal by ∷ star_fields star) (λ n. contents.Item (items.Enlarge by star))
+enlarge_back known by star good =
+    let ending : StarBack star (star_fields star) = star_back star in
+    let short : length (signed_decimal by) ≤ 11 = dimen_length by (dimen_small by good) in
+    record {
+      fit = (dimension_fit by good, ending.fit);
+      short = omega (arith, ending.short);
+      content = λ n. (λ i. contents.Item (items.Enlarge (dimension_read by (dimen_small by good) i) (ending.read i)));
+    }
+
 degree_back : (known : Known) (w : LineWord) (make : ℕ → ItemKind) (k : ℕ) → nat_le k 4 ≡ true → AllFit (word_slots known (decimal k ∷ []) w) (decimal k ∷ [])
     → ((n : ℕ) → content_of known.version n (decimal k ∷ []) w ≡ contents.Item (make (nat_abs (read_or (pos 0) (integer_of (decimal k)))))) → ReadsAs known w (decimal k ∷ []) (λ n. contents.Item (make k))
 degree_back known w make k good fit content =
@@ -475,4 +587,6 @@ item_back known m (items.Suppress areas.All) single good fits = record { fit = t
 item_back known m (items.Suppress areas.Top) single good fits = record { fit = (record { text = word_text (codes "t") refl (omega arith); slot = refl }, tt); short = omega arith; content = λ n. refl }
 item_back known m (items.Suppress areas.Bottom) single good fits = record { fit = (record { text = word_text (codes "b") refl (omega arith); slot = refl }, tt); short = omega arith; content = λ n. refl }
 item_back known m (items.Page k) single good fits = number_back known k good
+item_back known m (items.Head f) single good fits = head_back known f (second_so (f.line == m) (is_head f) good)
+item_back known m (items.Enlarge by star) single good fits = enlarge_back known by star good
 item_back known m k single good fits = cc

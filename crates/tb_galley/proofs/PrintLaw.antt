@@ -28,7 +28,7 @@ use Rattle.tb_galley.specs.declared.ItemKind.TheVariants as items
 use Rattle.tb_galley.specs.declared.Leaf.{Leaf}
 use Rattle.tb_galley.specs.declared.LeafKind.{LeafKind}
 use Rattle.tb_galley.specs.declared.LeafKind.TheVariants as leaves
-use Rattle.tb_galley.specs.Words.{header, end, Phase, at_start, among_sets, among_items, ended}
+use Rattle.tb_galley.specs.Words.{header, end, Phase, at_start, among_sets, among_items, after_two, ended}
 use Rattle.tb_galley.specs.Faults.{fault}
 use Rattle.tb_galley.specs.Grammar.{empty_draft, grammar, spelled, input_limit}
 use Rattle.tb_galley.specs.GalleyReader.{State, start, verdict}
@@ -45,7 +45,7 @@ use Rattle.tb_galley.proofs.ValueTexts.{value_fields, value_is, is_plain_row}
 use Rattle.tb_galley.specs.Fields.{is_class_among}
 use Rattle.tb_galley.proofs.ClassTexts.{numbers_of, class_fields, line_fields, class_is}
 use Rattle.tb_galley.proofs.ClassRuns.{numbered_classes, class_texts, same_numbers, same_classes, still_classes, classes_run}
-use Rattle.tb_galley.proofs.PrintRuns.{Runs, then_lines, to_state, word_runs, set_text, plain_rows, is_in_range, is_known_row, foot_line, set_all, HasClasses, sets_run, numbered_leaves, numbered_kind, numbered_items, leaf_line, kind_lines, takes_items, leaf_texts, item_state, item_texts, phase_past_items, items_run}
+use Rattle.tb_galley.proofs.PrintRuns.{Runs, then_lines, to_state, word_runs, set_text, plain_rows, is_in_range, is_known_row, foot_line, set_all, HasClasses, sets_run, numbered_leaves, numbered_kind, numbered_items, leaf_line, kind_lines, takes_items, leaf_texts, item_state, item_texts, phase_past_items, takes_past, items_run}
 
 -- ---- the canonical text by its lines
 
@@ -164,6 +164,7 @@ renumbered g = record { params = g.params; version = g.version; classes = classe
 end_runs : (n : ℕ) (p : Phase) (c : ℕ) (ps : Params) (v : ℕ) (cs : List ClassLine) (e : ℕ) (is : List Item) → takes_items p ≡ true → Runs (item_state n p c ps v cs e is) (codes "end" ∷ []) (item_state (n + 1) ended c ps v cs (n + 1) is)
 end_runs n among_sets c ps v cs e is takes = word_runs n among_sets c (drafted ps v cs is None e) end [] (λ m. contents.End) refl (record { fit = tt; short = omega arith; content = λ m. refl }) refl refl
 end_runs n among_items c ps v cs e is takes = word_runs n among_items c (drafted ps v cs is None e) end [] (λ m. contents.End) refl (record { fit = tt; short = omega arith; content = λ m. refl }) refl refl
+end_runs n after_two c ps v cs e is takes = word_runs n after_two c (drafted ps v cs is None e) end [] (λ m. contents.End) refl (record { fit = tt; short = omega arith; content = λ m. refl }) refl refl
 end_runs n p c ps v cs e is takes = cc
 
 -- there are three versions
@@ -264,8 +265,7 @@ few_items : (k : ℕ) → nat_le k 100000 ≡ true → 0 + k ≤ 100000
 few_items k h = grind (arith, nat_tests)
 
 pub still_takes : (is : List Item) → takes_items (phase_past_items among_sets is) ≡ true
-still_takes [] = refl
-still_takes (i ∷ is) = refl
+still_takes is = takes_past among_sets is refl
 
 -- version 1 has no classes
 first_version : (v : ℕ) (cs : List ClassLine) → fits_version v cs ≡ true → (v == 1) ≡ true → cs ≡ []
@@ -308,7 +308,7 @@ galley_runs g valid =
     let known : list_all (λ (i : Item). has_known_class (numbers_of (classes_in g)) i.kind) g.items ≡ true =
     subst (λ ks. list_all (λ (i : Item). has_known_class ks i.kind) g.items ≡ true) (sym (same_numbers (sets_end g + 1) g.classes)) valid.feet in
     let inner : Runs declared (item_texts g.version g.items) written =
-    items_run (front g) among_sets 0 g.params g.version (classes_in g) 0 [] g.items (has_classes g valid) refl (few_items (weight g.items) few) valid.items known valid.kinds valid.words in
+    items_run (front g) among_sets 0 g.params g.version (classes_in g) 0 [] g.items (has_classes g valid) refl (few_items (weight g.items) few) valid.items known valid.kinds valid.words valid.heads in
     let last : Runs written (codes "end" ∷ []) done =
     end_runs (front g + weight g.items) (phase_past_items among_sets g.items) (0 + weight g.items) g.params g.version (classes_in g) 0 (numbered_items (front g + 1) g.items) (still_takes g.items) in
     then_lines start begun done (header_line g.version ∷ []) (front_lines g ++ (item_texts g.version g.items ++ codes "end" ∷ [])) (header_runs g.version which)

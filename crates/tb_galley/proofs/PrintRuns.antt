@@ -1,5 +1,5 @@
 -- The lines of the canonical text take the reader to the galley.
-use Rattle.std.proofs.Common.{if◌then◌else◌, ◌≡◌, ℕ, ◌+◌, ◌≤◌, Bool, true, false, ◌&&◌, nat_le, ◌==◌, List, [], ◌∷◌, ◌++◌, length, map, Some, None, refl, ap, sym, ◌∙◌, arith, append_assoc, append-nil}
+use Rattle.std.proofs.Common.{if◌then◌else◌, ◌≡◌, ℕ, ◌+◌, ◌≤◌, Bool, true, false, ◌&&◌, nat_le, ◌==◌, List, [], ◌∷◌, ◌++◌, length, map, Some, None, refl, ap, sym, subst, ◌∙◌, arith, append_assoc, append-nil}
 use Rattle.std.proofs.Math.Bool.{and-false}
 use Rattle.std.specs.Cmp.{first_so, second_so}
 use Rattle.std.proofs.lemmas.Bool.{and_from}
@@ -24,14 +24,14 @@ use Rattle.tb_galley.specs.declared.ItemKind.TheVariants as items
 use Rattle.tb_galley.specs.declared.Leaf.{Leaf}
 use Rattle.tb_galley.specs.declared.LeafKind.{LeafKind}
 use Rattle.tb_galley.specs.declared.LeafKind.TheVariants as leaves
-use Rattle.tb_galley.specs.Words.{LineWord, Known, word_here, header, setting, foot, endfoot, page_number, Phase, at_start, among_sets, among_items, in_foot, ended, word_of, is_item_word}
+use Rattle.tb_galley.specs.Words.{LineWord, Known, word_here, header, setting, foot, endfoot, page_number, title, enlarge, Phase, at_start, among_sets, among_items, after_two, in_foot, ended, word_of, is_item_word}
 use Rattle.tb_galley.specs.Fields.{is_class_among, word_slots}
 use Rattle.tb_galley.specs.Faults.{place_causes, item_causes, cause_if}
 use Rattle.tb_galley.specs.Grammar.{Draft, item_kind, with_content}
 use Rattle.tb_galley.specs.Line.{first_of}
 use Rattle.tb_galley.specs.GalleyReader.{State, known_in, next_phase, count_with, take_said}
 use Rattle.tb_galley.specs.declared.classes.ClassLine.{ClassLine}
-use Rattle.tb_galley.specs.Valid.{is_leaf, is_item, weight_of, weight, is_class, has_known_class, fits_kind, fits_word}
+use Rattle.tb_galley.specs.Valid.{is_leaf, is_item, weight_of, weight, is_class, has_known_class, fits_kind, fits_word, is_two_column, may_come, do_heads_stand}
 use Rattle.tb_galley.proofs.SoundLines.{drafted}
 use Rattle.tb_galley.proofs.FieldTexts.{IsText, IsWord, tail_text, line_clean, state, step_back}
 use Rattle.tb_galley.proofs.SlotTexts.{ReadsAs, spelling}
@@ -157,8 +157,27 @@ abbrev pub takes_items : Phase → Bool
 takes_items at_start = false
 takes_items among_sets = true
 takes_items among_items = true
+takes_items after_two = true
 takes_items in_foot = false
 takes_items ended = false
+
+-- the phase is that directly after a change to two columns
+abbrev pub is_after_two : Phase → Bool
+is_after_two after_two = true
+is_after_two _ = false
+
+-- the phase after an item outside a footnote
+abbrev pub phase_past_kind : ItemKind → Phase
+phase_past_kind items.TwoColumn = after_two
+phase_past_kind _ = among_items
+
+same_after : (k : ItemKind) → is_two_column k ≡ is_after_two (phase_past_kind k)
+same_after items.TwoColumn = refl
+same_after k = refl
+
+takes_past_kind : (k : ItemKind) → takes_items (phase_past_kind k) ≡ true
+takes_past_kind items.TwoColumn = refl
+takes_past_kind k = refl
 
 count_fits : (c : ℕ) (w : LineWord) → c + 1 ≤ 100000 → first_of (item_causes c (Some w)) ≡ None
 count_fits c w h =
@@ -170,28 +189,39 @@ record GoesOn (p q : Phase) (c : ℕ) (w : LineWord) : Type 0 where
   next : next_phase p (Some w) ≡ q
   count : count_with c (Some w) ≡ c + 1
 
-single_goes : (p : Phase) (c : ℕ) (k : ItemKind) → takes_items p ≡ true → is_single k ≡ true → GoesOn p among_items c (item_word k)
-single_goes among_sets c (items.Hbox name h d) takes single = cc
-single_goes among_sets c (items.Rule name h d) takes single = cc
-single_goes among_sets c (items.Skip g) takes single = cc
-single_goes among_sets c (items.Kern w) takes single = cc
-single_goes among_sets c (items.Penalty n) takes single = cc
-single_goes among_sets c (items.Foot class ls) takes single = cc
-single_goes among_sets c k takes single = record { place = refl; next = refl; count = refl }
-single_goes among_items c (items.Hbox name h d) takes single = cc
-single_goes among_items c (items.Rule name h d) takes single = cc
-single_goes among_items c (items.Skip g) takes single = cc
-single_goes among_items c (items.Kern w) takes single = cc
-single_goes among_items c (items.Penalty n) takes single = cc
-single_goes among_items c (items.Foot class ls) takes single = cc
-single_goes among_items c k takes single = record { place = refl; next = refl; count = refl }
-single_goes p c k takes single = cc
+single_goes : (p : Phase) (c : ℕ) (k : ItemKind) → takes_items p ≡ true → is_single k ≡ true → may_come (is_after_two p) k ≡ true → GoesOn p (phase_past_kind k) c (item_word k)
+single_goes among_sets c (items.Hbox name h d) takes single stands = cc
+single_goes among_sets c (items.Rule name h d) takes single stands = cc
+single_goes among_sets c (items.Skip g) takes single stands = cc
+single_goes among_sets c (items.Kern w) takes single stands = cc
+single_goes among_sets c (items.Penalty n) takes single stands = cc
+single_goes among_sets c (items.Foot class ls) takes single stands = cc
+single_goes among_sets c (items.Head f) takes single stands = cc
+single_goes among_sets c k takes single stands = record { place = refl; next = refl; count = refl }
+single_goes among_items c (items.Hbox name h d) takes single stands = cc
+single_goes among_items c (items.Rule name h d) takes single stands = cc
+single_goes among_items c (items.Skip g) takes single stands = cc
+single_goes among_items c (items.Kern w) takes single stands = cc
+single_goes among_items c (items.Penalty n) takes single stands = cc
+single_goes among_items c (items.Foot class ls) takes single stands = cc
+single_goes among_items c (items.Head f) takes single stands = cc
+single_goes among_items c k takes single stands = record { place = refl; next = refl; count = refl }
+single_goes after_two c (items.Hbox name h d) takes single stands = cc
+single_goes after_two c (items.Rule name h d) takes single stands = cc
+single_goes after_two c (items.Skip g) takes single stands = cc
+single_goes after_two c (items.Kern w) takes single stands = cc
+single_goes after_two c (items.Penalty n) takes single stands = cc
+single_goes after_two c (items.Foot class ls) takes single stands = cc
+single_goes after_two c k takes single stands = record { place = refl; next = refl; count = refl }
+single_goes p c k takes single stands = cc
 
 leaf_goes : (p : Phase) (c : ℕ) (k : LeafKind) → takes_items p ≡ true → GoesOn p among_items c (leaf_word k)
 leaf_goes among_sets c (leaves.Hbox name h d) takes = record { place = refl; next = refl; count = refl }
 leaf_goes among_sets c k takes = record { place = refl; next = refl; count = refl }
 leaf_goes among_items c (leaves.Hbox name h d) takes = record { place = refl; next = refl; count = refl }
 leaf_goes among_items c k takes = record { place = refl; next = refl; count = refl }
+leaf_goes after_two c (leaves.Hbox name h d) takes = record { place = refl; next = refl; count = refl }
+leaf_goes after_two c k takes = record { place = refl; next = refl; count = refl }
 leaf_goes p c k takes = cc
 
 inner_goes : (c : ℕ) (k : LeafKind) → GoesOn in_foot in_foot c (leaf_word k)
@@ -201,6 +231,7 @@ inner_goes c k = record { place = refl; next = refl; count = refl }
 foot_goes : (p : Phase) (c : ℕ) → takes_items p ≡ true → GoesOn p in_foot c foot
 foot_goes among_sets c takes = record { place = refl; next = refl; count = refl }
 foot_goes among_items c takes = record { place = refl; next = refl; count = refl }
+foot_goes after_two c takes = record { place = refl; next = refl; count = refl }
 foot_goes p c takes = cc
 
 -- a line of an item
@@ -218,6 +249,8 @@ leaf_here known k = refl
 item_here : (known : Known) (k : ItemKind) → fits_word known.version k ≡ true → word_here known (Some (item_word k)) ≡ Some (item_word k)
 item_here known (items.Hbox name h d) fit = refl
 item_here known (items.Page n) fit = ap (λ t. if t then Some page_number else None) fit
+item_here known (items.Head f) fit = ap (λ t. if t then Some title else None) fit
+item_here known (items.Enlarge by star) fit = ap (λ t. if t then Some enlarge else None) fit
 item_here known k fit = refl
 
 -- ---- footnotes
@@ -296,21 +329,21 @@ unfolding leaf_line
 plain_run n p c ps v cs e before k takes few good =
     goes_runs n p among_items c (drafted ps v cs before None e) (leaf_word k) (leaf_fields k) (λ m. contents.Plain k) few (leaf_here (known_by v cs) k) (leaf_back (known_by v cs) k good) (leaf_goes p c k takes)
 
-single_run : (n : ℕ) (p : Phase) (c : ℕ) (ps : Params) (v : ℕ) (cs : List ClassLine) (e : ℕ) (before : List Item) (line : ℕ) (k : ItemKind) → takes_items p ≡ true → c + 1 ≤ 100000 → is_single k ≡ true → is_item line k ≡ true → fits_kind v k ≡ true → fits_word v k ≡ true
-    → Runs (item_state n p c ps v cs e before) (item_line k ∷ []) (item_state (n + 1) among_items (c + 1) ps v cs e (before ++ record { line = n + 1; kind = on_line_kind (n + 1) k } ∷ []))
-single_run n p c ps v cs e before line k takes few single good kind fit =
-    goes_runs n p among_items c (drafted ps v cs before None e) (item_word k) (item_fields k) (λ m. contents.Item (on_line_kind m k)) few (item_here (known_by v cs) k fit) (item_back (known_by v cs) line k single good kind) (single_goes p c k takes single)
+single_run : (n : ℕ) (p : Phase) (c : ℕ) (ps : Params) (v : ℕ) (cs : List ClassLine) (e : ℕ) (before : List Item) (line : ℕ) (k : ItemKind) → takes_items p ≡ true → c + 1 ≤ 100000 → is_single k ≡ true → is_item line k ≡ true → fits_kind v k ≡ true → fits_word v k ≡ true → may_come (is_after_two p) k ≡ true
+    → Runs (item_state n p c ps v cs e before) (item_line k ∷ []) (item_state (n + 1) (phase_past_kind k) (c + 1) ps v cs e (before ++ record { line = n + 1; kind = on_line_kind (n + 1) k } ∷ []))
+single_run n p c ps v cs e before line k takes few single good kind fit stands =
+    goes_runs n p (phase_past_kind k) c (drafted ps v cs before None e) (item_word k) (item_fields k) (λ m. contents.Item (on_line_kind m k)) few (item_here (known_by v cs) k fit) (item_back (known_by v cs) line k single good kind) (single_goes p c k takes single stands)
 
-item_run : (n : ℕ) (p : Phase) (c : ℕ) (ps : Params) (v : ℕ) (cs : List ClassLine) (e : ℕ) (before : List Item) (line : ℕ) (k : ItemKind) → HasClasses v cs → has_known_class (numbers_of cs) k ≡ true → takes_items p ≡ true → c + weight_of k ≤ 100000 → is_item line k ≡ true → fits_kind v k ≡ true → fits_word v k ≡ true
-    → Runs (item_state n p c ps v cs e before) (kind_lines v k) (item_state (n + weight_of k) among_items (c + weight_of k) ps v cs e (before ++ record { line = n + 1; kind = numbered_kind (n + 1) k } ∷ []))
+item_run : (n : ℕ) (p : Phase) (c : ℕ) (ps : Params) (v : ℕ) (cs : List ClassLine) (e : ℕ) (before : List Item) (line : ℕ) (k : ItemKind) → HasClasses v cs → has_known_class (numbers_of cs) k ≡ true → takes_items p ≡ true → c + weight_of k ≤ 100000 → is_item line k ≡ true → fits_kind v k ≡ true → fits_word v k ≡ true → may_come (is_after_two p) k ≡ true
+    → Runs (item_state n p c ps v cs e before) (kind_lines v k) (item_state (n + weight_of k) (phase_past_kind k) (c + weight_of k) ps v cs e (before ++ record { line = n + 1; kind = numbered_kind (n + 1) k } ∷ []))
 unfolding kind_lines numbered_kind leaf_line
-item_run n p c ps v cs e before line (items.Hbox name h d) has known takes few good kind fit = plain_run n p c ps v cs e before (leaves.Hbox name h d) takes few good
-item_run n p c ps v cs e before line (items.Rule name h d) has known takes few good kind fit = plain_run n p c ps v cs e before (leaves.Rule name h d) takes few good
-item_run n p c ps v cs e before line (items.Skip g) has known takes few good kind fit = plain_run n p c ps v cs e before (leaves.Skip g) takes few good
-item_run n p c ps v cs e before line (items.Kern w) has known takes few good kind fit = plain_run n p c ps v cs e before (leaves.Kern w) takes few good
-item_run n p c ps v cs e before line (items.Penalty k) has known takes few good kind fit = plain_run n p c ps v cs e before (leaves.Penalty k) takes few good
-item_run n p c ps v cs e before line (items.Foot class ls) has known takes few good kind fit = foot_run n p c ps v cs e before class ls has known takes few good
-item_run n p c ps v cs e before line k has known takes few good kind fit = single_run n p c ps v cs e before line k takes few refl good kind fit
+item_run n p c ps v cs e before line (items.Hbox name h d) has known takes few good kind fit stands = plain_run n p c ps v cs e before (leaves.Hbox name h d) takes few good
+item_run n p c ps v cs e before line (items.Rule name h d) has known takes few good kind fit stands = plain_run n p c ps v cs e before (leaves.Rule name h d) takes few good
+item_run n p c ps v cs e before line (items.Skip g) has known takes few good kind fit stands = plain_run n p c ps v cs e before (leaves.Skip g) takes few good
+item_run n p c ps v cs e before line (items.Kern w) has known takes few good kind fit stands = plain_run n p c ps v cs e before (leaves.Kern w) takes few good
+item_run n p c ps v cs e before line (items.Penalty k) has known takes few good kind fit stands = plain_run n p c ps v cs e before (leaves.Penalty k) takes few good
+item_run n p c ps v cs e before line (items.Foot class ls) has known takes few good kind fit stands = foot_run n p c ps v cs e before class ls has known takes few good
+item_run n p c ps v cs e before line k has known takes few good kind fit stands = single_run n p c ps v cs e before line k takes few refl good kind fit stands
 
 abbrev pub item_texts : ℕ → List Item → List (List ℕ)
 item_texts v [] = []
@@ -318,34 +351,35 @@ item_texts v (i ∷ is) = kind_lines v i.kind ++ item_texts v is
 
 abbrev pub phase_past_items : Phase → List Item → Phase
 phase_past_items p [] = p
-phase_past_items p (i ∷ is) = among_items
+phase_past_items p (i ∷ is) = phase_past_items (phase_past_kind i.kind) is
+
+pub takes_past : (p : Phase) (is : List Item) → takes_items p ≡ true → takes_items (phase_past_items p is) ≡ true
+takes_past p [] takes = takes
+takes_past p (i ∷ is) takes = takes_past (phase_past_kind i.kind) is (takes_past_kind i.kind)
 
 pub items_run : (n : ℕ) (p : Phase) (c : ℕ) (ps : Params) (v : ℕ) (cs : List ClassLine) (e : ℕ) (before is : List Item) → HasClasses v cs → takes_items p ≡ true → c + weight is ≤ 100000
     → list_all (λ (i : Item). is_item i.line i.kind) is ≡ true → list_all (λ (i : Item). has_known_class (numbers_of cs) i.kind) is ≡ true → list_all (λ (i : Item). fits_kind v i.kind) is ≡ true
-    → list_all (λ (i : Item). fits_word v i.kind) is ≡ true
+    → list_all (λ (i : Item). fits_word v i.kind) is ≡ true → do_heads_stand (is_after_two p) is ≡ true
     → Runs (item_state n p c ps v cs e before) (item_texts v is) (item_state (n + weight is) (phase_past_items p is) (c + weight is) ps v cs e (before ++ numbered_items (n + 1) is))
 unfolding numbered_items
-items_run n p c ps v cs e before [] has takes few good known kinds fit =
+items_run n p c ps v cs e before [] has takes few good known kinds fit stands =
     to_state (item_state n p c ps v cs e before) (item_state n p c ps v cs e before) (item_state (n + 0) p (c + 0) ps v cs e (before ++ [])) []
     (same_items n (n + 0) p c (c + 0) ps v cs e before (before ++ []) (omega arith) (omega arith) (sym (append-nil before)))
     (no_lines (item_state n p c ps v cs e before))
-items_run n p c ps v cs e before (i ∷ is) has takes few good known kinds fit =
+items_run n p c ps v cs e before (i ∷ is) has takes few good known kinds fit stands =
     let k : ℕ = weight_of i.kind in
     let item : Item = record { line = n + 1; kind = numbered_kind (n + 1) i.kind } in
-    then_lines (item_state n p c ps v cs e before) (item_state (n + weight_of i.kind) among_items (c + weight_of i.kind) ps v cs e (before ++ item ∷ []))
-    (item_state (n + weight (i ∷ is)) among_items (c + weight (i ∷ is)) ps v cs e (before ++ item ∷ numbered_items (n + 1 + weight_of i.kind) is)) (kind_lines v i.kind) (item_texts v is)
+    then_lines (item_state n p c ps v cs e before) (item_state (n + weight_of i.kind) (phase_past_kind i.kind) (c + weight_of i.kind) ps v cs e (before ++ item ∷ []))
+    (item_state (n + weight (i ∷ is)) (phase_past_items p (i ∷ is)) (c + weight (i ∷ is)) ps v cs e (before ++ item ∷ numbered_items (n + 1 + weight_of i.kind) is)) (kind_lines v i.kind) (item_texts v is)
     (item_run n p c ps v cs e before i.line i.kind has (first_so (has_known_class (numbers_of cs) i.kind) (list_all (λ (j : Item). has_known_class (numbers_of cs) j.kind) is) known) takes (omega arith)
-    (first_so (is_item i.line i.kind) (list_all (λ (j : Item). is_item j.line j.kind) is) good) (first_so (fits_kind v i.kind) (list_all (λ (j : Item). fits_kind v j.kind) is) kinds) (first_so (fits_word v i.kind) (list_all (λ (j : Item). fits_word v j.kind) is) fit))
-    (to_state (item_state (n + weight_of i.kind) among_items (c + weight_of i.kind) ps v cs e (before ++ item ∷ []))
-    (item_state (n + weight_of i.kind + weight is) (phase_past_items among_items is) (c + weight_of i.kind + weight is) ps v cs e ((before ++ item ∷ []) ++ numbered_items (n + weight_of i.kind + 1) is))
-    (item_state (n + weight (i ∷ is)) among_items (c + weight (i ∷ is)) ps v cs e (before ++ item ∷ numbered_items (n + 1 + weight_of i.kind) is)) (item_texts v is)
-    (ap (λ ph. item_state (n + weight_of i.kind + weight is) ph (c + weight_of i.kind + weight is) ps v cs e ((before ++ item ∷ []) ++ numbered_items (n + weight_of i.kind + 1) is)) (still_items is)
-    ∙ same_items (n + weight_of i.kind + weight is) (n + weight (i ∷ is)) among_items (c + weight_of i.kind + weight is) (c + weight (i ∷ is)) ps v cs e ((before ++ item ∷ []) ++ numbered_items (n + weight_of i.kind + 1) is) (before ++ item ∷ numbered_items (n + 1 + weight_of i.kind) is)
+    (first_so (is_item i.line i.kind) (list_all (λ (j : Item). is_item j.line j.kind) is) good) (first_so (fits_kind v i.kind) (list_all (λ (j : Item). fits_kind v j.kind) is) kinds) (first_so (fits_word v i.kind) (list_all (λ (j : Item). fits_word v j.kind) is) fit)
+    (first_so (may_come (is_after_two p) i.kind) (do_heads_stand (is_two_column i.kind) is) stands))
+    (to_state (item_state (n + weight_of i.kind) (phase_past_kind i.kind) (c + weight_of i.kind) ps v cs e (before ++ item ∷ []))
+    (item_state (n + weight_of i.kind + weight is) (phase_past_items (phase_past_kind i.kind) is) (c + weight_of i.kind + weight is) ps v cs e ((before ++ item ∷ []) ++ numbered_items (n + weight_of i.kind + 1) is))
+    (item_state (n + weight (i ∷ is)) (phase_past_items p (i ∷ is)) (c + weight (i ∷ is)) ps v cs e (before ++ item ∷ numbered_items (n + 1 + weight_of i.kind) is)) (item_texts v is)
+    (same_items (n + weight_of i.kind + weight is) (n + weight (i ∷ is)) (phase_past_items (phase_past_kind i.kind) is) (c + weight_of i.kind + weight is) (c + weight (i ∷ is)) ps v cs e ((before ++ item ∷ []) ++ numbered_items (n + weight_of i.kind + 1) is) (before ++ item ∷ numbered_items (n + 1 + weight_of i.kind) is)
     (omega arith) (omega arith) (append_assoc before (item ∷ []) (numbered_items (n + weight_of i.kind + 1) is) ∙ ap (λ m. before ++ item ∷ numbered_items m is) (omega arith)))
-    (items_run (n + weight_of i.kind) among_items (c + weight_of i.kind) ps v cs e (before ++ item ∷ []) is has refl (omega arith)
+    (items_run (n + weight_of i.kind) (phase_past_kind i.kind) (c + weight_of i.kind) ps v cs e (before ++ item ∷ []) is has (takes_past_kind i.kind) (omega arith)
     (second_so (is_item i.line i.kind) (list_all (λ (j : Item). is_item j.line j.kind) is) good) (second_so (has_known_class (numbers_of cs) i.kind) (list_all (λ (j : Item). has_known_class (numbers_of cs) j.kind) is) known) (second_so (fits_kind v i.kind) (list_all (λ (j : Item). fits_kind v j.kind) is) kinds)
-    (second_so (fits_word v i.kind) (list_all (λ (j : Item). fits_word v j.kind) is) fit)))
-  where
-    still_items : (is : List Item) → phase_past_items among_items is ≡ among_items
-    still_items [] = refl
-    still_items (i ∷ is) = refl
+    (second_so (fits_word v i.kind) (list_all (λ (j : Item). fits_word v j.kind) is) fit)
+    (subst (λ t. do_heads_stand t is ≡ true) (same_after i.kind) (second_so (may_come (is_after_two p) i.kind) (do_heads_stand (is_two_column i.kind) is) stands))))

@@ -11,7 +11,7 @@ use Rattle.tb_galley.specs.declared.LeafKind.{LeafKind}
 use Rattle.tb_galley.specs.declared.LeafKind.TheVariants as leaves
 use Rattle.tb_galley.specs.declared.Cause.{Cause}
 use Rattle.tb_galley.specs.declared.Fault.{Fault}
-use Rattle.tb_galley.specs.Words.{LineWord, header, setting, class_line, hbox, rule, skip, kern, penalty, endfoot, known_with, with_number, number_or, number_in, first_field, Line, line_at, at_start, phase_after, phase_among, item_count, content_at, is_end_line, is_item_line, foot_open, foot_open_from, open_after, is_end_word, is_item_word, word_passes}
+use Rattle.tb_galley.specs.Words.{LineWord, header, setting, class_line, hbox, rule, skip, kern, penalty, endfoot, known_with, with_number, number_or, number_in, first_field, Line, line_at, at_start, phase_after, phase_among, item_count, content_at, is_end_line, is_item_line, foot_open, foot_open_from, open_after, ends_two_from, is_end_word, is_item_word, is_two_word, word_passes}
 use Rattle.tb_text.specs.Lines.{fields_of, is_skipped}
 use Rattle.tb_galley.specs.Faults.{line_causes, end_causes, causes_from}
 use Rattle.tb_galley.specs.Grammar.{Draft, OpenFoot, dimension_at, glue_at, with_class, read_or, integer_at, field_at, class_at, content_of, set_content, with_plain, with_foot, with_content, with_word, with_line, empty_draft, galley_of, content_from, galley_unless, spelled}
@@ -33,35 +33,42 @@ open_append : (was : Bool) (ls : List Line) (l : Line) → foot_open_from was (l
 open_append was [] l = refl
 open_append was (m ∷ ls) l = open_append (open_after was m.word) ls l
 
-phase_step : (e o i : Bool) (w : Option LineWord)
-    → phase_among (e || word_passes is_end_word w) (open_after o w) (i || word_passes is_item_word w) ≡ next_phase (phase_among e o i) w
-phase_step true o i None = refl
-phase_step true o i (Some header) = refl
-phase_step true o i (Some _) = refl
-phase_step false true true None = refl
-phase_step false true true (Some header) = refl
-phase_step false true true (Some _) = refl
-phase_step false true false None = refl
-phase_step false true false (Some header) = refl
-phase_step false true false (Some _) = refl
-phase_step false false true None = refl
-phase_step false false true (Some header) = refl
-phase_step false false true (Some _) = refl
-phase_step false false false None = refl
-phase_step false false false (Some header) = refl
-phase_step false false false (Some _) = refl
+two_append : (was : Bool) (ls : List Line) (l : Line) → ends_two_from was (ls ++ l ∷ []) ≡ word_passes is_two_word l.word
+two_append was [] l = refl
+two_append was (m ∷ ls) l = two_append (word_passes is_two_word m.word) ls l
 
-phase_first : (w : Option LineWord) → phase_among (word_passes is_end_word w) (open_after false w) (word_passes is_item_word w) ≡ next_phase at_start w
+phase_step : (e o t i : Bool) (w : Option LineWord)
+    → phase_among (e || word_passes is_end_word w) (open_after o w) (word_passes is_two_word w) (i || word_passes is_item_word w) ≡ next_phase (phase_among e o t i) w
+phase_step true o t i None = refl
+phase_step true o t i (Some header) = refl
+phase_step true o t i (Some _) = refl
+phase_step false true t true None = refl
+phase_step false true t true (Some header) = refl
+phase_step false true t true (Some _) = refl
+phase_step false true t false None = refl
+phase_step false true t false (Some header) = refl
+phase_step false true t false (Some _) = refl
+phase_step false false true true None = refl
+phase_step false false true true (Some header) = refl
+phase_step false false true true (Some _) = refl
+phase_step false false false true None = refl
+phase_step false false false true (Some header) = refl
+phase_step false false false true (Some _) = refl
+phase_step false false t false None = refl
+phase_step false false t false (Some header) = refl
+phase_step false false t false (Some _) = refl
+
+phase_first : (w : Option LineWord) → phase_among (word_passes is_end_word w) (open_after false w) (word_passes is_two_word w) (word_passes is_item_word w) ≡ next_phase at_start w
 phase_first None = refl
 phase_first (Some header) = refl
 phase_first (Some _) = refl
 
 phase_more : (ls : List Line) (l : Line) → phase_after (ls ++ l ∷ []) ≡ next_phase (phase_after ls) l.word
-phase_more [] l = ap (λ b. phase_among b (open_after false l.word) (is_item_line l || false)) (or-false (is_end_line l))
-    ∙ ap (λ b. phase_among (is_end_line l) (open_after false l.word) b) (or-false (is_item_line l)) ∙ phase_first l.word
+phase_more [] l = ap (λ b. phase_among b (open_after false l.word) (word_passes is_two_word l.word) (is_item_line l || false)) (or-false (is_end_line l))
+    ∙ ap (λ b. phase_among (is_end_line l) (open_after false l.word) (word_passes is_two_word l.word) b) (or-false (is_item_line l)) ∙ phase_first l.word
 phase_more (m ∷ ls) l =
-    (λ i. phase_among (any_append is_end_line (m ∷ ls) l i) (open_append false (m ∷ ls) l i) (any_append is_item_line (m ∷ ls) l i))
-    ∙ phase_step (list_any is_end_line (m ∷ ls)) (foot_open (m ∷ ls)) (list_any is_item_line (m ∷ ls)) l.word
+    (λ i. phase_among (any_append is_end_line (m ∷ ls) l i) (open_append false (m ∷ ls) l i) (two_append false (m ∷ ls) l i) (any_append is_item_line (m ∷ ls) l i))
+    ∙ phase_step (list_any is_end_line (m ∷ ls)) (foot_open (m ∷ ls)) (ends_two_from false (m ∷ ls)) (list_any is_item_line (m ∷ ls)) l.word
 
 count_one : (n : ℕ) (t : Bool) → n + (if t then 1 else 0) ≡ (if t then n + 1 else n)
 count_one n true = refl

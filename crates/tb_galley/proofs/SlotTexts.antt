@@ -16,7 +16,7 @@ use Rattle.tb_param.specs.Table.{is_within, is_dimen, is_glue}
 use Rattle.tb_galley.specs.declared.Cause.{Cause}
 use Rattle.tb_galley.specs.declared.Cause.TheVariants as causes
 use Rattle.tb_galley.specs.declared.contents.Content.{Content}
-use Rattle.tb_galley.specs.Words.{LineWord, Known, header, setting, class_line, hbox, rule, skip, kern, penalty, mark, note, foot, endfoot, float, margin, newpage, clearpage, pagebreak, nopagebreak, onecolumn, twocolumn, suppressfloats, page_number, end}
+use Rattle.tb_galley.specs.Words.{LineWord, Known, header, setting, class_line, hbox, rule, skip, kern, penalty, mark, note, foot, endfoot, float, margin, newpage, clearpage, pagebreak, nopagebreak, onecolumn, twocolumn, suppressfloats, page_number, title, enlarge, end}
 use Rattle.tb_galley.specs.Fields.{name_slot, dimension_slot, least_slot, range_slot, stretch_slot, seen_slot, cause_of_read, word_slots}
 use Rattle.tb_galley.specs.Faults.{is_printable}
 use Rattle.tb_galley.specs.Grammar.{read_or, content_of, glue_from}
@@ -172,6 +172,8 @@ spelling onecolumn = codes "onecolumn"
 spelling twocolumn = codes "twocolumn"
 spelling suppressfloats = codes "suppressfloats"
 spelling page_number = codes "page"
+spelling title = codes "head"
+spelling enlarge = codes "enlarge"
 spelling end = codes "end"
 spelling class_line = codes "class"
 

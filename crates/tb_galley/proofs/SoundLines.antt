@@ -1,7 +1,8 @@
 -- A reader is sound: what it has drafted so far is in its ranges; each line of a known content keeps it so.
 use Rattle.std.proofs.Common.{◌≡◌, ℕ, zero, suc, ◌+◌, ◌≤◌, ◌<◌, Bool, true, false, ◌&&◌, ◌||◌, ◌==◌, nat_lt, nat_le, length, map, List, [], ◌∷◌, ◌++◌, Option, Some, None, refl, ap, sym, subst, ◌∙◌, ◌⊎◌, inl, inr, arith, append_assoc, length-append, append-nil}
 use Rattle.std.specs.Prelude.{is_some, is_none}
-use Rattle.std.proofs.lemmas.Bool.{eqb-true}
+use Rattle.std.proofs.lemmas.Bool.{eqb-true, and_from}
+use Rattle.std.specs.Cmp.{first_so, second_so}
 use Rattle.std.specs.List.{list_all}
 use Rattle.std.proofs.lemmas.Bool.Decides.{nat_tests}
 use Rattle.std.proofs.lemmas.List.Folds.{list_all-append}
@@ -21,12 +22,12 @@ use Rattle.tb_galley.specs.declared.classes.ClassLine.{ClassLine}
 use Rattle.tb_galley.specs.Fields.{is_class_among}
 use Rattle.tb_galley.specs.declared.Leaf.{Leaf}
 use Rattle.tb_galley.specs.declared.LeafKind.{LeafKind}
-use Rattle.tb_galley.specs.Words.{header, setting, Phase, at_start, among_sets, among_items, in_foot, ended}
+use Rattle.tb_galley.specs.Words.{header, setting, Phase, at_start, among_sets, among_items, after_two, in_foot, ended}
 use Rattle.tb_galley.specs.Faults.{place_causes, cause_if}
 use Rattle.tb_galley.specs.Grammar.{OpenFoot, Draft, with_item, with_plain, with_foot, with_content}
 use Rattle.tb_galley.specs.Line.{first_of}
 use Rattle.tb_galley.specs.GalleyReader.{next_phase}
-use Rattle.tb_galley.specs.Valid.{is_leaf, is_item, weight_of, weight, leaf_lines, lines_of_item, named_lines, rise_from, is_class, do_classes_rise, do_all_stand, has_known_class, fits_kind, fits_version, fits_word, OthersDefault, is_version}
+use Rattle.tb_galley.specs.Valid.{is_leaf, is_item, weight_of, weight, leaf_lines, lines_of_item, named_lines, rise_from, is_class, do_classes_rise, do_all_stand, has_known_class, fits_kind, fits_version, fits_word, OthersDefault, is_version, is_two_column, may_come, do_heads_stand}
 use Rattle.tb_galley.proofs.SuitedLines.{SetsInRange}
 
 -- ---- lists that rise
@@ -68,6 +69,28 @@ all_more p xs x h k = list_all-append p xs (x ∷ []) ∙ hold (list_all p xs) (
     hold true false h k = k
     hold false b h k = h
 
+-- ---- titles
+
+-- the last item changes to two columns
+abbrev pub ends_two : Bool → List Item → Bool
+ends_two was [] = was
+ends_two was (i ∷ is) = ends_two (is_two_column i.kind) is
+
+pub two-append : (was : Bool) (is : List Item) (i : Item) → ends_two was (is ++ i ∷ []) ≡ is_two_column i.kind
+two-append was [] i = refl
+two-append was (j ∷ is) i = two-append (is_two_column j.kind) is i
+
+heads-append : (was : Bool) (is : List Item) (i : Item) → do_heads_stand was is ≡ true → may_come (ends_two was is) i.kind ≡ true → do_heads_stand was (is ++ i ∷ []) ≡ true
+heads-append was [] i h k = ap (λ t. t && true) k
+heads-append was (j ∷ is) i h k =
+    and_from (may_come was j.kind) (do_heads_stand (is_two_column j.kind) (is ++ i ∷ [])) (first_so (may_come was j.kind) (do_heads_stand (is_two_column j.kind) is) h)
+    (heads-append (is_two_column j.kind) is i (second_so (may_come was j.kind) (do_heads_stand (is_two_column j.kind) is) h) k)
+
+-- directly after a change to two columns the last item is that change
+abbrev pub two_fits : Phase → List Item → Bool
+two_fits after_two is = ends_two false is
+two_fits _ is = true
+
 -- ---- a sound state
 
 abbrev open_leaves : Option OpenFoot → List Leaf
@@ -84,6 +107,7 @@ abbrev foot_fits : Phase → Option OpenFoot → Bool
 foot_fits at_start o = is_none o
 foot_fits among_sets o = is_none o
 foot_fits among_items o = is_none o
+foot_fits after_two o = is_none o
 foot_fits in_foot o = is_some o
 foot_fits ended o = is_none o
 
@@ -92,6 +116,7 @@ abbrev last_line : Phase → ℕ → ℕ → ℕ
 last_line at_start n e = n + 1
 last_line among_sets n e = n + 1
 last_line among_items n e = n + 1
+last_line after_two n e = n + 1
 last_line in_foot n e = n + 1
 last_line ended n e = e
 
@@ -114,6 +139,7 @@ is_fresh at_start v [] = v == 1
 is_fresh at_start v (i ∷ is) = false
 is_fresh among_sets v is = true
 is_fresh among_items v is = true
+is_fresh after_two v is = true
 is_fresh in_foot v is = true
 is_fresh ended v is = true
 
@@ -128,6 +154,8 @@ pub record Classed (p : Phase) (d : Draft) : Type 0 where
   pub standing : do_all_stand d.version d.classes ≡ true
   pub feet : list_all (λ (i : Item). has_known_class (numbers d.classes) i.kind) d.items ≡ true
   pub foot : is_known_foot (numbers d.classes) d.foot ≡ true
+  pub heads : do_heads_stand false d.items ≡ true
+  pub after : two_fits p d.items ≡ true
 
 pub record Sound (n : ℕ) (p : Phase) (c : ℕ) (d : Draft) : Type 0 where
   pub params : are_params d.params ≡ true
@@ -148,6 +176,7 @@ later_line : (p : Phase) (n e : ℕ) → last_line p n e ≤ last_line p (n + 1)
 later_line at_start n e = omega arith
 later_line among_sets n e = omega arith
 later_line among_items n e = omega arith
+later_line after_two n e = omega arith
 later_line in_foot n e = omega arith
 later_line ended n e = omega arith
 
@@ -232,6 +261,8 @@ header_line n at_start c d v some place s =
         standing = header_standing d.version v d.classes (fresh_version d.version d.items s.classed.fresh) s.classed.version;
         feet = s.classed.feet;
         foot = s.classed.foot;
+        heads = s.classed.heads;
+        after = refl;
       };
       weight = next.weight;
       count = next.count;
@@ -240,6 +271,7 @@ header_line n at_start c d v some place s =
     }
 header_line n among_sets c d v some place s = cc
 header_line n among_items c d v some place s = cc
+header_line n after_two c d v some place s = cc
 header_line n in_foot c d v some place s = cc
 header_line n ended c d v some place s = cc
 
@@ -300,6 +332,8 @@ set_line n among_sets c d field value place good known s =
         standing = s.classed.standing;
         feet = s.classed.feet;
         foot = s.classed.foot;
+        heads = s.classed.heads;
+        after = refl;
       };
       weight = next.weight;
       count = next.count;
@@ -307,6 +341,7 @@ set_line n among_sets c d field value place good known s =
       lines = next.lines;
     }
 set_line n among_items c d field value place good known s = cc
+set_line n after_two c d field value place good known s = cc
 set_line n in_foot c d field value place good known s = cc
 set_line n ended c d field value place good known s = cc
 
@@ -322,10 +357,10 @@ more_lines xs named m n (inl e) k h =
 more_lines xs named m n (inr e) k h = subst (λ ns. Rises (xs ++ ns) n) (sym e) (rises_more_from 0 xs m n h k)
 
 -- an item of one line, with no foot open
-pub item_line : (n c : ℕ) (ps : Params) (v : ℕ) (cs : List ClassLine) (is : List Item) (e : ℕ) (k : ItemKind) → c + 1 ≤ 100000 → is_item (n + 1) k ≡ true → weight_of k ≡ 1 → has_known_class (numbers cs) k ≡ true → fits_kind v k ≡ true → fits_word v k ≡ true
+pub item_line : (n c : ℕ) (ps : Params) (v : ℕ) (cs : List ClassLine) (is : List Item) (e : ℕ) (k : ItemKind) → c + 1 ≤ 100000 → is_item (n + 1) k ≡ true → weight_of k ≡ 1 → has_known_class (numbers cs) k ≡ true → fits_kind v k ≡ true → fits_word v k ≡ true → may_come (ends_two false is) k ≡ true
     → (lines_of_item (n + 1) k ≡ []) ⊎ (lines_of_item (n + 1) k ≡ (n + 1) ∷ [])
     → (p : Phase) → last_line p n e ≡ n + 1 → Sound n p c (drafted ps v cs is None e) → Sound (n + 1) among_items (c + 1) (with_item (drafted ps v cs is None e) (n + 1) k)
-item_line n c ps v cs is e k fits good one known kind fit named p next s =
+item_line n c ps v cs is e k fits good one known kind fit stands named p next s =
     let i : Item = record { line = n + 1; kind = k } in
     let heavier : weight (is ++ i ∷ []) ≡ weight is + weight_of k = weight-append is i in
     let before : Rises (named_lines is) (n + 1) = subst (λ a. Rises (named_lines is) a) next (subst (λ ns. Rises ns (last_line p n e)) (append-nil (named_lines is)) s.lines) in
@@ -344,6 +379,8 @@ item_line n c ps v cs is e k fits good one known kind fit named p next s =
         standing = s.classed.standing;
         feet = all_more (λ (j : Item). has_known_class (numbers cs) j.kind) is i s.classed.feet known;
         foot = refl;
+        heads = heads-append false is i s.classed.heads stands;
+        after = refl;
       };
       weight = omega arith;
       count = fits;
@@ -352,6 +389,31 @@ item_line n c ps v cs is e k fits good one known kind fit named p next s =
           subst (λ ns. Rises ns (n + 1 + 1)) (sym (append-nil (named_lines (is ++ i ∷ [])) ∙ named-append is i))
           (more_lines (named_lines is) (lines_of_item (n + 1) k) (n + 1) (n + 1 + 1) named (omega arith) before);
     }
+
+-- a state after an item that changes to two columns
+pub to_two : (n c : ℕ) (d : Draft) → ends_two false d.items ≡ true → Sound n among_items c d → Sound n after_two c d
+to_two n c d two s = record {
+  params = s.params;
+  items = s.items;
+  leaves = s.leaves;
+  classed = record {
+    version = s.classed.version;
+    words = s.classed.words;
+    others = s.classed.others;
+    fresh = refl;
+    kinds = s.classed.kinds;
+    classes = s.classed.classes;
+    standing = s.classed.standing;
+    feet = s.classed.feet;
+    foot = s.classed.foot;
+    heads = s.classed.heads;
+    after = two;
+  };
+  weight = s.weight;
+  count = s.count;
+  phase = s.phase;
+  lines = s.lines;
+}
 
 -- a line of an open foot
 pub leaf_line : (n c : ℕ) (ps : Params) (v : ℕ) (cs : List ClassLine) (is : List Item) (o : OpenFoot) (e : ℕ) (k : LeafKind) → c + 1 ≤ 100000 → is_leaf k ≡ true → Sound n in_foot c (drafted ps v cs is (Some o) e)
@@ -364,7 +426,7 @@ leaf_line n c ps v cs is o e k fits good s =
       params = s.params;
       items = s.items;
       leaves = all_more (λ (m : Leaf). is_leaf m.kind) o.leaves l s.leaves good;
-      classed = record { version = s.classed.version; words = s.classed.words; others = s.classed.others; fresh = refl; kinds = s.classed.kinds; classes = s.classed.classes; standing = s.classed.standing; feet = s.classed.feet; foot = s.classed.foot };
+      classed = record { version = s.classed.version; words = s.classed.words; others = s.classed.others; fresh = refl; kinds = s.classed.kinds; classes = s.classed.classes; standing = s.classed.standing; feet = s.classed.feet; foot = s.classed.foot; heads = s.classed.heads; after = refl };
       weight = omega arith;
       count = fits;
       phase = refl;
@@ -381,7 +443,7 @@ foot_line n c ps v cs is e class fits known p next s =
       params = s.params;
       items = s.items;
       leaves = refl;
-      classed = record { version = s.classed.version; words = s.classed.words; others = s.classed.others; fresh = refl; kinds = s.classed.kinds; classes = s.classed.classes; standing = s.classed.standing; feet = s.classed.feet; foot = known };
+      classed = record { version = s.classed.version; words = s.classed.words; others = s.classed.others; fresh = refl; kinds = s.classed.kinds; classes = s.classed.classes; standing = s.classed.standing; feet = s.classed.feet; foot = known; heads = s.classed.heads; after = refl };
       weight = omega arith;
       count = fits;
       phase = refl;
@@ -408,6 +470,8 @@ endfoot_line n c ps v cs is o e fits s =
         standing = s.classed.standing;
         feet = all_more (λ (j : Item). has_known_class (numbers cs) j.kind) is i s.classed.feet s.classed.foot;
         foot = refl;
+        heads = heads-append false is i s.classed.heads refl;
+        after = refl;
       };
       weight = omega arith;
       count = fits;
@@ -423,7 +487,7 @@ end_line n c ps v cs is e p next s = record {
   params = s.params;
   items = s.items;
   leaves = s.leaves;
-  classed = record { version = s.classed.version; words = s.classed.words; others = s.classed.others; fresh = refl; kinds = s.classed.kinds; classes = s.classed.classes; standing = s.classed.standing; feet = s.classed.feet; foot = s.classed.foot };
+  classed = record { version = s.classed.version; words = s.classed.words; others = s.classed.others; fresh = refl; kinds = s.classed.kinds; classes = s.classed.classes; standing = s.classed.standing; feet = s.classed.feet; foot = s.classed.foot; heads = s.classed.heads; after = refl };
   weight = s.weight;
   count = s.count;
   phase = refl;

@@ -1,5 +1,5 @@
 -- The reader's galley stays valid, line by line.
-use Rattle.std.proofs.Common.{◌≡◌, ℕ, ◌+◌, ◌≤◌, Bool, true, false, ◌||◌, ◌==◌, nat_le, List, [], ◌∷◌, Option, Some, None, Result, Ok, Err, IfOk, refl, sym, subst, ◌⊎◌, inl, inr, arith, if◌then◌else◌, append-nil}
+use Rattle.std.proofs.Common.{◌≡◌, ℕ, ◌+◌, ◌≤◌, Bool, true, false, ◌||◌, ◌==◌, nat_le, List, [], ◌∷◌, Option, Some, None, Result, Ok, Err, IfOk, refl, sym, subst, ◌∙◌, ◌⊎◌, inl, inr, arith, if◌then◌else◌, append-nil}
 use Rattle.std.specs.Cmp.{first_so, second_so}
 use Rattle.std.proofs.lemmas.Bool.{and_from}
 use Rattle.std.specs.List.{list_all, fold}
@@ -20,15 +20,15 @@ use Rattle.tb_galley.specs.Fields.{is_class_among}
 use Rattle.tb_galley.specs.declared.LeafKind.{LeafKind}
 use Rattle.tb_galley.specs.declared.LeafKind.TheVariants as leaves
 use Rattle.tb_galley.specs.declared.fields.At.{At}
-use Rattle.tb_galley.specs.Words.{LineWord, header, setting, class_line, hbox, rule, skip, kern, penalty, mark, note, foot, endfoot, float, margin, newpage, clearpage, pagebreak, nopagebreak, onecolumn, twocolumn, suppressfloats, page_number, end, Phase, at_start, among_sets, among_items, in_foot, ended, is_leaf_word, Known, word_here}
+use Rattle.tb_galley.specs.Words.{LineWord, header, setting, class_line, hbox, rule, skip, kern, penalty, mark, note, foot, endfoot, float, margin, newpage, clearpage, pagebreak, nopagebreak, onecolumn, twocolumn, suppressfloats, page_number, title, enlarge, end, Phase, at_start, among_sets, among_items, after_two, in_foot, ended, is_leaf_word, Known, word_here}
 use Rattle.tb_galley.specs.Faults.{place_causes, item_causes, end_causes}
 use Rattle.tb_galley.specs.Grammar.{OpenFoot, Draft, item_kind, with_item, with_plain, with_foot, with_content, with_class, galley_of}
 use Rattle.tb_galley.specs.Line.{first_of, Said, line_left}
-use Rattle.tb_galley.specs.GalleyReader.{State, next_phase, item_phase, known_in, count_with, start, past_said, said_unless, said_first, take_said, end_by, verdict_by, verdict}
-use Rattle.tb_galley.specs.Valid.{is_leaf, is_item, weight_of, weight, lines_of_item, named_lines, is_class, do_classes_rise, may_stand, has_known_class, fits_kind, fits_version, IsValid, fits_word}
-use Rattle.tb_galley.proofs.SuitedLines.{is_single_word, LeafSaid, ItemSaid, Suits, SaidSuits, IfSaid, line_suits}
+use Rattle.tb_galley.specs.GalleyReader.{State, next_phase, item_phase, two_phase, known_in, count_with, start, past_said, said_unless, said_first, take_said, end_by, verdict_by, verdict}
+use Rattle.tb_galley.specs.Valid.{is_leaf, is_item, weight_of, weight, lines_of_item, named_lines, is_class, do_classes_rise, may_stand, has_known_class, fits_kind, fits_version, IsValid, fits_word, is_two_column, may_come}
+use Rattle.tb_galley.proofs.SuitedLines.{is_single_word, is_title_word, LeafSaid, ItemSaid, Suits, SaidSuits, IfSaid, line_suits}
 use Rattle.tb_galley.proofs.WithClass.{rise-with, all-with, among-with}
-use Rattle.tb_galley.proofs.SoundLines.{Rises, numbers, Sound, drafted, past_line, fits_later, header_line, set_line, items_left, item_line, leaf_line, foot_line, endfoot_line, end_line}
+use Rattle.tb_galley.proofs.SoundLines.{Rises, numbers, Sound, drafted, ends_two, two-append, two_fits, to_two, past_line, fits_later, header_line, set_line, items_left, item_line, leaf_line, foot_line, endfoot_line, end_line}
 
 -- ---- each content, in each phase
 
@@ -49,6 +49,10 @@ leaf_item_fits : (v : ℕ) (k : LeafKind) → fits_word v (item_kind k) ≡ true
 leaf_item_fits v (leaves.Hbox name h d) = refl
 leaf_item_fits v k = refl
 
+leaf_item_stands : (after : Bool) (k : LeafKind) → may_come after (item_kind k) ≡ true
+leaf_item_stands after (leaves.Hbox name h d) = refl
+leaf_item_stands after k = refl
+
 leaf_item_class : (ks : List ℕ) (k : LeafKind) → has_known_class ks (item_kind k) ≡ true
 leaf_item_class ks (leaves.Hbox name h d) = refl
 leaf_item_class ks k = refl
@@ -62,6 +66,7 @@ abbrev takes_leaves : Phase → Bool
 takes_leaves at_start = false
 takes_leaves among_sets = true
 takes_leaves among_items = true
+takes_leaves after_two = true
 takes_leaves in_foot = true
 takes_leaves ended = false
 
@@ -69,6 +74,7 @@ abbrev takes_items : Phase → Bool
 takes_items at_start = false
 takes_items among_sets = true
 takes_items among_items = true
+takes_items after_two = true
 takes_items in_foot = false
 takes_items ended = false
 
@@ -76,24 +82,40 @@ plain_line : (n c : ℕ) (ps : Params) (v : ℕ) (cs : List ClassLine) (is : Lis
     → (p : Phase) (ft : Option OpenFoot) → takes_leaves p ≡ true → Sound n p c (drafted ps v cs is ft e)
     → Sound (n + 1) (item_phase p) (c + 1) (with_plain (drafted ps v cs is ft e) (n + 1) k ft)
 plain_line n c ps v cs is e k fits good among_sets None takes s =
-    item_line n c ps v cs is e (item_kind k) fits (leaf_item_range (n + 1) k good) (leaf_item_weight k) (leaf_item_class (numbers cs) k) (leaf_item_kind v k) (leaf_item_fits v k) (leaf_item_lines (n + 1) k) among_sets refl s
+    item_line n c ps v cs is e (item_kind k) fits (leaf_item_range (n + 1) k good) (leaf_item_weight k) (leaf_item_class (numbers cs) k) (leaf_item_kind v k) (leaf_item_fits v k) (leaf_item_stands (ends_two false is) k) (leaf_item_lines (n + 1) k) among_sets refl s
 plain_line n c ps v cs is e k fits good among_items None takes s =
-    item_line n c ps v cs is e (item_kind k) fits (leaf_item_range (n + 1) k good) (leaf_item_weight k) (leaf_item_class (numbers cs) k) (leaf_item_kind v k) (leaf_item_fits v k) (leaf_item_lines (n + 1) k) among_items refl s
+    item_line n c ps v cs is e (item_kind k) fits (leaf_item_range (n + 1) k good) (leaf_item_weight k) (leaf_item_class (numbers cs) k) (leaf_item_kind v k) (leaf_item_fits v k) (leaf_item_stands (ends_two false is) k) (leaf_item_lines (n + 1) k) among_items refl s
+plain_line n c ps v cs is e k fits good after_two None takes s =
+    item_line n c ps v cs is e (item_kind k) fits (leaf_item_range (n + 1) k good) (leaf_item_weight k) (leaf_item_class (numbers cs) k) (leaf_item_kind v k) (leaf_item_fits v k) (leaf_item_stands (ends_two false is) k) (leaf_item_lines (n + 1) k) after_two refl s
 plain_line n c ps v cs is e k fits good in_foot (Some o) takes s = leaf_line n c ps v cs is o e k fits good s
 plain_line n c ps v cs is e k fits good p ft takes s = cc
 
-single_line : (n c : ℕ) (ps : Params) (v : ℕ) (cs : List ClassLine) (is : List Item) (e : ℕ) (w : LineWord) (k : ItemKind) → c + 1 ≤ 100000 → ItemSaid v (n + 1) w k → fits_word v k ≡ true
+single_line : (n c : ℕ) (ps : Params) (v : ℕ) (cs : List ClassLine) (is : List Item) (e : ℕ) (w : LineWord) (k : ItemKind) → c + 1 ≤ 100000 → ItemSaid v (n + 1) w k → fits_word v k ≡ true → may_come (ends_two false is) k ≡ true
     → (p : Phase) (ft : Option OpenFoot) → takes_items p ≡ true → Sound n p c (drafted ps v cs is ft e)
     → Sound (n + 1) (item_phase p) (c + 1) (with_item (drafted ps v cs is ft e) (n + 1) k)
-single_line n c ps v cs is e w k fits good fit among_sets None takes s = item_line n c ps v cs is e k fits good.range good.weight (good.known (numbers cs)) good.kinds fit good.lines among_sets refl s
-single_line n c ps v cs is e w k fits good fit among_items None takes s = item_line n c ps v cs is e k fits good.range good.weight (good.known (numbers cs)) good.kinds fit good.lines among_items refl s
-single_line n c ps v cs is e w k fits good fit p ft takes s = cc
+single_line n c ps v cs is e w k fits good fit stands among_sets None takes s = item_line n c ps v cs is e k fits good.range good.weight (good.known (numbers cs)) good.kinds fit stands good.lines among_sets refl s
+single_line n c ps v cs is e w k fits good fit stands among_items None takes s = item_line n c ps v cs is e k fits good.range good.weight (good.known (numbers cs)) good.kinds fit stands good.lines among_items refl s
+single_line n c ps v cs is e w k fits good fit stands after_two None takes s = item_line n c ps v cs is e k fits good.range good.weight (good.known (numbers cs)) good.kinds fit stands good.lines after_two refl s
+single_line n c ps v cs is e w k fits good fit stands p ft takes s = cc
+
+-- an item that changes to two columns
+two_line : (n c : ℕ) (ps : Params) (v : ℕ) (cs : List ClassLine) (is : List Item) (e : ℕ) (w : LineWord) (k : ItemKind) → c + 1 ≤ 100000 → ItemSaid v (n + 1) w k → fits_word v k ≡ true → may_come (ends_two false is) k ≡ true → is_two_column k ≡ true
+    → (p : Phase) (ft : Option OpenFoot) → takes_items p ≡ true → Sound n p c (drafted ps v cs is ft e)
+    → Sound (n + 1) (two_phase p) (c + 1) (with_item (drafted ps v cs is ft e) (n + 1) k)
+two_line n c ps v cs is e w k fits good fit stands two among_sets None takes s =
+    to_two (n + 1) (c + 1) (with_item (drafted ps v cs is None e) (n + 1) k) (two-append false is (record { line = n + 1; kind = k }) ∙ two) (single_line n c ps v cs is e w k fits good fit stands among_sets None takes s)
+two_line n c ps v cs is e w k fits good fit stands two among_items None takes s =
+    to_two (n + 1) (c + 1) (with_item (drafted ps v cs is None e) (n + 1) k) (two-append false is (record { line = n + 1; kind = k }) ∙ two) (single_line n c ps v cs is e w k fits good fit stands among_items None takes s)
+two_line n c ps v cs is e w k fits good fit stands two after_two None takes s =
+    to_two (n + 1) (c + 1) (with_item (drafted ps v cs is None e) (n + 1) k) (two-append false is (record { line = n + 1; kind = k }) ∙ two) (single_line n c ps v cs is e w k fits good fit stands after_two None takes s)
+two_line n c ps v cs is e w k fits good fit stands two p ft takes s = cc
 
 leaf_takes : (p : Phase) (w : LineWord) → is_leaf_word w ≡ true → first_of (place_causes p (Some w)) ≡ None → takes_leaves p ≡ true
 leaf_takes at_start header h k = cc
 leaf_takes at_start w h k = cc
 leaf_takes among_sets w h k = refl
 leaf_takes among_items w h k = refl
+leaf_takes after_two w h k = refl
 leaf_takes in_foot w h k = refl
 leaf_takes ended w h k = cc
 
@@ -102,9 +124,19 @@ single_takes at_start header h k = cc
 single_takes at_start w h k = cc
 single_takes among_sets w h k = refl
 single_takes among_items w h k = refl
+single_takes after_two w h k = refl
 single_takes in_foot header h k = cc
 single_takes in_foot w h k = cc
 single_takes ended w h k = cc
+
+-- a title comes only directly after a change to two columns
+title_after : (p : Phase) (w : LineWord) (is : List Item) → first_of (place_causes p (Some w)) ≡ None → two_fits p is ≡ true → is_title_word w ≡ true → ends_two false is ≡ true
+title_after after_two title is place fits t = fits
+title_after p title is place fits t = cc
+title_after p w is place fits t = cc
+
+stands_there : (p : Phase) (w : LineWord) (v n : ℕ) (k : ItemKind) (is : List Item) → ItemSaid v n w k → first_of (place_causes p (Some w)) ≡ None → two_fits p is ≡ true → may_come (ends_two false is) k ≡ true
+stands_there p w v n k is good place fits = good.stands (ends_two false is) (title_after p w is place fits)
 
 abbrev Steps : ℕ → Phase → ℕ → LineWord → Draft → Type 0
 Steps n p c w d = Sound (n + 1) (next_phase p (Some w)) (count_with c (Some w)) d
@@ -120,24 +152,27 @@ leaf_steps n p c d w k place fits good s = let no : is_leaf_word w ≡ true = go
 
 single_steps : (n : ℕ) (p : Phase) (c : ℕ) (d : Draft) (w : LineWord) (k : ItemKind) → first_of (place_causes p (Some w)) ≡ None → first_of (item_causes c (Some w)) ≡ None → ItemSaid d.version (n + 1) w k
     → fits_word d.version k ≡ true → Sound n p c d → Steps n p c w (with_item d (n + 1) k)
-single_steps n p c d mark k place fits good fit s = single_line n c d.params d.version d.classes d.items d.end_line mark k (items_left c (nat_le 100000 c) refl fits) good fit p d.foot (single_takes p mark refl place) s
-single_steps n p c d note k place fits good fit s = single_line n c d.params d.version d.classes d.items d.end_line note k (items_left c (nat_le 100000 c) refl fits) good fit p d.foot (single_takes p note refl place) s
-single_steps n p c d float k place fits good fit s = single_line n c d.params d.version d.classes d.items d.end_line float k (items_left c (nat_le 100000 c) refl fits) good fit p d.foot (single_takes p float refl place) s
-single_steps n p c d margin k place fits good fit s = single_line n c d.params d.version d.classes d.items d.end_line margin k (items_left c (nat_le 100000 c) refl fits) good fit p d.foot (single_takes p margin refl place) s
-single_steps n p c d newpage k place fits good fit s = single_line n c d.params d.version d.classes d.items d.end_line newpage k (items_left c (nat_le 100000 c) refl fits) good fit p d.foot (single_takes p newpage refl place) s
-single_steps n p c d clearpage k place fits good fit s = single_line n c d.params d.version d.classes d.items d.end_line clearpage k (items_left c (nat_le 100000 c) refl fits) good fit p d.foot (single_takes p clearpage refl place) s
-single_steps n p c d pagebreak k place fits good fit s = single_line n c d.params d.version d.classes d.items d.end_line pagebreak k (items_left c (nat_le 100000 c) refl fits) good fit p d.foot (single_takes p pagebreak refl place) s
-single_steps n p c d nopagebreak k place fits good fit s = single_line n c d.params d.version d.classes d.items d.end_line nopagebreak k (items_left c (nat_le 100000 c) refl fits) good fit p d.foot (single_takes p nopagebreak refl place) s
-single_steps n p c d onecolumn k place fits good fit s = single_line n c d.params d.version d.classes d.items d.end_line onecolumn k (items_left c (nat_le 100000 c) refl fits) good fit p d.foot (single_takes p onecolumn refl place) s
-single_steps n p c d twocolumn k place fits good fit s = single_line n c d.params d.version d.classes d.items d.end_line twocolumn k (items_left c (nat_le 100000 c) refl fits) good fit p d.foot (single_takes p twocolumn refl place) s
-single_steps n p c d suppressfloats k place fits good fit s = single_line n c d.params d.version d.classes d.items d.end_line suppressfloats k (items_left c (nat_le 100000 c) refl fits) good fit p d.foot (single_takes p suppressfloats refl place) s
-single_steps n p c d page_number k place fits good fit s = single_line n c d.params d.version d.classes d.items d.end_line page_number k (items_left c (nat_le 100000 c) refl fits) good fit p d.foot (single_takes p page_number refl place) s
+single_steps n p c d mark k place fits good fit s = single_line n c d.params d.version d.classes d.items d.end_line mark k (items_left c (nat_le 100000 c) refl fits) good fit (stands_there p mark d.version (n + 1) k d.items good place s.classed.after) p d.foot (single_takes p mark refl place) s
+single_steps n p c d note k place fits good fit s = single_line n c d.params d.version d.classes d.items d.end_line note k (items_left c (nat_le 100000 c) refl fits) good fit (stands_there p note d.version (n + 1) k d.items good place s.classed.after) p d.foot (single_takes p note refl place) s
+single_steps n p c d float k place fits good fit s = single_line n c d.params d.version d.classes d.items d.end_line float k (items_left c (nat_le 100000 c) refl fits) good fit (stands_there p float d.version (n + 1) k d.items good place s.classed.after) p d.foot (single_takes p float refl place) s
+single_steps n p c d margin k place fits good fit s = single_line n c d.params d.version d.classes d.items d.end_line margin k (items_left c (nat_le 100000 c) refl fits) good fit (stands_there p margin d.version (n + 1) k d.items good place s.classed.after) p d.foot (single_takes p margin refl place) s
+single_steps n p c d newpage k place fits good fit s = single_line n c d.params d.version d.classes d.items d.end_line newpage k (items_left c (nat_le 100000 c) refl fits) good fit (stands_there p newpage d.version (n + 1) k d.items good place s.classed.after) p d.foot (single_takes p newpage refl place) s
+single_steps n p c d clearpage k place fits good fit s = single_line n c d.params d.version d.classes d.items d.end_line clearpage k (items_left c (nat_le 100000 c) refl fits) good fit (stands_there p clearpage d.version (n + 1) k d.items good place s.classed.after) p d.foot (single_takes p clearpage refl place) s
+single_steps n p c d pagebreak k place fits good fit s = single_line n c d.params d.version d.classes d.items d.end_line pagebreak k (items_left c (nat_le 100000 c) refl fits) good fit (stands_there p pagebreak d.version (n + 1) k d.items good place s.classed.after) p d.foot (single_takes p pagebreak refl place) s
+single_steps n p c d nopagebreak k place fits good fit s = single_line n c d.params d.version d.classes d.items d.end_line nopagebreak k (items_left c (nat_le 100000 c) refl fits) good fit (stands_there p nopagebreak d.version (n + 1) k d.items good place s.classed.after) p d.foot (single_takes p nopagebreak refl place) s
+single_steps n p c d onecolumn k place fits good fit s = single_line n c d.params d.version d.classes d.items d.end_line onecolumn k (items_left c (nat_le 100000 c) refl fits) good fit (stands_there p onecolumn d.version (n + 1) k d.items good place s.classed.after) p d.foot (single_takes p onecolumn refl place) s
+single_steps n p c d twocolumn k place fits good fit s = two_line n c d.params d.version d.classes d.items d.end_line twocolumn k (items_left c (nat_le 100000 c) refl fits) good fit (stands_there p twocolumn d.version (n + 1) k d.items good place s.classed.after) (sym good.two) p d.foot (single_takes p twocolumn refl place) s
+single_steps n p c d suppressfloats k place fits good fit s = single_line n c d.params d.version d.classes d.items d.end_line suppressfloats k (items_left c (nat_le 100000 c) refl fits) good fit (stands_there p suppressfloats d.version (n + 1) k d.items good place s.classed.after) p d.foot (single_takes p suppressfloats refl place) s
+single_steps n p c d page_number k place fits good fit s = single_line n c d.params d.version d.classes d.items d.end_line page_number k (items_left c (nat_le 100000 c) refl fits) good fit (stands_there p page_number d.version (n + 1) k d.items good place s.classed.after) p d.foot (single_takes p page_number refl place) s
+single_steps n p c d title k place fits good fit s = single_line n c d.params d.version d.classes d.items d.end_line title k (items_left c (nat_le 100000 c) refl fits) good fit (stands_there p title d.version (n + 1) k d.items good place s.classed.after) p d.foot (single_takes p title refl place) s
+single_steps n p c d enlarge k place fits good fit s = single_line n c d.params d.version d.classes d.items d.end_line enlarge k (items_left c (nat_le 100000 c) refl fits) good fit (stands_there p enlarge d.version (n + 1) k d.items good place s.classed.after) p d.foot (single_takes p enlarge refl place) s
 single_steps n p c d w k place fits good fit s = let no : is_single_word w ≡ true = good.word in cc
 
 foot_steps : (n c : ℕ) (ps : Params) (v : ℕ) (cs : List ClassLine) (is : List Item) (e : ℕ) → (class : ℕ) → c + 1 ≤ 100000 → is_class_among (numbers cs) class ≡ true → (p : Phase) (ft : Option OpenFoot) → first_of (place_causes p (Some foot)) ≡ None
     → Sound n p c (drafted ps v cs is ft e) → Steps n p c foot (with_content (drafted ps v cs is ft e) (n + 1) (contents.Foot class))
 foot_steps n c ps v cs is e class fits known among_sets None place s = foot_line n c ps v cs is e class fits known among_sets refl s
 foot_steps n c ps v cs is e class fits known among_items None place s = foot_line n c ps v cs is e class fits known among_items refl s
+foot_steps n c ps v cs is e class fits known after_two None place s = foot_line n c ps v cs is e class fits known after_two refl s
 foot_steps n c ps v cs is e class fits known p ft place s = cc
 
 endfoot_steps : (n c : ℕ) (ps : Params) (v : ℕ) (cs : List ClassLine) (is : List Item) (e : ℕ) → c + 1 ≤ 100000 → (p : Phase) (ft : Option OpenFoot) → first_of (place_causes p (Some endfoot)) ≡ None
@@ -149,6 +184,7 @@ end_steps : (n c : ℕ) (ps : Params) (v : ℕ) (cs : List ClassLine) (is : List
     → Sound n p c (drafted ps v cs is ft e) → Steps n p c end (drafted ps v cs is ft (n + 1))
 end_steps n c ps v cs is e among_sets None place s = end_line n c ps v cs is e among_sets refl s
 end_steps n c ps v cs is e among_items None place s = end_line n c ps v cs is e among_items refl s
+end_steps n c ps v cs is e after_two None place s = end_line n c ps v cs is e after_two refl s
 end_steps n c ps v cs is e p ft place s = cc
 
 -- the version of a galley in which `class` is a word
@@ -199,6 +235,8 @@ class_steps n c ps v cs is e line later good stands among_sets None place s =
         standing = all-with (λ k. may_stand v k.below) line cs stands s.classed.standing;
         feet = all_known line cs is s.classed.feet;
         foot = refl;
+        heads = s.classed.heads;
+        after = refl;
       };
       weight = next.weight;
       count = next.count;
@@ -265,7 +303,7 @@ start_sound = record {
   params = defaults_are_in_range;
   items = refl;
   leaves = refl;
-  classed = record { version = refl; words = refl; others = λ field lacks. refl; fresh = refl; kinds = refl; classes = refl; standing = refl; feet = refl; foot = refl };
+  classed = record { version = refl; words = refl; others = λ field lacks. refl; fresh = refl; kinds = refl; classes = refl; standing = refl; feet = refl; foot = refl; heads = refl; after = refl };
   weight = omega arith;
   count = omega arith;
   phase = refl;
@@ -286,6 +324,7 @@ ended_galley n c ps v cs is None e s =
       items = s.items;
       feet = s.classed.feet;
       kinds = s.classed.kinds;
+      heads = s.classed.heads;
       count = few;
       lines = subst (λ ns. Rises ns e) (append-nil (named_lines is)) s.lines;
     }
@@ -295,6 +334,7 @@ end_valid : (s : State) (p : Phase) → Sound s.lines p s.count s.draft → IfOk
 end_valid s at_start sound = tt
 end_valid s among_sets sound = tt
 end_valid s among_items sound = tt
+end_valid s after_two sound = tt
 end_valid s in_foot sound = tt
 end_valid s ended sound = ended_galley s.lines s.count s.draft.params s.draft.version s.draft.classes s.draft.items s.draft.foot s.draft.end_line sound
 

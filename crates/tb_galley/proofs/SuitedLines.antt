@@ -18,14 +18,14 @@ use Rattle.tb_galley.specs.declared.ItemKind.TheVariants as items
 use Rattle.tb_galley.specs.declared.LeafKind.{LeafKind}
 use Rattle.tb_galley.specs.declared.LeafKind.TheVariants as leaves
 use Rattle.tb_galley.specs.declared.fields.At.{At}
-use Rattle.tb_galley.specs.Words.{LineWord, header, setting, class_line, hbox, rule, skip, kern, penalty, mark, note, foot, endfoot, float, margin, newpage, clearpage, pagebreak, nopagebreak, onecolumn, twocolumn, suppressfloats, page_number, end, Phase, Line, line_at, content_at, is_leaf_word, Known, word_here}
+use Rattle.tb_galley.specs.Words.{LineWord, header, setting, class_line, hbox, rule, skip, kern, penalty, mark, note, foot, endfoot, float, margin, newpage, clearpage, pagebreak, nopagebreak, onecolumn, twocolumn, suppressfloats, page_number, title, enlarge, end, Phase, Line, line_at, content_at, is_leaf_word, is_two_word, Known, word_here}
 use Rattle.tb_galley.specs.Faults.{is_printable, place_causes, item_causes, missing_cause}
-use Rattle.tb_galley.specs.FieldReader.{Left, at_fault, settled, next_left, name_left, dimension_left, range_left, sized_left, glue_left, float_left, margin_left, area_left, value_left, set_by, set_left, class_left, foot_left, mapped, end_left, finished, content_left, version_left}
+use Rattle.tb_galley.specs.FieldReader.{Left, at_fault, settled, next_left, name_left, dimension_left, range_left, sized_left, glue_left, float_left, margin_left, head_left, enlarge_left, area_left, value_left, set_by, set_left, class_left, foot_left, mapped, end_left, finished, content_left, version_left}
 use Rattle.tb_galley.specs.Line.{first_of, Said, said, worded_left, content_line, content_lines, line_left}
-use Rattle.tb_galley.specs.Valid.{is_leaf, is_item, weight_of, lines_of_item, is_class, may_stand, has_known_class, fits_kind, fits_word, is_version}
+use Rattle.tb_galley.specs.Valid.{is_leaf, is_item, weight_of, lines_of_item, is_class, may_stand, has_known_class, fits_kind, fits_word, is_version, is_two_column, may_come}
 use Rattle.tb_galley.specs.Fields.{is_class_among}
 use Rattle.tb_galley.proofs.SameStep.{here_cases}
-use Rattle.tb_galley.proofs.InRange.{bind_has, then_has, mapped_has, has_more, settled_has, always, is_sized, sized_has, name_has, dimension_has, range_has, glue_has, float_has, IsFloatOf, margin_has, IsMarginOf, value_has, degree_at_most, page_at_most, class_has, IsClassIn, foot_has, version_has}
+use Rattle.tb_galley.proofs.InRange.{bind_has, then_has, mapped_has, has_more, settled_has, always, is_sized, sized_has, name_has, dimension_has, range_has, glue_has, float_has, IsFloatOf, margin_has, IsMarginOf, is_head_at, head_has, enlarge_has, value_has, degree_at_most, page_at_most, class_has, IsClassIn, foot_has, version_has}
 
 -- ---- what a line may say by its word
 
@@ -43,7 +43,14 @@ is_single_word onecolumn = true
 is_single_word twocolumn = true
 is_single_word suppressfloats = true
 is_single_word page_number = true
+is_single_word title = true
+is_single_word enlarge = true
 is_single_word _ = false
+
+-- the word of a title
+abbrev pub is_title_word : LineWord → Bool
+is_title_word title = true
+is_title_word _ = false
 
 pub record LeafSaid (w : LineWord) (k : LeafKind) : Type 0 where
   pub word : is_leaf_word w ≡ true
@@ -57,6 +64,8 @@ pub record ItemSaid (version n : ℕ) (w : LineWord) (k : ItemKind) : Type 0 whe
   pub known : (ks : List ℕ) → has_known_class ks k ≡ true
   pub kinds : fits_kind version k ≡ true
   pub fits : (q : Known) → word_here q (Some w) ≡ Some w → fits_word q.version k ≡ true
+  pub two : is_two_word w ≡ is_two_column k
+  pub stands : (after : Bool) → (is_title_word w ≡ true → after ≡ true) → may_come after k ≡ true
 
 -- setting the parameter keeps all in their ranges
 abbrev pub SetsInRange : Field → Value → Type 0
@@ -90,11 +99,11 @@ set_suits k n m l name (Some r) found =
     (has_more (λ x. fits r.form x.0 ≡ true) (λ x. Suits k n setting (contents.Set r.field x.0)) (value_left r.form l)
     (λ x good. (refl, (λ p h. stays_in_range name r x.0 p row.0 good h), row.1)) (value_has r.form l))
 
--- where `page` is a word the galley is of version 3
-third_version : (q : Known) → word_here q (Some page_number) ≡ Some page_number → (q.version == 3) ≡ true
-third_version q h = by_test (q.version == 3) h
+-- where a word of version 3 alone is a word the galley is of version 3
+third_version : (q : Known) (w : LineWord) → (if q.version == 3 then Some w else None) ≡ Some w → (q.version == 3) ≡ true
+third_version q w h = by_test (q.version == 3) h
   where
-    by_test : (t : Bool) → (if t then Some page_number else None) ≡ Some page_number → t ≡ true
+    by_test : (t : Bool) → (if t then Some w else None) ≡ Some w → t ≡ true
     by_test true h = refl
     by_test false h = cc
 
@@ -113,21 +122,25 @@ content_suits k n rule l = made_has k n rule (λ s. is_sized s ≡ true) (λ s. 
 content_suits k n skip l = made_has k n skip (λ g. is_glue g ≡ true) (λ g. contents.Plain (leaves.Skip g)) (glue_left causes.UnknownWord l) (glue_has causes.UnknownWord l) (λ g h. record { word = refl; range = h })
 content_suits k n kern l = made_has k n kern (λ v. is_dimen v ≡ true) (λ v. contents.Plain (leaves.Kern v)) (dimension_left l) (dimension_has l) (λ v h. record { word = refl; range = h })
 content_suits k n penalty l = made_has k n penalty (λ v. is_within (negsuc 9999) (pos 10000) v ≡ true) (λ v. contents.Plain (leaves.Penalty v)) (range_left (negsuc 9999) (pos 10000) causes.Penalty l) (range_has (negsuc 9999) (pos 10000) causes.Penalty l) (λ v h. record { word = refl; range = h })
-content_suits k n mark l = made_has k n mark (λ m. is_name m ≡ true) (λ m. contents.Item (items.Mark m)) (name_left l) (name_has l) (λ m h. record { word = refl; range = h; weight = refl; lines = inl refl; known = λ ks. refl; kinds = refl; fits = λ q here. refl })
-content_suits k n note l = made_has k n note (λ m. is_name m ≡ true) (λ m. contents.Item (items.Note m)) (name_left l) (name_has l) (λ m h. record { word = refl; range = h; weight = refl; lines = inl refl; known = λ ks. refl; kinds = refl; fits = λ q here. refl })
+content_suits k n mark l = made_has k n mark (λ m. is_name m ≡ true) (λ m. contents.Item (items.Mark m)) (name_left l) (name_has l) (λ m h. record { word = refl; range = h; weight = refl; lines = inl refl; known = λ ks. refl; kinds = refl; fits = λ q here. refl; two = refl; stands = λ a h. refl })
+content_suits k n note l = made_has k n note (λ m. is_name m ≡ true) (λ m. contents.Item (items.Note m)) (name_left l) (name_has l) (λ m h. record { word = refl; range = h; weight = refl; lines = inl refl; known = λ ks. refl; kinds = refl; fits = λ q here. refl; two = refl; stands = λ a h. refl })
 content_suits k n foot l = made_has k n foot (λ c. is_class_among k.classes c ≡ true) (λ c. contents.Foot c) (foot_left k l) (foot_has k l) (λ c h. (refl, h))
 content_suits k n endfoot l = refl
-content_suits k n float l = made_has k n float (λ f. IsFloatOf k.version n f) (λ f. contents.Item (items.Float f.0 f.1)) (float_left k.version n l) (float_has k.version n l) (λ f h. record { word = refl; range = h.0; weight = refl; lines = inr refl; known = λ ks. refl; kinds = h.1; fits = λ q here. refl })
-content_suits k n margin l = made_has k n margin (λ m. IsMarginOf k.version n m) (λ m. contents.Item (items.Margin m.0 m.1)) (margin_left k.version n l) (margin_has k.version n l) (λ m h. record { word = refl; range = h.0; weight = refl; lines = inr refl; known = λ ks. refl; kinds = h.1; fits = λ q here. refl })
-content_suits k n newpage l = record { word = refl; range = refl; weight = refl; lines = inl refl; known = λ ks. refl; kinds = refl; fits = λ q here. refl }
-content_suits k n clearpage l = record { word = refl; range = refl; weight = refl; lines = inl refl; known = λ ks. refl; kinds = refl; fits = λ q here. refl }
-content_suits k n pagebreak l = made_has k n pagebreak (λ v. is_within (pos 0) (pos 4) v ≡ true) (λ v. contents.Item (items.PageBreak (nat_abs v))) (range_left (pos 0) (pos 4) causes.Penalty l) (range_has (pos 0) (pos 4) causes.Penalty l) (λ v h. record { word = refl; range = degree_at_most v h; weight = refl; lines = inl refl; known = λ ks. refl; kinds = refl; fits = λ q here. refl })
-content_suits k n nopagebreak l = made_has k n nopagebreak (λ v. is_within (pos 0) (pos 4) v ≡ true) (λ v. contents.Item (items.NoPageBreak (nat_abs v))) (range_left (pos 0) (pos 4) causes.Penalty l) (range_has (pos 0) (pos 4) causes.Penalty l) (λ v h. record { word = refl; range = degree_at_most v h; weight = refl; lines = inl refl; known = λ ks. refl; kinds = refl; fits = λ q here. refl })
-content_suits k n onecolumn l = record { word = refl; range = refl; weight = refl; lines = inl refl; known = λ ks. refl; kinds = refl; fits = λ q here. refl }
-content_suits k n twocolumn l = record { word = refl; range = refl; weight = refl; lines = inl refl; known = λ ks. refl; kinds = refl; fits = λ q here. refl }
-content_suits k n suppressfloats l = mapped_has (λ c. Suits k n suppressfloats c) (λ a. contents.Item (items.Suppress a)) (area_left l) (always (λ x. record { word = refl; range = refl; weight = refl; lines = inl refl; known = λ ks. refl; kinds = refl; fits = λ q here. refl }) (area_left l))
+content_suits k n float l = made_has k n float (λ f. IsFloatOf k.version n f) (λ f. contents.Item (items.Float f.0 f.1)) (float_left k.version n l) (float_has k.version n l) (λ f h. record { word = refl; range = h.0; weight = refl; lines = inr refl; known = λ ks. refl; kinds = h.1; fits = λ q here. refl; two = refl; stands = λ a h. refl })
+content_suits k n margin l = made_has k n margin (λ m. IsMarginOf k.version n m) (λ m. contents.Item (items.Margin m.0 m.1)) (margin_left k.version n l) (margin_has k.version n l) (λ m h. record { word = refl; range = h.0; weight = refl; lines = inr refl; known = λ ks. refl; kinds = h.1; fits = λ q here. refl; two = refl; stands = λ a h. refl })
+content_suits k n newpage l = record { word = refl; range = refl; weight = refl; lines = inl refl; known = λ ks. refl; kinds = refl; fits = λ q here. refl; two = refl; stands = λ a h. refl }
+content_suits k n clearpage l = record { word = refl; range = refl; weight = refl; lines = inl refl; known = λ ks. refl; kinds = refl; fits = λ q here. refl; two = refl; stands = λ a h. refl }
+content_suits k n pagebreak l = made_has k n pagebreak (λ v. is_within (pos 0) (pos 4) v ≡ true) (λ v. contents.Item (items.PageBreak (nat_abs v))) (range_left (pos 0) (pos 4) causes.Penalty l) (range_has (pos 0) (pos 4) causes.Penalty l) (λ v h. record { word = refl; range = degree_at_most v h; weight = refl; lines = inl refl; known = λ ks. refl; kinds = refl; fits = λ q here. refl; two = refl; stands = λ a h. refl })
+content_suits k n nopagebreak l = made_has k n nopagebreak (λ v. is_within (pos 0) (pos 4) v ≡ true) (λ v. contents.Item (items.NoPageBreak (nat_abs v))) (range_left (pos 0) (pos 4) causes.Penalty l) (range_has (pos 0) (pos 4) causes.Penalty l) (λ v h. record { word = refl; range = degree_at_most v h; weight = refl; lines = inl refl; known = λ ks. refl; kinds = refl; fits = λ q here. refl; two = refl; stands = λ a h. refl })
+content_suits k n onecolumn l = record { word = refl; range = refl; weight = refl; lines = inl refl; known = λ ks. refl; kinds = refl; fits = λ q here. refl; two = refl; stands = λ a h. refl }
+content_suits k n twocolumn l = record { word = refl; range = refl; weight = refl; lines = inl refl; known = λ ks. refl; kinds = refl; fits = λ q here. refl; two = refl; stands = λ a h. refl }
+content_suits k n suppressfloats l = mapped_has (λ c. Suits k n suppressfloats c) (λ a. contents.Item (items.Suppress a)) (area_left l) (always (λ x. record { word = refl; range = refl; weight = refl; lines = inl refl; known = λ ks. refl; kinds = refl; fits = λ q here. refl; two = refl; stands = λ a h. refl }) (area_left l))
 content_suits k n page_number l = made_has k n page_number (λ v. is_within (pos 0) (pos 1000000) v ≡ true) (λ v. contents.Item (items.Page (nat_abs v))) (range_left (pos 0) (pos 1000000) causes.Parameter l) (range_has (pos 0) (pos 1000000) causes.Parameter l)
-    (λ v h. record { word = refl; range = page_at_most v h; weight = refl; lines = inl refl; known = λ ks. refl; kinds = refl; fits = λ q here. third_version q here })
+    (λ v h. record { word = refl; range = page_at_most v h; weight = refl; lines = inl refl; known = λ ks. refl; kinds = refl; fits = λ q here. third_version q page_number here; two = refl; stands = λ a h. refl })
+content_suits k n title l = made_has k n title (λ f. is_head_at n f ≡ true) (λ f. contents.Item (items.Head f)) (head_left n l) (head_has n l)
+    (λ f h. record { word = refl; range = h; weight = refl; lines = inr refl; known = λ ks. refl; kinds = refl; fits = λ q here. third_version q title here; two = refl; stands = λ a t. t refl })
+content_suits k n enlarge l = made_has k n enlarge (λ e. is_dimen e.0 ≡ true) (λ e. contents.Item (items.Enlarge e.0 e.1)) (enlarge_left l) (enlarge_has l)
+    (λ e h. record { word = refl; range = h; weight = refl; lines = inl refl; known = λ ks. refl; kinds = refl; fits = λ q here. third_version q enlarge here; two = refl; stands = λ a t. refl })
 content_suits k n end l = refl
 
 -- ---- a whole line

@@ -23,14 +23,14 @@ use Rattle.tb_galley.specs.declared.contents.Content.{Content}
 use Rattle.tb_galley.specs.declared.contents.Content.TheVariants as contents
 use Rattle.tb_galley.specs.declared.ItemKind.TheVariants as items
 use Rattle.tb_galley.specs.declared.LeafKind.TheVariants as leaves
-use Rattle.tb_galley.specs.Words.{LineWord, header, setting, class_line, hbox, rule, skip, kern, penalty, mark, note, foot, endfoot, float, margin, newpage, clearpage, pagebreak, nopagebreak, onecolumn, twocolumn, suppressfloats, page_number, end, Known, number_in, version_named}
+use Rattle.tb_galley.specs.Words.{LineWord, header, setting, class_line, hbox, rule, skip, kern, penalty, mark, note, foot, endfoot, float, margin, newpage, clearpage, pagebreak, nopagebreak, onecolumn, twocolumn, suppressfloats, page_number, title, enlarge, end, Known, number_in, version_named}
 use Rattle.tb_galley.specs.declared.Cause.{Cause}
 use Rattle.tb_galley.specs.declared.Cause.TheVariants as causes
 use Rattle.tb_galley.specs.declared.fields.At.{At}
 use Rattle.tb_galley.specs.declared.fields.Fields.{Fields}
 use Rattle.tb_galley.specs.Fields.{Slot, name_slot, dimension_slot, least_slot, range_slot, stretch_slot, fraction_slot, word_slot, places_slot, class_slot, slot_cause}
 use Rattle.tb_galley.specs.Faults.{is_printable}
-use Rattle.tb_galley.specs.Grammar.{glue_from, read_or, places_at, has_byte}
+use Rattle.tb_galley.specs.Grammar.{glue_from, read_or, places_at, has_byte, head_float}
 
 -- the fields that are left, the number of the first, and the cause if one is missing
 pub record Left : Type 0 where
@@ -245,6 +245,29 @@ margin_left version line l = do
   b ← nobreak_left version v.1
   Ok ((record { line = line; name = s.0.0; left_height = s.0.1; left_depth = s.0.2; right_height = h.0; right_depth = d.0; nobreak = b.0 }, v.0), b.1)
 
+-- a title over both columns: its name and its height
+unfoldable pub head_left : ℕ → Left → Result (Float × Left) At
+head_left line l = do
+  n ← name_left l
+  h ← least_left (pos 0) causes.Dimension n.1
+  Ok (head_float line n.0 h.0, h.1)
+
+-- no `star` if the line ends
+abbrev pub star_by : Left → Bool → Result (Bool × Left) At
+star_by l true = Ok (false, l)
+star_by l false = word_left (codes "star") causes.UnknownWord l
+
+-- whether `star` is there
+unfoldable pub star_left : Left → Result (Bool × Left) At
+star_left l = star_by l (is_end l.fields)
+
+-- by how much a page is made higher, and whether its contents are to be shrunk
+unfoldable pub enlarge_left : Left → Result ((ℤ × Bool) × Left) At
+enlarge_left l = do
+  w ← dimension_left l
+  s ← star_left w.1
+  Ok ((w.0, s.0), s.1)
+
 -- all areas if the line ends, else the area that is named
 abbrev pub area_by : Left → Bool → Result (Area × Left) At
 area_by l true = Ok (areas.All, l)
@@ -352,4 +375,6 @@ content_left k n onecolumn l = Ok (contents.Item items.OneColumn, l)
 content_left k n twocolumn l = Ok (contents.Item items.TwoColumn, l)
 content_left k n suppressfloats l = mapped (λ a. contents.Item (items.Suppress a)) (area_left l)
 content_left k n page_number l = mapped (λ k. contents.Item (items.Page (nat_abs k))) (range_left (pos 0) (pos 1000000) causes.Parameter l)
+content_left k n title l = mapped (λ f. contents.Item (items.Head f)) (head_left n l)
+content_left k n enlarge l = mapped (λ e. contents.Item (items.Enlarge e.0 e.1)) (enlarge_left l)
 content_left k n end l = Ok (contents.End, l)

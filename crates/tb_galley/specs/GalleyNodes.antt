@@ -1,5 +1,7 @@
 -- The nodes of a galley.
 use Rattle.std.specs.Prelude.{ℕ, suc, zero, ℤ, pos, neg_ℤ, Bool, ◌&&◌, List, [], ◌∷◌, ◌++◌, map, if◌then◌else◌}
+use Rattle.tb_scaled.specs.declared.Order.TheVariants.{Normal}
+use Rattle.tb_scaled.specs.declared.Glue.{Glue}
 use Rattle.tb_node.specs.PlainNodes.{Matter, hbox, rule, skip, kerned, pen, mark, note, Leaf as PlainLeaf, leaf_shape, PlainKind, plain, ins, act, PlainNode, blank_box, on_line, newpage_kinds, clearpage_kinds}
 use Rattle.tb_node.specs.Sums.{size_of}
 use Rattle.tb_node.specs.declared.What.TheVariants.{Text}
@@ -40,6 +42,29 @@ foot_insertion p class inner = ins (record {
   floating = p.footfloating;
 })
 
+-- a node of a list that no line of the galley holds
+abbrev pub made_leaf : Matter → PlainLeaf
+made_leaf m = record { line = 0; matter = m }
+
+-- glue of minus this width
+abbrev pub back_glue : ℤ → Glue
+back_glue by = record { width = neg_ℤ by; stretch = pos 0; order = Normal; shrink = pos 0 }
+
+-- the list of a page that is made higher: glue of minus the amount, and before it a blank box if the contents are to be shrunk
+abbrev pub enlarge_list : ℤ → Bool → List PlainLeaf
+enlarge_list by star = (if star then made_leaf blank_box ∷ [] else []) ++ made_leaf (skip (back_glue by)) ∷ []
+
+-- a page that is made higher by this, as one insertion of class 255 whose height is minus the amount
+abbrev pub enlarge_insertion : Params → ℤ → Bool → PlainKind
+enlarge_insertion p by star = ins (record {
+  class = 255;
+  inner = enlarge_list by star;
+  height = neg_ℤ by;
+  split_depth = p.splitmaxdepth;
+  split_top = p.splittopskip;
+  floating = p.floatingpenalty;
+})
+
 -- an act, and two firings of the output routine round a blank box; the second says whether the item was between paragraphs
 abbrev pub with_firings : Act → Bool → List PlainKind
 with_firings a vert =
@@ -77,6 +102,8 @@ item_kinds p two items.OneColumn = clearpage_kinds ++ act (acts.Columns (Bool.fa
 item_kinds p two items.TwoColumn = clearpage_kinds ++ act (acts.Columns (Bool.true)) ∷ []
 item_kinds p two (items.Suppress area) = act (acts.Suppress area) ∷ []
 item_kinds p two (items.Page n) = act (acts.Page n) ∷ []
+item_kinds p two (items.Head f) = act (acts.Head f) ∷ []
+item_kinds p two (items.Enlarge by star) = enlarge_insertion p by star ∷ []
 
 -- whether there are two columns after an item
 abbrev pub two_after : Bool → ItemKind → Bool

@@ -33,6 +33,8 @@ unnumbered_kind items.OneColumn = items.OneColumn
 unnumbered_kind items.TwoColumn = items.TwoColumn
 unnumbered_kind (items.Suppress area) = items.Suppress area
 unnumbered_kind (items.Page n) = items.Page n
+unnumbered_kind (items.Head f) = items.Head (record f { line = 0 })
+unnumbered_kind (items.Enlarge by star) = items.Enlarge by star
 
 -- an item without its line
 abbrev pub unnumbered_item : Item → Item

@@ -5,6 +5,7 @@ use Rattle.tb_scaled.specs.Scaled.{max_dimen}
 use Rattle.tb_node.specs.Names.{is_name, is_between}
 use Rattle.tb_node.specs.declared.Float.{Float}
 use Rattle.tb_node.specs.declared.Margin.{Margin}
+use Rattle.tb_node.specs.declared.Places.{Places}
 unfoldable pub use Rattle.tb_param.specs.Ranges.{are_params}
 use Rattle.tb_param.specs.Defaults.{default_params}
 use Rattle.tb_param.specs.Fields.{value_of}
@@ -43,7 +44,15 @@ is_float f = is_name f.name && is_between 1 26 f.class && (f.places.h || f.place
 abbrev pub is_margin : Margin → Bool
 is_margin m = is_name m.name && is_size m.left_height && is_size m.left_depth && is_size m.right_height && is_size m.right_depth
 
--- an item on its line; a float and a note have the line of their item
+-- the top is the one place
+abbrev pub is_top_alone : Places → Bool
+is_top_alone at = at.t && not (at.h || at.b || at.p)
+
+-- a title over both columns: a name and a height, class 0, and the top of both columns, past all limits
+abbrev pub is_head : Float → Bool
+is_head f = is_name f.name && is_size f.height && ((f.class == 0) && f.wide && is_top_alone f.places && f.bang && not (f.deep || f.nobreak))
+
+-- an item on its line; a float, a title and a note have the line of their item
 abbrev pub is_item : ℕ → ItemKind → Bool
 is_item n (items.Hbox name h d) = is_name name && is_size h && is_size d
 is_item n (items.Rule name h d) = is_name name && is_size h && is_size d
@@ -63,6 +72,8 @@ is_item n items.OneColumn = true
 is_item n items.TwoColumn = true
 is_item n (items.Suppress area) = true
 is_item n (items.Page k) = nat_le k 1000000
+is_item n (items.Head f) = (f.line == n) && is_head f
+is_item n (items.Enlarge by star) = is_dimen by
 
 -- how many lines of items an item counts for
 abbrev pub weight_of : ItemKind → ℕ
@@ -74,7 +85,7 @@ abbrev pub weight : List Item → ℕ
 weight [] = 0
 weight (n ∷ ns) = weight_of n.kind + weight ns
 
--- the lines that must rise: those of boxes, rules, floats and notes, and of what is in feet
+-- the lines that must rise: those of boxes, rules, floats, titles and notes, and of what is in feet
 abbrev pub leaf_lines : List Leaf → List ℕ
 leaf_lines [] = []
 leaf_lines (l ∷ ls) = l.line ∷ leaf_lines ls
@@ -86,6 +97,7 @@ lines_of_item n (items.Rule name h d) = n ∷ []
 lines_of_item n (items.Foot class ls) = leaf_lines ls
 lines_of_item n (items.Float f vert) = n ∷ []
 lines_of_item n (items.Margin m vert) = n ∷ []
+lines_of_item n (items.Head f) = n ∷ []
 lines_of_item n _ = []
 
 -- the same of all items in order
@@ -138,16 +150,33 @@ abbrev pub fits_version : ℕ → List ClassLine → Bool
 fits_version version [] = is_version version
 fits_version version (c ∷ cs) = (version == 2) || (version == 3)
 
--- a galley of version 3 alone sets the page number
+-- a galley of version 3 alone sets the page number, and has titles and pages that are made higher
 abbrev pub fits_word : ℕ → ItemKind → Bool
 fits_word version (items.Page k) = version == 3
+fits_word version (items.Head f) = version == 3
+fits_word version (items.Enlarge by star) = version == 3
 fits_word version _ = true
+
+-- a change to two columns
+abbrev pub is_two_column : ItemKind → Bool
+is_two_column items.TwoColumn = true
+is_two_column _ = false
+
+-- a title may come only if the item before it changed to two columns
+abbrev pub may_come : Bool → ItemKind → Bool
+may_come after (items.Head f) = after
+may_come after _ = true
+
+-- each title stands directly after a change to two columns
+abbrev pub do_heads_stand : Bool → List Item → Bool
+do_heads_stand after [] = true
+do_heads_stand after (n ∷ ns) = may_come after n.kind && do_heads_stand (is_two_column n.kind) ns
 
 -- each parameter that a galley of the version does not have has its default
 abbrev pub OthersDefault : ℕ → Params → Type 0
 OthersDefault version p = (field : Field) → is_known_in version field ≡ false → value_of field p ≡ value_of field default_params
 
--- all values are in their ranges, the version has what the galley has, the parameters that it does not have have their defaults, classes stand where they may, each footnote's class is declared, floats and notes are as the version has them, the items are not too many, and the lines rise
+-- all values are in their ranges, the version has what the galley has, the parameters that it does not have have their defaults, classes stand where they may, each footnote's class is declared, floats and notes are as the version has them, titles stand where they may, the items are not too many, and the lines rise
 pub record IsValid (g : Galley) : Type 0 where
   pub params : IsTrue (are_params g.params)
   pub others : OthersDefault g.version g.params
@@ -158,5 +187,6 @@ pub record IsValid (g : Galley) : Type 0 where
   pub items : IsTrue (list_all (λ n. is_item n.line n.kind) g.items)
   pub feet : IsTrue (list_all (λ n. has_known_class (map (λ c. c.number) g.classes) n.kind) g.items)
   pub kinds : IsTrue (list_all (λ n. fits_kind g.version n.kind) g.items)
+  pub heads : IsTrue (do_heads_stand false g.items)
   pub count : IsTrue (nat_le (weight g.items) 100000)
   pub lines : IsTrue (rise_from 0 (named_lines g.items ++ g.end_line ∷ []))

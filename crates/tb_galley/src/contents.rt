@@ -1,11 +1,11 @@
 //! What a content line says.
 ghost use Rattle.tb_galley.specs.GalleyReader.{known_in};
-ghost use Rattle.tb_galley.specs.FieldReader.{left_of, Gives, nobreak_left, float_left, margin_left, area_left, value_left, set_left, class_left, foot_left, content_left};
+ghost use Rattle.tb_galley.specs.FieldReader.{left_of, Gives, nobreak_left, float_left, margin_left, head_left, star_left, enlarge_left, area_left, value_left, set_left, class_left, foot_left, content_left};
 
 use crate::draft::Draft;
 use crate::fields::{At, Fields};
 use crate::{Cause, ClassLine, ItemKind, LeafKind, Word};
-use tb_node::{Area, FOOTNOTES, Float, Margin};
+use tb_node::{Area, FOOTNOTES, Float, Margin, Places};
 use tb_param::{Choice, Field, Form, Value, row_for};
 
 /// What a content line says.
@@ -88,6 +88,52 @@ fn margin(version: u8, line: u32, fields: &mut Fields<'_>) -> Result<(Margin, bo
         },
         vert,
     ))
+}
+
+// A title over both columns.
+#[tactic(auto, unfolding(crate::specs::FieldReader::head_left))]
+fn head(line: u32, fields: &mut Fields<'_>) -> Result<Float, At>
+    ensures { Gives result (left_of fields.new) (head_left line (left_of fields.old)) }
+{
+    let name = fields.name()?;
+    let height = fields.dimension_from(0, Cause::Dimension)?;
+    Ok(Float {
+        line,
+        name,
+        class: 0,
+        wide: true,
+        places: Places {
+            h: false,
+            t: true,
+            b: false,
+            p: false,
+        },
+        bang: true,
+        height,
+        deep: false,
+        nobreak: false,
+    })
+}
+
+// Whether `star` is there.
+#[tactic(auto, unfolding(crate::specs::FieldReader::star_left))]
+fn star(fields: &mut Fields<'_>) -> Result<bool, At>
+    ensures { Gives result (left_of fields.new) (star_left (left_of fields.old)) }
+{
+    if fields.is_at_end() {
+        return Ok(false);
+    }
+    fields.word(b"star", Cause::UnknownWord)
+}
+
+// By how much a page is made higher, and whether its contents are to be shrunk.
+#[tactic(auto, unfolding(crate::specs::FieldReader::enlarge_left))]
+fn enlarge(fields: &mut Fields<'_>) -> Result<(i64, bool), At>
+    ensures { Gives result (left_of fields.new) (enlarge_left (left_of fields.old)) }
+{
+    let by = fields.dimension()?;
+    let star = star(fields)?;
+    Ok((by, star))
 }
 
 #[tactic(auto, unfolding(crate::specs::FieldReader::area_left))]
@@ -251,6 +297,11 @@ pub(crate) fn read_content(
         Word::Page => {
             let number = fields.integer_within(0, 1_000_000, Cause::Parameter)?;
             Ok(Content::Item(ItemKind::Page(number as u32)))
+        }
+        Word::Head => Ok(Content::Item(ItemKind::Head(head(line, fields)?))),
+        Word::Enlarge => {
+            let (by, star) = enlarge(fields)?;
+            Ok(Content::Item(ItemKind::Enlarge { by, star }))
         }
         Word::End => Ok(Content::End),
     }

@@ -22,6 +22,7 @@ pub fn cause_text(cause: Cause) -> &'static [u8]
         Cause::NestedFoot => b"NestedFoot",
         Cause::NotInFoot => b"NotInFoot",
         Cause::StrayEndfoot => b"StrayEndfoot",
+        Cause::StrayHead => b"StrayHead",
         Cause::UnclosedFoot => b"UnclosedFoot",
         Cause::NestedPar => b"NestedPar",
         Cause::NotInPar => b"NotInPar",

@@ -184,7 +184,7 @@ fn lone_setting(version: u8, rest: &[u8]) -> Option<(Field, Value)>
     }
 }
 
-/// An item of one word, if it may come here and the word is all that the line says.
+/// An item of one word that leaves the phase as it is, if it may come here and the word is all that the line says.
 #[inline(always)]
 pub(crate) fn read_bare_item(phase: Phase, line: &[u8]) -> Option<ItemKind>
     ensures phase { IfSome result (λ k. phase ≡ Phase.Items) }
@@ -199,8 +199,6 @@ pub(crate) fn read_bare_item(phase: Phase, line: &[u8]) -> Option<ItemKind>
         Some(ItemKind::ClearPage)
     } else if line == b"onecolumn".as_slice() {
         Some(ItemKind::OneColumn)
-    } else if line == b"twocolumn".as_slice() {
-        Some(ItemKind::TwoColumn)
     } else if line == b"suppressfloats".as_slice() {
         Some(ItemKind::Suppress(Area::All))
     } else {

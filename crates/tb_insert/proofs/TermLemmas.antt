@@ -163,7 +163,7 @@ scan_plain z page s t n h scan add = record {
 
 -- if the amounts after the insertion fit, it may arrive
 pub arrive_fits : (store : Lists Node) (a : Account) (s : Scanned) (i : Insertion) (line : ℕ) (class : Class) (size : ℤ) (index : ℕ) (z : Frozen) (page marked : List PlainNode)
-    → class.number ≡ i.class → i.class < 255 → IsAccountOf a z page marked → ComesTo z page s class size index → InnerFits store i → ClassFits class
+    → class.number ≡ i.class → i.class < 256 → IsAccountOf a z page marked → ComesTo z page s class size index → InnerFits store i → ClassFits class
     → PageFits z (page ++ record { line = line; kind = ins (inserted_of (list_at store) i) } ∷ [])
     → ArriveFits store a s i class size
 arrive_fits store a s i line class size index z page marked number most stands co inner fits after = record {

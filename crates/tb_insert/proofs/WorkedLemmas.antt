@@ -176,10 +176,10 @@ class_number k h = by_tests (254 == k) (253 == k) refl refl h
     by_tests false true e g h = subst (λ n. (class_box worked_classes n).class.number ≡ n) (eqb-true 253 k g) refl
     by_tests false false e g h = absurd (true≢false (sym h))
 
-pub class_small : (k : ℕ) → numbered worked_classes k ≡ true → k < 255
+pub class_small : (k : ℕ) → numbered worked_classes k ≡ true → k < 256
 class_small k h = by_tests (254 == k) (253 == k) refl refl h
   where
-    by_tests : (t u : Bool) → (254 == k) ≡ t → (253 == k) ≡ u → (t || (u || false)) ≡ true → k < 255
+    by_tests : (t u : Bool) → (254 == k) ≡ t → (253 == k) ≡ u → (t || (u || false)) ≡ true → k < 256
     by_tests true u e g h = let x = eqb-true 254 k e in omega (arith, x)
     by_tests false true e g h = let x = eqb-true 253 k g in omega (arith, x)
     by_tests false false e g h = absurd (true≢false (sym h))

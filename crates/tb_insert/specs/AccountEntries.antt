@@ -128,7 +128,7 @@ pub record IsAccountOf (a : Account) (z : Frozen) (page marked : List PlainNode)
   pub differ : Differ z.classes
   pub goal : a.goal ≡ (terms_after z page).goal
   pub penalties : a.penalties ≡ (terms_after z page).penalties
-  pub entries : (k : ℕ) → k < 255 → EntryStands (entry_of a k) z a.newest a.mark (labelled z page) (labelled z marked) k
+  pub entries : (k : ℕ) → k < 256 → EntryStands (entry_of a k) z a.newest a.mark (labelled z page) (labelled z marked) k
   pub newest : (i : ℕ) → reaches a.newest i ≡ true → i < length page
   pub mark : (i : ℕ) → reaches a.mark i ≡ true → reaches a.newest i ≡ true
   pub newest_is : a.newest ≡ last_place (labelled z page)

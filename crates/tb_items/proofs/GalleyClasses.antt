@@ -18,7 +18,7 @@ use Rattle.tb_column.proofs.RangeLemmas.{rule-sized}
 use Rattle.tb_galley.specs.declared.ClassLine.{ClassLine}
 use Rattle.tb_galley.specs.declared.Galley.{Galley}
 use Rattle.tb_galley.specs.Valid.{is_class, is_size, do_classes_rise, IsValid, may_stand}
-use Rattle.tb_items.specs.Classes.{foot_class, class_of, classes_of}
+use Rattle.tb_items.specs.Classes.{foot_class, enlarging_class, class_of, classes_of}
 
 -- ---- the numbers rise
 
@@ -76,26 +76,33 @@ in-range c h =
 pub class-small : (c : ClassLine) → IsTrue (is_class c) → c.number ≤ 253
 class-small c h = (in-range c h).small
 
--- ---- the classes with that of the footnotes
+-- ---- the classes with that of the footnotes and that of what makes a page higher
 
 -- the classes of a galley with these class lines
 abbrev pub with_foot : Params → List ClassLine → List Class
-with_foot p cs = map class_of cs ++ foot_class p ∷ []
+with_foot p cs = map class_of cs ++ foot_class p ∷ enlarging_class ∷ []
 
 unlike : (n m : ℕ) → n < m → (m == n) ≡ false
 unlike n m h = grind (arith, nat_tests, h)
 
 none-has : (p : Params) (n : ℕ) (cs : List ClassLine) → n ≤ 253 → AreAbove n cs → has_class (with_foot p cs) n ≡ false
-none-has p n [] h a = ap (λ t. t || false) (unlike n 254 (omega (arith, h)))
+none-has p n [] h a = (λ i. unlike n 254 (omega (arith, h)) i || (unlike n 255 (omega (arith, h)) i || false))
 none-has p n (c ∷ cs) h a = by_test (c.number == n) (unlike n c.number a.0) (none-has p n cs h a.1)
   where
     by_test : (t : Bool) → t ≡ false → has_class (with_foot p cs) n ≡ false → (t || has_class (with_foot p cs) n) ≡ false
     by_test true e f = cc
     by_test false e f = f
 
+enlarging-fits : ClassFits enlarging_class
+enlarging-fits = record {
+  factor = record { low = omega (arith, ints); high = omega (arith, ints) };
+  stretch = record { low = omega (arith, ints); high = omega (arith, ints) };
+  shrink = record { low = omega (arith, ints); high = omega (arith, ints) };
+}
+
 module _ (p : Params) (foot : ClassFits (foot_class p)) where
   lines-fit : (cs : List ClassLine) → IsTrue (list_all is_class cs) → IsTrue (do_classes_rise cs) → ClassesFit (with_foot p cs)
-  lines-fit [] v r = (refl, omega arith, foot, tt)
+  lines-fit [] v r = (refl, omega arith, foot, (refl, omega arith, enlarging-fits, tt))
   lines-fit (c ∷ cs) v r =
       let one = in-range c (first_so (is_class c) (list_all is_class cs) v) in
       let small = one.small in (

@@ -1,5 +1,5 @@
 -- The items of a valid galley can be handed over.
-use Rattle.std.proofs.Common.{◌≡◌, refl, ℕ, ◌≤◌, Bool, true, false, List, [], ◌∷◌, ◌++◌, map, arith}
+use Rattle.std.proofs.Common.{◌≡◌, refl, ℕ, ℤ, ◌≤◌, Bool, true, false, List, [], ◌∷◌, ◌++◌, map, arith}
 use Rattle.std.specs.Cmp.{first_so, second_so}
 use Rattle.std.specs.Prelude.{All, IsTrue, ◌||◌, ◌==◌, nat_le}
 use Rattle.std.specs.List.{list_all, list_any}
@@ -20,7 +20,7 @@ use Rattle.tb_galley.specs.declared.ItemKind.TheVariants as items
 use Rattle.tb_galley.specs.declared.Galley.{Galley}
 use Rattle.tb_galley.specs.Fields.{is_class_among}
 use Rattle.tb_galley.specs.Valid.{is_leaf, is_item, weight_of, weight, has_known_class, IsValid}
-use Rattle.tb_items.specs.Classes.{foot_class, class_of, classes_of}
+use Rattle.tb_items.specs.Classes.{foot_class, enlarging_class, class_of, classes_of}
 use Rattle.tb_items.specs.WaitingNodes.{leaf_kind, leaf_list, IsItem, AreItems}
 use Rattle.tb_column.proofs.RangeLemmas.{dimension}
 use Rattle.tb_items.proofs.ItemAmounts.{both-extents, glue-sized, penalty-served}
@@ -48,7 +48,7 @@ nodes-sized (l ∷ ls) v =
 abbrev numbers : List ClassLine → List ℕ
 numbers cs = map (λ (c : ClassLine). c.number) cs
 
-last-known : (n : ℕ) → IsTrue ((n == 254) || false) → ((254 == n) || false) ≡ true
+last-known : (n : ℕ) → IsTrue ((n == 254) || false) → ((254 == n) || ((255 == n) || false)) ≡ true
 last-known n h = grind (arith, nat_tests, h)
 
 passed-by : (a b r s : Bool) → (IsTrue (a || r) → s ≡ true) → IsTrue (a || (b || r)) → (b || s) ≡ true
@@ -56,9 +56,18 @@ passed-by a true r s later h = refl
 passed-by a false r s later h = later h
 
 -- a class that a galley declares, or that of the footnotes, is one of its classes
-class-known : (p : Params) (cs : List ClassLine) (n : ℕ) → IsTrue (is_class_among (numbers cs) n) → has_class (map class_of cs ++ foot_class p ∷ []) n ≡ true
+class-known : (p : Params) (cs : List ClassLine) (n : ℕ) → IsTrue (is_class_among (numbers cs) n) → has_class (map class_of cs ++ foot_class p ∷ enlarging_class ∷ []) n ≡ true
 class-known p [] n h = last-known n h
-class-known p (c ∷ cs) n h = passed-by (n == 254) (c.number == n) (list_any (λ k. k == n) (numbers cs)) (has_class (map class_of cs ++ foot_class p ∷ []) n) (class-known p cs n) h
+class-known p (c ∷ cs) n h = passed-by (n == 254) (c.number == n) (list_any (λ k. k == n) (numbers cs)) (has_class (map class_of cs ++ foot_class p ∷ enlarging_class ∷ []) n) (class-known p cs n) h
+
+-- that of what makes a page higher is one of them
+enlarging-known : (p : Params) (cs : List ClassLine) → has_class (map class_of cs ++ foot_class p ∷ enlarging_class ∷ []) 255 ≡ true
+enlarging-known p [] = refl
+enlarging-known p (c ∷ cs) = later (c.number == 255) (has_class (map class_of cs ++ foot_class p ∷ enlarging_class ∷ []) 255) (enlarging-known p cs)
+  where
+    later : (b s : Bool) → s ≡ true → (b || s) ≡ true
+    later true s h = refl
+    later false s h = h
 
 -- ---- items
 
@@ -69,6 +78,7 @@ most n h = grind (arith, nat_tests, h)
 module _ (g : Galley) where
   one-item : (l : ℕ) (k : ItemKind) → IsTrue (is_item l k) → IsTrue (has_known_class (numbers g.classes) k) → weight_of k ≤ 100000 → IsItem (classes_of g) k
   one-item l (items.Foot class ls) v known w = (class-known g.params g.classes class known, nodes-sized ls v, let e = length-map {B = Node} ls (λ (x : Leaf). record { line = x.line; kind = leaf_kind x.kind }) in omega (arith, e, w))
+  one-item l (items.Enlarge by star) v known w = (enlarging-known g.params g.classes, dimension by v)
   one-item l k v known w = tt
 
   abbrev known_item : Item → Bool

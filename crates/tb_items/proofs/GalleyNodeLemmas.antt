@@ -1,20 +1,21 @@
 -- The nodes of a valid galley, of all its items: their amounts are in their ranges, the output routine can serve them, and they are not too many.
-use Rattle.std.proofs.Common.{refl, subst, ℕ, ◌*◌, ◌≤◌, pos, Bool, true, false, List, [], ◌∷◌, ◌++◌, arith}
+use Rattle.std.proofs.Common.{◌≡◌, refl, subst, ℕ, ℤ, ◌*◌, ◌≤◌, pos, neg_ℤ, map, Bool, true, false, List, [], ◌∷◌, ◌++◌, arith}
 use Rattle.std.specs.Cmp.{first_so, second_so}
-use Rattle.std.specs.Prelude.{All, IsTrue, ◌&&◌, ◌||◌, ◌==◌, if◌then◌else◌}
+use Rattle.std.specs.Prelude.{All, IsTrue, ◌&&◌, ◌||◌, ◌==◌, if◌then◌else◌, not}
 use Rattle.std.specs.List.{list_all, AllByRecursion}
 use Rattle.std.proofs.lemmas.Int.{ints}
 use Rattle.std.proofs.lemmas.Bool.Decides.{nat_tests}
 use Rattle.std.proofs.lemmas.List.{length-map}
-use Rattle.std.proofs.lemmas.List.Elements.{All-nil, All-head, All-tail, All-append, All-from_recursion}
+use Rattle.std.proofs.lemmas.List.Elements.{All-nil, All-cons, All-head, All-tail, All-append, All-from_recursion}
 use Rattle.tb_scaled.specs.Glue.{filling_glue}
 use Rattle.tb_node.specs.declared.Float.{Float}
 use Rattle.tb_node.specs.declared.Act.{Act}
 use Rattle.tb_node.specs.declared.Act.TheVariants as acts
 use Rattle.tb_node.specs.Names.{is_name, is_between}
 use Rattle.tb_node.specs.Shape.{glue}
-use Rattle.tb_node.specs.Fit.{IsDimension, IsExtent, IsSized}
-use Rattle.tb_node.specs.PlainNodes.{Leaf as PlainLeaf, matter_shape, kind_shape, PlainKind, act, blank_box, on_line, newpage_kinds, clearpage_kinds}
+use Rattle.tb_node.specs.Fit.{IsDimension, IsExtent, IsSized, IsSizedLeaf}
+use Rattle.tb_node.specs.Sums.{size_of}
+use Rattle.tb_node.specs.PlainNodes.{Leaf as PlainLeaf, skip, leaf_shape, matter_shape, kind_shape, PlainKind, act, blank_box, on_line, newpage_kinds, clearpage_kinds}
 use Rattle.tb_param.specs.declared.Params.{Params}
 use Rattle.tb_param.specs.Release.{has_second}
 use Rattle.tb_insert.specs.declared.Class.{Class}
@@ -25,8 +26,8 @@ use Rattle.tb_galley.specs.declared.Item.{Item}
 use Rattle.tb_galley.specs.declared.ItemKind.{ItemKind}
 use Rattle.tb_galley.specs.declared.ItemKind.TheVariants as items
 use Rattle.tb_galley.specs.declared.Galley.{Galley}
-use Rattle.tb_galley.specs.GalleyNodes.{plain_leaf, with_firings, item_kinds, item_nodes, two_after, expanded}
-use Rattle.tb_galley.specs.Valid.{is_size, is_float, is_margin, is_item, weight_of, weight, IsValid}
+use Rattle.tb_galley.specs.GalleyNodes.{plain_leaf, made_leaf, back_glue, enlarge_list, with_firings, item_kinds, item_nodes, two_after, expanded}
+use Rattle.tb_galley.specs.Valid.{is_size, is_float, is_margin, is_item, weight_of, weight, IsValid, is_head, is_top_alone}
 use Rattle.tb_sheet.specs.Asked.{IsSizedAct}
 use Rattle.tb_items.specs.Classes.{classes_of}
 use Rattle.tb_items.specs.WaitingNodes.{IsItem, AreItems}
@@ -81,6 +82,23 @@ module _ (cs : List Class) where
   float-are true f vert h = ((tt, tt, h), tt)
   float-are false f vert h = firings-are (acts.Take f) vert h
 
+  -- ---- a page that is made higher
+
+  back-sized : (by : ℤ) → IsDimension by → IsDimension (neg_ℤ by)
+  back-sized by h = record { low = omega (arith, ints); high = omega (arith, ints) }
+
+  glue-leaf : (by : ℤ) → IsDimension by → IsSizedLeaf (made_leaf (skip (back_glue by)))
+  glue-leaf by h = (back-sized by h, record { low = omega (arith, ints); high = omega (arith, ints) }, record { low = omega (arith, ints); high = omega (arith, ints) })
+
+  enlarging-sized : (by : ℤ) (star : Bool) → IsDimension by → All IsSizedLeaf (enlarge_list by star)
+  enlarging-sized by true h =
+      All-cons IsSizedLeaf (made_leaf blank_box) (made_leaf (skip (back_glue by)) ∷ []) (zero-extent, zero-extent) (All-cons IsSizedLeaf (made_leaf (skip (back_glue by))) [] (glue-leaf by h) (All-nil IsSizedLeaf))
+  enlarging-sized by false h = All-cons IsSizedLeaf (made_leaf (skip (back_glue by))) [] (glue-leaf by h) (All-nil IsSizedLeaf)
+
+  enlarging-size : (by : ℤ) (star : Bool) → neg_ℤ by ≡ size_of (map leaf_shape (enlarge_list by star))
+  enlarging-size by true = omega (arith, ints)
+  enlarging-size by false = omega (arith, ints)
+
   -- ---- an item
 
   module _ (p : Params) (foot : AreFootParams p) where
@@ -104,6 +122,12 @@ module _ (cs : List Class) where
     item-are two l items.OneColumn v i = clear-then (act (acts.Columns false) ∷ []) ((tt, tt, tt), tt)
     item-are two l items.TwoColumn v i = clear-then (act (acts.Columns true) ∷ []) ((tt, tt, tt), tt)
     item-are two l (items.Page n) v i = let small : n ≤ 1000000 = grind (arith, nat_tests, v) in ((tt, tt, small), tt)
+    item-are two l (items.Head f) v i = ((tt, tt, head-extent f (second_so (f.line == l) (is_head f) v)), tt)
+      where
+        head-extent : (f : Float) → IsTrue (is_head f) → IsExtent f.height
+        head-extent f v = size-extent f.height (second_so (is_name f.name) (is_size f.height) (first_so (is_name f.name && is_size f.height) ((f.class == 0) && f.wide && is_top_alone f.places && f.bang && not (f.deep || f.nobreak)) v))
+    item-are two l (items.Enlarge by star) v i =
+        ((tt, record { inner = enlarging-sized by star i.1; height = enlarging-size by star; split_depth = foot.enlarging_depth; split_top = foot.enlarging_top; floating = foot.enlarging_floating }, i.0), tt)
     item-are two l k v i = ((tt, tt, tt), tt)
 
     items-are : (two : Bool) (ns : List Item) → IsTrue (list_all (λ (n : Item). is_item n.line n.kind) ns) → AreItems cs ns → All (IsGalleyNode cs) (item_nodes p two ns)
@@ -126,6 +150,8 @@ module _ (p : Params) where
   item-few : (two : Bool) (l : ℕ) (k : ItemKind) → node_count (on_line l (item_kinds p two k)) ≤ 6 * weight_of k
   item-few two l (items.Foot class ls) = let e = length-map {B = PlainLeaf} ls plain_leaf in omega (arith, e)
   item-few two l (items.Float f vert) = let few = float-few (has_second p && two && f.wide) l f vert in omega (arith, few)
+  item-few two l (items.Enlarge by true) = omega arith
+  item-few two l (items.Enlarge by false) = omega arith
   item-few two l k = omega arith
 
   items-few : (two : Bool) (ns : List Item) → node_count (item_nodes p two ns) ≤ 6 * weight ns

@@ -38,6 +38,7 @@ kinds-end d p two l (items.Float f vert) e = absurd (true≢false (sym e))
 kinds-end d p two l (items.Kern w) e = absurd (true≢false (sym e))
 kinds-end d p two l (items.Suppress area) e = absurd (true≢false (sym e))
 kinds-end d p two l (items.Page n) e = absurd (true≢false (sym e))
+kinds-end d p two l (items.Head f) e = absurd (true≢false (sym e))
 kinds-end d p two l k e = refl
 
 -- nor do those of a batch

@@ -226,6 +226,7 @@ fired-more ls boxes w more s = (λ i. record {
   penalty = penalty i;
   cost = (fired_by ls boxes w).cost;
   size = (fired_by ls boxes w).size;
+  shrink = (fired_by ls boxes w).shrink;
   line = line i;
 })
   where
@@ -261,7 +262,7 @@ module _ (c d : Contents) (ask : Ask) (more : List PlainNode) (ends : kern_last 
 
   page-event : (p : Page) (s : Lists Node) → FiredIs p c ask d s → FiredIs p (with_more more c) ask (with_more more d) s
   page-event p s f = record {
-    page = subst (λ x. PageIs p x s) (sym page-more) (record { live = f.page.live; body = f.page.body; penalty = f.page.penalty; cost = f.page.cost; size = f.page.size; line = f.page.line; held = f.page.held });
+    page = subst (λ x. PageIs p x s) (sym page-more) (record { live = f.page.live; body = f.page.body; penalty = f.page.penalty; cost = f.page.cost; size = f.page.size; shrink = f.page.shrink; amount = f.page.amount; line = f.page.line; held = f.page.held });
     after = ap (with_more more) f.after ∙ ap (after_fired (with_more more c)) (sym page-more);
   }
 

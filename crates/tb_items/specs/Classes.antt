@@ -1,5 +1,7 @@
 -- The classes of insertions of a galley.
 use Rattle.std.specs.Prelude.{pos, List, [], ◌∷◌, ◌++◌, map, None}
+use Rattle.tb_scaled.specs.Scaled.{max_dimen}
+use Rattle.tb_scaled.specs.Glue.{fixed_glue}
 use Rattle.tb_param.specs.declared.Params.{Params}
 use Rattle.tb_insert.specs.declared.Class.{Class}
 use Rattle.tb_galley.specs.declared.ClassLine.{ClassLine}
@@ -13,6 +15,10 @@ foot_class p = record { number = 254; factor = pos 1000; limit = p.footlimit; be
 abbrev pub class_of : ClassLine → Class
 class_of c = record { number = c.number; factor = c.factor; limit = c.limit; below = c.below; skip = c.skip }
 
--- the classes of a galley in rising number, that of the footnotes last
+-- the class of what makes a page higher: number 255, factor 1000, no limit and no skip (LaTeX, \@kludgeins)
+abbrev pub enlarging_class : Class
+enlarging_class = record { number = 255; factor = pos 1000; limit = max_dimen; below = None; skip = fixed_glue (pos 0) }
+
+-- the classes of a galley in rising number, that of the footnotes and that of what makes a page higher last
 abbrev pub classes_of : Galley → List Class
-classes_of g = map class_of g.classes ++ foot_class g.params ∷ []
+classes_of g = map class_of g.classes ++ foot_class g.params ∷ enlarging_class ∷ []

@@ -36,8 +36,11 @@ pub record AreGalleyNodes (cs : List Class) (ns : List PlainNode) : Type 0 where
   pub nodes : All (IsGalleyNode cs) ns
   pub few : node_count ns ≤ 600005
 
--- the parameters that an insertion of a footnote takes over are in their ranges
+-- the parameters that an insertion of a footnote takes over are in their ranges, and those of what makes a page higher
 pub record AreFootParams (p : Params) : Type 0 where
   pub split_depth : IsExtent p.footsplitdepth
   pub split_top : IsExtent p.footsplittop
   pub floating : IsPenalty p.footfloating
+  pub enlarging_depth : IsExtent p.splitmaxdepth
+  pub enlarging_top : IsExtent p.splittopskip
+  pub enlarging_floating : IsPenalty p.floatingpenalty

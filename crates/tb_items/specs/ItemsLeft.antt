@@ -72,6 +72,8 @@ ends_batch items.OneColumn = true
 ends_batch items.TwoColumn = true
 ends_batch (items.Suppress area) = false
 ends_batch (items.Page n) = false
+ends_batch (items.Head f) = false
+ends_batch (items.Enlarge by star) = true
 
 -- the last of the items is such an item
 abbrev pub are_ended : List Item → Bool

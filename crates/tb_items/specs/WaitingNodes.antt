@@ -1,13 +1,13 @@
 -- What waits at a page builder when nodes were handed to it.
-use Rattle.std.specs.Prelude.{◌≡◌, false, ℕ, true, List, [], ◌++◌, ◌≤◌, map, length, All, Some}
+use Rattle.std.specs.Prelude.{◌≡◌, false, ℕ, ℤ, pos, Bool, true, List, [], ◌∷◌, ◌++◌, ◌≤◌, map, length, All, Some, if◌then◌else◌}
 use Rattle.std.specs.FinMap.{get}
 use Rattle.tb_pool.specs.Lists.{Lists, IsLive}
 use Rattle.tb_node.specs.declared.RuleOf.TheVariants as rules
-use Rattle.tb_node.specs.declared.What.TheVariants.{Text}
+use Rattle.tb_node.specs.declared.What.TheVariants.{Text, Blank}
 use Rattle.tb_node.specs.declared.Kind.{Kind}
 use Rattle.tb_node.specs.declared.Kind.TheVariants as kinds
 use Rattle.tb_node.specs.declared.Node.{Node}
-use Rattle.tb_node.specs.Fit.{IsSizedNode}
+use Rattle.tb_node.specs.Fit.{IsDimension, IsSizedNode}
 use Rattle.tb_node.specs.PlainNodes.{PlainNode, plain_of}
 use Rattle.tb_insert.specs.declared.Class.{Class}
 use Rattle.tb_galley.specs.declared.Leaf.{Leaf}
@@ -16,6 +16,7 @@ use Rattle.tb_galley.specs.declared.LeafKind.TheVariants as leaves
 use Rattle.tb_galley.specs.declared.Item.{Item}
 use Rattle.tb_galley.specs.declared.ItemKind.{ItemKind}
 use Rattle.tb_galley.specs.declared.ItemKind.TheVariants as items
+use Rattle.tb_galley.specs.GalleyNodes.{back_glue}
 use Rattle.tb_builder.specs.declared.Builder.{Builder}
 use Rattle.tb_builder.specs.Contents.{contents_of}
 use Rattle.tb_builder.specs.Ownership.{Lacks, has_class, ids_of, owned}
@@ -52,11 +53,18 @@ leaf_kind (leaves.Penalty q) = kinds.Pen q
 abbrev pub leaf_list : List Leaf → List Node
 leaf_list ls = map (λ l. record { line = l.line; kind = leaf_kind l.kind }) ls
 
+-- ---- a page that is made higher
+
+-- the list of its insertion: glue that goes back, and before it a blank box if the contents are to be shrunk
+abbrev pub enlarging_list : ℤ → Bool → List Node
+enlarging_list by star = (if star then record { line = 0; kind = kinds.Hbox Blank (pos 0) (pos 0) } ∷ [] else []) ++ record { line = 0; kind = kinds.Skip (back_glue by) } ∷ []
+
 -- ---- items
 
--- the class of a footnote is one of these, and its nodes are sized and not too many
+-- the class of a footnote is one of these, and its nodes are sized and not too many; the class of a page that is made higher is one of these, and the amount is a dimension
 abbrev pub IsItem : List Class → ItemKind → Type 0
 IsItem cs (items.Foot class ls) = (has_class cs class ≡ true) × All IsSizedNode (leaf_list ls) × (length (leaf_list ls) ≤ 8388608)
+IsItem cs (items.Enlarge by star) = (has_class cs 255 ≡ true) × IsDimension by
 IsItem cs _ = Unit {0}
 
 -- the same of each item

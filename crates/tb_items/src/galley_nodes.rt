@@ -7,6 +7,7 @@ ghost use Rattle.tb_builder.specs.Ownership.{inner_of};
 ghost use Rattle.tb_galley.specs.GalleyNodes.{break_strength, with_firings, float_kinds, item_kinds, two_after, two_past, item_nodes};
 ghost use Rattle.tb_items.specs.WaitingNodes.{CanTake, Waits, lone, IsItem, AreItems};
 
+use crate::enlarging_nodes::put_enlarging;
 use crate::foot_nodes::put_foot;
 use std::alloc::AllocError;
 use tb_builder::Builder;
@@ -135,6 +136,8 @@ pub fn put_item(
         ItemKind::TwoColumn => put_columns(store, builder, line, true),
         ItemKind::Suppress(area) => put_suppressing(store, builder, line, *area),
         ItemKind::Page(number) => put_page_number(store, builder, line, *number),
+        ItemKind::Head(head) => put_title(store, builder, line, head),
+        ItemKind::Enlarge { by, star } => put_enlarging(store, builder, p, line, *by, *star),
     }
 }
 
@@ -415,6 +418,20 @@ fn put_page_number(
     ensures { OnOk result (Waits (lone line (Kind.Act (Act.Page number)) ∷ []) builder.old store.old builder.new store.new) }
 {
     put_act(store, builder, line, Act::Page(number))
+}
+
+// A title over both columns.
+#[inline(never)]
+fn put_title(
+    store: &mut Lists<Node>,
+    builder: &mut Builder,
+    line: u32,
+    head: &Float,
+) -> Result<(), AllocError>
+    requires can { CanTake builder.old store.old }
+    ensures { OnOk result (Waits (lone line (Kind.Act (Act.Head head.now)) ∷ []) builder.old store.old builder.new store.new) }
+{
+    put_act(store, builder, line, Act::Head(*head))
 }
 
 // The act of a float or a marginal note, and the two firings that place it: at the first the page so far is held, and the

@@ -48,7 +48,11 @@ fn ends_batch(kind: &ItemKind) -> bool
 {
     !matches!(
         kind,
-        ItemKind::Kern(_) | ItemKind::Float { .. } | ItemKind::Suppress(_) | ItemKind::Page(_)
+        ItemKind::Kern(_)
+            | ItemKind::Float { .. }
+            | ItemKind::Suppress(_)
+            | ItemKind::Page(_)
+            | ItemKind::Head(_)
     )
 }
 
@@ -83,6 +87,7 @@ fn item_count(p: &Params, two: bool, item: &Item) -> u64
         ItemKind::NewPage => 2,
         ItemKind::ClearPage => 5,
         ItemKind::OneColumn | ItemKind::TwoColumn => 6,
+        ItemKind::Enlarge { by: _, star } => { if *star { 3 } else { 2 } }
         _ => 1,
     }
 }

@@ -1,6 +1,7 @@
 //! The items of a galley as nodes that wait at the page builder, and what happens while a run makes pages of them.
 #![tactic(auto)]
 
+mod enlarging_nodes;
 mod foot_nodes;
 mod galley_nodes;
 mod happenings;

@@ -1,6 +1,7 @@
 -- What waits is well formed, and closes, in reading order.
 pub mod Sorts
 pub mod SortLemmas
+pub mod BareFeet
 pub mod PutLemmas
 pub mod PlaceLemmas
 pub mod Closings

@@ -18,6 +18,7 @@ pub mod CycleFirings
 pub mod HighStates
 pub mod HighFirings
 pub mod ValidPenalties
+pub mod OtherFeet
 pub mod CyclePages
 pub mod CycleStarts
 pub mod LowGoing

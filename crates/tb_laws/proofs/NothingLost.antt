@@ -7,6 +7,7 @@ pub mod TextWeights
 pub mod WorkWeights
 pub mod StartLemmas
 pub mod RunWeights
+pub mod LastLabels
 pub mod ClosingStarts
 pub mod ClosingActs
 pub mod ClosingRuns

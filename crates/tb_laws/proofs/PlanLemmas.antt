@@ -13,7 +13,7 @@ use Rattle.tb_steps.specs.Run.{Run, run_of}
 use Rattle.tb_plans.specs.Plans.{break_before, broken, with_breaks}
 use Rattle.tb_laws.specs.Totals.{totals_of}
 use Rattle.tb_laws.specs.Laws.{lines_by, foot_line, text_line, note_line, float_of, galley_floats, as_taken, taken_floats, float_lines, is_in, shipped_boxes, shipped_floats, shipped_nodes, node_lines, note_lines_of, ShipsOnce, HasTotals, KeepsClassOrder, EndsDone, EachShipsOnce, TotalsAreKept, ClassesKeepOrder, LimitsHold, WithinLimits}
-use Rattle.tb_laws.specs.PlanLaws.{FewItems, BreaksKeepValid, BreaksShipOnce, BreaksKeepTotals, BreaksKeepOrder, BreaksKeepLimits}
+use Rattle.tb_laws.specs.PlanLaws.{TakesBreaks, BreaksKeepValid, BreaksShipOnce, BreaksKeepTotals, BreaksKeepOrder, BreaksKeepLimits}
 
 -- ---- what is gathered of items does not see the breaks
 
@@ -62,10 +62,10 @@ all-broken f holds k (n ∷ ns) (b ∷ bs) = by (all-broken f holds (suc k) ns b
     by here later true = ap (λ t. t && (f n && list_all f (broken (suc k) ns bs))) (holds n) ∙ ap (λ t. f n && t) here
     by here later false = ap (λ t. f n && t) later
 
--- ---- a galley with breaks is valid, if its items are not too many
+-- ---- a galley with breaks is valid, if its items are not too many and its titles stand where they may
 
-plans-are-valid : (g : Galley) (plan : List ℕ) → IsValid g → FewItems g plan → IsValid (with_breaks g plan)
-plans-are-valid g plan v few = record {
+plans-are-valid : (g : Galley) (plan : List ℕ) → IsValid g → TakesBreaks g plan → IsValid (with_breaks g plan)
+plans-are-valid g plan v takes = record {
   params = v.params;
   others = v.others;
   version = v.version;
@@ -75,7 +75,8 @@ plans-are-valid g plan v few = record {
   items = subst IsTrue (sym (all-broken (λ n. is_item n.line n.kind) (λ n. refl) 0 g.items plan)) v.items;
   feet = subst IsTrue (sym (all-broken (λ n. has_known_class (map (λ c. c.number) g.classes) n.kind) (λ n. refl) 0 g.items plan)) v.feet;
   kinds = subst IsTrue (sym (all-broken (λ n. fits_kind g.version n.kind) (λ n. refl) 0 g.items plan)) v.kinds;
-  count = few;
+  heads = takes.1;
+  count = takes.0;
   lines = subst (λ l. IsTrue (rise_from 0 (l ++ g.end_line ∷ []))) (sym (named-broken 0 g.items plan)) v.lines;
 }
 
@@ -104,14 +105,14 @@ pub breaks-keep-valid : BreaksKeepValid
 breaks-keep-valid = plans-are-valid
 
 pub breaks-ship-once : EachShipsOnce → BreaksShipOnce
-breaks-ship-once law g plan valid few done = ships-same g plan (run_of (with_breaks g plan)) (law (with_breaks g plan) (plans-are-valid g plan valid few) done)
+breaks-ship-once law g plan valid takes done = ships-same g plan (run_of (with_breaks g plan)) (law (with_breaks g plan) (plans-are-valid g plan valid takes) done)
 
 pub breaks-keep-totals : TotalsAreKept → BreaksKeepTotals
-breaks-keep-totals law g plan valid few done = totals-same g plan _ (law (with_breaks g plan) (plans-are-valid g plan valid few) done)
+breaks-keep-totals law g plan valid takes done = totals-same g plan _ (law (with_breaks g plan) (plans-are-valid g plan valid takes) done)
 
 pub breaks-keep-order : ClassesKeepOrder → BreaksKeepOrder
-breaks-keep-order law g plan valid few done =
-    subst (λ x. KeepsClassOrder g.params (run_of (with_breaks g plan)) x) (taken-broken false 0 g.items plan) (law (with_breaks g plan) (plans-are-valid g plan valid few) done)
+breaks-keep-order law g plan valid takes done =
+    subst (λ x. KeepsClassOrder g.params (run_of (with_breaks g plan)) x) (taken-broken false 0 g.items plan) (law (with_breaks g plan) (plans-are-valid g plan valid takes) done)
 
 pub breaks-keep-limits : LimitsHold → BreaksKeepLimits
 breaks-keep-limits law g plan = law (with_breaks g plan)

@@ -6,3 +6,4 @@ pub mod QuietLemmas
 pub mod WideLemmas
 pub mod SideLemmas
 pub mod SideSteps
+pub mod StandingNotes

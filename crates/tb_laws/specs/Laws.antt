@@ -66,9 +66,10 @@ abbrev pub lines_by : (ℕ → ItemKind → List ℕ) → List Item → List ℕ
 lines_by lines [] = []
 lines_by lines (n ∷ ns) = lines n.line n.kind ++ lines_by lines ns
 
--- the float of an item, if it is one
+-- the float of an item, if it is one; a title over both columns is a double float of class 0
 abbrev pub float_of : ItemKind → List Float
 float_of (items.Float f vert) = f ∷ []
+float_of (items.Head f) = f ∷ []
 float_of _ = []
 
 -- the floats of a galley, in its order

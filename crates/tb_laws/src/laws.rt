@@ -3,7 +3,7 @@
 ghost use Rattle.tb_laws.specs.AreaNumbers.{NumbersHold};
 ghost use Rattle.tb_laws.specs.DeadCycles.{DeadCyclesAreFew};
 ghost use Rattle.tb_laws.specs.Firings.{BoundsAgree, EndsHaveReasons};
-ghost use Rattle.tb_laws.specs.PlanLaws.{BreaksKeepLimits, BreaksKeepOrder, BreaksKeepTotals, BreaksKeepValid, BreaksShipOnce};
+ghost use Rattle.tb_laws.specs.PlanLaws.{BreaksKeepLimits, BreaksKeepOrder, BreaksKeepTotals, BreaksKeepValid, BreaksShipOnce, PlansKeepTitles};
 ghost use Rattle.tb_laws.specs.Laws.{ClassesKeepOrder, EachShipsOnce, FilesListTheirPages, LimitsHold, ListsAreEmptied, TotalsAreKept};
 
 /// The run of a galley is defined: each firing ships a page or adds to the dead cycles, so the bound on the firings, with
@@ -51,8 +51,8 @@ pub fn classes_keep_their_order()
     ensures { ClassesKeepOrder }
 {}
 
-/// Dead cycles are few: a run of a valid galley does not end for its dead cycles if their limit allows four for each float,
-/// marginal note, clear and change of columns, and sixteen besides.
+/// Dead cycles are few: a run of a valid galley that makes no page higher does not end for its dead cycles if their limit
+/// allows four for each float, title, marginal note, clear and change of columns, and sixteen besides.
 pub fn dead_cycles_are_few()
     ensures { DeadCyclesAreFew }
 {}
@@ -63,9 +63,11 @@ pub fn dvi_files_list_their_pages()
     ensures { FilesListTheirPages }
 {}
 
-/// Page breaks that are put into a valid galley leave it valid, if it has then no more items than a galley may have.
+/// Page breaks that are put into a valid galley leave it valid, if it has then no more items than a galley may have and none
+/// stands between `twocolumn` and its `head`. Those of a plan do not stand there.
 pub fn breaks_keep_valid()
-    ensures { BreaksKeepValid }
+    ensures valid { BreaksKeepValid }
+    ensures titles { PlansKeepTitles }
 {}
 
 /// Whatever page breaks are put into a valid galley, if its run ends well then each box, rule, float and marginal note of

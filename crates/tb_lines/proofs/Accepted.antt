@@ -16,7 +16,7 @@ use Rattle.tb_galley.specs.declared.Item.{Item}
 use Rattle.tb_galley.specs.declared.ItemKind.{ItemKind}
 use Rattle.tb_galley.specs.declared.Word.TheVariants.{Header as header, End as end}
 use Rattle.tb_galley.specs.declared.words.Phase.{Phase}
-use Rattle.tb_galley.specs.declared.words.Phase.TheVariants.{Start as at_start, Sets as among_sets, Items as among_items, Ended as ended}
+use Rattle.tb_galley.specs.declared.words.Phase.TheVariants.{Start as at_start, Sets as among_sets, Items as among_items, AfterTwo as after_two, Ended as ended}
 use Rattle.tb_galley.specs.Faults.{fault}
 use Rattle.tb_galley.specs.Grammar.{empty_draft, grammar, spelled, input_limit}
 use Rattle.tb_galley.specs.GalleyReader.{start, verdict}
@@ -43,7 +43,7 @@ use Rattle.tb_lines.specs.Accepted.{IsAccepted}
 use Rattle.tb_lines.specs.ValidText.{IsValidItem, IsValidParagraph, IsValidText}
 use Rattle.tb_lines.proofs.LeastOf.{solutions_least}
 use Rattle.tb_lines.proofs.ValidTexts.{reading_valid}
-use Rattle.tb_lines.proofs.GalleyLines.{items_of, text_of_items, paragraphs_items, paragraphs_text_is, IsPlain, all_good, all_known, all_kinds, all_words, plain_weight, plain_length, IsSmallSize, AreSmallLines, paragraphs_plain}
+use Rattle.tb_lines.proofs.GalleyLines.{items_of, text_of_items, paragraphs_items, paragraphs_text_is, IsPlain, all_good, all_known, all_kinds, all_words, all_stand, plain_weight, plain_length, IsSmallSize, AreSmallLines, paragraphs_plain}
 
 -- ---- a text of plain items
 
@@ -55,6 +55,7 @@ header_runs =
 end_runs : (n : ℕ) (p : Phase) (c : ℕ) (ps : Params) (e : ℕ) (is : List Item) → takes_items p ≡ true → Runs (item_state n p c ps 1 [] e is) (codes "end" ∷ []) (item_state (n + 1) ended c ps 1 [] (n + 1) is)
 end_runs n among_sets c ps e is takes = word_runs n among_sets c (drafted ps 1 [] is None e) end [] (λ m. contents.End) refl (record { fit = tt; short = omega arith; content = λ m. refl }) refl refl
 end_runs n among_items c ps e is takes = word_runs n among_items c (drafted ps 1 [] is None e) end [] (λ m. contents.End) refl (record { fit = tt; short = omega arith; content = λ m. refl }) refl refl
+end_runs n after_two c ps e is takes = word_runs n after_two c (drafted ps 1 [] is None e) end [] (λ m. contents.End) refl (record { fit = tt; short = omega arith; content = λ m. refl }) refl refl
 end_runs n p c ps e is takes = cc
 
 -- a galley of version 1 has no class but that of its footnotes
@@ -74,7 +75,7 @@ bare_read ks plain few =
     let is = items_of ks in
     let w : weight is ≡ length ks = plain_weight ks plain in
     let inner : Runs (item_state 1 among_sets 0 default_params 1 [] 0 []) (item_texts 1 is) (item_state (1 + weight is) (phase_past_items among_sets is) (0 + weight is) default_params 1 [] 0 (numbered_items 2 is)) =
-    items_run 1 among_sets 0 default_params 1 [] 0 [] is no_classes refl (omega arith) (all_good ks plain) (all_known ks plain) (all_kinds ks plain) (all_words ks plain) in
+    items_run 1 among_sets 0 default_params 1 [] 0 [] is no_classes refl (omega arith) (all_good ks plain) (all_known ks plain) (all_kinds ks plain) (all_words ks plain) (all_stand false ks plain) in
     let last : Runs (item_state (1 + weight is) (phase_past_items among_sets is) (0 + weight is) default_params 1 [] 0 (numbered_items 2 is)) (codes "end" ∷ []) (item_state (1 + weight is + 1) ended (0 + weight is) default_params 1 [] (1 + weight is + 1) (numbered_items 2 is)) =
     end_runs (1 + weight is) (phase_past_items among_sets is) (0 + weight is) default_params 0 (numbered_items 2 is) (still_takes is) in
     let runs : Runs start (bare_lines ks) (item_state (1 + weight is + 1) ended (0 + weight is) default_params 1 [] (1 + weight is + 1) (numbered_items 2 is)) =

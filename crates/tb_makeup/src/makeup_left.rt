@@ -79,6 +79,7 @@ impl<'a> MakeupLeft<'a> {
             ItemKind::Float { .. } | ItemKind::NewPage | ItemKind::ClearPage => 2,
             ItemKind::Margin { .. } => 4,
             ItemKind::OneColumn | ItemKind::TwoColumn => 6,
+            ItemKind::Enlarge { by: _, star } => { if *star { 3 } else { 2 } }
             _ => 1,
         }
     }

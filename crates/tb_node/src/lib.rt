@@ -224,6 +224,9 @@ pub enum Act {
     },
     /// Sets the page number, which is at most 1000000.
     Page(u32),
+    /// Puts a title over both columns: a double float of class 0, which waits at the end of its list until the pair is made
+    /// (ltoutput.dtx, \@topnewpage).
+    Head(Float),
 }
 
 /// The kinds of node.

@@ -61,6 +61,7 @@ impl Act {
             (Act::Suppress(a), Act::Suppress(b)) => same_areas(*a, *b),
             (Act::Columns { two: a }, Act::Columns { two: b }) => *a == *b,
             (Act::Page(a), Act::Page(b)) => *a == *b,
+            (Act::Head(a), Act::Head(b)) => a.is_same(b),
             _ => false,
         }
     }

@@ -2,4 +2,5 @@
 pub mod StartLemmas
 pub mod TakingLemmas
 pub mod ActingLemmas
+pub mod HeadLemmas
 pub mod WarnLemmas

@@ -9,4 +9,5 @@ pub mod FloatTurns
 pub mod FloatMoves
 pub mod FillLemmas
 pub mod StepsInTurn
+pub mod StandingBoxes
 pub mod TakingText

@@ -3,7 +3,7 @@ pub mod ClassesTaken
 pub mod ReadingLemmas
 pub mod TakenLists
 pub mod NotesTaking
-pub mod ClosingNotes
+pub mod DroppedNotes
 pub mod VoidBoxes
 pub mod HoldLemmas
 pub mod OutputLemmas

@@ -1,5 +1,5 @@
 -- What the machine does at an act, against the definition of an act.
-use Rattle.std.specs.Prelude.{◌≡◌, ◌≤◌, ◌<◌, ◌+◌, ℕ, ℤ, Bool, true, false, not, ◌&&◌, List, [], ◌∷◌, ◌++◌, map, Option, None, if◌then◌else◌}
+use Rattle.std.specs.Prelude.{◌≡◌, ◌≤◌, ◌<◌, ◌+◌, ◌==◌, ℕ, ℤ, pos, int_lt, Bool, true, false, not, ◌&&◌, List, [], ◌∷◌, ◌++◌, map, Option, None, if◌then◌else◌}
 use Rattle.tb_scaled.specs.Scaled.{min_ℤ}
 use Rattle.tb_pool.specs.Lists.{Lists}
 use Rattle.tb_node.specs.declared.Act.{Act}
@@ -10,17 +10,20 @@ use Rattle.tb_node.specs.declared.Margin.{Margin}
 use Rattle.tb_node.specs.declared.Node.{Node}
 use Rattle.tb_node.specs.PlainNodes.{PlainNode}
 use Rattle.tb_builder.specs.FiredPages.{Boxed}
+use Rattle.tb_builder.specs.Pageable.{IsGoal}
 use Rattle.tb_param.specs.declared.Params.{Params}
 use Rattle.tb_param.specs.Release.{has_second}
 use Rattle.tb_float.specs.declared.Entry.TheVariants as entries
 use Rattle.tb_float.specs.Lists.{live_count}
-use Rattle.tb_float.specs.Pool.{FloatPool, HasNoMarks, with_current}
+use Rattle.tb_float.specs.declared.Part.TheVariants as parts
+use Rattle.tb_float.specs.Pool.{FloatPool, HasNoMarks, with_current, with_floats_after}
+use Rattle.tb_float.specs.Rooms.{column_room_of}
 use Rattle.tb_column.specs.declared.Column.{Column}
 use Rattle.tb_sheet.specs.declared.Sent.{Sent}
 use Rattle.tb_sheet.specs.declared.Sent.TheVariants as events
 use Rattle.tb_sheet.specs.declared.Warn.{Warn}
 use Rattle.tb_output.specs.State.{State, no_suppress}
-use Rattle.tb_output.specs.Act.{Acted, went, full, lists_with_taken, large_warning, suppressed, act_on}
+use Rattle.tb_output.specs.Act.{Acted, went, full, lists_with_taken, large_warning, suppressed, taken_head, lists_with_head, act_on}
 use Rattle.tb_pool.specs.Frame.{IsNoneOf}
 use Rattle.tb_output.specs.Machine.{MachineView, state_shown, left_lists, machine_lists}
 
@@ -51,6 +54,7 @@ line_of (acts.TakeMargin m) = m.line
 line_of (acts.Suppress area) = 0
 line_of (acts.Page n) = 0
 line_of (acts.Columns two) = 0
+line_of (acts.Head f) = f.line
 
 -- the list of a first column that waits, if the act changes the columns
 abbrev pub dropped_lists : Act → Option Column → List ℕ
@@ -59,6 +63,7 @@ dropped_lists (acts.TakeMargin m) left = []
 dropped_lists (acts.Suppress area) left = []
 dropped_lists (acts.Page n) left = []
 dropped_lists (acts.Columns two) left = left_lists left
+dropped_lists (acts.Head f) left = []
 
 -- a list that is not the machine's before is not its afterwards
 abbrev pub TakesNoList : MachineView → MachineView → Type 0
@@ -95,6 +100,30 @@ with_suppressed area m = record m { suppress = suppressed m.suppress area }
 -- the columns changed, and a first column that waited is dropped
 abbrev pub with_columns : Bool → MachineView → MachineView
 with_columns two m = record m { two_columns = two; first_column = true; left_column = None; suppress = no_suppress }
+
+-- a title was taken, and the goal is the room that it leaves
+abbrev pub with_title : Float → MachineView → MachineView
+with_title f m = record m {
+  pool = with_floats_after parts.Double (taken_head m.params f ∷ []) m.pool;
+  goal = column_room_of m.params (lists_with_head (taken_head m.params f) m.pool.lists);
+}
+
+-- a pool takes a title above the first of two columns if it is empty, and may hold a box
+abbrev pub has_title_room : Bool → FloatPool → Bool
+has_title_room above v = above && (live_count v.lists == 0) && int_lt (pos 0) (pos v.size)
+
+-- the pool had room for a title, and the machine has taken it; its goal is one, and if no float was chosen, none is
+pub record HasTakenTitle (f : Float) (m now : MachineView) : Type 0 where
+  pub room : has_title_room (m.two_columns && m.first_column) m.pool ≡ true
+  pub machine : now ≡ with_title f m
+  pub goal : IsGoal now.goal
+  pub unmarked : HasNoMarks m.pool → HasNoMarks now.pool
+
+-- the pool, which holds this many boxes, had no room for a title; the machine is as before
+pub record HasNoTitleRoom (live : ℕ) (m now : MachineView) : Type 0 where
+  pub room : has_title_room (m.two_columns && m.first_column) m.pool ≡ false
+  pub shown : live ≡ live_count m.pool.lists
+  pub machine : now ≡ m
 
 -- the next page has this number
 abbrev pub with_page_number : ℕ → MachineView → MachineView

@@ -4,6 +4,7 @@ use Rattle.std.specs.List.{AllByRecursion}
 use Rattle.tb_pool.specs.Lists.{Lists, list_at}
 use Rattle.tb_pool.specs.Frame.{IsNoneOf, OnlyChanged}
 use Rattle.tb_node.specs.declared.Node.{Node}
+use Rattle.tb_scaled.specs.Amount.{IsAmount}
 use Rattle.tb_node.specs.Fit.{IsSizedLeaf}
 use Rattle.tb_node.specs.PlainNodes.{plain_list}
 use Rattle.tb_param.specs.declared.Params.{Params}
@@ -42,6 +43,7 @@ fired_in b store page = record {
   penalty = page.penalty;
   cost = page.cost;
   size = page.size;
+  shrink = page.shrink;
   line = page.line;
 }
 
@@ -70,6 +72,7 @@ pub record CanFire (m : MachineView) (b : Builder) (store : Lists Node) (page : 
   pub awaits : NoPage (contents_of b store)
   pub classes : (contents_of b store).classes ≡ m.classes
   pub penalty : hold_penalty ≤ℤ page.penalty
+  pub shrink : IsAmount page.shrink
   pub note_bottom : IsReach m.note_bottom
   pub body : IsPageList store page.body
   pub boxes : AreSizedBoxes (contents_of b store).boxes

@@ -6,6 +6,7 @@ use Rattle.tb_node.specs.declared.Node.{Node}
 use Rattle.tb_node.specs.PlainNodes.{PlainNode, plain_list, shape_of}
 use Rattle.tb_node.specs.Sums.{size_of}
 use Rattle.tb_node.specs.Fit.{IsExtent, IsPenalty}
+use Rattle.tb_scaled.specs.Amount.{IsAmount}
 use Rattle.tb_param.specs.declared.Params.{Params}
 use Rattle.tb_insert.specs.declared.Class.{Class}
 use Rattle.tb_builder.specs.FiredPages.{Boxed}
@@ -38,6 +39,7 @@ pub record MachineView : Type 0 where
   pub held_room : ℤ
   pub note_bottom : ℤ
   pub suppress : Suppress
+  pub shrink : ℤ
   pub two_columns : Bool
   pub first_column : Bool
   pub left_column : Option Column
@@ -58,6 +60,7 @@ first_view p cs held_page = record {
   held_room = pos 0;
   note_bottom = pos 0;
   suppress = no_suppress;
+  shrink = pos 0;
   two_columns = false;
   first_column = true;
   left_column = None;
@@ -90,6 +93,7 @@ state_shown store boxes waiting m = record {
   dead_cycles = m.dead_cycles;
   note_bottom = m.note_bottom;
   suppress = m.suppress;
+  shrink = m.shrink;
 }
 
 -- events as the definitions see them
@@ -154,7 +158,7 @@ abbrev pub AreClassesFrom : ℕ → List Class → Type 0
 AreClassesFrom k [] = Unit {0}
 AreClassesFrom k (c ∷ cs) = (k ≤ c.number) × IsSizedGlue c.skip × AreClassesFrom (suc c.number) cs × IsSizedRule (unwrap_or c.below None)
 
--- the parameters, the classes, the count of pages and the page number are in their ranges, the pool is as large as the parameters say and chooses no float,
+-- the parameters, the classes, the count of pages, the page number and the shrink are in their ranges, the pool is as large as the parameters say and chooses no float,
 -- a second column has a first one, the room of the held page is known, and the machine's lists may be on pages, no two of them the same
 pub record IsMachine (m : MachineView) (store : Lists Node) : Type 0 where
   pub params : AreOutputParams m.params
@@ -163,6 +167,7 @@ pub record IsMachine (m : MachineView) (store : Lists Node) : Type 0 where
   pub first : 1 ≤ m.page
   pub last : m.page ≤ 4194305
   pub numbered : m.number ≤ m.page + 1000000
+  pub shrink : IsAmount m.shrink
   pub pool : pos m.pool.size ≡ m.params.pool
   pub unmarked : HasNoMarks m.pool
   pub left : m.first_column ≡ false → IsSome m.left_column

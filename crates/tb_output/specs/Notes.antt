@@ -1,5 +1,5 @@
 -- The insertions of a page are taken out of the boxes of their classes.
-use Rattle.std.specs.Prelude.{◌≡◌, ◌≤◌, ℕ, true, List, [], ◌∷◌}
+use Rattle.std.specs.Prelude.{◌≡◌, ◌≤◌, ◌==◌, ℕ, true, not, List, [], ◌∷◌, filter}
 use Rattle.std.specs.List.{AllByRecursion}
 use Rattle.tb_pool.specs.Lists.{Lists, IsLive, list_at}
 use Rattle.tb_pool.specs.Frame.{IsNoneOf}
@@ -25,6 +25,10 @@ abbrev pub boxes_held : TakenNotes → List NoteBox
 boxes_held Empty = []
 boxes_held (One n) = n ∷ []
 boxes_held (Many ns) = ns.items
+
+-- the boxes of the insertions that stand on a page: all but those of class 255
+abbrev pub standing_boxes : List NoteBox → List NoteBox
+standing_boxes ns = filter (λ n. not (n.class == 255)) ns
 
 -- the boxes, with those of these classes void
 abbrev pub with_voids : List Class → List Boxed → List Boxed

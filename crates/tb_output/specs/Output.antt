@@ -61,11 +61,11 @@ next_goal p n w = if is_int n hold_penalty then with_goal max_dimen w else goal_
 
 -- the state in which a firing begins
 abbrev pub after_page : State → Fired → State
-after_page s f = record s { boxes = f.boxes; waiting = []; dead_cycles = s.dead_cycles + 1 }
+after_page s f = record s { boxes = f.boxes; waiting = []; dead_cycles = s.dead_cycles + 1; shrink = f.shrink }
 
--- the nodes that wait after it
+-- the nodes that wait after it; no page is served any more
 abbrev pub waiting_again : Fired → Work → Work
-waiting_again f w = record w { state = record w.state { waiting = f.held ++ w.put_back ++ f.rest } }
+waiting_again f w = record w { state = record w.state { waiting = f.held ++ w.put_back ++ f.rest; shrink = pos 0 } }
 
 -- the firing of a page
 unfoldable pub out : Params → State → Fired → Work

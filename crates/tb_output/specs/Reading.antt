@@ -8,7 +8,7 @@ use Rattle.tb_node.specs.Sums.{size_of, last_depth}
 use Rattle.tb_builder.specs.declared.Builder.{Builder}
 use Rattle.tb_builder.specs.declared.Page.{Page}
 use Rattle.tb_builder.specs.FiredPages.{Fired}
-use Rattle.tb_column.specs.Column.{Notes}
+use Rattle.tb_column.specs.Column.{Notes, standing_notes}
 use Rattle.tb_output.specs.declared.reading.Reading.{Reading}
 use Rattle.tb_output.specs.declared.reading.Standing.{Standing}
 use Rattle.tb_output.specs.State.{State, Work, begun, footnotes}
@@ -37,11 +37,11 @@ abbrev pub any_notes : List Notes → Bool
 any_notes [] = false
 any_notes (n ∷ ns) = true
 
--- the height of this text without its depth, that of the page with its depth and these insertions, and whether there are any; the heights are amounts
+-- the height of this text without its depth, that of the page with its depth and these insertions, and whether any of them stand on a page; the heights are amounts
 pub record IsReading (z : Reading) (ns : List PlainNode) (notes : List Notes) : Type 0 where
   pub height : z.height ≡ size_of (map node_shape ns) -ℤ last_depth (map node_shape ns)
   pub page_height : z.page_height ≡ size_of (map node_shape ns) +ℤ notes_height notes
-  pub has_notes : z.has_notes ≡ any_notes notes
+  pub has_notes : z.has_notes ≡ any_notes (standing_notes notes)
   pub small_height : IsAmount z.height
   pub small_page : IsAmount z.page_height
 

@@ -17,3 +17,4 @@ pub record ShowSame (s : Lists Node) (m : MachineView) (t : Lists Node) (n : Mac
   pub dead_cycles : m.dead_cycles ≡ n.dead_cycles
   pub note_bottom : m.note_bottom ≡ n.note_bottom
   pub suppress : m.suppress ≡ n.suppress
+  pub shrink : m.shrink ≡ n.shrink

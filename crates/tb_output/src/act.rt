@@ -1,7 +1,8 @@
 //! What the routine does at an act: a float or a marginal note is taken, floats are kept out of an area, the columns
-//! change, or the page number is set (LaTeX, \@xfloat, \marginpar, \suppressfloats and \twocolumn).
+//! change, the page number is set, or a title over both columns is taken (LaTeX, \@xfloat, \marginpar, \suppressfloats,
+//! \twocolumn and \@topnewpage).
 
-ghost use Rattle.std.specs.Prelude.{◌≡◌, ◌<◌, ◌&&◌, not, pos, List, OnOk, OnErr, IfErr, IsErr, option_to_list};
+ghost use Rattle.std.specs.Prelude.{◌≡◌, ◌<◌, ◌&&◌, true, false, not, pos, List, [], ◌∷◌, OnOk, OnErr, IfErr, IsErr, option_to_list};
 ghost use Rattle.tb_pool.specs.Lists.{Lists as ListMap};
 ghost use Rattle.tb_node.specs.declared.Node.{Node as NodeValue};
 ghost use Rattle.tb_node.specs.PlainNodes.{PlainNode};
@@ -10,13 +11,13 @@ ghost use Rattle.tb_scaled.specs.Scaled.{min_ℤ};
 ghost use Rattle.tb_builder.specs.FiredPages.{Boxed};
 ghost use Rattle.tb_param.specs.Release.{has_second};
 ghost use Rattle.tb_float.specs.Lists.{live_count};
-ghost use Rattle.tb_float.specs.Pool.{HasNoMarks};
+ghost use Rattle.tb_float.specs.Pool.{HasNoMarks, with_floats_after};
 ghost use Rattle.tb_float.specs.Ranges.{IsSizedMargin};
-ghost use Rattle.tb_output.specs.Act.{full, large_warning, suppressed};
+ghost use Rattle.tb_output.specs.Act.{full, large_warning, suppressed, taken_head};
 ghost use Rattle.tb_sheet.specs.ApartLists.{AreNoneOf};
 ghost use Rattle.tb_output.specs.Machine.{AreOutputParams, IsMachine, machine_lists};
 ghost use Rattle.tb_sheet.specs.Asked.{IsSizedAct};
-ghost use Rattle.tb_output.specs.ActCalls.{IsActed, acted_in, line_of, TakesNoList, dropped_lists, HasTaken, HasNoRoom, clipped, taken_into, with_float, with_note, with_suppressed, with_columns, with_page_number};
+ghost use Rattle.tb_output.specs.ActCalls.{IsActed, acted_in, line_of, TakesNoList, dropped_lists, HasTaken, HasNoRoom, clipped, taken_into, with_float, with_note, with_suppressed, with_columns, with_page_number, has_title_room, HasTakenTitle, HasNoTitleRoom};
 
 use crate::Machine;
 use crate::state::no_suppress;
@@ -30,9 +31,9 @@ impl Machine {
     /// Does what an act says, when the page builder reaches it. It allocates nothing: room is kept for the warning that
     /// a float is higher than a page.
     ///
-    /// Returns Full exactly if the pool has no room for the float, or for both boxes of the marginal note; then nothing
-    /// changes. A change of columns drops a first column that waits; its list, which `dropped_by` names before the act,
-    /// stays in the store.
+    /// Returns Full exactly if the pool has no room for the float, or for both boxes of the marginal note, or if a title
+    /// over both columns finds one column, a second one or boxes in the pool; then nothing changes. A change of columns
+    /// drops a first column that waits; its list, which `dropped_by` names before the act, stays in the store.
     pub fn act(&mut self, a: Act) -> Result<(), Full>
         requires params { AreOutputParams self.old.params }
         requires pool { pos self.old.pool.size ≡ self.old.params.pool }
@@ -65,6 +66,7 @@ impl Machine {
                 self.set_number(number);
                 Ok(())
             }
+            Act::Head(f) => self.take_title(f),
         }
     }
 
@@ -91,6 +93,20 @@ impl Machine {
         let taken = clipped(&f, &self.params, self.two_columns);
         take_into(&mut self.pool, &self.params, taken)?;
         self.events.warn(warning);
+        Ok(())
+    }
+
+    // Takes a title over both columns, which lowers them: the goal becomes the room that it leaves (latex.ltx,
+    // \@topnewpage).
+    fn take_title(&mut self, f: Float) -> Result<(), Full>
+        requires params { AreOutputParams self.old.params }
+        requires float { IsExtent f.height }
+        ensures ok { OnOk result (HasTakenTitle f self.old self.new) }
+        ensures err { IfErr result (λ e. HasNoTitleRoom e.live self.old self.new) }
+    {
+        let title = taken_head(&f, &self.params);
+        take_above(&mut self.pool, self.two_columns && self.first_column, title)?;
+        self.goal = self.column_room();
         Ok(())
     }
 
@@ -149,6 +165,26 @@ fn take_into(pool: &mut Pool, p: &Params, f: Float) -> Result<(), Full>
     Ok(())
 }
 
+// Puts a title at the end of the double floats of an empty pool, if it is above the first of two columns.
+fn take_above(pool: &mut Pool, above: bool, f: Float) -> Result<(), Full>
+    requires { IsExtent f.height }
+    ensures room { OnOk result (has_title_room above pool.old ≡ true) }
+    ensures taken { OnOk result (pool.new ≡ with_floats_after Part.Double (f ∷ []) pool.old) }
+    ensures unmarked { OnOk result (HasNoMarks pool.old → HasNoMarks pool.new) }
+    ensures full { IsErr result → has_title_room above pool.old ≡ false }
+    ensures shown { IfErr result (λ e. e.live ≡ live_count pool.old.lists) }
+    ensures unchanged { OnErr result (pool.new ≡ pool.old) }
+{
+    let live = pool.live();
+    if !above || live != 0 {
+        return Err(Full { live });
+    }
+    pool.take(f)?;
+    let last = pool.len(Part::Current) - 1;
+    pool.move_to(Part::Current, last, Part::Double);
+    Ok(())
+}
+
 // In release 2014 a wide float waits for a page at once (ltoutput.dtx, \end@dblfloat).
 fn waits_for_page(p: &Params, f: &Float) -> bool
     ensures { result ≡ (has_second p.now && f.now.wide) }
@@ -182,6 +218,22 @@ fn clipped(f: &Float, p: &Params, two_columns: bool) -> Float
         height: lesser(f.height, p.textheight),
         wide: f.wide && two_columns,
         deep: keeps_depth(f.deep, two_columns, p.has_second()),
+        ..*f
+    }
+}
+
+// A title as it is taken: a double float that overrides the limits, no higher than a page and without a depth.
+fn taken_head(f: &Float, p: &Params) -> Float
+    requires float { IsExtent f.now.height }
+    requires page { IsExtent p.now.textheight }
+    ensures value { result ≡ taken_head p.now f.now }
+    ensures extent { IsExtent result.height }
+{
+    Float {
+        wide: true,
+        bang: true,
+        height: lesser(f.height, p.textheight),
+        deep: false,
         ..*f
     }
 }

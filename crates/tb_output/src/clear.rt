@@ -17,6 +17,7 @@ ghost use Rattle.tb_output.specs.FiringParts.{clear_noted};
 
 use crate::back_list::{push_blank_clear, push_clear, shorten};
 use crate::pages::wide_part;
+use crate::standing::{drop_notes, standing_notes};
 use crate::{Machine, RunFault};
 use std::alloc::AllocError;
 use tb_break::find;
@@ -27,7 +28,8 @@ use tb_pool::{ListId, Lists};
 use tb_scaled::filling_glue;
 
 impl Machine {
-    /// A clear (ltoutput.dtx, \@doclearpage). A page with insertions is put out first, and a further clear goes back.
+    /// A clear (ltoutput.dtx, \@doclearpage). A page on which insertions stand is put out first, and a further clear goes
+    /// back; what makes another page higher is dropped.
     pub(crate) fn clear(
         &mut self,
         store: &mut Lists<Node>,
@@ -42,7 +44,8 @@ impl Machine {
         ensures err { IfErr result (λ e. Does (shows_page back notes.now self.old store.old) (IsCutShort e self.new store.new) (clear self.old.params (plain_list store.old body))) }
         ensures keeps { KeepsBack back (body ∷ note_lists notes.now) self.old self.new store.old store.new }
     {
-        if notes.is_empty() {
+        if standing_notes(notes).is_empty() {
+            drop_notes(store, notes);
             return self.clear_floats(store, body, back);
         }
         self.clear_notes(store, body, notes, back)

@@ -12,7 +12,7 @@ ghost use Rattle.tb_float.specs.MarkedFloats.{without_marked};
 ghost use Rattle.tb_float.specs.Ranges.{AreFloatParams, IsWithin};
 ghost use Rattle.tb_float.specs.Rooms.{column_height_of};
 ghost use Rattle.tb_fpage.specs.Choice.{IsChosen};
-ghost use Rattle.tb_column.specs.Column.{text_column, float_column_of};
+ghost use Rattle.tb_column.specs.Column.{standing_notes, enlarged_of, text_column, float_column_of};
 ghost use Rattle.tb_column.specs.StoredColumns.{column_shown};
 ghost use Rattle.tb_column.specs.Notes.{AreDistinct, notes_shown, note_lists};
 ghost use Rattle.tb_column.specs.Page.{IsPageColumn};
@@ -25,6 +25,7 @@ ghost use Rattle.tb_output.specs.MachineFrame.{AreTextLists, HasFloats, KeepsMac
 ghost use Rattle.tb_output.specs.PageChanges.{with_left, with_column_done, filled_lists};
 ghost use Rattle.tb_output.specs.FiringParts.{column_done, NoColumn, ChoosesNone};
 
+use crate::standing::{drop_notes, enlarged_of, standing_notes};
 use crate::state::{no_suppress, pool_size};
 use crate::{Machine, RunFault};
 use std::alloc::AllocError;
@@ -84,7 +85,7 @@ impl Machine {
         requires machine { IsMachine self.old store.old }
         requires lists { AreTextLists 8355840 (machine_lists self.old) store.old body notes.now }
         ensures ok { OnOk result (Does (shows_notes notes.now self.old store.old) (shows self.new store.new) without_column_floats) }
-        ensures shown { IfOk result (λ c. column_shown store.new c ≡ text_column self.old.params self.old.pool.lists (plain_list store.old body) (notes_shown store.old notes.now)) }
+        ensures shown { IfOk result (λ c. column_shown store.new c ≡ text_column self.old.params self.old.pool.lists (plain_list store.old body) (standing_notes (notes_shown store.old notes.now)) (enlarged_of self.old.shrink (notes_shown store.old notes.now))) }
         ensures column { IfOk result (λ c. IsPageColumn store.new c) }
         ensures list { IfOk result (λ c. c.list ≡ body) }
         ensures err { OnErr result (store.new.lists ≡ store.old.lists) }
@@ -93,8 +94,17 @@ impl Machine {
         ensures keeps { KeepsMachine (body ∷ note_lists notes.now) self.old self.new store.old store.new }
     {
         self.events.keep_room(pool_size(&self.params) as usize)?;
-        let column = make_column(store, &mut self.pool, &self.params, body, notes)?;
-        close_notes(store, notes);
+        let enlarged = enlarged_of(store, notes, self.shrink);
+        let standing = standing_notes(notes);
+        let column = make_column(
+            store,
+            &mut self.pool,
+            &self.params,
+            body,
+            standing,
+            &enlarged,
+        )?;
+        drop_notes(store, notes);
         Ok(column)
     }
 
@@ -270,16 +280,5 @@ impl Machine {
         ensures { HasFloats (filled_lists self.old) self.old self.new }
     {
         tb_area::fill_column(&mut self.pool, &self.params, &self.suppress);
-    }
-}
-
-// Closes the lists of insertions, which are empty.
-fn close_notes(store: &mut Lists<Node>, notes: &[NoteBox])
-    requires empty { AllByRecursion (λ n. get store.old.lists n.list ≡ Some []) notes.now }
-    requires apart { AreDistinct (note_lists notes.now) }
-    ensures { (q : ℕ) → IsNoneOf q (note_lists notes.now) → get store.new.lists q ≡ get store.old.lists q }
-{
-    for note in notes {
-        store.close(note.list);
     }
 }

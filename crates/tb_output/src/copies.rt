@@ -26,6 +26,7 @@ impl Machine {
             held_room: self.held_room,
             note_bottom: self.note_bottom,
             suppress: self.suppress,
+            shrink: self.shrink,
             two_columns: self.two_columns,
             first_column: self.first_column,
             left_column: self.left_column,

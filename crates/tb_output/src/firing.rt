@@ -109,8 +109,12 @@ impl Machine {
             return Err(fault);
         }
         self.dead_cycles += 1;
+        self.shrink = page.shrink;
         match self.serve(store, b, page, room) {
-            Ok(put_back) => Ok(Turn { put_back }),
+            Ok(put_back) => {
+                self.shrink = 0;
+                Ok(Turn { put_back })
+            }
             Err(fault) => {
                 self.fault = Some(fault);
                 Err(fault)

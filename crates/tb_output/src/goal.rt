@@ -63,7 +63,7 @@ impl Machine {
     }
 
     // The room that floats leave in the next column.
-    fn column_room(&self) -> i64
+    pub(crate) fn column_room(&self) -> i64
         requires { AreFloatParams self.now.params }
         ensures value { result ≡ column_room_of self.now.params self.now.pool.lists }
         ensures small { IsGoal result }

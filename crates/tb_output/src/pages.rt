@@ -25,7 +25,7 @@ ghost use Rattle.tb_output.specs.FiringParts.{wide_done, NoWidePage, ChoosesNone
 use crate::state::pool_size;
 use crate::{Machine, RunFault};
 use std::alloc::AllocError;
-use tb_column::{Column, pair_tops};
+use tb_column::{Column, pair_rule, pair_tops};
 use tb_float::{Part, Pool, share_of};
 use tb_fpage::choose;
 use tb_node::{Float, Node};
@@ -187,7 +187,10 @@ impl Machine {
         ensures { result ≡ pair_top self.now.params self.now.pool.lists }
     {
         let height = self.pool.column_height(&self.params);
-        let rule = rule_under(self.pool.len(Part::Double), self.params.dblrule);
+        let rule = rule_under(
+            self.pool.len(Part::Double),
+            pair_rule(&self.pool, &self.params),
+        );
         let deep = deep_doubles(&self.pool);
         place_below(self.params.textheight, height, rule, deep)
     }

@@ -10,6 +10,7 @@ ghost use Rattle.tb_node.specs.Sums.{room_of, depth_after, size_of, last_depth};
 ghost use Rattle.tb_builder.specs.Contents.{contents_of, box_count};
 ghost use Rattle.tb_builder.specs.Courses.{IsSound};
 ghost use Rattle.tb_builder.specs.Ownership.{has_class, classes_of, ids_of};
+ghost use Rattle.tb_column.specs.Column.{standing_notes};
 ghost use Rattle.tb_column.specs.Page.{IsPageList};
 ghost use Rattle.tb_column.specs.Ranges.{IsSizedGlue};
 ghost use Rattle.tb_float.specs.Ranges.{IsWithin};
@@ -22,6 +23,7 @@ ghost use Rattle.tb_output.specs.Reading.{standing_of, any_notes, IsPageReading}
 use crate::Machine;
 use crate::extents::kind_depth;
 use tb_builder::{Builder, Page};
+use tb_column::ENLARGING;
 use tb_float::{Pool, Suppress};
 use tb_insert::Class;
 use tb_node::{Extent, Node, list_extent, room_of};
@@ -54,7 +56,7 @@ pub struct Reading {
     pub height: i64,
     /// The height and the depth of that text, and what the insertions of the page take.
     pub page_height: i64,
-    /// Whether the page has insertions.
+    /// Whether insertions stand on the page: others than those that make it higher.
     pub has_notes: bool,
 }
 
@@ -178,18 +180,35 @@ fn box_height(store: &Lists<Node>, b: &Builder, class: &Class) -> i64
     if b.is_void(class.number) {
         return 0;
     }
-    sum(b.box_size(store, class.number), class.skip.width)
+    if class.number != ENLARGING {
+        return sum(b.box_size(store, class.number), class.skip.width);
+    }
+    if b.holds_box(store, class.number) {
+        return 0;
+    }
+    b.box_size(store, class.number)
 }
 
-// Whether a box of these classes is not void.
+// Whether a box of these classes is not void, but for that of what makes a page higher.
 fn any_boxes(b: &Builder, classes: &[Class]) -> bool
     requires { classes_of (ids_of b.now) ≡ classes.now }
-    ensures { (s : ListMap NodeValue) → result ≡ any_notes (notes_in classes.now (contents_of b.now s).boxes) }
+    ensures { (s : ListMap NodeValue) → result ≡ any_notes (standing_notes (notes_in classes.now (contents_of b.now s).boxes)) }
 {
     for class in classes {
-        if !b.is_void(class.number) {
+        if holds_standing(b, class) {
             return true;
         }
     }
     false
+}
+
+// Whether the box of a class is not void, and the class is not that of what makes a page higher.
+fn holds_standing(b: &Builder, class: &Class) -> bool
+    requires { has_class (classes_of (ids_of b.now)) class.now.number ≡ true }
+    ensures { (s : ListMap NodeValue) → result ≡ any_notes (standing_notes (notes_in (class.now ∷ []) (contents_of b.now s).boxes)) }
+{
+    if class.number == ENLARGING {
+        return false;
+    }
+    !b.is_void(class.number)
 }

@@ -34,13 +34,14 @@ impl Machine {
 
     // Whether the numbers of two machines are the same. They differ most often.
     fn numbers_same(&self, other: &Machine) -> bool
-        ensures { IsTrue result ↔ ((self.now.page ≡ other.now.page) × (self.now.number ≡ other.now.number) × (self.now.dead_cycles ≡ other.now.dead_cycles) × (self.now.goal ≡ other.now.goal) × (self.now.note_bottom ≡ other.now.note_bottom)) }
+        ensures { IsTrue result ↔ ((self.now.page ≡ other.now.page) × (self.now.number ≡ other.now.number) × (self.now.dead_cycles ≡ other.now.dead_cycles) × (self.now.goal ≡ other.now.goal) × (self.now.note_bottom ≡ other.now.note_bottom) × (self.now.shrink ≡ other.now.shrink)) }
     {
         self.page == other.page
             && self.number == other.number
             && self.dead_cycles == other.dead_cycles
             && self.goal == other.goal
             && self.note_bottom == other.note_bottom
+            && self.shrink == other.shrink
     }
 
     // Whether the flags of two machines are the same.

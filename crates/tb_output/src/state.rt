@@ -100,6 +100,7 @@ fn with_held_page(
         held_room: 0,
         note_bottom: 0,
         suppress: no_suppress(),
+        shrink: 0,
         two_columns: false,
         first_column: true,
         left_column: None,

@@ -9,10 +9,10 @@ ghost use Rattle.tb_node.specs.Fit.{IsExtent, IsSizedNode, shapes};
 ghost use Rattle.tb_node.specs.Sums.{size_of, last_depth};
 ghost use Rattle.tb_node.specs.PlainNodes.{plain_list};
 ghost use Rattle.tb_float.specs.Ranges.{IsWithin};
-ghost use Rattle.tb_column.specs.Notes.{IsNote, AreRisingFrom, notes_shown, note_lists, note_count};
+ghost use Rattle.tb_column.specs.Notes.{IsNote, AreRisingFrom, note_shown, notes_shown, note_lists, note_count};
 ghost use Rattle.tb_column.specs.Page.{IsPageList};
 ghost use Rattle.tb_column.specs.FloatColumns.{made_node};
-ghost use Rattle.tb_output.specs.Text.{notes_height, list_back, float_or_note, without_firing_box};
+ghost use Rattle.tb_output.specs.Text.{note_room, notes_height, list_back, float_or_note, without_firing_box};
 ghost use Rattle.tb_output.specs.Machine.{machine_lists, IsRoomOf, IsMachine};
 ghost use Rattle.tb_output.specs.FiringWork.{shows_back, shows_page, IsCutShort, Does};
 ghost use Rattle.tb_output.specs.MachineFrame.{AreTextLists, HasGrown, IsBack, back_lists, KeepsBack};
@@ -25,7 +25,8 @@ use crate::back_list::shorten;
 use crate::extents::{Told, text_extent};
 use crate::{Machine, RunFault};
 use std::alloc::AllocError;
-use tb_column::{NoteBox, push_made};
+use tb_builder::has_box;
+use tb_column::{ENLARGING, NoteBox, push_made};
 use tb_node::{Insertion, Kind, Node, list_extent};
 use tb_param::Params;
 use tb_pool::{ListId, Lists};
@@ -183,12 +184,25 @@ fn notes_height(store: &Lists<Node>, notes: &[NoteBox]) -> i64
     for note in notes {
         // A class is below 256, so there are no more of them.
         let _class = note.class;
-        height = sum_of(
-            height,
-            sum_of(list_height(store, note.list), note.skip.width),
-        );
+        height = sum_of(height, note_room(store, note));
     }
     height
+}
+
+// What the insertions of a class take of a page, with the glue above them; what makes the page higher takes less than
+// nothing, and nothing if a box is among it.
+fn note_room(store: &Lists<Node>, note: &NoteBox) -> i64
+    requires { IsNote store.now note.now }
+    ensures value { result ≡ note_room (note_shown store.now note.now) }
+    ensures within { IsWithin (2147483646 * length (list_at store.now note.now.list) + 1073741823) result }
+{
+    if note.class != ENLARGING {
+        return sum_of(list_height(store, note.list), note.skip.width);
+    }
+    if has_box(store, note.list) {
+        return 0;
+    }
+    list_height(store, note.list)
 }
 
 /// The height plus the depth of a list, in sp.

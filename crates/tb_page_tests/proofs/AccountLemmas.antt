@@ -224,7 +224,7 @@ module _ (goal limit : ℤ) (store : Lists Node) (a : Account) (s : Scanned) (i 
   -- what its arrival requires
   pub arrives : PageFits (page_of goal limit) (page ++ note_node (noted ns height) ∷ []) → ArriveFits store a s i class (pos 0)
   arrives after =
-      arrive_fits store a s i 7 class (pos 0) (length page) (page_of goal limit) page [] (ap (λ (x : Class). x.number) class_is ∙ sym class_of) (subst (λ k. k < 255) (sym class_of) (omega arith)) at.account (comes (length page) refl) inner own
+      arrive_fits store a s i 7 class (pos 0) (length page) (page_of goal limit) page [] (ap (λ (x : Class). x.number) class_is ∙ sym class_of) (subst (λ k. k < 256) (sym class_of) (omega arith)) at.account (comes (length page) refl) inner own
       (subst (λ x. PageFits (page_of goal limit) (page ++ note_node x ∷ [])) (sym inserted) after)
 
   -- then the account and the scan are those of the page with it

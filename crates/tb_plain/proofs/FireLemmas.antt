@@ -359,6 +359,7 @@ module _ (b : Builder) (s o : Lists Node) (page : Page) (l : ℕ) (can : CanFire
     penalty = page.penalty;
     cost = page.cost;
     size = page.size;
+    shrink = page.shrink;
     line = page.line;
   }
 

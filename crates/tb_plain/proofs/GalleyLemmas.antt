@@ -37,6 +37,8 @@ item-ours p n items.OneColumn s = absurd (true≢false (sym s))
 item-ours p n items.TwoColumn s = absurd (true≢false (sym s))
 item-ours p n (items.Suppress area) s = absurd (true≢false (sym s))
 item-ours p n (items.Page k) s = absurd (true≢false (sym s))
+item-ours p n (items.Head f) s = absurd (true≢false (sym s))
+item-ours p n (items.Enlarge by star) s = absurd (true≢false (sym s))
 item-ours p n k s = (tt, tt)
 
 suited-both : (n : Item) (ns : List Item) → unsuited_among (n ∷ ns) ≡ None → (is_suited n.kind ≡ true) × (unsuited_among ns ≡ None)

@@ -115,6 +115,7 @@ taken-prints p s f xs = by_places f.places.h (int_lt s.goal (with_float p s f)) 
 
 put-prints : (p : Params) (s : PageSums) (a : Act) (xs : List PlainNode) → prints (act_nodes p s a ++ xs) ≡ prints xs
 put-prints p s (acts.Take f) xs = taken-prints p s f xs
+put-prints p s (acts.Head f) xs = taken-prints p s f xs
 put-prints p s a xs = refl
 
 abbrev ActShows : AtAct → List PlainNode → Type 0

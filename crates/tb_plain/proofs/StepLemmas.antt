@@ -178,6 +178,7 @@ taken-acts p s f = by_places f.places.h (int_lt s.goal (with_float p s f)) (f.pl
 
 pub put-acts : (p : Params) (s : PageSums) (a : Act) → act_count (act_nodes p s a) ≡ 0
 put-acts p s (acts.Take f) = taken-acts p s f
+put-acts p s (acts.Head f) = taken-acts p s f
 put-acts p s a = refl
 
 -- the act is one of the acts of the list

@@ -121,6 +121,7 @@ taken-ours p s f = by_places f.places.h (int_lt s.goal (with_float p s f)) (f.pl
 
 put-ours : (p : Params) (s : PageSums) (a : Act) → AllOurs (act_nodes p s a)
 put-ours p s (acts.Take f) = taken-ours p s f
+put-ours p s (acts.Head f) = taken-ours p s f
 put-ours p s a = tt
 
 -- nothing weighs in the margin
@@ -132,6 +133,7 @@ put-weight v p s (acts.Take f) none = taken-weight v p s f
 put-weight v p s (acts.TakeMargin m) none = sym (none m.line)
 put-weight v p s (acts.Suppress area) none = refl
 put-weight v p s (acts.Page n) none = refl
+put-weight v p s (acts.Head f) none = taken-weight v p s f
 put-weight v p s (acts.Columns two) none = refl
 
 abbrev ActWeighs : Weight → AtAct → List PlainNode → Type 0

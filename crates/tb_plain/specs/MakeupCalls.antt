@@ -50,6 +50,7 @@ IsTake (acts.Take f) = IsExtent f.height
 IsTake (acts.TakeMargin m) = ⊥
 IsTake (acts.Suppress area) = ⊥
 IsTake (acts.Page n) = ⊥
+IsTake (acts.Head f) = ⊥
 IsTake (acts.Columns two) = ⊥
 
 -- the builder can take a list before all that waits: the last event was not the try of a stop, its page does not end with a kern, and it has the
@@ -84,6 +85,7 @@ fired_with b s page = record {
   penalty = page.penalty;
   cost = page.cost;
   size = page.size;
+  shrink = page.shrink;
   line = page.line;
 }
 

@@ -1,5 +1,5 @@
--- The galleys that plain TeX's page makeup serves: without marginal notes, changes of columns, suppressed areas, page numbers, and
--- insertions of another class than that of footnotes.
+-- The galleys that plain TeX's page makeup serves: without marginal notes, changes of columns, suppressed areas, page numbers, titles over
+-- both columns, pages that are made higher, and insertions of another class than that of footnotes.
 use Rattle.std.specs.Prelude.{◌≡◌, ◌==◌, ℕ, Bool, true, false, List, [], ◌∷◌, Option, Some, None, if◌then◌else◌}
 use Rattle.tb_galley.specs.declared.Item.{Item}
 use Rattle.tb_galley.specs.declared.ItemKind.{ItemKind}
@@ -14,6 +14,8 @@ is_suited items.OneColumn = false
 is_suited items.TwoColumn = false
 is_suited (items.Suppress area) = false
 is_suited (items.Page n) = false
+is_suited (items.Head f) = false
+is_suited (items.Enlarge by star) = false
 is_suited _ = true
 
 -- the line of the first item that is not served

@@ -66,10 +66,11 @@ taken_nodes p s f =
     let beside = if f.places.t || f.places.b then top else top_insertion (page_leaves p f) ∷ [] in
     if f.places.h then here else beside
 
--- what an act puts before all that waits; the others are not served
+-- what an act puts before all that waits: a float is served; the others are not, a title among them, which would be put as a float
 abbrev pub act_nodes : Params → PageSums → Act → List PlainNode
 act_nodes p s (acts.Take f) = taken_nodes p s f
 act_nodes p s (acts.TakeMargin m) = []
 act_nodes p s (acts.Suppress area) = []
 act_nodes p s (acts.Page n) = []
+act_nodes p s (acts.Head f) = taken_nodes p s f
 act_nodes p s (acts.Columns two) = []

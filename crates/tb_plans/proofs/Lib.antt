@@ -1,3 +1,4 @@
 mod WalkLemmas
 mod CopyLemmas
 mod BrokenLemmas
+pub mod TitleLemmas

@@ -132,6 +132,11 @@ fn copied_kind(alloc: Global, kind: &ItemKind) -> Result<ItemKind, AllocError>
         ItemKind::TwoColumn => ItemKind::TwoColumn,
         ItemKind::Suppress(area) => ItemKind::Suppress(*area),
         ItemKind::Page(number) => ItemKind::Page(*number),
+        ItemKind::Head(head) => ItemKind::Head(*head),
+        ItemKind::Enlarge { by, star } => ItemKind::Enlarge {
+            by: *by,
+            star: *star,
+        },
     })
 }
 

@@ -16,7 +16,7 @@ use tb_scaled::{EJECT_PENALTY, INF_PENALTY};
 pub enum Before {
     /// Nothing: it is the first item.
     Nothing,
-    /// A box, a rule, a mark, a note or a footnote: glue after it is a legal breakpoint (TeX: The Program §1000).
+    /// A box, a rule, a mark, a note, a footnote or the insertion of a page that is made higher: glue after it is a legal breakpoint (TeX: The Program §1000).
     Nondiscardable,
     /// A float or a marginal note, which was called between the lines around it.
     Call,
@@ -84,7 +84,7 @@ fn is_looked_past(p: &Params, two: bool, kind: &ItemKind) -> bool
 {
     match kind {
         ItemKind::Float { float, vert: _ } => p.has_second() && two && float.wide,
-        ItemKind::Suppress(_) | ItemKind::Page(_) => true,
+        ItemKind::Suppress(_) | ItemKind::Page(_) | ItemKind::Head(_) => true,
         _ => false,
     }
 }
@@ -175,7 +175,8 @@ fn before_by(kind: &ItemKind) -> Before
         | ItemKind::Rule { .. }
         | ItemKind::Mark(_)
         | ItemKind::Note(_)
-        | ItemKind::Foot { .. } => Before::Nondiscardable,
+        | ItemKind::Foot { .. }
+        | ItemKind::Enlarge { .. } => Before::Nondiscardable,
         ItemKind::Float { .. } => Before::Call,
         ItemKind::Margin { .. } => Before::Call,
         _ => Before::Other,

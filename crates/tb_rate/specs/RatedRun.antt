@@ -29,15 +29,16 @@ abbrev pub insertions_first : List PlainNode → ℕ
 insertions_first [] = 0
 insertions_first (n ∷ ns) = if is_insertion_kind n.kind then suc (insertions_first ns) else 0
 
--- an item is a footnote
-abbrev pub is_foot : ItemKind → Bool
-is_foot (items.Foot class ls) = true
-is_foot _ = false
+-- an item is an insertion: a footnote, or what makes a page higher
+abbrev pub is_inserted : ItemKind → Bool
+is_inserted (items.Foot class ls) = true
+is_inserted (items.Enlarge by star) = true
+is_inserted _ = false
 
--- how many footnotes come first among items
-abbrev pub feet_first : List Item → ℕ
-feet_first [] = 0
-feet_first (n ∷ ns) = if is_foot n.kind then suc (feet_first ns) else 0
+-- how many insertions come first among items
+abbrev pub inserted_first : List Item → ℕ
+inserted_first [] = 0
+inserted_first (n ∷ ns) = if is_inserted n.kind then suc (inserted_first ns) else 0
 
 -- the rating of the column that a step from this state put out, which is on the first page that the step shipped, or on the page that is made after it; a step that ends the run puts out none, or one that does not count
 abbrev pub rating_by : Params → List PlacePenalty → State → Step → Option Rating

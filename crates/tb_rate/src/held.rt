@@ -4,7 +4,7 @@ ghost use Rattle.std.specs.Prelude.{◌≡◌, ◌≤◌, ◌++◌};
 ghost use Rattle.tb_pool.specs.Lists.{IsLive};
 ghost use Rattle.tb_node.specs.PlainNodes.{plain_list};
 ghost use Rattle.tb_items.specs.ItemsLeft.{nodes_left};
-ghost use Rattle.tb_rate.specs.RatedRun.{feet_first, insertions_first, is_foot};
+ghost use Rattle.tb_rate.specs.RatedRun.{inserted_first, insertions_first, is_inserted};
 
 use tb_galley::{Item, ItemKind};
 use tb_items::ItemsLeft;
@@ -26,18 +26,18 @@ pub fn insertions_first(store: &Lists<Node>, waiting: ListId, left: &Option<Item
         }
     }
     match left {
-        Some(left) => count + feet_first(left.items()),
+        Some(left) => count + inserted_first(left.items()),
         None => count,
     }
 }
 
-// How many footnotes come first among items.
-fn feet_first(items: &[Item]) -> u64
-    ensures { result ≡ feet_first items.now }
+// How many insertions come first among items.
+fn inserted_first(items: &[Item]) -> u64
+    ensures { result ≡ inserted_first items.now }
 {
     let mut count = 0;
     for item in items {
-        if !is_foot(&item.kind) {
+        if !is_inserted(&item.kind) {
             return count;
         }
         count += 1;
@@ -45,8 +45,8 @@ fn feet_first(items: &[Item]) -> u64
     count
 }
 
-fn is_foot(kind: &ItemKind) -> bool
-    ensures { result ≡ is_foot kind.now }
+fn is_inserted(kind: &ItemKind) -> bool
+    ensures { result ≡ is_inserted kind.now }
 {
-    matches!(kind, ItemKind::Foot { .. })
+    matches!(kind, ItemKind::Foot { .. } | ItemKind::Enlarge { .. })
 }

@@ -1,7 +1,7 @@
 //! The line of a node.
 ghost use Rattle.std.specs.Prelude.{◌≡◌, ◌≤◌, ◌+◌, ◌++◌, drop, length, codes, Some, None};
 ghost use Rattle.tb_node.specs.PlainNodes.{matter_of};
-ghost use Rattle.tb_report.specs.Lines.{where_text, side_text, box_line, rule_line, matter_line};
+ghost use Rattle.tb_report.specs.Lines.{where_text, side_text, float_label, box_line, rule_line, matter_line};
 ghost use Rattle.tb_text.specs.Fields.{and_number, and_count, and_text, line};
 ghost use Rattle.tb_text.specs.Fronts.{PutsAfter};
 
@@ -178,6 +178,32 @@ fn write_named(word: &[u8], name: &[u8], text: &mut [u8], end: usize) -> usize
     write_text(word, text, at)
 }
 
+/// Puts the word of a float, its name, its class and its place; of a title over both columns, which has class 0, the word
+/// and the name.
+pub fn put_float_label(
+    out: &mut Vec<u8>,
+    name: &Name,
+    class: u8,
+    place: Where,
+) -> Result<(), AllocError>
+    ensures { PutsAfter result out.old.items (float_label name.now class place) out.new.items }
+{
+    if class == 0 {
+        put_named(out, b"head ", name.as_bytes())
+    } else {
+        put_classed(out, name, class, place)
+    }
+}
+
+// The word of a float, its name, its class and its place.
+fn put_classed(out: &mut Vec<u8>, name: &Name, class: u8, place: Where) -> Result<(), AllocError>
+    ensures { PutsAfter result out.old.items (codes "float " ++ name.now ++ and_count class ++ and_text (where_text place)) out.new.items }
+{
+    put_named(out, b"float ", name.as_bytes())?;
+    put_count(out, u64::from(class))?;
+    put_text(out, where_text(place))
+}
+
 fn put_float(
     out: &mut Vec<u8>,
     name: &Name,
@@ -186,18 +212,16 @@ fn put_float(
     top: i128,
     height: i64,
 ) -> Result<(), AllocError>
-    ensures { PutsAfter result out.old.items (line (codes "float " ++ name.now ++ and_count class ++ and_text (where_text place) ++ and_number top ++ and_number height)) out.new.items }
+    ensures { PutsAfter result out.old.items (line (float_label name.now class place ++ and_number top ++ and_number height)) out.new.items }
 {
-    put_named(out, b"float ", name.as_bytes())?;
-    put_count(out, u64::from(class))?;
-    put_place(out, place, top, height)
+    put_float_label(out, name, class, place)?;
+    end_height(out, top, height)
 }
 
-// Where a float is, its top and its height, and the end of the line.
-fn put_place(out: &mut Vec<u8>, place: Where, top: i128, height: i64) -> Result<(), AllocError>
-    ensures { PutsAfter result out.old.items (line (and_text (where_text place) ++ and_number top ++ and_number height)) out.new.items }
+// A top and a height, and the end of the line.
+fn end_height(out: &mut Vec<u8>, top: i128, height: i64) -> Result<(), AllocError>
+    ensures { PutsAfter result out.old.items (line (and_number top ++ and_number height)) out.new.items }
 {
-    put_text(out, where_text(place))?;
     put_field(out, top)?;
     put_amount(out, height)?;
     end_line(out)

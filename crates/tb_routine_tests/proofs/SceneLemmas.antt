@@ -36,6 +36,7 @@ use Rattle.tb_output.specs.ActCalls.{IsActed, acted_in}
 use Rattle.tb_output.specs.Machine.{MachineView, left_lists, event_lists, machine_lists, AreClassesFrom}
 use Rattle.tb_sheet.specs.StoredSheets.{sent_lists}
 use Rattle.tb_builder.specs.BuilderLists.{builder_lists}
+use Rattle.tb_scaled.specs.Amount.{IsAmount}
 use Rattle.tb_output.specs.Firing.{AreSizedBoxes, CanFire}
 use Rattle.tb_routine_tests.specs.Scenes.{scene_classes, IsScene, IsReady, IsTextKind, LeavesAll}
 use Rattle.tb_sheet.proofs.ListsApart.{apart-back, distinct-front, distinct-back, distinct-apart, distinct-join}
@@ -84,6 +85,7 @@ without-event m e store is = record {
     first = is.machine.first;
     last = is.machine.last;
     numbered = is.machine.numbered;
+    shrink = is.machine.shrink;
     pool = is.machine.pool;
     unmarked = is.machine.unmarked;
     left = is.machine.left;
@@ -109,9 +111,13 @@ acted-classes store boxes waiting m now (acts.Take f) h = taken-classes _ _ _ _ 
 acted-classes store boxes waiting m now (acts.TakeMargin n) h = taken-classes _ _ _ _ _ _ store boxes waiting m now refl h
 acted-classes store boxes waiting m now (acts.Suppress area) h = ap (λ (v : State). v.classes) h.state
 acted-classes store boxes waiting m now (acts.Page n) h = ap (λ (v : State). v.classes) h.state
+acted-classes store boxes waiting m now (acts.Head f) h = taken-classes _ _ _ _ _ _ store boxes waiting m now refl h
 acted-classes store boxes waiting m now (acts.Columns two) h = ap (λ (v : State). v.classes) h.state
 
 -- ---- a page over a builder that holds nothing
+
+none-shrunk : IsAmount (pos 0)
+none-shrunk = record { low = omega (arith, ints); high = omega (arith, ints) }
 
 few-nodes : (a b u v n : ℕ) → a ≡ u → u ≤ 201 → b ≡ v → v ≤ 1000 → n ≡ 0 → a + b + n ≤ 8355839
 few-nodes a b u v n p h q k z = omega (arith, p, h, q, k, z)
@@ -131,11 +137,12 @@ module _ (m : MachineView) (b : Builder) (s t u : Lists Node) (page : Page) (sce
     none-boxed : box_count (contents_of b u).boxes ≡ 0
     none-boxed = ap (λ (c : Contents). box_count c.boxes) nothing
 
-    pub may-fire : IsReady m s page.penalty → IsPageList t page.body → length (list_at t page.body) ≤ 201 → get s.lists page.body ≡ None → ((q : ℕ) → IsLive t q → Lacks q (owned (ids_of b) u)) → CanFire m b u page
-    may-fire ready body few fresh free = record {
+    pub may-fire : IsReady m s page.penalty → IsPageList t page.body → length (list_at t page.body) ≤ 201 → get s.lists page.body ≡ None → ((q : ℕ) → IsLive t q → Lacks q (owned (ids_of b) u)) → page.shrink ≡ pos 0 → CanFire m b u page
+    may-fire ready body few fresh free no_shrink = record {
       awaits = no-page;
       classes = known;
       penalty = ready.penalty_low;
+      shrink = subst IsAmount (sym no_shrink) none-shrunk;
       note_bottom = ready.note_bottom;
       body = list-stands t u page.body (after page.body body.live) body;
       boxes = void-sized;

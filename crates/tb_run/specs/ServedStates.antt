@@ -21,6 +21,7 @@ act_notes (acts.Take f) = 0
 act_notes (acts.TakeMargin m) = 1
 act_notes (acts.Suppress area) = 0
 act_notes (acts.Page n) = 0
+act_notes (acts.Head f) = 0
 act_notes (acts.Columns two) = 0
 
 -- how many marginal notes a node takes

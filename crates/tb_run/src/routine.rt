@@ -108,6 +108,7 @@ fn line_of(act: &Act) -> u32
         Act::TakeMargin(margin) => margin.line,
         Act::Suppress(_) => 0,
         Act::Page(_) => 0,
+        Act::Head(head) => head.line,
         Act::Columns { two: _ } => 0,
     }
 }

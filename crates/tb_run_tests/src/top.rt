@@ -8,9 +8,9 @@ use std::alloc::Global;
 use std::process::Abort;
 use std::test::Fail;
 use tb_worked_rows::{
-    BEST_ROWS, COLUMN_END_ROWS, COLUMN_ROWS, FLOAT_ROWS, HEADING_ROWS, INPUT, MODE_ROWS, ModeRow,
-    NONE, PAGE_NUMBER_ROWS, RATE_ROWS, REPORT, ROWS, Row, VERSION_ROWS, WHY_ROWS, long_galley,
-    long_report, run_by, run_on, run_with, words_of,
+    BEST_ROWS, COLUMN_END_ROWS, COLUMN_ROWS, ENLARGE_ROWS, FLOAT_ROWS, HEADING_ROWS, INPUT,
+    MODE_ROWS, ModeRow, NONE, PAGE_NUMBER_ROWS, RATE_ROWS, REPORT, ROWS, Row, TITLE_ROWS,
+    VERSION_ROWS, WHY_ROWS, long_galley, long_report, run_by, run_on, run_with, words_of,
 };
 
 // Runs each row on an input that is read by pieces of this size, and says where it differs.
@@ -36,7 +36,13 @@ fn rows_give_what_they_say(rt: HostRuntime) -> Result<(), Fail> {
 #[test]
 fn rows_of_version_3_give_what_they_say(rt: HostRuntime) -> Result<(), Fail> {
     check(&rt, rt.alloc(), &COLUMN_END_ROWS, 50)?;
-    check(&rt, rt.alloc(), &PAGE_NUMBER_ROWS, 50)
+    check(&rt, rt.alloc(), &PAGE_NUMBER_ROWS, 50)?;
+    check(&rt, rt.alloc(), &TITLE_ROWS, 50)
+}
+
+#[test]
+fn higher_pages_give_what_they_say(rt: HostRuntime) -> Result<(), Fail> {
+    check(&rt, rt.alloc(), &ENLARGE_ROWS, 50)
 }
 
 #[test]

@@ -28,3 +28,4 @@ IsSizedAct (acts.TakeMargin m) = IsSizedMargin m
 IsSizedAct (acts.Suppress area) = Unit {0}
 IsSizedAct (acts.Columns two) = Unit {0}
 IsSizedAct (acts.Page n) = n ≤ 1000000
+IsSizedAct (acts.Head f) = IsExtent f.height

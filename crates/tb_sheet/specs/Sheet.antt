@@ -6,7 +6,7 @@ use Rattle.tb_param.specs.declared.Params.{Params}
 use Rattle.tb_param.specs.declared.Rule.{Rule}
 use Rattle.tb_float.specs.Lists.{FloatLists}
 use Rattle.tb_float.specs.Rooms.{column_height_of}
-use Rattle.tb_column.specs.Column.{PlainColumn, pair_floats}
+use Rattle.tb_column.specs.Column.{PlainColumn, pair_floats, pair_rule}
 use Rattle.tb_sheet.specs.declared.Warn.{Warn}
 
 -- a page of one column, of a wide column of floats, or of two columns under double floats
@@ -30,9 +30,9 @@ abbrev pub deep_count : List Float → ℕ
 deep_count [] = 0
 deep_count (f ∷ fs) = (if f.deep then 1 else 0) + deep_count fs
 
--- where two columns begin: below the double floats with their depths, their rule and their glue
+-- where two columns begin: below the double floats with their depths, their rule, if no title is among them, and their glue
 abbrev pub pair_top : Params → FloatLists → ℤ
-pair_top p l = ((p.textheight -ℤ column_height_of p l) +ℤ (if length l.double == 0 then pos 0 else rule_room p.dblrule)) +ℤ pos (deep_count l.double)
+pair_top p l = ((p.textheight -ℤ column_height_of p l) +ℤ (if length l.double == 0 then pos 0 else rule_room (pair_rule p l))) +ℤ pos (deep_count l.double)
 
 -- a page of two columns, under the double floats
 abbrev pub pair_sheet : Params → FloatLists → PlainColumn → PlainColumn → PlainSheet

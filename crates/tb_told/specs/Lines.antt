@@ -1,5 +1,5 @@
 -- The lines of what is told, as bytes.
-use Rattle.std.specs.Prelude.{ℕ, ℤ, Bool, List, [], ◌∷◌, ◌++◌, Option, Some, None, codes, if◌then◌else◌}
+use Rattle.std.specs.Prelude.{ℕ, ℤ, ◌==◌, Bool, false, List, [], ◌∷◌, ◌++◌, Option, Some, None, codes, if◌then◌else◌}
 use Rattle.tb_text.specs.Fields.{and_number, and_count, and_text, line}
 use Rattle.tb_node.specs.declared.Name.{Name}
 use Rattle.tb_node.specs.declared.Float.{Float}
@@ -167,13 +167,37 @@ beside_line at m height reach placed = line (
 
 -- ---- all lines
 
+-- the line of a tale of a float, or of a note
+abbrev pub plain_line : Tale → List ℕ
+plain_line (Waits at f) = line (codes "wait" ++ float_text at f)
+plain_line (Calls at f height) = line (codes "call" ++ float_text at f ++ codes " text" ++ and_number height)
+plain_line (Decides f t) = told_line f.name t
+plain_line (Begins at z) = begins_line at z
+plain_line (InColumn t) = column_line t
+plain_line (Back f place) = line (codes "back" ++ and_text f.name ++ and_text (where_text place))
+plain_line (Beside at m height reach placed) = beside_line at m height reach placed
+plain_line (Stands line) = []
+plain_line PutOut = []
+
+-- the float of which a column of floats is told
+abbrev pub column_float : ToldColumn → Float
+column_float (Heads f t) = f
+column_float (Joins f t) = f
+column_float (Companied f t) = f
+column_float (Takes f) = f
+
+-- what is told of a title over both columns, which has class 0
+abbrev pub is_of_title : Tale → Bool
+is_of_title (Waits at f) = false
+is_of_title (Calls at f height) = false
+is_of_title (Decides f t) = f.class == 0
+is_of_title (Begins at z) = false
+is_of_title (InColumn t) = (column_float t).class == 0
+is_of_title (Back f place) = f.class == 0
+is_of_title (Beside at m height reach placed) = false
+is_of_title (Stands line) = false
+is_of_title PutOut = false
+
+-- the line of a tale; what is told of a title is not shown
 abbrev pub tale_line : Tale → List ℕ
-tale_line (Waits at f) = line (codes "wait" ++ float_text at f)
-tale_line (Calls at f height) = line (codes "call" ++ float_text at f ++ codes " text" ++ and_number height)
-tale_line (Decides f t) = told_line f.name t
-tale_line (Begins at z) = begins_line at z
-tale_line (InColumn t) = column_line t
-tale_line (Back f place) = line (codes "back" ++ and_text f.name ++ and_text (where_text place))
-tale_line (Beside at m height reach placed) = beside_line at m height reach placed
-tale_line (Stands line) = []
-tale_line PutOut = []
+tale_line t = if is_of_title t then [] else plain_line t

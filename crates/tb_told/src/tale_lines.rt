@@ -1,6 +1,7 @@
 //! The line of what is told, whatever it is.
+ghost use Rattle.std.specs.Prelude.{◌≡◌};
 ghost use Rattle.tb_text.specs.Fronts.{PutsAfter};
-ghost use Rattle.tb_told.specs.Lines.{told_line, column_line, tale_line};
+ghost use Rattle.tb_told.specs.Lines.{told_line, column_line, column_float, plain_line, is_of_title, tale_line};
 
 use crate::columns::{put_alone, put_company, put_joining};
 use crate::decisions::{
@@ -11,10 +12,44 @@ use crate::{Tale, Told, ToldColumn};
 use std::alloc::AllocError;
 use tb_node::{Name, Where};
 
-/// Appends the line of what is told, if it has one. If memory runs out, what stood in `out` is still there, and a front of
-/// the line may follow.
+/// Appends the line of what is told, if it has one: what is told of a title over both columns is not shown. If memory runs
+/// out, what stood in `out` is still there, and a front of the line may follow.
 pub fn put_tale(out: &mut Vec<u8>, tale: &Tale) -> Result<(), AllocError>
     ensures { PutsAfter result out.old.items (tale_line tale.now) out.new.items }
+{
+    if is_of_title(tale) {
+        return Ok(());
+    }
+    put_plain_tale(out, tale)
+}
+
+// Whether it is told of a title over both columns, which has class 0.
+fn is_of_title(tale: &Tale) -> bool
+    ensures { result ≡ is_of_title tale.now }
+{
+    match tale {
+        Tale::Decides(f, _) => f.class == 0,
+        Tale::InColumn(told) => column_class(told) == 0,
+        Tale::Back(f, _) => f.class == 0,
+        _ => false,
+    }
+}
+
+// The class of the float of which a column of floats is told.
+fn column_class(told: &ToldColumn) -> u8
+    ensures { result ≡ (column_float told.now).class }
+{
+    match told {
+        ToldColumn::Heads(f, _) => f.class,
+        ToldColumn::Joins(f, _) => f.class,
+        ToldColumn::Companied(f, _) => f.class,
+        ToldColumn::Takes(f) => f.class,
+    }
+}
+
+// Appends the line of what is told of a float or a note.
+fn put_plain_tale(out: &mut Vec<u8>, tale: &Tale) -> Result<(), AllocError>
+    ensures { PutsAfter result out.old.items (plain_line tale.now) out.new.items }
 {
     match tale {
         Tale::Waits(at, f) => put_wait(out, at, f),

@@ -2,8 +2,10 @@
 mod Texts
 pub mod WorkedRows
 pub mod FloatRowLemmas
+pub mod EnlargeRowLemmas
 pub mod ColumnRowLemmas
 pub mod ColumnEndRowLemmas
+pub mod TitleRowLemmas
 pub mod VersionRowLemmas
 pub mod RateRowLemmas
 pub mod BestRowLemmas

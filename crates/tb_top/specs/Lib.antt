@@ -15,8 +15,10 @@ pub mod Input
 pub mod Refusal
 pub mod Rows
 pub mod FloatRows
+pub mod EnlargeRows
 pub mod ColumnRows
 pub mod ColumnEndRows
+pub mod TitleRows
 pub mod VersionRows
 pub mod RateRows
 pub mod BestRows

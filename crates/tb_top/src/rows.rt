@@ -1,8 +1,10 @@
 //! Worked rows of the definitions.
 ghost use Rattle.tb_top.specs.Rows.{WorkedRows};
 ghost use Rattle.tb_top.specs.FloatRows.{FloatRows};
+ghost use Rattle.tb_top.specs.EnlargeRows.{EnlargeRows};
 ghost use Rattle.tb_top.specs.ColumnRows.{ColumnRows};
 ghost use Rattle.tb_top.specs.ColumnEndRows.{ColumnEndRows};
+ghost use Rattle.tb_top.specs.TitleRows.{TitleRows};
 ghost use Rattle.tb_top.specs.VersionRows.{VersionRows};
 ghost use Rattle.tb_top.specs.RateRows.{RateRows};
 ghost use Rattle.tb_top.specs.BestRows.{BestRows};
@@ -19,8 +21,10 @@ ghost use Rattle.tb_top.specs.MakeupTraceRows.{MakeupTraceRows};
 pub fn check_rows()
     ensures text { WorkedRows }
     ensures floats { FloatRows }
+    ensures enlarged { EnlargeRows }
     ensures columns { ColumnRows }
     ensures column_ends { ColumnEndRows }
+    ensures titles { TitleRows }
     ensures versions { VersionRows }
     ensures ratings { RateRows }
     ensures best { BestRows }

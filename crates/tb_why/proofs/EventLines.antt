@@ -1,6 +1,6 @@
 -- The lines of what happens are kept, and those that are told are left out, if no name in them has a line feed.
 use Rattle.std.proofs.Common.{refl, ℕ, ℤ, Bool, true, false, List, [], ◌∷◌, ◌++◌, map, Option, Some, None}
-use Rattle.std.specs.Prelude.{codes, int_le, if◌then◌else◌}
+use Rattle.std.specs.Prelude.{codes, int_le, ◌==◌, if◌then◌else◌}
 use Rattle.std.proofs.lemmas.List.Folds.{list_all-append}
 use Rattle.tb_scaled.specs.Scaled.{awful_bad, is_zero}
 use Rattle.tb_scaled.specs.declared.Order.{Order}
@@ -48,7 +48,11 @@ side-plain sides.Right = refl
 box-kept : (w : What) (top h d : ℤ) → HasPlainName w → Kept (box_line w top h d)
 box-kept (what.Text name) top h d p = line-kept (codes "box " ++ name ++ and_number top ++ and_number h ++ and_number d) (simp (list_all-append, p, number-plain) refl) refl
 box-kept what.Blank top h d p = none-kept
-box-kept (what.Float name class place item) top h d p = line-kept (codes "float " ++ name ++ and_count class ++ and_text (where_text place) ++ and_number top ++ and_number h) (simp (list_all-append, p, number-plain, count-plain, where-plain) refl) refl
+box-kept (what.Float name class place item) top h d p = by_title (class == 0)
+  where
+    by_title : (b : Bool) → Kept (line ((if b then codes "head " ++ name else codes "float " ++ name ++ and_count class ++ and_text (where_text place)) ++ and_number top ++ and_number h))
+    by_title true = line-kept ((codes "head " ++ name) ++ and_number top ++ and_number h) (simp (list_all-append, p, number-plain) refl) refl
+    by_title false = line-kept ((codes "float " ++ name ++ and_count class ++ and_text (where_text place)) ++ and_number top ++ and_number h) (simp (list_all-append, p, number-plain, count-plain, where-plain) refl) refl
 box-kept (what.Margin name side shift height depth item) top h d p = line-kept (codes "margin " ++ name ++ and_text (side_text side) ++ and_number shift ++ and_number top ++ and_number height ++ and_number depth) (simp (list_all-append, p, number-plain, side-plain) refl) refl
 
 rule-kept : (of : RuleOf) (top h d : ℤ) → IsPlainRule of → Kept (rule_line of top h d)

@@ -30,14 +30,14 @@ use Rattle.tb_told.specs.declared.ToldColumn.{ToldColumn}
 use Rattle.tb_told.specs.ColumnTold.{told_column as told_of_column}
 use Rattle.tb_margin.specs.declared.Placed.{Placed}
 use Rattle.tb_margin.specs.Margin.{placed_note}
-use Rattle.tb_column.specs.Column.{PlainColumn, Notes, text_column, single_floats_column, wide_floats_column}
+use Rattle.tb_column.specs.Column.{PlainColumn, Notes, standing_notes, single_floats_column, wide_floats_column}
 use Rattle.tb_sheet.specs.Sheet.{PlainSheet, PlainSent, warned, shipped, one, wide, pair_sheet}
 use Rattle.tb_sheet.specs.declared.Warn.TheVariants as warnings
 use Rattle.tb_output.specs.State.{State, Work, Recorded, placed, output, emptied, begun, footnotes, puts, sends, records_also, with_floats}
 use Rattle.tb_output.specs.FloatMoves.{is_placed, place_float, still_deferred, place_waiting, place_next, place_double}
 use Rattle.tb_output.specs.Pages.{ship_now, ship, wide_wanted, ship_wide, wide_pages, wide_pages_by, all_wide_pages, keep_left, left_or, without_double, with_deferred, fill_double, ship_pair, put_out_by, put_out}
-use Rattle.tb_output.specs.Columns.{put_out_text, put_out_company, single_wanted, float_columns, float_columns_by, all_float_columns, fill_column, ordinary, without_column_floats}
-use Rattle.tb_output.specs.Clear.{cleared_front, deferred_again, double_again, clear_wide, clear_rest, clear_floats, clear_by, clear, clear_again}
+use Rattle.tb_output.specs.Columns.{text_of, put_out_text, put_out_company, single_wanted, float_columns, float_columns_by, all_float_columns, fill_column, ordinary, without_column_floats}
+use Rattle.tb_output.specs.Clear.{without_notes, cleared_front, deferred_again, double_again, clear_wide, clear_rest, clear_floats, clear_by, clear, clear_again}
 use Rattle.tb_output.specs.Text.{without_firing_box, notes_height, list_back, puts_interline, only_here, with_top, defer, float_goes, note_goes, note_at, moved_warning, with_note_bottom, first_goes, float_or_note}
 use Rattle.tb_sheet.specs.Asked.{clear_penalty, par_penalty, vert_penalty, hold_penalty}
 use Rattle.tb_output.specs.Output.{is_int, hold, output_by, leave_column, next_goal, is_crowded, after_page, out}
@@ -288,7 +288,7 @@ put_out-told p c w =
 
 text_column-told : (p : Params) (body : List PlainNode) (w : Work) → Tells w (put_out_text p body w) (Firing.text_pieces p body w)
 text_column-told p body w =
-    let c = text_column p w.state.floats body (footnotes w.state) in
+    let c = text_of p w.state body in
     let stands = tales (stands_tales body) in
     follows w w (put_out_text p body w) (unless_over w stands) (Firing.put_out_pieces p c (without_column_floats w))
     (quiet w w (unless_over w stands) refl (over_none w.refused stands (stand_none (here_lines body))))
@@ -362,10 +362,10 @@ clear_floats-told p body w =
     (clear_wide-told p u)))
 
 clear-told : (p : Params) (body : List PlainNode) (w : Work) → Tells w (clear p body w) (Firing.clear_pieces p body w)
-clear-told p body w = by_notes (footnotes w.state)
+clear-told p body w = by_notes (standing_notes (footnotes w.state))
   where
     by_notes : (ns : List Notes) → Tells w (clear_by p body w ns) (Firing.clear_pieces_by p body w ns)
-    by_notes [] = clear_floats-told p body w
+    by_notes [] = clear_floats-told p body (without_notes w)
     by_notes (n ∷ ns) = text_column-told p (body ++ made (skip filling_glue) ∷ []) w
 
 -- ---- floats and notes in the text

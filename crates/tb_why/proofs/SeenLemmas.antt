@@ -19,7 +19,7 @@ use Rattle.tb_float.proofs.WaitingLemmas.{wide-waits}
 use Rattle.tb_area.specs.Area.{AreaPlace, at_top, at_bottom, deferred, where_of, next_area_place, goes_double}
 use Rattle.tb_area.specs.Deferred.{gone_to, still_before, gone_double, still_single, doubled}
 use Rattle.tb_fpage.specs.Company.{Choice, company, chosen_floats, left_floats}
-use Rattle.tb_column.specs.Column.{PlainColumn, Notes, text_column, single_floats_column, wide_floats_column}
+use Rattle.tb_column.specs.Column.{PlainColumn, Notes, standing_notes, single_floats_column, wide_floats_column}
 use Rattle.tb_sheet.specs.Sheet.{PlainSheet, PlainSent, shipped, one, wide, pair_sheet}
 use Rattle.tb_sheet.specs.Asked.{clear_penalty, par_penalty, vert_penalty}
 use Rattle.tb_output.specs.declared.reading.Reading.{Reading}
@@ -273,10 +273,10 @@ put_out-seen p c w =
 text-told : (p : Params) (body : List PlainNode) (w : Work) → Firing.text_pieces p body w ≡ Seen.text_told p (here_lines body) (Seen.seen_of w)
 text-told p body w =
     ap (λ xs. Seen.stands_told (here_lines body) (Seen.seen_of w) ++ xs)
-    (put_out-told p (text_column p w.state.floats body (footnotes w.state)) (Columns.without_column_floats w))
+    (put_out-told p (Columns.text_of p w.state body) (Columns.without_column_floats w))
 
 text-seen : (p : Params) (body : List PlainNode) (w : Work) → Seen.seen_of (Columns.put_out_text p body w) ≡ Seen.text_seen p (Seen.seen_of w)
-text-seen p body w = put_out-seen p (text_column p w.state.floats body (footnotes w.state)) (Columns.without_column_floats w)
+text-seen p body w = put_out-seen p (Columns.text_of p w.state body) (Columns.without_column_floats w)
 
 -- a column of the company is put out
 company-told : (p : Params) (cs : List Choice) (w : Work) → Firing.company_pieces p cs w ≡ Seen.put_out_told p (Seen.without_company_seen cs (Seen.seen_of w))
@@ -355,11 +355,11 @@ filled-here [] = refl
 filled-here (n ∷ ns) = ap (λ later. and_here n.kind later) (filled-here ns)
 
 clear-told : (p : Params) (body : List PlainNode) (w : Work) →
-    Firing.clear_pieces p body w ≡ (if any_notes (footnotes w.state) then Seen.text_told p (here_lines body) (Seen.seen_of w) else Seen.clear_floats_told p (Seen.seen_of w))
-clear-told p body w = by_notes (footnotes w.state)
+    Firing.clear_pieces p body w ≡ (if any_notes (standing_notes (footnotes w.state)) then Seen.text_told p (here_lines body) (Seen.seen_of w) else Seen.clear_floats_told p (Seen.seen_of w))
+clear-told p body w = by_notes (standing_notes (footnotes w.state))
   where
     by_notes : (ns : List Notes) → Firing.clear_pieces_by p body w ns ≡ (if any_notes ns then Seen.text_told p (here_lines body) (Seen.seen_of w) else Seen.clear_floats_told p (Seen.seen_of w))
-    by_notes [] = clear_floats-told p body w
+    by_notes [] = clear_floats-told p body (Clear.without_notes w)
     by_notes (n ∷ ns) = text-told p (body ++ made (skip filling_glue) ∷ []) w ∙ ap (λ here. Seen.text_told p here (Seen.seen_of w)) (filled-here body)
 
 -- ---- floats and notes in the text

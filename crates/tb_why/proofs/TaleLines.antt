@@ -1,6 +1,6 @@
 -- The lines of what is told are left out, and those of the summary, if no name in them has a line feed.
-use Rattle.std.proofs.Common.{refl, ℕ, ℤ, Bool, true, false, List, ◌++◌, Option, Some, None}
-use Rattle.std.specs.Prelude.{codes}
+use Rattle.std.proofs.Common.{refl, ℕ, ℤ, Bool, true, false, List, [], ◌++◌, Option, Some, None}
+use Rattle.std.specs.Prelude.{codes, if◌then◌else◌}
 use Rattle.std.proofs.lemmas.List.Folds.{list_all-append}
 use Rattle.tb_text.specs.Lines.{IsUnended}
 use Rattle.tb_text.specs.Fields.{and_number, and_count, and_text, line}
@@ -20,7 +20,7 @@ use Rattle.tb_told.specs.declared.ToldColumn.TheVariants.{Heads, Joins, Companie
 use Rattle.tb_told.specs.declared.Spot.{Spot}
 use Rattle.tb_told.specs.declared.Tale.{Tale}
 use Rattle.tb_told.specs.declared.Tale.TheVariants.{Waits, Calls, Decides, Begins, InColumn, Back, Beside, Stands, PutOut}
-use Rattle.tb_told.specs.Lines.{test_text, verdict_text, name_or_dash, blocker_text, count_text, text_if, places_text, width_text, spot_text, float_text, told_line, column_line, begins_word, begins_text, beside_line, goes_line, tale_line}
+use Rattle.tb_told.specs.Lines.{test_text, verdict_text, name_or_dash, blocker_text, count_text, text_if, places_text, width_text, spot_text, float_text, told_line, column_line, begins_word, begins_text, beside_line, goes_line, plain_line, is_of_title, tale_line}
 use Rattle.tb_why.specs.PlainNames.{IsPlainFloat, IsPlainBlocker, IsPlainTold, IsPlainColumn, IsPlainTale}
 use Rattle.tb_why.proofs.TextLines.{LeftOut, none-left, line-left, count-plain, number-plain, plain-join}
 use Rattle.tb_why.proofs.EventLines.{where-plain, side-plain}
@@ -128,16 +128,24 @@ beside-left at m height reach placed p =
     ++ codes " high" ++ and_number (note_height placed.side m) ++ codes " shift" ++ and_number placed.shift ++ and_text (side_text placed.side))
     (simp (list_all-append, p, count-plain, number-plain, spot-plain, side-plain) refl) refl
 
--- the line of a tale is left out
-pub tale-left : (t : Tale) → IsPlainTale t → LeftOut (tale_line t)
-tale-left (Waits at f) p = let n = float-plain at f p in line-left (codes "wait" ++ float_text at f) n refl
-tale-left (Calls at f height) p =
+-- the line of a tale of a float or a note is left out
+plain-left : (t : Tale) → IsPlainTale t → LeftOut (plain_line t)
+plain-left (Waits at f) p = let n = float-plain at f p in line-left (codes "wait" ++ float_text at f) n refl
+plain-left (Calls at f height) p =
     let n = float-plain at f p in
     line-left (codes "call" ++ float_text at f ++ codes " text" ++ and_number height) (plain-join (float_text at f ++ codes " text") (and_number height) (plain-join (float_text at f) (codes " text") n refl) (number-plain height)) refl
-tale-left (Decides f t) p = told-left f.name t p.0 p.1
-tale-left (Begins at z) p = begins-left at z.clearing z.wide z.height
-tale-left (InColumn t) p = column-left t p
-tale-left (Back f place) p = line-left (codes "back" ++ and_text f.name ++ and_text (where_text place)) (simp (list_all-append, p, where-plain) refl) refl
-tale-left (Beside at m height reach placed) p = beside-left at m height reach placed p
-tale-left (Stands l) p = none-left
-tale-left PutOut p = none-left
+plain-left (Decides f t) p = told-left f.name t p.0 p.1
+plain-left (Begins at z) p = begins-left at z.clearing z.wide z.height
+plain-left (InColumn t) p = column-left t p
+plain-left (Back f place) p = line-left (codes "back" ++ and_text f.name ++ and_text (where_text place)) (simp (list_all-append, p, where-plain) refl) refl
+plain-left (Beside at m height reach placed) p = beside-left at m height reach placed p
+plain-left (Stands l) p = none-left
+plain-left PutOut p = none-left
+
+-- the line of a tale is left out, and that of a title has none
+pub tale-left : (t : Tale) → IsPlainTale t → LeftOut (tale_line t)
+tale-left t p = by_title (is_of_title t)
+  where
+    by_title : (b : Bool) → LeftOut (if b then [] else plain_line t)
+    by_title true = none-left
+    by_title false = plain-left t p

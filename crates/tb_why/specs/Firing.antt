@@ -18,13 +18,13 @@ use Rattle.tb_area.specs.Area.{next_place, double_place}
 use Rattle.tb_told.specs.AreaTold.{told_call, told_next, told_wide}
 use Rattle.tb_fpage.specs.Company.{Choice, company, chosen_floats, left_floats}
 use Rattle.tb_margin.specs.Margin.{placed_note}
-use Rattle.tb_column.specs.Column.{PlainColumn, Notes, text_column, single_floats_column}
+use Rattle.tb_column.specs.Column.{PlainColumn, Notes, standing_notes, single_floats_column}
 use Rattle.tb_sheet.specs.Sheet.{pair_sheet, PlainSent}
 use Rattle.tb_output.specs.State.{State, Work, begun, footnotes, puts, records_also, output, with_floats}
 use Rattle.tb_output.specs.FloatMoves.{still_deferred, place_waiting}
 use Rattle.tb_output.specs.Pages.{ship, wide_wanted, ship_wide, all_wide_pages, left_or, without_double, with_deferred}
-use Rattle.tb_output.specs.Columns.{put_out_text, put_out_company, single_wanted, all_float_columns, without_column_floats}
-use Rattle.tb_output.specs.Clear.{cleared_front, deferred_again, double_again}
+use Rattle.tb_output.specs.Columns.{text_of, put_out_text, put_out_company, single_wanted, all_float_columns, without_column_floats}
+use Rattle.tb_output.specs.Clear.{without_notes, cleared_front, deferred_again, double_again}
 use Rattle.tb_output.specs.Text.{without_firing_box, notes_height, list_back}
 use Rattle.tb_sheet.specs.Asked.{clear_penalty, par_penalty, vert_penalty}
 use Rattle.tb_output.specs.Output.{is_int, after_page}
@@ -98,7 +98,7 @@ put_out_pieces p c w = unless_over w (Says PutOut ∷ []) ++ put_out_pieces_by p
 abbrev pub text_pieces : Params → List PlainNode → Work → List Piece
 text_pieces p body w =
     unless_over w (tales (stands_tales body))
-    ++ put_out_pieces p (text_column p w.state.floats body (footnotes w.state)) (without_column_floats w)
+    ++ put_out_pieces p (text_of p w.state body) (without_column_floats w)
 
 -- a column of the company is put out
 abbrev pub company_pieces : Params → List Choice → Work → List Piece
@@ -160,11 +160,11 @@ clear_floats_pieces p body w =
 
 -- a page with insertions is put out first
 abbrev pub clear_pieces_by : Params → List PlainNode → Work → List Notes → List Piece
-clear_pieces_by p body w [] = clear_floats_pieces p body w
+clear_pieces_by p body w [] = clear_floats_pieces p body (without_notes w)
 clear_pieces_by p body w (n ∷ ns) = text_pieces p (body ++ made (skip filling_glue) ∷ []) w
 
 abbrev pub clear_pieces : Params → List PlainNode → Work → List Piece
-clear_pieces p body w = clear_pieces_by p body w (footnotes w.state)
+clear_pieces p body w = clear_pieces_by p body w (standing_notes (footnotes w.state))
 
 -- ---- floats and notes in the text
 

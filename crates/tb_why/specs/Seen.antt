@@ -23,6 +23,7 @@ use Rattle.tb_output.specs.Columns.{single_wanted}
 use Rattle.tb_output.specs.Clear.{deferred_again, double_again}
 use Rattle.tb_output.specs.Text.{notes_height}
 use Rattle.tb_output.specs.Output.{is_int, after_page}
+use Rattle.tb_column.specs.Column.{standing_notes}
 use Rattle.tb_output.specs.Reading.{any_notes, text_read}
 use Rattle.tb_told.specs.declared.Spot.{Spot}
 use Rattle.tb_told.specs.declared.Tale.{Tale}
@@ -65,7 +66,7 @@ reading_of s f =
     let depth = last_depth shapes in
     let height = size_of shapes -ℤ depth in
     let notes = footnotes (after_page s f) in
-    record { height = height; page_height = height +ℤ depth +ℤ notes_height notes; has_notes = any_notes notes }
+    record { height = height; page_height = height +ℤ depth +ℤ notes_height notes; has_notes = any_notes (standing_notes notes) }
 
 -- where it stands
 abbrev pub spot_seen : Seen → Spot

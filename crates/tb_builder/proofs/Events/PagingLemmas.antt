@@ -15,7 +15,7 @@ use Rattle.tb_builder.specs.declared.Try.{Try}
 use Rattle.tb_builder.specs.declared.Event.{Event}
 use Rattle.tb_builder.specs.declared.Event.TheVariants as events
 use Rattle.tb_builder.specs.Reach.{Reached, acted, tried, Reach, also_reached, reach_from, holds_box, laid_out, breakpoints, try_of}
-use Rattle.tb_builder.specs.FiredPages.{Boxed, Fired, no_place, penalty_at, line_at, with_spent_break, box_after, held_insertions, frozen_for}
+use Rattle.tb_builder.specs.FiredPages.{Boxed, Fired, last_shrink, no_place, penalty_at, line_at, with_spent_break, box_after, held_insertions, frozen_for}
 use Rattle.tb_builder.specs.Contents.{Contents, frozen_of, frozen_or, laid, reach_ahead, reach_whole, places_of}
 use Rattle.tb_builder.specs.PageEvents.{IsTheStop, TriedIs, FirstIs, KeepsBoxes, PageIs, after_fired, FiresWith, NextIs}
 use Rattle.tb_builder.specs.PageProgress.{page_reach, after_all, KeepsStart, HasCome, ComesToTry, ComesTo, IsNextOfPage}
@@ -64,6 +64,7 @@ fired_with = λ z boxes bs passed beyond.
       penalty = penalty_at rest;
       cost = b.cost;
       size = b.goal;
+      shrink = last_shrink bs;
       line = line_at rest;
     }
 

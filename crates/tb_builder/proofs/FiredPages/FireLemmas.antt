@@ -8,6 +8,7 @@ use Rattle.tb_pool.specs.Lists.{Lists, IsLive, list_at, with_list}
 use Rattle.tb_node.specs.declared.Node.{Node}
 use Rattle.tb_node.specs.PlainNodes.{PlainKind, plain, ins, act, PlainNode, matter_shape, plain_of, without_insertions, node_shape, plain_list}
 use Rattle.tb_node.specs.Sums.{room_of, size_of}
+use Rattle.tb_node.specs.SmallAmounts.{IsAmount}
 use Rattle.tb_break.specs.declared.Best.{Best}
 use Rattle.tb_break.specs.Best.{Breakpoint, best_or}
 use Rattle.tb_break.specs.Scan.{best_of}
@@ -17,12 +18,12 @@ use Rattle.tb_builder.specs.declared.Ask.{Ask}
 use Rattle.tb_builder.specs.declared.Page.{Page}
 use Rattle.tb_builder.specs.declared.Builder.{Builder}
 use Rattle.tb_builder.specs.Reach.{Reach, holds_box, reach_from, breakpoints}
-use Rattle.tb_builder.specs.FiredPages.{Fired, no_place, page_break, penalty_at, line_at, with_spent_break, box_after, held_insertions, fired_by}
+use Rattle.tb_builder.specs.FiredPages.{Fired, no_place, page_break, last_shrink, penalty_at, line_at, with_spent_break, box_after, held_insertions, fired_by}
 use Rattle.tb_builder.specs.Contents.{Contents, contents_of, frozen_or, frozen_of, reach_whole}
 use Rattle.tb_builder.specs.Ownership.{Lacks, inner_ids, Ids, ids_of, owned, IsOwned}
 use Rattle.tb_builder.specs.Courses.{ChampionIs, AtStop, places_by, page_frozen, AllLoose, AllLasting, IsPageSoFar, IsSound}
 use Rattle.tb_builder.specs.LegalPlaces.{page_shapes}
-use Rattle.tb_break.specs.Places.{ends_lasting}
+use Rattle.tb_break.specs.Places.{last_or, ends_lasting}
 use Rattle.tb_builder.specs.PageEvents.{FiredIs, PageIs, fired_page, after_fired, best_room, fired_room}
 use Rattle.tb_builder.specs.Firing.{SortsTo, Sorted, IsMarkedAt, EachFits, Cuts, Fires}
 use Rattle.tb_builder.proofs.Ownership.OwnedLemmas.{AllSame}
@@ -48,6 +49,14 @@ breaks b s sound stopped = by_frozen b.frozen refl (subst (λ x. IsPageSoFar b.f
 not_nothing : (bs : List Breakpoint) (b : Breakpoint) → bs ++ b ∷ [] ≡ [] → ⊥
 not_nothing [] b e = cc
 not_nothing (x ∷ bs) b e = cc
+
+-- the shrink at the last place
+shrink_at_end : (bs : List Breakpoint) (b : Breakpoint) → last_shrink (bs ++ b ∷ []) ≡ b.sums.shrink
+shrink_at_end bs b = ends (pos 0) bs
+  where
+    ends : (d : ℤ) (cs : List Breakpoint) → last_or d (map (λ (c : Breakpoint). c.sums.shrink) (cs ++ b ∷ [])) ≡ b.sums.shrink
+    ends d [] = refl
+    ends d (c ∷ cs) = ends c.sums.shrink cs
 
 module _ (b : Builder) (c : Contents) (h : Breaks b c) where
   abbrev zee : Frozen
@@ -180,7 +189,7 @@ module _ (b : Builder) (s e t : Lists Node) (body : ℕ) (x : Best) (sound : IsS
     module _ (d g : Builder) (u : Lists Node) (p : Page) (sorts : SortsTo b t g u body)
         (sorted : (z : Frozen) (page : List PlainNode) → IsAccountOf b.course.account z page (contents_of b t).page → Sorted z (contents_of b t).boxes (contents_of b t).page (contents_of g u) (plain_list u body) (contents_of b t).page)
         (empty : list_at u b.page ≡ []) (clear : d ≡ record g { frozen = None; opened = false; stopped = false; course = record g.course { lasting = false } })
-        (body_is : p.body ≡ body) (cost : p.cost ≡ x.cost) (size : p.size ≡ b.course.best_goal)
+        (body_is : p.body ≡ body) (cost : p.cost ≡ x.cost) (size : p.size ≡ b.course.best_goal) (shrink : p.shrink ≡ b.course.scan.sums.shrink) (amount : IsAmount p.shrink)
         (line : p.line ≡ line_at (drop x.index (contents_of b e).page ++ (contents_of b e).waiting))
         (penalty : p.penalty ≡ penalty_at (drop x.index (contents_of b e).page ++ (contents_of b e).waiting))
         (held : p.held ≡ length (list_at u g.held)) where
@@ -212,6 +221,7 @@ module _ (b : Builder) (s e t : Lists Node) (body : ℕ) (x : Best) (sound : IsS
         penalty = penalty_at (drop there.place (contents_of b s).page ++ (contents_of b s).waiting);
         cost = there.cost;
         size = there.goal;
+        shrink = last_shrink (places_all b (contents_of b s) at);
         line = line_at (drop there.place (contents_of b s).page ++ (contents_of b s).waiting);
       }
 
@@ -229,6 +239,7 @@ module _ (b : Builder) (s e t : Lists Node) (body : ℕ) (x : Best) (sound : IsS
             penalty = penalty_at rest;
             cost = place.cost;
             size = place.goal;
+            shrink = last_shrink (reached j);
             line = line_at rest;
           }
 
@@ -269,6 +280,8 @@ module _ (b : Builder) (s e t : Lists Node) (body : ℕ) (x : Best) (sound : IsS
         penalty = penalty ∙ ap penalty_at behind;
         cost = cost ∙ break_cost b (contents_of b s) at x is;
         size = size ∙ (champion b (contents_of b s) at).goal_is;
+        shrink = shrink ∙ sym at.stop.shrink ∙ sym (shrink_at_end (places_by (zee b (contents_of b s) at) (contents_of b s).page (contents_of b s).waiting) at.stop.stop);
+        amount = amount;
         line = line ∙ ap line_at behind;
         held = held ∙ sym (length-map (list_at u g.held) (plain_of (list_at u))) ∙ ap length held_are;
       }

@@ -6,7 +6,9 @@ use Rattle.std.proofs.lemmas.Bool.{true≢false, cases_eq, eqb-true}
 use Rattle.tb_pool.specs.Lists.{Lists, IsLive, list_at, with_list}
 use Rattle.tb_node.specs.declared.Node.{Node}
 use Rattle.tb_node.specs.Fit.{shapes}
-use Rattle.tb_node.specs.PlainNodes.{leaf_of, leaf_shape, plain_of, plain_list}
+use Rattle.std.specs.List.{list_any}
+use Rattle.tb_node.specs.Shape.{is_box as is_box_shape}
+use Rattle.tb_node.specs.PlainNodes.{Leaf, leaf_of, leaf_shape, plain_of, plain_list}
 use Rattle.tb_insert.specs.declared.Class.{Class}
 use Rattle.tb_insert.proofs.AccountLemmas.{leaf_shapes}
 use Rattle.tb_builder.specs.declared.ClassList.{ClassList}
@@ -52,6 +54,14 @@ module _ (s : Lists Node) (es : List ClassList) (number : ℕ) (e : ClassList) (
 
   pub sizes_fit : VoidEmpty s es → SizesFit (map leaf_shape (content_of (box_content (map (boxed_of s) es) number))) → SizesFit (shapes s e.list)
   sizes_fit v fits = subst SizesFit (box_shapes v) fits
+
+  -- a box is among the nodes of one exactly if it is in its list
+  pub any_box : VoidEmpty s es → list_any (λ n. is_box_shape (leaf_shape n)) (content_of (box_content (map (boxed_of s) es) number)) ≡ list_any is_box_shape (shapes s e.list)
+  any_box v = any-shapes (content_of (box_content (map (boxed_of s) es) number)) ∙ ap (list_any is_box_shape) (box_shapes v)
+    where
+      any-shapes : (ns : List Leaf) → list_any (λ (n : Leaf). is_box_shape (leaf_shape n)) ns ≡ list_any is_box_shape (map leaf_shape ns)
+      any-shapes [] = refl
+      any-shapes (n ∷ ns) = ap (λ b. is_box_shape (leaf_shape n) || b) (any-shapes ns)
 
   pub size_is : VoidEmpty s es → box_size (box_content (map (boxed_of s) es) number) ≡ box_size (content_by e.void (leaf_list s e.list))
   size_is v = ap box_size content_is

@@ -231,6 +231,7 @@ module _ (z : Frozen) (k : Course) (page waiting : List PlainNode) (m : PlainNod
   stop_grows a = record {
     stop = a.stop;
     course = subst (λ bs. IsCourseOf z k page (bs ++ a.stop ∷ [])) (sym same_places) a.course;
+    shrink = a.shrink;
     reached = ap (λ w. breakpoints w.reached) grown ∙ a.reached ∙ ap (λ bs. bs ++ a.stop ∷ []) (sym same_places);
     passed = ap (λ w. w.passed) grown ∙ a.passed;
     beyond = ap (λ w. w.beyond) grown ∙ ap (λ ns. ns ++ m ∷ []) a.beyond;

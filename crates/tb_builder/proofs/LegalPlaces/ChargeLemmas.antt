@@ -98,17 +98,17 @@ below-few : (k : ℕ) (cs : List Class) → ClassesFit cs → below k cs ≤ k
 below-few zero cs h = let a = below-none cs in omega (arith, a)
 below-few (suc k) cs h = let a = below-more k cs in let b = below-few k cs h in let c = once k cs h in omega (arith, a, b, c)
 
-all_below : (cs : List Class) → ClassesFit cs → length cs ≤ below 255 cs
+all_below : (cs : List Class) → ClassesFit cs → length cs ≤ below 256 cs
 all_below [] h = omega arith
 all_below (c ∷ cs) h =
-    let small : c.number < 255 = h.1 in
-    let a : one (nat_lt c.number 255) ≡ 1 = grind (arith, nat_tests) in
+    let small : c.number < 256 = h.1 in
+    let a : one (nat_lt c.number 256) ≡ 1 = grind (arith, nat_tests) in
     let b = all_below cs h.3 in
     omega (arith, a, b)
 
--- a builder has at most 255 classes
-pub few_classes : (cs : List Class) → ClassesFit cs → length cs ≤ 255
-few_classes cs h = let a = all_below cs h in let b = below-few 255 cs h in omega (arith, a, b)
+-- a builder has at most 256 classes
+pub few_classes : (cs : List Class) → ClassesFit cs → length cs ≤ 256
+few_classes cs h = let a = all_below cs h in let b = below-few 256 cs h in omega (arith, a, b)
 
 -- ---- the nodes in the boxes of classes
 

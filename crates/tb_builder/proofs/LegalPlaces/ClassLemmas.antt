@@ -92,7 +92,7 @@ fits_at s (e ∷ es) zero d w v h = subst SizesFit (by_void e.void v.0) h.0
     by_void false h = leaf_shapes (list_at s e.list)
 fits_at s (e ∷ es) (suc k) d w v h = fits_at s es k d (omega arith) v.1 h.1
 
-pub class_fits_at : (es : List ClassList) (k : ℕ) (d : ClassList) → k < length es → ClassesFit (map (λ e. e.class) es) → ((get_or es k d).class.number < 255) × ClassFits (get_or es k d).class
+pub class_fits_at : (es : List ClassList) (k : ℕ) (d : ClassList) → k < length es → ClassesFit (map (λ e. e.class) es) → ((get_or es k d).class.number < 256) × ClassFits (get_or es k d).class
 class_fits_at [] k d w h = absurd (omega arith)
 class_fits_at (e ∷ es) zero d w h = (h.1, h.2)
 class_fits_at (e ∷ es) (suc k) d w h = class_fits_at es k d (omega arith) h.3
@@ -111,8 +111,8 @@ module _ (s : Lists Node) (es : List ClassList) (number : ℕ) (e : ClassList) (
   pub list_fits : VoidEmpty s es → BoxesFit (map (boxed_of s) es) → SizesFit (shapes s e.list)
   list_fits v fits = subst (λ x. SizesFit (shapes s x.list)) h.is (fits_at s es h.place e h.first.within v fits)
 
-  pub class_known : ClassesFit (map (λ e. e.class) es) → (e.class.number < 255) × ClassFits e.class
-  class_known fits = subst (λ x. (x.class.number < 255) × ClassFits x.class) h.is (class_fits_at es h.place e h.first.within fits)
+  pub class_known : ClassesFit (map (λ e. e.class) es) → (e.class.number < 256) × ClassFits e.class
+  class_known fits = subst (λ x. (x.class.number < 256) × ClassFits x.class) h.is (class_fits_at es h.place e h.first.within fits)
 
   pub number_is : e.class.number ≡ number
   number_is = eqb-true e.class.number number (ap (has_number number) (sym h.is) ∙ h.first.there)

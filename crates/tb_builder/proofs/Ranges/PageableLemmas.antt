@@ -239,7 +239,7 @@ pub record IsSizedFrozen (z : Frozen) : Type 0 where
   pub goal : IsGoal z.goal
   pub limit : IsExtent z.limit
   pub classes : All IsSizedClassBox z.classes
-  pub few : length z.classes ≤ 255
+  pub few : length z.classes ≤ 256
   pub total : size_total z.classes ≤ 9007199254740992
 
 pub nothing_within : (b : ℕ) → IsWithin b (pos 0)
@@ -325,7 +325,7 @@ met_sized cs is h = All-filter (λ c. is_met is c.class.number) IsSizedClassBox 
 skips_sized : (cs : List ClassBox) → All IsSizedClassBox cs → All IsSized (skip_shapes cs)
 skips_sized cs h = All-map IsSized (λ (c : ClassBox). glue c.class.skip) cs (All-weaker IsSizedClassBox (λ c. IsSized (glue c.class.skip)) (λ c s. (s.class.width, s.class.stretch, s.class.shrink)) cs h)
 
-goal_small : (goal charge taken : ℤ) (total classes inner : ℕ) → total ≤ 9007199254740992 → classes ≤ 255 → inner ≤ 8388608 → IsGoal goal → IsWithin (10 * total + 1073741823 * classes) charge → IsWithin (21474836460 * inner) taken → IsAmount ((goal -ℤ charge) -ℤ taken)
+goal_small : (goal charge taken : ℤ) (total classes inner : ℕ) → total ≤ 9007199254740992 → classes ≤ 256 → inner ≤ 8388608 → IsGoal goal → IsWithin (10 * total + 1073741823 * classes) charge → IsWithin (21474836460 * inner) taken → IsAmount ((goal -ℤ charge) -ℤ taken)
 goal_small goal charge taken total classes inner t a b g c i = record { low = omega (arith, ints); high = omega (arith, ints) }
 
 height_small : (inner : ℕ) (z : ℤ) → inner ≤ 8388608 → IsWithin (9007199254740992 + 2147483646 * inner) z → IsAmount z
@@ -334,7 +334,7 @@ height_small inner z few h = record { low = omega (arith, ints); high = omega (a
 penalties_small : (k : ℕ) (z : ℤ) → k ≤ 8388608 → IsWithin (1073741824 * k) z → IsAmount z
 penalties_small k z few h = record { low = omega (arith, ints); high = omega (arith, ints) }
 
-both_small : (k j : ℕ) (x y : ℤ) → k ≤ 8388608 → j ≤ 255 → IsWithin (1073741823 * k) x → IsWithin (1073741823 * j) y → IsAmount (x +ℤ y)
+both_small : (k j : ℕ) (x y : ℤ) → k ≤ 8388608 → j ≤ 256 → IsWithin (1073741823 * k) x → IsWithin (1073741823 * j) y → IsAmount (x +ℤ y)
 both_small k j x y a b p q = record { low = omega (arith, ints); high = omega (arith, ints) }
 
 page_fits : (z : Frozen) (ns : List PlainNode) → IsSizedFrozen z → All IsSizedOnPage ns → node_count ns ≤ 8388608 → PageFits z ns
@@ -342,13 +342,13 @@ page_fits z ns f s few =
     let ls = labelled z ns in
     let labels = labels_fit z ns s in
     let met = met_classes z.classes (insertions ls) in
-    let met_few : length met ≤ 255 = let a = few_met z.classes (insertions ls) in let b = f.few in omega arith in
+    let met_few : length met ≤ 256 = let a = few_met z.classes (insertions ls) in let b = f.few in omega arith in
     let met_all = met_sized z.classes (insertions ls) f.classes in
     let shapes : All IsSized (map node_shape ns) = All-map IsSized node_shape ns (All-weaker IsSizedOnPage (λ n. IsSized (node_shape n)) (λ n h. h.shape) ns s) in
     let short : length (map node_shape ns) ≤ 8388608 = let a = length_counted ns in omega (arith, length-map {B = Shape} ns) in
     let bare = summed-fits z.limit (map node_shape ns) f.limit.low (record { sized = shapes; few = short }) in
     let skips = skips_sized met met_all in
-    let skips_few : length (skip_shapes met) ≤ 255 = omega (arith, length-map {B = Shape} met) in
+    let skips_few : length (skip_shapes met) ≤ 256 = omega (arith, length-map {B = Shape} met) in
     let stretch : (o : Order) → IsAmount (list_stretch o (map node_shape ns) +ℤ list_stretch o (skip_shapes met)) = λ o. both_small (length (map node_shape ns)) (length (skip_shapes met)) (list_stretch o (map node_shape ns)) (list_stretch o (skip_shapes met)) short skips_few (list_stretch_within o (map node_shape ns) shapes) (list_stretch_within o (skip_shapes met) skips) in
     record {
       sums = record {

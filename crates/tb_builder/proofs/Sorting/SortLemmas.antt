@@ -76,16 +76,16 @@ label_within z ls before i =
 
 -- ---- facts about the first node
 
-class_below : (cs : List Class) (k : ℕ) → ClassesFit cs → has_class cs k ≡ true → k < 255
+class_below : (cs : List Class) (k : ℕ) → ClassesFit cs → has_class cs k ≡ true → k < 256
 class_below [] k fit h = absurd (true≢false (sym h))
 class_below (c ∷ cs) k fit h = by_class (c.number == k) refl h (λ x. class_below cs k fit.3 x)
   where
-    by_class : (t : Bool) → (c.number == k) ≡ t → (t || has_class cs k) ≡ true → (has_class cs k ≡ true → k < 255) → k < 255
-    by_class true e h later = let same : c.number ≡ k = grind (arith, nat_tests, e) in subst (λ x. x < 255) same fit.1
+    by_class : (t : Bool) → (c.number == k) ≡ t → (t || has_class cs k) ≡ true → (has_class cs k ≡ true → k < 256) → k < 256
+    by_class true e h later = let same : c.number ≡ k = grind (arith, nat_tests, e) in subst (λ x. x < 256) same fit.1
     by_class false e h later = later h
 
 module _ (b : Builder) (s : Lists Node) (n : Node) (ns : List Node) (i : Insertion) (own : IsOwned (ids_of b) s) (first : list_at s b.page ≡ n ∷ ns) (is : insertion_of_kind n.kind ≡ Some i) where
-  pub first_class : i.class < 255
+  pub first_class : i.class < 256
   first_class = class_below (classes_of (ids_of b)) i.class own.classes (class_there (ids_of b) s n ns i own first is)
 
   abbrev this : Inserted

@@ -147,12 +147,12 @@ module _ (b : Ids) (s : Lists Node) (c : Contents) (ask : Ask) (k : Course) (n :
     scan = u.course.scan;
   }
 
-  pub class_is : (e.class.number < 255) × ClassFits e.class
+  pub class_is : (e.class.number < 256) × ClassFits e.class
   class_is = class_known s b.boxes i.class e h own.classes
 
   pub meets_fits : ArriveFits s k.account k.scan i e.class (size_of (shapes s e.list))
   meets_fits = arrive_fits s k.account k.scan i n.line e.class (size_of (shapes s e.list)) (length (list_at s b.page)) (frozen_of c ask) c.page u.course.marked (number_is s b.boxes i.class e h)
-      (subst (λ m. m < 255) (number_is s b.boxes i.class e h) class_is.0) u.course.account comes_to
+      (subst (λ m. m < 256) (number_is s b.boxes i.class e h) class_is.0) u.course.account comes_to
       (inner_fits s i (first_inner b s n ns i own first is) (inserted_fits c ask fits (inserted_of (list_at s) i) n.line (map (plain_of (list_at s)) ns) waiting_first)) class_is.1
       (page_with_fits c ask fits (inserted_of (list_at s) i) n.line (map (plain_of (list_at s)) ns) waiting_first)
 

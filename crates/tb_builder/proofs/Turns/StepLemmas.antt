@@ -5,6 +5,7 @@ use Rattle.std.proofs.lemmas.Bool.{true≢false}
 use Rattle.tb_scaled.specs.Scaled.{awful_bad}
 use Rattle.tb_node.specs.declared.Node.{Node}
 use Rattle.tb_node.specs.PlainNodes.{PlainNode, plain_of, node_shape, shape_of, is_act_kind}
+use Rattle.tb_node.specs.declared.Sums.{Sums}
 use Rattle.tb_node.specs.SmallAmounts.{IsSmall}
 use Rattle.tb_node.specs.NodeSums.{added_node}
 use Rattle.tb_node.specs.Roles.{act_of_kind}
@@ -108,6 +109,7 @@ module _ (z : Frozen) (k : Course) (c : Contents) (n : PlainNode) (ns : List Pla
       waiting = waiting;
       stopped = stopped;
       course = subst (λ q. IsCourseOf z l q (places_on z c ++ place_here z c.page p ∷ [])) (sym page) h;
+      shrink = sym (ap (λ (x : Sums). x.shrink) h.scan.sums);
       reached = same_whole (λ w. breakpoints w.reached) ∙ whole_places z.limit (terms_after z) [] c.page c.waiting u.course.no_acts u.quiet ∙ ap (λ w. places_on z c ++ breakpoints w.reached) stop_reach;
       passed = same_whole (λ w. w.passed) ∙ (whole_end z.limit (terms_after z) [] c.page c.waiting u.course.no_acts u.quiet).passed ∙ ap (λ (w : Reach). w.passed) stop_reach ∙ sym page;
       beyond = same_whole (λ w. w.beyond) ∙ (whole_end z.limit (terms_after z) [] c.page c.waiting u.course.no_acts u.quiet).beyond ∙ ap (λ (w : Reach). w.beyond) stop_reach ∙ sym waiting;

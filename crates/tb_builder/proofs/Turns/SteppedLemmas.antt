@@ -42,6 +42,7 @@ module _ (z : Frozen) (k : Course) (m d : Contents) (f : ℤ × ℤ) (same : pag
   stopped_page line b true e st = subst (λ x. AtStop x k d.page d.waiting) (sym same) (record {
     stop = b;
     course = subst (IsCourseOf z k d.page) (sym (ap (λ bs. bs ++ b ∷ []) places)) st.course;
+    shrink = st.shrink;
     reached = st.reached ∙ sym (ap (λ bs. bs ++ b ∷ []) places);
     passed = st.passed;
     beyond = st.beyond;

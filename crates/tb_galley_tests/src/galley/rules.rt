@@ -6,7 +6,7 @@ use std::test::Fail;
 // Each cause that version 3 adds, and what the versions before it say of the same.
 #[test]
 fn finds_faults_of_rules(rt: HostRuntime) -> Result<(), Fail> {
-    let rows: [(&[u8], u32, u32, &[u8]); 52] = [
+    let rows: [(&[u8], u32, u32, &[u8]); 50] = [
         (b"galley 3\nend", 0, 0, b"none"),
         (b"galley 03\nend", 1, 2, b"NoHeader"),
         (b"galley 3 x", 1, 3, b"ExtraField"),
@@ -112,9 +112,6 @@ fn finds_faults_of_rules(rt: HostRuntime) -> Result<(), Fail> {
         (b"galley 2\nset footfill 0", 2, 2, b"UnknownParameter"),
         (b"galley 1\nset footplace above", 2, 2, b"UnknownParameter"),
         (b"galley 2\npage 7", 2, 1, b"UnknownWord"),
-        // and no version has these words
-        (b"galley 3\nhead T 30", 2, 1, b"UnknownWord"),
-        (b"galley 3\nenlarge 5", 2, 1, b"UnknownWord"),
     ];
     for (text, line, field, cause) in rows {
         assert!(rt; first_fault(rt.alloc(), text) == (line, field, cause));

@@ -23,6 +23,7 @@ use Rattle.tb_area.proofs.OrderLemmas.{fill-order, double-order}
 use Rattle.tb_fpage.specs.declared.Wanted.{Wanted}
 use Rattle.tb_fpage.specs.Company.{Choice, company, chosen_floats, left_floats}
 use Rattle.tb_fpage.proofs.LawLemmas.{order-company}
+use Rattle.tb_column.specs.declared.Enlarged.{Enlarged}
 use Rattle.tb_column.specs.Column.{Notes, is_no_glue, glue_if_any, rule_if_any, kern_if_any, is_below, foot_kern, feet_above, above_class, class_below, PlainColumn, floats_with, floats_above, floats_below, notes_below, notes_among, text_above_feet, with_feet, with_bottoms, with_below, text_nodes, closing_glue, text_column, floats_after, floats_column}
 use Rattle.tb_column.proofs.ColumnParts.{among-have}
 use Rattle.tb_sheet.specs.Sheet.{PlainSheet, PlainSent, warned, shipped, one, wide, two}
@@ -293,8 +294,8 @@ module _ (k : FloatKind) (p : Params) (l : FloatLists) (notes : List Notes) (h :
       ∙ ap (λ x. x ++ class_lines k body) (floats_above-lines k places.Top p.floatsep p.toprule p.textfloatsep l.top)
 
 -- a text column has the floats at the top, those in its text, and those at the bottom
-pub text_column-lines : (k : FloatKind) (p : Params) (l : FloatLists) (body : List PlainNode) (notes : List Notes) → NotesFloatless k notes → class_lines k (text_column p l body notes).nodes ≡ float_lines k l.top ++ (class_lines k body ++ float_lines k l.bottom)
-text_column-lines k p l body notes h =
+pub text_column-lines : (k : FloatKind) (p : Params) (l : FloatLists) (body : List PlainNode) (notes : List Notes) (higher : Enlarged) → NotesFloatless k notes → class_lines k (text_column p l body notes higher).nodes ≡ float_lines k l.top ++ (class_lines k body ++ float_lines k l.bottom)
+text_column-lines k p l body notes higher h =
     let texts = text_nodes p l body notes in
     let last = made (skip (closing_glue p texts)) ∷ [] in
     lines-front k (texts ++ last) (glue_if_any p.textbottom) (glue-lines k p.textbottom)

@@ -29,7 +29,7 @@ use Rattle.tb_margin.specs.declared.Placed.{Placed}
 use Rattle.tb_margin.specs.Margin.{placed_note}
 use Rattle.tb_sheet.specs.declared.Warn.{Warn}
 use Rattle.tb_sheet.specs.declared.Warn.TheVariants as warnings
-use Rattle.tb_column.specs.Column.{Notes, PlainColumn, text_column}
+use Rattle.tb_column.specs.Column.{Notes, PlainColumn, standing_notes, enlarged_of}
 use Rattle.tb_sheet.specs.Sheet.{warned}
 use Rattle.tb_output.specs.State.{State, Work, Recorded, placed, output, puts, sends, records_also, with_floats, with_notes, notes_in, footnotes, has_floats}
 use Rattle.tb_output.specs.FloatMoves
@@ -37,6 +37,7 @@ use Rattle.tb_output.specs.Pages
 use Rattle.tb_output.specs.Columns
 use Rattle.tb_output.specs.Text
 use Rattle.tb_output.specs.Clear
+use Rattle.tb_laws.proofs.StepLaws.StandingNotes.{standing-have}
 use Rattle.tb_laws.proofs.NothingLost.StateWeights.{Paired}
 use Rattle.tb_output.proofs.ColumnPages.FillLemmas.{HasLists, fill_column-lists}
 use Rattle.tb_laws.proofs.ClassesRise.RisingLists.{IsAbove, Rises}
@@ -148,14 +149,14 @@ module _ (k : FloatKind) (Known : ℕ → Type 0) (takes past : List ℕ) (old :
   put_out_text-hand : (p : Params) (r : IsReleased k p) (held rest : List ℕ) (body : List PlainNode) (w : Work) → NotesFloatless k (footnotes w.state) → (Columns.put_out_text p body w).refused ≡ false
       → Ordered k Known takes past old (held ++ (class_lines k body ++ rest)) w → InHand k Known (held ++ rest) takes past old [] (Columns.put_out_text p body w)
   put_out_text-hand p r held rest body w free ok h =
-      let c = text_column p w.state.floats body (footnotes w.state) in
+      let c = Columns.text_of p w.state body in
       let v = Columns.without_column_floats w in
       let u = records_also (output c) v in
       let v_ok = column-unrefused (put_out-step p (no_law p) c v) ok in
       put_out_by-hand k Known (held ++ rest) takes past old p r c u ok
       (subst (λ (x : Work). InHand k Known (held ++ rest) takes past old (class_lines k c.nodes) x) (sym (records-now (output c) v v_ok))
       (subst (λ x. Spread k Known (held ++ rest) takes (past ++ sent_lines k w.sent) x (class_lines k c.nodes) v.state.floats w.state.two_columns w.state.first_column w.state.left_column) (append_assoc old w.records (output c ∷ []))
-      (text_hand k Known takes (past ++ sent_lines k w.sent) (old ++ w.records) w.state.floats w.state.two_columns w.state.first_column w.state.left_column held (class_lines k body) rest c (text_column-lines k p w.state.floats body (footnotes w.state) free) h)))
+      (text_hand k Known takes (past ++ sent_lines k w.sent) (old ++ w.records) w.state.floats w.state.two_columns w.state.first_column w.state.left_column held (class_lines k body) rest c (text_column-lines k p w.state.floats body (standing_notes (footnotes w.state)) (enlarged_of w.state.shrink (footnotes w.state)) (standing-have (λ (n : Notes). AreFloatless k n.inner) (footnotes w.state) free)) h)))
 
   -- ---- the next column
 
@@ -246,9 +247,9 @@ module _ (k : FloatKind) (Known : ℕ → Type 0) (takes past : List ℕ) (old :
       (cleared k Known takes (past ++ sent_lines k w.sent) (old ++ w.records) w.state.floats w.state.two_columns w.state.first_column w.state.left_column h))))
 
   -- if the text has no floats of the class
-  pub clear-ordered : (p : Params) (r : IsReleased k p) (body : List PlainNode) (w : Work) (o : List Notes) → footnotes w.state ≡ o → NotesFloatless k (footnotes w.state) → class_lines k body ≡ [] → (Clear.clear_by p body w o).refused ≡ false
+  pub clear-ordered : (p : Params) (r : IsReleased k p) (body : List PlainNode) (w : Work) (o : List Notes) → standing_notes (footnotes w.state) ≡ o → NotesFloatless k (footnotes w.state) → class_lines k body ≡ [] → (Clear.clear_by p body w o).refused ≡ false
       → Ordered k Known takes past old [] w → Ordered k Known takes past old [] (Clear.clear_by p body w o)
-  clear-ordered p r body w [] e free none ok h = clear_floats-ordered p r body w ok h
+  clear-ordered p r body w [] e free none ok h = clear_floats-ordered p r body (Clear.without_notes w) ok h
   clear-ordered p r body w (n ∷ notes) e free none ok h =
       let ns = body ++ made (skip filling_glue) ∷ [] in
       let empty : class_lines k ns ++ [] ≡ [] = append-nil (class_lines k ns) ∙ lines-append k body (made (skip filling_glue) ∷ []) ∙ append-nil (class_lines k body) ∙ none in

@@ -1,8 +1,8 @@
 -- The floats of a valid galley: their lines rise, each of one class, and a run begins with them in order.
 use Rattle.std.proofs.Common.{◌≡◌, refl, sym, ◌∙◌, ap, subst, ℕ, ◌<◌, ◌≤◌, ◌==◌, ◌&&◌, inl, inr, Bool, true, false, List, [], ◌∷◌, ◌++◌, map, None, append_assoc, append-nil, arith}
-use Rattle.std.specs.Prelude.{IsTrue, if◌then◌else◌}
+use Rattle.std.specs.Prelude.{ℤ, IsTrue, if◌then◌else◌, not, ◌||◌}
 use Rattle.std.specs.List.{AllByRecursion, list_all}
-use Rattle.std.proofs.lemmas.Bool.{eqb-true, and_parts}
+use Rattle.std.proofs.lemmas.Bool.{eqb-true, and_parts, true≢false}
 use Rattle.tb_break.proofs.EachLemmas.{all-front, all-back, all-join, all-map, all-of}
 use Rattle.tb_node.specs.declared.Float.{Float}
 use Rattle.tb_node.specs.declared.Act.{Act}
@@ -17,8 +17,8 @@ use Rattle.tb_galley.specs.declared.Item.{Item}
 use Rattle.tb_galley.specs.declared.ItemKind.{ItemKind}
 use Rattle.tb_galley.specs.declared.ItemKind.TheVariants as items
 use Rattle.tb_galley.specs.declared.Galley.{Galley}
-use Rattle.tb_galley.specs.GalleyNodes.{plain_leaf, with_firings, two_after, item_kinds, item_nodes, expanded}
-use Rattle.tb_galley.specs.Valid.{is_item, leaf_lines, lines_of_item, named_lines, rise_from, IsValid}
+use Rattle.tb_galley.specs.GalleyNodes.{plain_leaf, with_firings, enlarge_list, two_after, item_kinds, item_nodes, expanded}
+use Rattle.tb_galley.specs.Valid.{is_item, leaf_lines, lines_of_item, named_lines, rise_from, IsValid, is_head, is_top_alone, is_size, is_two_column, may_come, do_heads_stand}
 use Rattle.tb_float.specs.Lists.{no_floats}
 use Rattle.tb_output.specs.State.{first_state, void_boxes}
 use Rattle.tb_insert.specs.declared.Class.{Class}
@@ -32,6 +32,7 @@ use Rattle.tb_laws.proofs.ClassesRise.ClassOrder.{kind-class, AreInText}
 use Rattle.tb_laws.proofs.ClassesRise.OutOrder.{IsOnSide, Suits, InOrder}
 use Rattle.tb_laws.specs.Laws.{float_of, as_taken, taken_floats, galley_floats}
 use Rattle.tb_laws.proofs.ClassesRise.NamedLines.{rise-first, rise-behind}
+use Rattle.tb_node.specs.Names.{is_name}
 
 -- ---- the nodes of a galley
 
@@ -60,8 +61,13 @@ leaves-floatless : (k : FloatKind) (ls : List Leaf) → AreFloatless k (map plai
 leaves-floatless k [] = tt
 leaves-floatless k (l ∷ ls) = leaf-floatless k l.line l.kind ls (leaves-floatless k ls)
 
+enlarge-floatless : (k : FloatKind) (by : ℤ) (star : Bool) → AreFloatless k (enlarge_list by star)
+enlarge-floatless k by true = (refl, (refl, tt))
+enlarge-floatless k by false = (refl, tt)
+
 item-feet : (k : FloatKind) (p : Params) (two : Bool) (n : ℕ) (d : ItemKind) → HoldFloatless k (on_line n (item_kinds p two d))
 item-feet k p two n (items.Foot class ls) = (leaves-floatless k ls, tt)
+item-feet k p two n (items.Enlarge by star) = (enlarge-floatless k by star, tt)
 item-feet k p two n (items.Float f vert) = by_taking (has_second p && two && f.wide)
   where
     by_taking : (t : Bool) → HoldFloatless k (on_line n (if t then act (acts.Take f) ∷ [] else with_firings (acts.Take f) vert))
@@ -118,6 +124,11 @@ item-rise n l (items.Hbox name h d) ns tail v k r = let x = rise-behind n (l ∷
 item-rise n l (items.Rule name h d) ns tail v k r = let x = rise-behind n (l ∷ []) (named_lines ns ++ tail) r in weaker n x.0 (galley_floats ns) x.1.0 (k x.0 x.1.1)
 item-rise n l (items.Foot class ls) ns tail v k r = let x = rise-behind n (leaf_lines ls) (named_lines ns ++ tail) r in weaker n x.0 (galley_floats ns) x.1.0 (k x.0 x.1.1)
 item-rise n l (items.Float f vert) ns tail v k r =
+    let same : f.line ≡ l = eqb-true f.line l (and_parts (f.line == l) _ v).0 in
+    let first = rise-first n l (named_lines ns ++ tail) r in
+    let a : n < l = first.0 in
+    (omega arith, subst (λ m. LinesRise m (galley_floats ns)) (sym same) (k l first.1))
+item-rise n l (items.Head f) ns tail v k r =
     let same : f.line ≡ l = eqb-true f.line l (and_parts (f.line == l) _ v).0 in
     let first = rise-first n l (named_lines ns ++ tail) r in
     let a : n < l = first.0 in
@@ -247,23 +258,48 @@ floats-among has d (f ∷ fs) = (
 
 -- ---- what is taken suits a kind at the start
 
-item-suits : (k : FloatKind) (p : Params) (two : Bool) (n : ℕ) (d : ItemKind) (ys : List Act) → AllByRecursion (λ f. is_of k f.class f.line ≡ true → IsOnSide k.side f.wide) (map (as_taken two) (float_of d)) → Suits k (two_after two d) ys → Suits k two (deeds (on_line n (item_kinds p two d)) ++ ys)
-item-suits k p two n (items.Float x vert) ys f s = by_taking (has_second p && two && x.wide)
+-- behind a change to two columns there are two
+two-columns : (two : Bool) (d : ItemKind) → is_two_column d ≡ true → two_after two d ≡ true
+two-columns two items.TwoColumn e = refl
+two-columns two d e = absurd (true≢false (sym e))
+
+item-suits : (k : FloatKind) (p : Params) (two after : Bool) (n : ℕ) (d : ItemKind) (ys : List Act) → (after ≡ true → two ≡ true) → IsTrue (may_come after d) → IsTrue (is_item n d)
+    → AllByRecursion (λ f. is_of k f.class f.line ≡ true → IsOnSide k.side f.wide) (map (as_taken two) (float_of d)) → Suits k (two_after two d) ys → Suits k two (deeds (on_line n (item_kinds p two d)) ++ ys)
+item-suits k p two after n (items.Float x vert) ys t c v f s = by_taking (has_second p && two && x.wide)
   where
     by_taking : (t : Bool) → Suits k two (deeds (on_line n (if t then act (acts.Take x) ∷ [] else with_firings (acts.Take x) vert)) ++ ys)
     by_taking true = (f.0, s)
     by_taking false = (f.0, s)
-item-suits k p two n d ys f s = s
+item-suits k p two after n (items.Head x) ys t c v f s = (λ e. subst (IsOnSide k.side) (both x.wide two (head-wide x (and_parts (x.line == n) (is_head x) v).1) (t c)) (f.0 e), s)
+  where
+    both : (a b : Bool) → a ≡ true → b ≡ true → (a && b) ≡ true
+    both true b e g = g
+    both false b e g = e
 
-items-suit : (k : FloatKind) (p : Params) (two : Bool) (ns : List Item) → AllByRecursion (λ f. is_of k f.class f.line ≡ true → IsOnSide k.side f.wide) (taken_floats two ns) → Suits k two (deeds (item_nodes p two ns))
-items-suit k p two [] h = tt
-items-suit k p two (n ∷ ns) h =
-    let after = item_nodes p (two_after two n.kind) ns in
+    head-wide : (x : Float) → IsTrue (is_head x) → x.wide ≡ true
+    head-wide x v =
+        let rest = (and_parts (is_name x.name && is_size x.height) ((x.class == 0) && x.wide && is_top_alone x.places && x.bang && not (x.deep || x.nobreak)) v).1 in
+        let a = and_parts ((x.class == 0) && x.wide && is_top_alone x.places && x.bang) (not (x.deep || x.nobreak)) rest in
+        let b = and_parts ((x.class == 0) && x.wide && is_top_alone x.places) x.bang a.0 in
+        let d = and_parts ((x.class == 0) && x.wide) (is_top_alone x.places) b.0 in
+        (and_parts (x.class == 0) x.wide d.0).1
+item-suits k p two after n d ys t c v f s = s
+
+items-suit : (k : FloatKind) (p : Params) (two after : Bool) (ns : List Item) → (after ≡ true → two ≡ true) → IsTrue (do_heads_stand after ns) → IsTrue (list_all (λ n. is_item n.line n.kind) ns)
+    → AllByRecursion (λ f. is_of k f.class f.line ≡ true → IsOnSide k.side f.wide) (taken_floats two ns) → Suits k two (deeds (item_nodes p two ns))
+items-suit k p two after [] t c v h = tt
+items-suit k p two after (n ∷ ns) t c v h =
+    let behind = item_nodes p (two_after two n.kind) ns in
     let here = map (as_taken two) (float_of n.kind) in
     let later = taken_floats (two_after two n.kind) ns in
-    subst (Suits k two) (sym (deeds-append (on_line n.line (item_kinds p two n.kind)) after))
-    (item-suits k p two n.line n.kind (deeds after) (all-front (λ f. is_of k f.class f.line ≡ true → IsOnSide k.side f.wide) here later h) (items-suit k p (two_after two n.kind) ns (all-back (λ f. is_of k f.class f.line ≡ true → IsOnSide k.side f.wide) here later h)))
+    let stands = and_parts (may_come after n.kind) (do_heads_stand (is_two_column n.kind) ns) c in
+    let valid = and_parts (is_item n.line n.kind) (list_all (λ n. is_item n.line n.kind) ns) v in
+    subst (Suits k two) (sym (deeds-append (on_line n.line (item_kinds p two n.kind)) behind))
+    (item-suits k p two after n.line n.kind (deeds behind) t stands.0 valid.0 (all-front (λ f. is_of k f.class f.line ≡ true → IsOnSide k.side f.wide) here later h)
+    (items-suit k p (two_after two n.kind) (is_two_column n.kind) ns (two-columns two n.kind) stands.1 valid.1 (all-back (λ f. is_of k f.class f.line ≡ true → IsOnSide k.side f.wide) here later h)))
 
-pub galley-suits : (g : Galley) (k : FloatKind) → AllByRecursion (λ f. is_of k f.class f.line ≡ true → IsOnSide k.side f.wide) (taken_floats false g.items) → Suits k false (deeds (expanded g))
+pub galley-suits : (g : Galley) (k : FloatKind) → IsValid g → AllByRecursion (λ f. is_of k f.class f.line ≡ true → IsOnSide k.side f.wide) (taken_floats false g.items) → Suits k false (deeds (expanded g))
 unfolding expanded
-galley-suits g k h = subst (Suits k false) (sym (deeds-append (item_nodes g.params false g.items) (on_line g.end_line clearpage_kinds) ∙ append-nil (deeds (item_nodes g.params false g.items)))) (items-suit k g.params false g.items h)
+galley-suits g k v h =
+    subst (Suits k false) (sym (deeds-append (item_nodes g.params false g.items) (on_line g.end_line clearpage_kinds) ∙ append-nil (deeds (item_nodes g.params false g.items))))
+    (items-suit k g.params false false g.items (λ e. e) v.heads v.items h)

@@ -252,7 +252,7 @@ to-width false v fs n i = refl
 
 kind-suits : (g : Galley) → IsValid g → (v : Bool) (c : ℕ) → Suits (galley_kind g v c) false (deeds (expanded g))
 kind-suits g valid v c =
-    galley-suits g (galley_kind g v c)
+    galley-suits g (galley_kind g v c) valid
     (all-map (λ (f : Float). IsAmong f.line (width_lines v (taken_floats false g.items)) → f.wide ≡ v) (λ (f : Float). is_of (galley_kind g v c) f.class f.line ≡ true → IsOnSide (side_of (has_second g.params) v) f.wide)
     (λ f w e. by_release (has_second g.params) v f.wide f.line (and_parts (f.class == c) (has_width (has_second g.params) v (taken_floats false g.items) f.line) e).1 w) (taken_floats false g.items)
     (one-width 0 (taken_floats false g.items) (like-rise 0 (taken_floats false g.items) (galley_floats g.items) (taken-like false g.items) (galley-rise g valid)) v))

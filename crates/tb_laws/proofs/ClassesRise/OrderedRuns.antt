@@ -1,8 +1,8 @@
 -- A run keeps the order of a class: from firing to firing, if the lists are empty at each change of columns.
 use Rattle.std.proofs.Common.{◌≡◌, refl, sym, ◌∙◌, ap, subst, ℕ, zero, suc, pos, ◌+◌, ◌<◌, ◌⊎◌, inl, inr, Bool, true, false, List, [], ◌∷◌, ◌++◌, map, take, Option, Some, None, append_assoc, append-nil}
-use Rattle.std.specs.Prelude.{ℤ, pred, int_lt, int_le, ◌&&◌, if◌then◌else◌}
+use Rattle.std.specs.Prelude.{ℤ, pred, int_lt, int_le, ◌&&◌, if◌then◌else◌, not}
 use Rattle.std.specs.List.{AllByRecursion}
-use Rattle.std.proofs.lemmas.Bool.{and_parts}
+use Rattle.std.proofs.lemmas.Bool.{and_parts, true≢false}
 use Rattle.std.proofs.lemmas.Option.{none-some}
 use Rattle.tb_break.proofs.EachLemmas.{all-front, all-back, all-join, all-map}
 use Rattle.tb_scaled.specs.Scaled.{awful_bad, min_ℤ, eject_penalty}
@@ -19,15 +19,15 @@ use Rattle.tb_builder.proofs.FiredPages.PageWeights.{acted_weight, labelled-clas
 use Rattle.tb_builder.proofs.Cutting.CutLemmas.{acted_of, CutAt, AllIns, held-ins}
 use Rattle.tb_float.specs.declared.Entry.{Entry}
 use Rattle.tb_float.specs.declared.Entry.TheVariants as entries
-use Rattle.tb_float.specs.Lists.{FloatLists, floats_among, live_count}
+use Rattle.tb_float.specs.Lists.{FloatLists, floats_among, live_count, no_floats}
 use Rattle.tb_column.specs.Column.{PlainColumn}
 use Rattle.tb_sheet.specs.Sheet.{warned}
 use Rattle.tb_output.specs.State.{State, Work, Recorded, emptied}
-use Rattle.tb_output.specs.Act.{Acted, went, full, act_on, lists_with_taken, taken_float}
+use Rattle.tb_output.specs.Act.{Acted, went, full, act_on, lists_with_taken, taken_float, has_head_room, taken_head, lists_with_head, with_head}
 use Rattle.tb_output.specs.Output
 use Rattle.tb_sheet.specs.Asked
 use Rattle.tb_output.specs.Output.{out}
-use Rattle.tb_laws.proofs.NothingLost.StateWeights.{ColumnsFit, class_numbers}
+use Rattle.tb_laws.proofs.NothingLost.StateWeights.{ColumnsFit, class_numbers, first-left}
 use Rattle.tb_laws.proofs.NothingLost.WorkWeights.{Careful}
 use Rattle.tb_laws.proofs.StepLaws.BreakSorts.{at-clear}
 use Rattle.tb_laws.proofs.Closed.SortLemmas.{Seen, BreakStands, PageStands, pen_sort, page-careful}
@@ -53,6 +53,7 @@ use Rattle.tb_laws.specs.Laws.{IsEmptied, EndsDone}
 use Rattle.tb_laws.proofs.NothingLost.RunWeights.{After, progress-adds, Kept, page_of, cut, cut_feet, cut_stands, StepWeighs, step-weighs}
 use Rattle.tb_float.proofs.SlotLemmas.{floats_among-append}
 use Rattle.tb_laws.proofs.ClassesRise.FloatlessNodes.{events_lines, events-lines-append, sent-events-lines, warnings-lines, nothing_weighs, floats_count, nothing-fits, no-floats}
+use Rattle.tb_output.proofs.Acts.HeadLemmas.{IsForHead, head-room}
 
 -- ---- a clear
 
@@ -251,6 +252,45 @@ module _ (k : FloatKind) (Known : ℕ → Type 0) (p : Params) (r : IsReleased k
       single = h.single;
     }
 
+  -- a title is taken above the first of two columns, while no list holds a float
+  parted-title : (f : Float) (d : Side) → (is_of k f.class f.line ≡ true → IsOnSide d true) → PartedBy d k no_floats → PartedBy d k (lists_with_head f no_floats)
+  parted-title f alike o x = x
+  parted-title f narrow o x = (ap (λ l. l ++ []) (no-line (is_of k f.class f.line) f.line (λ t. true≢false (o t))), x.1)
+  parted-title f wider o x = x
+
+  titled-first : (takes : List ℕ) (rs : List Recorded) (f : Float) → (is_of k f.class f.line ≡ true → IsOnSide k.side true) → Order k Known text (line_if (is_of k f.class f.line) f.line ++ takes) past rs no_floats true true None
+      → Order k Known text takes past rs (lists_with_head f no_floats) true true None
+  titled-first takes rs f o h = record {
+    order = subst (λ y. Rises Known (λ n. IsCarried k n rs) (past ++ (y ++ takes))) (sym (append-nil (line_if (is_of k f.class f.line) f.line))) h.order;
+    rising = h.rising;
+    held = all-map (IsInText k rs [] [] (ahead_lines k past no_floats None)) (IsInText k rs [] [] (ahead_lines k past (lists_with_head f no_floats) None)) (λ n x. record { placed = x.placed; missing = x.missing; apart = x.apart; held = late n x.held }) text h.held;
+    bottom = tt;
+    deferred = tt;
+    parted = parted-title f k.side o h.parted;
+    later = all-back (IsAbove text) (line_if (is_of k f.class f.line) f.line) takes h.later;
+    unseen = all-back (IsUnseen k rs) (line_if (is_of k f.class f.line) f.line) takes h.unseen;
+    known = h.known;
+    columns = tt;
+    single = λ e. absurd (true≢false e);
+  }
+    where
+      late : (n : ℕ) → IsLate k n rs ⊎ (⊥ × IsAbove (ahead_lines k past no_floats None) n) → IsLate k n rs ⊎ (⊥ × IsAbove (ahead_lines k past (lists_with_head f no_floats) None) n)
+      late n (inl x) = inl x
+      late n (inr x) = absurd x.0
+
+  titled : (takes : List ℕ) (rs : List Recorded) (s : State) (f : Float) → IsForHead s → (is_of k f.class f.line ≡ true → IsOnSide k.side true) → StateOrder (line_if (is_of k f.class f.line) f.line ++ takes) rs s → StateOrder takes rs (with_head p s f)
+  titled takes rs s f is o h =
+      let none = first-left true s.left_column (subst (λ t. ColumnsFit t true s.left_column) is.two (subst (λ t. ColumnsFit s.two_columns t s.left_column) is.first h.columns)) in
+      subst (λ l. Order k Known text takes past rs (lists_with_head f l) s.two_columns s.first_column s.left_column) (sym is.floats)
+      (subst (λ t. Order k Known text takes past rs (lists_with_head f no_floats) t s.first_column s.left_column) (sym is.two)
+      (subst (λ t. Order k Known text takes past rs (lists_with_head f no_floats) true t s.left_column) (sym is.first)
+      (subst (λ o. Order k Known text takes past rs (lists_with_head f no_floats) true true o) (sym none)
+      (titled-first takes rs f o
+      (subst (λ c. Order k Known text (line_if (is_of k f.class f.line) f.line ++ takes) past rs no_floats true true c) none
+      (subst (λ t. Order k Known text (line_if (is_of k f.class f.line) f.line ++ takes) past rs no_floats true t s.left_column) is.first
+      (subst (λ t. Order k Known text (line_if (is_of k f.class f.line) f.line ++ takes) past rs no_floats t s.first_column s.left_column) is.two
+      (subst (λ l. Order k Known text (line_if (is_of k f.class f.line) f.line ++ takes) past rs l s.two_columns s.first_column s.left_column) is.floats h))))))))
+
   act-order : (takes : List ℕ) (ds : List Act) (rs : List Recorded) (s : State) (a : Act) → StateOrder (act_lines k a ++ takes) rs s → Suits k s.two_columns (a ∷ ds) → ActOrder takes ds rs (act_on p s a)
   unfolding ActOrder
   act-order takes ds rs s (acts.Take f) h u =
@@ -279,6 +319,11 @@ module _ (k : FloatKind) (Known : ℕ → Type 0) (p : Params) (r : IsReleased k
       ))
   act-order takes ds rs s (acts.Suppress area) h u = λ m. (subst (λ x. StateOrder takes x s) (sym (append-nil rs)) h, u)
   act-order takes ds rs s (acts.Page n) h u = λ m. (subst (λ x. StateOrder takes x s) (sym (append-nil rs)) h, u)
+  act-order takes ds rs s (acts.Head f) h u = by_room (has_head_room p s) refl
+    where
+      by_room : (t : Bool) → has_head_room p s ≡ t → ActOrder takes ds rs (if not t then full f.line (live_count s.floats) else went (with_head p s (taken_head p f)) [] [])
+      by_room false e = tt
+      by_room true e = λ none. (subst (λ x. StateOrder takes x (with_head p s (taken_head p f))) (sym (append-nil rs)) (titled takes rs s (taken_head p f) (head-room p s e) u.0 h), u.1)
   act-order takes ds rs s (acts.Columns two) h u =
       λ m. (
         order-quietly k Known text past takes rs (emptied s.floats ∷ []) s.floats two true None (tt, tt)

@@ -13,7 +13,7 @@ use Rattle.tb_param.specs.declared.Params.{Params}
 use Rattle.tb_builder.specs.FiredPages.{Fired}
 use Rattle.tb_float.specs.Rooms.{column_room_of}
 use Rattle.tb_sheet.specs.declared.Warn.TheVariants as warnings
-use Rattle.tb_column.specs.Column.{Notes, text_column}
+use Rattle.tb_column.specs.Column.{Notes, standing_notes}
 use Rattle.tb_sheet.specs.Sheet.{warned}
 use Rattle.tb_output.specs.State.{State, Work, Recorded, begun, puts, sends, with_floats, footnotes, has_floats}
 use Rattle.tb_output.specs.Pages
@@ -48,6 +48,7 @@ Suits k t (acts.Take f ∷ ds) = (is_of k f.class f.line ≡ true → IsOnSide k
 Suits k t (acts.TakeMargin m ∷ ds) = Suits k t ds
 Suits k t (acts.Suppress area ∷ ds) = Suits k t ds
 Suits k t (acts.Page n ∷ ds) = Suits k t ds
+Suits k t (acts.Head f ∷ ds) = (is_of k f.class f.line ≡ true → IsOnSide k.side true) × Suits k t ds
 Suits k t (acts.Columns now ∷ ds) = Suits k now ds
 
 -- ---- the invariant between firings
@@ -114,7 +115,7 @@ clear_again-none k w = some k Clear.clear_again w refl refl refl (tt, (tt, (tt, 
 put_out_text-none : (k : FloatKind) (p : Params) (body : List PlainNode) (w : Work) → PutsNone k w (Columns.put_out_text p body w)
 put_out_text-none k p body w =
     let v = Columns.without_column_floats w in
-    let s = stays (put_out-step p (no_law p) (text_column p w.state.floats body (footnotes w.state)) v) in
+    let s = stays (put_out-step p (no_law p) (Columns.text_of p w.state body) v) in
     record { more = []; put = s.put_back ∙ sym (append-nil w.put_back); lines = refl; takes = refl; does = refl; feet = tt; held = s.held; boxes = λ b. subst (BoxesFloatless k) (sym s.boxes) (emptied-floatless k w.state.boxes) }
 
 clear_wide-none : (k : FloatKind) (p : Params) (w : Work) → PutsNone k w (Clear.clear_wide p w)
@@ -140,7 +141,9 @@ clear_floats-none k p body w light none =
     (none_if k c (has_floats c.state.floats.deferred || has_floats c.state.floats.second) (puts Clear.clear_again c) c (clear_again-none k c) (same k c c refl refl refl refl)))))
 
 clear-none : (k : FloatKind) (p : Params) (body : List PlainNode) (w : Work) (o : List Notes) → AreLight k body → class_lines k body ≡ [] → PutsNone k w (Clear.clear_by p body w o)
-clear-none k p body w [] light none = clear_floats-none k p body w light none
+clear-none k p body w [] light none =
+    after k w (Clear.without_notes w) (Clear.clear_floats p body (Clear.without_notes w)) (record { more = []; put = sym (append-nil w.put_back); lines = refl; takes = refl; does = refl; feet = tt; held = refl; boxes = λ b. emptied-floatless k w.state.boxes })
+    (clear_floats-none k p body (Clear.without_notes w) light none)
 clear-none k p body w (n ∷ notes) light none =
     let a = Columns.put_out_text p (body ++ made (skip filling_glue) ∷ []) w in
     after k w a (puts Clear.clear_again a) (put_out_text-none k p (body ++ made (skip filling_glue) ∷ []) w) (clear_again-none k a)
@@ -172,7 +175,7 @@ module _ (k : FloatKind) (Known : ℕ → Type 0) (takes past : List ℕ) (old :
         let x = Columns.put_out_text p f.body w in
         let y = Columns.all_float_columns p false x in
         let c = Columns.ordinary p f.body w in
-        let s = stays (in_turn (put_out-step p (no_law p) (text_column p w.state.floats f.body (footnotes w.state)) z) (in_turn (float_columns-step p (no_law p) false (length x.state.floats.deferred) x) (place_next-step p (no_law p) [] y.state.floats.deferred y))) in
+        let s = stays (in_turn (put_out-step p (no_law p) (Columns.text_of p w.state f.body) z) (in_turn (float_columns-step p (no_law p) false (length x.state.floats.deferred) x) (place_next-step p (no_law p) [] y.state.floats.deferred y))) in
         let none = s.put_back ∙ b.empty in
         record {
           ordered = subst (λ t. Ordered k Known takes past old t c) (ap (λ ns. class_lines k ns ++ class_lines k f.rest) (sym s.held) ∙ ap (λ ns. class_lines k c.state.held_page ++ (class_lines k ns ++ class_lines k f.rest)) (sym none))
@@ -188,14 +191,14 @@ module _ (k : FloatKind) (Known : ℕ → Type 0) (takes past : List ℕ) (old :
     at_clear : int_le eject_penalty f.penalty ≡ false → Output.is_int f.penalty Asked.clear_penalty ≡ true → class_lines k f.body ≡ [] → (Clear.clear p f.body w).refused ≡ false → Settled k Known takes past old f.rest (Clear.clear p f.body w)
     at_clear h e none ok =
         let c = Clear.clear p f.body w in
-        let x = clear-none k p f.body w (footnotes w.state) b.body none in
+        let x = clear-none k p f.body w (standing_notes (footnotes w.state)) b.body none in
         let rest = b.ended (forced f.penalty h) in
         let held = ap (class_lines k) x.held ∙ b.clearing h e in
         let put = x.put ∙ ap (λ ns. ns ++ x.more) b.empty in
         let lines = ap (class_lines k) put ∙ x.lines in
         record {
           ordered = subst (λ t. Ordered k Known takes past old t c) (sym (ap (λ l. l ++ (class_lines k c.put_back ++ class_lines k f.rest)) held ∙ ap (λ l. l ++ class_lines k f.rest) lines ∙ rest))
-              (clear-ordered k Known takes past old p r f.body w (footnotes w.state) refl (notes-floatless k w.state.classes w.state.boxes b.boxes) none ok
+              (clear-ordered k Known takes past old p r f.body w (standing_notes (footnotes w.state)) refl (notes-floatless k w.state.classes w.state.boxes b.boxes) none ok
               (subst (λ t. Ordered k Known takes past old t w) (ap (λ l. l ++ (class_lines k f.body ++ class_lines k f.rest)) (b.clearing h e) ∙ ap (λ l. l ++ class_lines k f.rest) none ∙ rest) b.ordered));
           early = early-none k (c.put_back ++ f.rest) (lines-append k c.put_back f.rest ∙ ap (λ l. l ++ class_lines k f.rest) lines ∙ rest);
           none_taken = ap (take_lines k) put ∙ x.takes;

@@ -21,6 +21,7 @@ act_lines k (acts.Take f) = line_if (is_of k f.class f.line) f.line
 act_lines k (acts.TakeMargin m) = []
 act_lines k (acts.Suppress area) = []
 act_lines k (acts.Page n) = []
+act_lines k (acts.Head f) = line_if (is_of k f.class f.line) f.line
 act_lines k (acts.Columns two) = []
 
 abbrev pub acts_lines : FloatKind → List Act → List ℕ

@@ -13,7 +13,7 @@ use Rattle.tb_area.specs.Deferred.{doubled}
 use Rattle.tb_fpage.specs.declared.Wanted.{Wanted}
 use Rattle.tb_fpage.specs.Company.{Choice, company, chosen_floats, left_floats}
 use Rattle.tb_fpage.proofs.FirstLemmas.{company-all}
-use Rattle.tb_column.specs.Column.{PlainColumn, wide_floats_column, single_floats_column}
+use Rattle.tb_column.specs.Column.{PlainColumn, wide_floats_column, single_floats_column, pair_rule}
 use Rattle.tb_sheet.specs.Sheet.{PlainSheet, PlainSent, shipped, one, wide, pair_sheet}
 use Rattle.tb_output.specs.State.{State, Work, Recorded, output, records_also, sends, with_floats}
 use Rattle.tb_output.specs.Pages
@@ -119,7 +119,7 @@ module _ (k : FloatKind) (Known : ℕ → Type 0) (text takes past : List ℕ) (
       let d = Pages.all_wide_pages p false b in
       let d_ok = column-unrefused (place_double-step p (no_law p) (wide_part p) [] (wide_waiting p d.state.floats) d) ok in
       let b_ok = column-unrefused (wide_pages-step p (no_law p) false (length (wide_waiting p b.state.floats)) b) d_ok in
-      let lines = ap (λ y. y ++ (class_lines k (Pages.left_or c w.state.left_column).nodes ++ class_lines k c.nodes)) (floats_above-lines k places.Double p.dblfloatsep p.dblrule p.dbltextfloatsep l.double)
+      let lines = ap (λ y. y ++ (class_lines k (Pages.left_or c w.state.left_column).nodes ++ class_lines k c.nodes)) (floats_above-lines k places.Double p.dblfloatsep (pair_rule p w.state.floats) p.dbltextfloatsep l.double)
       ∙ ap (λ y. float_lines k l.double ++ (y ++ class_lines k c.nodes)) (left-lines k w.state.two_columns w.state.first_column w.state.left_column c t f h.columns) in
       let gone = shipped_pair k Known text takes (past ++ sent_lines k w.sent) (class_lines k c.nodes) (old ++ w.records) l w.state.two_columns w.state.first_column w.state.left_column h in
       let e = ship-is p sheet w b_ok in

@@ -16,6 +16,7 @@ use Rattle.tb_output.specs.Text
 use Rattle.tb_output.specs.Clear
 use Rattle.tb_output.specs.Output
 use Rattle.tb_sheet.specs.Asked
+use Rattle.tb_column.specs.Column.{standing_notes}
 use Rattle.tb_laws.proofs.NothingLost.StateWeights.{Paired, ColumnsFit}
 use Rattle.tb_laws.proofs.Closed.Sorts.{sorts-calm, seen_all}
 use Rattle.tb_laws.proofs.Closed.SortLemmas.{Sort, hold, serve, clear, none, one, BreakStands, pen_sort, sorts, sorts-append}
@@ -41,7 +42,7 @@ pub record Closed (z : Ways) (f : Fired) (d : Bool) (w c : Work) : Type 0 where
   pub columns : c.state.two_columns ≡ w.state.two_columns
   pub single : Single c.state
   pub here : (c.state.floats.here ≡ []) ⊎ HereFits (sorts c.state.held_page) (sorts c.put_back)
-  pub clean : done ≡ true → ((d ≡ true) × (c.state.floats.here ≡ []) × (c.put_back ≡ [])) ⊎ ((footnotes w.state ≡ []) × Emptied w c × (w.state.held_page ≡ []))
+  pub clean : done ≡ true → ((d ≡ true) × (c.state.floats.here ≡ []) × (c.put_back ≡ [])) ⊎ ((standing_notes (footnotes w.state) ≡ []) × Emptied (Clear.without_notes w) c × (w.state.held_page ≡ []))
 
 module _ (p : Params) (calm : int_le p.interlinepenalty eject_penalty ≡ false) (f : Fired) (before : List PlainNode) (is_body : f.body ≡ without_insertions before) (calm_before : AllCalm before) (free_before : AllFree before) (b : Bool) (stands : BreakStands b (seen_all none (sorts before)) f.rest (pen_sort f.penalty)) (z : Ways) (m : ℕ) (d : Bool) (breaks : BreakCloses z m d f.rest (pen_sort f.penalty)) (w : Work) (begun : w.put_back ≡ []) (free : b ≡ false → w.state.held_page ≡ []) (steady_page : AllSteady w.state.held_page) (steady_body : AllSteady f.body) (items : entry_items w.state.floats.current ≤ m) (paired : Paired w.state.floats.current) (single : Single w.state) (fit : ColumnsFit w.state.two_columns w.state.first_column w.state.left_column) (here : (w.state.floats.here ≡ []) ⊎ (HasReal (sorts w.state.held_page) ⊎ BreakReal (sorts before) (pen_sort f.penalty))) where
   no-put : (c : Work) → c.put_back ≡ w.put_back → (n : ℕ) (o : Bool) → Closes z n o (tokens f.rest) → (blank : List Token) → AllByRecursion Quiet blank → Closes z n o (tokens c.put_back ++ (blank ++ tokens f.rest))
@@ -156,7 +157,7 @@ module _ (p : Params) (calm : int_le p.interlinepenalty eject_penalty ≡ false)
         clean = λ e. never e;
       }
 
-      by_outcome : footnotes w.state ≡ [] → b ≡ false → (c : Work) → Cleared w c (Clear.cleared_front p f.body) → AllByRecursion Quiet (tokens (Clear.cleared_front p f.body)) → Closes z 0 true (tokens f.rest) → Pending c.put_back ⊎ ((c.put_back ≡ Clear.cleared_front p f.body) × Emptied w c) → Closed z f d w c
+      by_outcome : standing_notes (footnotes w.state) ≡ [] → b ≡ false → (c : Work) → Cleared (Clear.without_notes w) c (Clear.cleared_front p f.body) → AllByRecursion Quiet (tokens (Clear.cleared_front p f.body)) → Closes z 0 true (tokens f.rest) → Pending c.put_back ⊎ ((c.put_back ≡ Clear.cleared_front p f.body) × Emptied (Clear.without_notes w) c) → Closed z f d w c
       by_outcome o e c x q r (inl k) = pending c x.columns k x.current x.here x.single r
       by_outcome o e c x q r (inr k) = record {
         owed = 0;
@@ -169,18 +170,18 @@ module _ (p : Params) (calm : int_le p.interlinepenalty eject_penalty ≡ false)
         clean = λ y. inr (o, k.1, free e);
       }
 
-      by_notes : (o : List Notes) → footnotes w.state ≡ o → b ≡ false → seen_all none (sorts before) ≡ one → w.state.floats.current ≡ [] → w.state.floats.here ≡ [] → Closes z 0 true (tokens f.rest) → Closed z f d w (Clear.clear_by p f.body w o)
+      by_notes : (o : List Notes) → standing_notes (footnotes w.state) ≡ o → b ≡ false → seen_all none (sorts before) ≡ one → w.state.floats.current ≡ [] → w.state.floats.here ≡ [] → Closes z 0 true (tokens f.rest) → Closed z f d w (Clear.clear_by p f.body w o)
       by_notes [] o g e n y r =
           let q = tokens-take Quiet (split_of (pos 0) p.splitmaxdepth (map node_shape f.body)).index f.body (quiet_body e) in
-          let x = clear_floats-cleared p f.body w q n y begun single fit in
-          by_outcome o g (Clear.clear_floats p f.body w) x q r x.outcome
+          let x = clear_floats-cleared p f.body (Clear.without_notes w) q n y begun single fit in
+          by_outcome o g (Clear.clear_floats p f.body (Clear.without_notes w)) x q r x.outcome
       by_notes (n₀ ∷ ns₀) o g e n y r =
           let ns = f.body ++ made (skip filling_glue) ∷ [] in
           let x : TakesText w (Columns.put_out_text p ns w) = put_out_text-takes p ns w in
           pending (puts Clear.clear_again (Columns.put_out_text p ns w)) x.columns (subst (λ l. Pending (l ++ Clear.clear_again)) (sym (x.put_back ∙ begun)) (again-pending [] tt)) (x.current ∙ n) x.here (x.single single) r
 
       at_it : Broken clear → Closed z f d w (Clear.clear p f.body w)
-      at_it x = by_notes (footnotes w.state) refl x.0.1 x.0.0 (no-items w.state.floats.current paired (subst (λ n. entry_items w.state.floats.current ≤ n) x.1.0 items)) (by_here x.0.0 x.0.1 x.2) x.1.1
+      at_it x = by_notes (standing_notes (footnotes w.state)) refl x.0.1 x.0.0 (no-items w.state.floats.current paired (subst (λ n. entry_items w.state.floats.current ≤ n) x.1.0 items)) (by_here x.0.0 x.0.1 x.2) x.1.1
 
   pub output-closed : Closed z f d w (Output.output_by p f w)
   output-closed = by_penalty (int_le eject_penalty f.penalty) (Output.is_int f.penalty Asked.clear_penalty) (Output.is_int f.penalty Asked.par_penalty) (Output.is_int f.penalty Asked.vert_penalty) ordinary-closed clear-closed (serve-closed false) (serve-closed true) hold-closed

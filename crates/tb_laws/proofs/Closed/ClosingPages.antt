@@ -1,5 +1,5 @@
 -- A page is cut from a list that closes: what its acts and its break leave of the list closes again.
-use Rattle.std.proofs.Common.{◌≡◌, refl, sym, ◌∙◌, ap, subst, ℕ, zero, suc, ℤ, Bool, true, false, List, [], ◌∷◌, ◌++◌, take, drop}
+use Rattle.std.proofs.Common.{◌≡◌, ◌==◌, refl, sym, ◌∙◌, ap, subst, ℕ, zero, suc, ℤ, Bool, true, false, List, [], ◌∷◌, ◌++◌, take, drop}
 use Rattle.std.specs.List.{AllByRecursion}
 use Rattle.tb_scaled.specs.Scaled.{inf_penalty}
 use Rattle.tb_node.specs.declared.Act.{Act}
@@ -11,7 +11,7 @@ use Rattle.tb_builder.specs.FiredPages.{with_spent_break, penalty_at}
 use Rattle.tb_builder.proofs.Cutting.CutLemmas.{AllCalm, ActFree, FirstFree, AllFree, CutAt, acts_of, acted_of, acts-free}
 use Rattle.tb_laws.proofs.Closed.Sorts.{Sort, kind_sort, sorts, pen_sort, pen-sorts, Stands, none, light, blank, real, silent, pause, hold, serve, clear, odd}
 use Rattle.tb_laws.proofs.Closed.SortLemmas.{free-drop}
-use Rattle.tb_laws.proofs.Closed.Closings.{Ways, turned, owed_after, ways_all, never, Token, quiet, heavy, taking, changing, serving, clearing, Closes, closes-any, Quiet, Harmless, quiet-between, harmless-between, Passed, owed_all, done_all, closes-after, Still, nothing-came, sort_token, act_token, kind_token, tokens, tokens-append, calm-passed, free-harmless, still-quiet}
+use Rattle.tb_laws.proofs.Closed.Closings.{Ways, turned, owed_after, ways_all, never, Token, quiet, heavy, taking, changing, serving, clearing, Closes, closes-any, Quiet, Harmless, quiet-between, harmless-between, Passed, owed_all, done_all, closes-after, Still, nothing-came, sort_token, act_token, ins_token, kind_token, tokens, tokens-append, calm-passed, free-harmless, still-quiet}
 use Rattle.tb_laws.proofs.PageBreaks.PausedPages.{calm-acts}
 
 -- ---- the top of a page
@@ -39,7 +39,7 @@ node-pruned t ns h l (plain (hbox w a d)) b z n o s c = c
 node-pruned t ns h l (plain (rule w a d)) b z n o s c = c
 node-pruned t ns h l (plain (pen p)) b z n o s c = pen-pruned ns (tokens (pruned_nodes t ns)) h p b z n o s c
 node-pruned t ns h l (plain k) b z n o s c = h b z n o s.1 c
-node-pruned t ns h l (ins i) b z n o s c = h b z n false s.1 c
+node-pruned t ns h l (ins i) b z n o s c = behind (ins_token (i.class == 255)) (tokens ns) (tokens (pruned_nodes t ns)) (λ z n o k. h b z n o s.1 k) z n o c
 node-pruned t ns h l (act a) true z n o s c = absurd s.0
 node-pruned t ns h l (act a) false z n o s c = behind (act_token a) (tokens ns) (tokens (pruned_nodes t ns)) (λ z n o k. h false z n o s.1 k) z n o c
 
@@ -56,6 +56,7 @@ ActsClose o (acts.Take f ∷ ds) = ActsClose false ds
 ActsClose o (acts.TakeMargin m ∷ ds) = ActsClose false ds
 ActsClose o (acts.Suppress area ∷ ds) = ActsClose o ds
 ActsClose o (acts.Page n ∷ ds) = ActsClose o ds
+ActsClose o (acts.Head f ∷ ds) = ActsClose false ds
 ActsClose o (acts.Columns two ∷ ds) = (o ≡ true) × ActsClose o ds
 
 -- each float and note that is taken is owed a firing
@@ -65,6 +66,7 @@ owed_acts z n (acts.Take f ∷ ds) = owed_acts z (owed_after z f.wide n) ds
 owed_acts z n (acts.TakeMargin m ∷ ds) = owed_acts z (suc n) ds
 owed_acts z n (acts.Suppress area ∷ ds) = owed_acts z n ds
 owed_acts z n (acts.Page number ∷ ds) = owed_acts z n ds
+owed_acts z n (acts.Head f ∷ ds) = owed_acts z n ds
 owed_acts z n (acts.Columns two ∷ ds) = owed_acts (turned z two) n ds
 
 -- how floats are taken after the acts
@@ -74,6 +76,7 @@ ways_acts z (acts.Take f ∷ ds) = ways_acts z ds
 ways_acts z (acts.TakeMargin m ∷ ds) = ways_acts z ds
 ways_acts z (acts.Suppress area ∷ ds) = ways_acts z ds
 ways_acts z (acts.Page n ∷ ds) = ways_acts z ds
+ways_acts z (acts.Head f ∷ ds) = ways_acts z ds
 ways_acts z (acts.Columns two ∷ ds) = ways_acts (turned z two) ds
 
 abbrev pub AllStill : List Act → Type 0
@@ -83,13 +86,18 @@ sort-owed : (s : Sort) (z : Ways) (n : ℕ) (xs : List Token) → owed_all z n (
 sort-owed light z n xs = refl
 sort-owed s z n xs = refl
 
+ins-owed : (t : Bool) (z : Ways) (n : ℕ) (xs : List Token) → owed_all z n (ins_token t ∷ xs) ≡ owed_all z n xs
+ins-owed true z n xs = refl
+ins-owed false z n xs = refl
+
 node-owed : (z : Ways) (n : ℕ) (k : PlainKind) (ns : List PlainNode) → ((z : Ways) (n : ℕ) → owed_all z n (tokens ns) ≡ owed_acts z n (acts_of ns)) → (l : ℕ) → owed_all z n (kind_token k ∷ tokens ns) ≡ owed_acts z n (acts_of (record { line = l; kind = k } ∷ ns))
 node-owed z n (plain m) ns h l = sort-owed (kind_sort (plain m)) z n (tokens ns) ∙ h z n
-node-owed z n (ins i) ns h l = h z n
+node-owed z n (ins i) ns h l = ins-owed (i.class == 255) z n (tokens ns) ∙ h z n
 node-owed z n (act (acts.Take f)) ns h l = h z (owed_after z f.wide n)
 node-owed z n (act (acts.TakeMargin m)) ns h l = h z (suc n)
 node-owed z n (act (acts.Suppress area)) ns h l = h z n
 node-owed z n (act (acts.Page number)) ns h l = h z n
+node-owed z n (act (acts.Head f)) ns h l = h z n
 node-owed z n (act (acts.Columns two)) ns h l = h (turned z two) n
 
 all-owed : (z : Ways) (n : ℕ) (ns : List PlainNode) → owed_all z n (tokens ns) ≡ owed_acts z n (acts_of ns)
@@ -100,8 +108,13 @@ sort-ways : (s : Sort) (z : Ways) (xs : List Token) → ways_all z (sort_token s
 sort-ways light z xs = refl
 sort-ways s z xs = refl
 
+ins-ways : (t : Bool) (z : Ways) (xs : List Token) → ways_all z (ins_token t ∷ xs) ≡ ways_all z xs
+ins-ways true z xs = refl
+ins-ways false z xs = refl
+
 node-ways : (z : Ways) (k : PlainKind) (ns : List PlainNode) → ((z : Ways) → ways_all z (tokens ns) ≡ ways_acts z (acts_of ns)) → (l : ℕ) → ways_all z (kind_token k ∷ tokens ns) ≡ ways_acts z (acts_of (record { line = l; kind = k } ∷ ns))
 node-ways z (plain m) ns h l = sort-ways (kind_sort (plain m)) z (tokens ns) ∙ h z
+node-ways z (ins i) ns h l = ins-ways (i.class == 255) z (tokens ns) ∙ h z
 node-ways z (act (acts.Columns two)) ns h l = h (turned z two)
 node-ways z k ns h l = h z
 
@@ -115,6 +128,7 @@ weaker (acts.Take f ∷ ds) h = h
 weaker (acts.TakeMargin m ∷ ds) h = h
 weaker (acts.Suppress area ∷ ds) h = weaker ds h
 weaker (acts.Page n ∷ ds) h = weaker ds h
+weaker (acts.Head f ∷ ds) h = h
 weaker (acts.Columns two ∷ ds) h = never h.0
 
 acts-any : (o : Bool) (ds : List Act) → ActsClose false ds → ActsClose o ds
@@ -129,13 +143,18 @@ sort-acts clear xs ds h z n o p c = absurd p
 sort-acts odd xs ds h z n o p c = acts-any o ds (h z n false c)
 sort-acts s xs ds h z n o p c = h z n o c
 
+ins-acts : (t : Bool) (xs : List Token) (ds : List Act) → ((z : Ways) (n : ℕ) (o : Bool) → Closes z n o xs → ActsClose o ds) → (z : Ways) (n : ℕ) (o : Bool) → Closes z n o (ins_token t ∷ xs) → ActsClose o ds
+ins-acts true xs ds h z n o c = h z n o c
+ins-acts false xs ds h z n o c = acts-any o ds (h z n false c)
+
 node-acts : (k : PlainKind) (l : ℕ) (ns : List PlainNode) (xs : List Token) → ((z : Ways) (n : ℕ) (o : Bool) → Closes z n o xs → ActsClose o (acts_of ns)) → (z : Ways) (n : ℕ) (o : Bool) → Passed (kind_token k) → Closes z n o (kind_token k ∷ xs) → ActsClose o (acts_of (record { line = l; kind = k } ∷ ns))
 node-acts (plain m) l ns xs h z n o p c = sort-acts (kind_sort (plain m)) xs (acts_of ns) h z n o p c
-node-acts (ins i) l ns xs h z n o p c = acts-any o (acts_of ns) (h z n false c)
+node-acts (ins i) l ns xs h z n o p c = ins-acts (i.class == 255) xs (acts_of ns) h z n o c
 node-acts (act (acts.Take f)) l ns xs h z n o p c = h z (owed_after z f.wide n) false c
 node-acts (act (acts.TakeMargin m)) l ns xs h z n o p c = h z (suc n) false c
 node-acts (act (acts.Suppress area)) l ns xs h z n o p c = h z n o c
 node-acts (act (acts.Page number)) l ns xs h z n o p c = h z n o c
+node-acts (act (acts.Head f)) l ns xs h z n o p c = h z n false c
 node-acts (act (acts.Columns two)) l ns xs h z n o p c = (c.0, h (turned z two) n o c.1)
 
 front-acts : (ns : List PlainNode) (ys : List Token) (z : Ways) (n : ℕ) (o : Bool) → AllByRecursion Passed (tokens ns) → Closes z n o (tokens ns ++ ys) → ActsClose o (acts_of ns)

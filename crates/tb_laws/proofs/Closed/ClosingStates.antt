@@ -14,16 +14,17 @@ use Rattle.tb_builder.proofs.Cutting.CutLemmas.{AllCalm, AllFree, IsIns, AllIns}
 use Rattle.tb_float.specs.Rooms.{column_room_of}
 use Rattle.tb_sheet.specs.Sheet.{PlainSent, warned}
 use Rattle.tb_sheet.specs.declared.Warn.TheVariants as warnings
+use Rattle.tb_column.specs.Column.{standing_notes}
 use Rattle.tb_output.specs.State.{State, Work, begun, puts, sends, notes_in}
 use Rattle.tb_output.specs.Output
+use Rattle.tb_output.specs.Clear
 use Rattle.tb_sheet.specs.Asked
 use Rattle.tb_laws.proofs.NothingLost.StateWeights.{BoxesFit, Paired, ColumnsFit, lists_weight, left_weight}
-use Rattle.tb_laws.proofs.NothingLost.PutOutWeights.{box-weight}
-use Rattle.tb_laws.proofs.NothingLost.ColumnWeights.{notes_weight}
+use Rattle.tb_laws.proofs.NothingLost.PutOutWeights.{emptied-weight}
 use Rattle.tb_laws.proofs.Closed.Sorts.{seen_all}
 use Rattle.tb_laws.proofs.Closed.SortLemmas.{Sort, none, Steady, BreakStands, pen_sort, kind_sort, sorts, sorts-append}
 use Rattle.tb_laws.proofs.Closed.PlaceLemmas.{AllSteady}
-use Rattle.tb_laws.proofs.Closed.Closings.{Ways, Token, Closes, Quiet, harmless-between, tokens, tokens-append, steady-harmless}
+use Rattle.tb_laws.proofs.Closed.Closings.{Ways, Token, Closes, Quiet, quiet-between, harmless-between, tokens, tokens-append, steady-harmless}
 use Rattle.tb_laws.proofs.Closed.ClosingPages.{BreakCloses}
 use Rattle.tb_laws.proofs.DeadCycles.BoxesFirst.{RealFirst, HasReal, BreakReal, steady-then}
 use Rattle.tb_laws.proofs.Closed.SparedLists.{Single}
@@ -101,8 +102,8 @@ ins-steady ks (n ∷ ns) i = (by_kind n.kind i.0, ins-steady ks ns i.1)
     by_kind (ins x) i = tt
     by_kind (act a) i = absurd i
 
-held-closes : (ks : List ℕ) (z : Ways) (n : ℕ) (o : Bool) (held : List PlainNode) (ys : List Token) → AllIns ks held → (o ≡ true → held ≡ []) → Closes z n o ys → Closes z n o (tokens held ++ ys)
-held-closes ks z n true held ys i e h = subst (λ l. Closes z n true (tokens l ++ ys)) (sym (e refl)) h
+held-closes : (ks : List ℕ) (z : Ways) (n : ℕ) (o : Bool) (held : List PlainNode) (ys : List Token) → AllIns ks held → (o ≡ true → AllByRecursion Quiet (tokens held)) → Closes z n o ys → Closes z n o (tokens held ++ ys)
+held-closes ks z n true held ys i e h = quiet-between z n true (tokens held) ys (e refl) h
 held-closes ks z n false held ys i e h = harmless-between z n false (tokens held) ys (steady-harmless held (ins-steady ks held i)) h
 
 -- ---- a firing
@@ -119,7 +120,7 @@ pub record OutClosed (z : Ways) (d : Bool) (rest : List PlainNode) (s : State) :
   pub front : List PlainNode
   pub whole : s.waiting ≡ front ++ rest
 
-pub out-closed : (ks : List ℕ) (p : Params) → int_le p.interlinepenalty eject_penalty ≡ false → (st : State) (f : Fired) (before : List PlainNode) → f.body ≡ without_insertions before → AllCalm before → AllFree before → (b : Bool) → BreakStands b (seen_all none (sorts before)) f.rest (pen_sort f.penalty) → (z : Ways) (m : ℕ) (d : Bool) → BreakCloses z m d f.rest (pen_sort f.penalty) → (b ≡ false → st.held_page ≡ []) → AllSteady st.held_page → AllSteady f.body → entry_items st.floats.current ≤ m → Paired st.floats.current → Single st → ColumnsFit st.two_columns st.first_column st.left_column → (st.floats.here ≡ []) ⊎ (HasReal (sorts st.held_page) ⊎ BreakReal (sorts before) (pen_sort f.penalty)) → AllIns ks f.held → (d ≡ true → f.held ≡ []) → (notes_in st.classes f.boxes ≡ [] → f.held ≡ []) → BoxesFit st.classes f.boxes → OutClosed z d f.rest (Output.out p st f).state × ((Output.out p st f).state.two_columns ≡ st.two_columns)
+pub out-closed : (ks : List ℕ) (p : Params) → int_le p.interlinepenalty eject_penalty ≡ false → (st : State) (f : Fired) (before : List PlainNode) → f.body ≡ without_insertions before → AllCalm before → AllFree before → (b : Bool) → BreakStands b (seen_all none (sorts before)) f.rest (pen_sort f.penalty) → (z : Ways) (m : ℕ) (d : Bool) → BreakCloses z m d f.rest (pen_sort f.penalty) → (b ≡ false → st.held_page ≡ []) → AllSteady st.held_page → AllSteady f.body → entry_items st.floats.current ≤ m → Paired st.floats.current → Single st → ColumnsFit st.two_columns st.first_column st.left_column → (st.floats.here ≡ []) ⊎ (HasReal (sorts st.held_page) ⊎ BreakReal (sorts before) (pen_sort f.penalty)) → AllIns ks f.held → (d ≡ true → AllByRecursion Quiet (tokens f.held)) → (standing_notes (notes_in st.classes f.boxes) ≡ [] → AllByRecursion Quiet (tokens f.held)) → BoxesFit st.classes f.boxes → OutClosed z d f.rest (Output.out p st f).state × ((Output.out p st f).state.two_columns ≡ st.two_columns)
 unfolding Output.out
 out-closed ks p calm st f before is_body calm_before free_before b stands z m d breaks free steady_page steady_body items paired single fit here held quiet_held void_held box =
     all (Output.output_by p f w) (output-closed p calm f before is_body calm_before free_before b stands z m d breaks w refl free steady_page steady_body items paired single fit here) (Output.next_goal p f.penalty (Output.output_by p f w)) (goal-told p f.penalty (Output.output_by p f w))
@@ -146,10 +147,10 @@ out-closed ks p calm st f before is_body calm_before free_before b stands z m d 
         parts : tokens (f.held ++ e.put_back ++ f.rest) ≡ tokens f.held ++ (tokens c.put_back ++ (tokens y.blank ++ tokens f.rest))
         parts = tokens-append (f.held ++ e.put_back) f.rest ∙ tokens-parts f.held e.put_back (tokens f.rest) ∙ ap (λ l. tokens f.held ++ (tokens l ++ tokens f.rest)) y.back ∙ ap (λ l. tokens f.held ++ l) (tokens-parts c.put_back y.blank (tokens f.rest))
 
-        no_held : x.done ≡ true → f.held ≡ []
+        no_held : x.done ≡ true → AllByRecursion Quiet (tokens f.held)
         no_held t = by_reason (x.clean t)
           where
-            by_reason : ((d ≡ true) × (c.state.floats.here ≡ []) × (c.put_back ≡ [])) ⊎ ((notes_in st.classes f.boxes ≡ []) × Emptied (begun (Output.after_page st f)) c × (st.held_page ≡ [])) → f.held ≡ []
+            by_reason : ((d ≡ true) × (c.state.floats.here ≡ []) × (c.put_back ≡ [])) ⊎ ((standing_notes (notes_in st.classes f.boxes) ≡ []) × Emptied (Clear.without_notes (begun (Output.after_page st f))) c × (st.held_page ≡ [])) → AllByRecursion Quiet (tokens f.held)
             by_reason (inl r) = quiet_held r.0
             by_reason (inr r) = void_held r.0
 
@@ -164,7 +165,7 @@ out-closed ks p calm st f before is_body calm_before free_before b stands z m d 
             sorted : sorts (f.held ++ e.put_back ++ f.rest) ≡ sorts f.held ++ (sorts c.put_back ++ (sorts y.blank ++ sorts f.rest))
             sorted = sorts-append (f.held ++ e.put_back) f.rest ∙ pieces f.held e.put_back (sorts f.rest) ∙ ap (λ l. sorts f.held ++ (sorts l ++ sorts f.rest)) y.back ∙ ap (λ l. sorts f.held ++ l) (pieces c.put_back y.blank (sorts f.rest))
 
-        by_clean : ((d ≡ true) × (c.state.floats.here ≡ []) × (c.put_back ≡ [])) ⊎ ((notes_in st.classes f.boxes ≡ []) × Emptied (begun (Output.after_page st f)) c × (st.held_page ≡ [])) → ((d ≡ true) × (e.state.floats.here ≡ [])) ⊎ Clean (Output.waiting_again f e).state
+        by_clean : ((d ≡ true) × (c.state.floats.here ≡ []) × (c.put_back ≡ [])) ⊎ ((standing_notes (notes_in st.classes f.boxes) ≡ []) × Emptied (Clear.without_notes (begun (Output.after_page st f))) c × (st.held_page ≡ [])) → ((d ≡ true) × (e.state.floats.here ≡ [])) ⊎ Clean (Output.waiting_again f e).state
         by_clean (inl r) = inl (r.0, ap (λ l. l.here) y.floats ∙ r.1)
         by_clean (inr r) = inr (record { weightless = nothing; here = ap (λ l. l.here) (y.floats ∙ r.1.lists) })
           where
@@ -173,7 +174,7 @@ out-closed ks p calm st f before is_body calm_before free_before b stands z m d 
 
             nothing : (v : Weight) → boxes_weight v e.state.boxes + nodes_weight v e.state.held_page + lists_weight v e.state.floats + left_weight v e.state.left_column ≡ 0
             nothing v = sums (boxes_weight v e.state.boxes) (nodes_weight v e.state.held_page) (lists_weight v e.state.floats) (left_weight v e.state.left_column)
-                (ap (boxes_weight v) (y.boxes ∙ r.1.boxes) ∙ sym (box-weight v st.classes f.boxes box) ∙ ap (notes_weight v) r.0)
+                (ap (boxes_weight v) (y.boxes ∙ r.1.boxes) ∙ emptied-weight v f.boxes)
                 (ap (nodes_weight v) (y.page ∙ r.1.page ∙ r.2))
                 (ap (lists_weight v) (y.floats ∙ r.1.lists))
                 (ap (left_weight v) (y.left ∙ r.1.left))

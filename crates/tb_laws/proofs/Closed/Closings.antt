@@ -1,6 +1,6 @@
 -- What a list that waits owes: a firing for each float and note that was taken, and a clear after all that has to ship.
 use Rattle.std.proofs.Common.{◌≡◌, refl, ap, ℕ, zero, suc, Bool, true, false, List, [], ◌∷◌, ◌++◌, map, arith}
-use Rattle.std.specs.Prelude.{◌&&◌, if◌then◌else◌}
+use Rattle.std.specs.Prelude.{◌==◌, ◌&&◌, if◌then◌else◌}
 use Rattle.std.specs.List.{AllByRecursion}
 use Rattle.tb_node.specs.declared.Act.{Act}
 use Rattle.tb_node.specs.declared.Act.TheVariants as acts
@@ -193,11 +193,17 @@ act_token (acts.Take f) = taking f.wide
 act_token (acts.TakeMargin m) = taking false
 act_token (acts.Suppress area) = quiet
 act_token (acts.Page n) = quiet
+act_token (acts.Head f) = heavy
 act_token (acts.Columns two) = changing two
+
+-- what makes a page higher ships nothing, and any other insertion has to ship
+abbrev pub ins_token : Bool → Token
+ins_token true = quiet
+ins_token false = heavy
 
 abbrev pub kind_token : PlainKind → Token
 kind_token (plain m) = sort_token (kind_sort (plain m))
-kind_token (ins i) = heavy
+kind_token (ins i) = ins_token (i.class == 255)
 kind_token (act a) = act_token a
 
 abbrev pub tokens : List PlainNode → List Token
@@ -218,9 +224,13 @@ act-passed : (a : Act) → Passed (act_token a)
 act-passed (acts.Take f) = tt
 act-passed a = tt
 
+ins-passed : (t : Bool) → Passed (ins_token t)
+ins-passed true = tt
+ins-passed false = tt
+
 kind-passed : (k : PlainKind) → Calm k → Passed (kind_token k)
 kind-passed (plain m) c = sort-passed (kind_sort (plain m)) (kind-calm (plain m) c)
-kind-passed (ins i) c = tt
+kind-passed (ins i) c = ins-passed (i.class == 255)
 kind-passed (act a) c = act-passed a
 
 pub calm-passed : (ns : List PlainNode) → AllCalm ns → AllByRecursion Passed (tokens ns)
@@ -234,9 +244,13 @@ sort-harmless real c = tt
 sort-harmless silent c = tt
 sort-harmless s c = absurd c
 
+ins-harmless : (t : Bool) → Harmless (ins_token t)
+ins-harmless true = tt
+ins-harmless false = tt
+
 kind-harmless : (k : PlainKind) → Steady (kind_sort k) → Harmless (kind_token k)
 kind-harmless (plain m) c = sort-harmless (kind_sort (plain m)) c
-kind-harmless (ins i) c = tt
+kind-harmless (ins i) c = ins-harmless (i.class == 255)
 kind-harmless (act a) c = absurd c
 
 -- calm nodes that are no acts are harmless
@@ -255,9 +269,22 @@ sort-quiet silent c = tt
 sort-quiet pause c = tt
 sort-quiet s c = absurd c
 
+ins-quiet : (t : Bool) → Still (ins_token t) → Quiet (ins_token t)
+ins-quiet true c = tt
+ins-quiet false c = absurd c
+
+-- a quiet insertion is of class 255
+pub ins-last : (t : Bool) → Quiet (ins_token t) → t ≡ true
+ins-last true q = refl
+ins-last false q = absurd q
+
+pub last-quiet : (t : Bool) → t ≡ true → Quiet (ins_token t)
+last-quiet true e = tt
+last-quiet false e = never e
+
 still-more : (l : ℕ) (k : PlainKind) (ns : List PlainNode) → Still (kind_token k) → AllByRecursion Quiet (tokens (without_acts ns)) → AllByRecursion Quiet (tokens (without_acts (record { line = l; kind = k } ∷ ns)))
 still-more l (plain m) ns c h = (sort-quiet (kind_sort (plain m)) c, h)
-still-more l (ins i) ns c h = absurd c
+still-more l (ins i) ns c h = (ins-quiet (i.class == 255) c, h)
 still-more l (act a) ns c h = h
 
 -- a front in which nothing comes is quiet without its acts

@@ -6,14 +6,13 @@ use Rattle.tb_node.specs.declared.Margin.{Margin}
 use Rattle.tb_node.specs.declared.Where.{Where}
 use Rattle.tb_node.specs.declared.Where.TheVariants as places
 use Rattle.tb_insert.specs.declared.Class.{Class}
-use Rattle.tb_builder.specs.FiredPages.{Boxed, box_content}
+use Rattle.tb_builder.specs.FiredPages.{Boxed, content_of, box_content}
 use Rattle.tb_node.specs.PlainNodes.{Leaf, PlainNode, plain, pen, made, blank_box, skip}
 use Rattle.tb_scaled.specs.declared.Glue.{Glue}
 use Rattle.tb_break.specs.Places.{last_or}
 use Rattle.std.specs.List.{AllByRecursion}
-use Rattle.tb_builder.proofs.Cutting.CutLemmas.{class-both}
 use Rattle.tb_output.specs.FiringWork.{Continues}
-use Rattle.tb_builder.proofs.FiredPages.PageWeights.{IsOnce, AllOfClass}
+use Rattle.tb_builder.proofs.FiredPages.PageWeights.{IsOnce}
 use Rattle.tb_scaled.specs.Glue.{filling_glue}
 use Rattle.tb_scaled.specs.Scaled.{eject_penalty, max_dimen}
 use Rattle.tb_param.specs.declared.Params.{Params}
@@ -22,7 +21,7 @@ use Rattle.tb_float.specs.declared.Entry.TheVariants as entries
 use Rattle.tb_float.specs.Lists.{FloatLists}
 use Rattle.tb_float.specs.Rooms.{column_room_of}
 use Rattle.tb_margin.specs.declared.Placed.{Placed}
-use Rattle.tb_column.specs.Column.{Notes, text_column}
+use Rattle.tb_column.specs.Column.{Notes}
 use Rattle.tb_sheet.specs.Sheet.{warned, PlainSent}
 use Rattle.tb_sheet.specs.declared.Warn.TheVariants as warnings
 use Rattle.tb_output.specs.State.{Work, puts, sends, with_floats, with_notes, notes_in, footnotes, has_floats}
@@ -36,6 +35,7 @@ use Rattle.tb_sheet.specs.Asked
 use Rattle.tb_output.proofs.StepLaws.ColumnSteps.{RecordLaw, no_law, ColumnStep, in_turn, Stays, sends-stays, place_float-step, place_next-step, all_wide_pages-step, put_out-step, float_columns-step, stays}
 use Rattle.tb_output.proofs.StepLaws.FiringSteps.{defer-stays}
 use Rattle.tb_output.proofs.StepLaws.WorkSteps.{continues-sends, column-continues, continues-defer}
+use Rattle.tb_laws.proofs.Closed.BareFeet.{BareAt, BoxesBare, AllPlaced, placed-both, content-bare}
 use Rattle.tb_laws.proofs.Closed.SortLemmas.{Sort, light, blank, real, Seen, none, one, many, Stands, sorts, sorts-append, fewer, Steady}
 
 -- the number of each class is one of these
@@ -45,12 +45,12 @@ AreAmong ks cs = AllByRecursion (λ (c : Class). IsOnce ks c.number) cs
 -- these nodes may be put in between; and their insertions are of these classes
 pub record Extends (ks : List ℕ) (t : Seen) (b : Bool) (ns : List PlainNode) : Type 0 where
   pub by : (ys : List Sort) → Stands t b ys → Stands t b (sorts ns ++ ys)
-  pub feet : AllOfClass ks ns
+  pub feet : AllPlaced ks ns
 
 -- what is put back so far begins a page well if what follows is well formed
 pub record Opens (ks : List ℕ) (t : Seen) (b : Bool) (ns : List PlainNode) : Type 0 where
   pub by : (ys : List Sort) → Stands t b ys → Stands none b (sorts ns ++ ys)
-  pub feet : AllOfClass ks ns
+  pub feet : AllPlaced ks ns
 
 module _ (ks : List ℕ) (t : Seen) (b : Bool) where
   pub record Puts (a c : Work) : Type 0 where
@@ -69,7 +69,7 @@ module _ (ks : List ℕ) (t : Seen) (b : Bool) where
   puts_if p a false c d x y = y
 
   pub extended : (ns : List PlainNode) (w : Work) → Extends ks t b ns → Puts w (puts ns w)
-  extended ns w x = record { opens = λ o. record { by = λ ys h. subst (λ l. Stands none b l) (sym (parts ys)) (o.by (sorts ns ++ ys) (x.by ys h)); feet = class-both ks w.put_back ns o.feet x.feet }; held = refl; classes = refl }
+  extended ns w x = record { opens = λ o. record { by = λ ys h. subst (λ l. Stands none b l) (sym (parts ys)) (o.by (sorts ns ++ ys) (x.by ys h)); feet = placed-both ks w.put_back ns o.feet x.feet }; held = refl; classes = refl }
     where
       parts : (ys : List Sort) → sorts (w.put_back ++ ns) ++ ys ≡ sorts w.put_back ++ (sorts ns ++ ys)
       parts ys = ap (λ l. l ++ ys) (sorts-append w.put_back ns) ∙ append_assoc (sorts w.put_back) (sorts ns) ys
@@ -86,7 +86,7 @@ module _ (ks : List ℕ) (t : Seen) (b : Bool) where
 
   pub put_out_text-puts : (p : Params) (body : List PlainNode) (w : Work) → Puts w (Columns.put_out_text p body w)
   put_out_text-puts p body w =
-      joined p w (Columns.without_column_floats w) (Columns.put_out_text p body w) (same refl refl refl) (column-puts (put_out-step p (no_law p) (text_column p w.state.floats body (footnotes w.state)) (Columns.without_column_floats w)))
+      joined p w (Columns.without_column_floats w) (Columns.put_out_text p body w) (same refl refl refl) (column-puts (put_out-step p (no_law p) (Columns.text_of p w.state body) (Columns.without_column_floats w)))
 
   pub ordinary-puts : (p : Params) (body : List PlainNode) (w : Work) → Puts w (Columns.ordinary p body w)
   ordinary-puts p body w =
@@ -98,7 +98,7 @@ module _ (ks : List ℕ) (t : Seen) (b : Bool) where
 -- ---- nodes that may be put back
 
 extends-both : (ks : List ℕ) (t : Seen) (b : Bool) (ms ns : List PlainNode) → Extends ks t b ms → Extends ks t b ns → Extends ks t b (ms ++ ns)
-extends-both ks t b ms ns x y = record { by = λ ys h. subst (Stands t b) (sym (ap (λ l. l ++ ys) (sorts-append ms ns) ∙ append_assoc (sorts ms) (sorts ns) ys)) (x.by (sorts ns ++ ys) (y.by ys h)); feet = class-both ks ms ns x.feet y.feet }
+extends-both ks t b ms ns x y = record { by = λ ys h. subst (Stands t b) (sym (ap (λ l. l ++ ys) (sorts-append ms ns) ∙ append_assoc (sorts ms) (sorts ns) ys)) (x.by (sorts ns ++ ys) (y.by ys h)); feet = placed-both ks ms ns x.feet y.feet }
 
 -- the end of a page, after which a page begins
 abbrev pub Begins : Seen → Type 0
@@ -135,7 +135,7 @@ steady-stands (blank ∷ xs) ys c h = (tt, steady-stands xs ys c.1 h)
 steady-stands (real ∷ xs) ys c h = (tt, steady-stands xs ys c.1 h)
 steady-stands (k ∷ xs) ys c h = absurd c.0
 
-pub steady-extends : (ks : List ℕ) (ns : List PlainNode) → AllByRecursion Steady (sorts ns) → AllOfClass ks ns → Extends ks many false ns
+pub steady-extends : (ks : List ℕ) (ns : List PlainNode) → AllByRecursion Steady (sorts ns) → AllPlaced ks ns → Extends ks many false ns
 steady-extends ks ns c g = record { by = λ ys h. steady-stands (sorts ns) ys c h; feet = g }
 
 again-extends : (ks : List ℕ) → Extends ks many false Clear.clear_again
@@ -148,7 +148,7 @@ module _ (ks : List ℕ) (p : Params) (calm : int_le p.interlinepenalty eject_pe
   penalty-steady None = (rw calm tt, tt)
   penalty-steady (Some g) = (tt, (rw calm tt, (tt, tt)))
 
-  penalty-class : (o : Option Glue) → AllOfClass ks (Text.penalty_nodes p.interlinepenalty o)
+  penalty-class : (o : Option Glue) → AllPlaced ks (Text.penalty_nodes p.interlinepenalty o)
   penalty-class None = (tt, tt)
   penalty-class (Some g) = (tt, (tt, (tt, tt)))
 
@@ -156,7 +156,7 @@ module _ (ks : List ℕ) (p : Params) (calm : int_le p.interlinepenalty eject_pe
   between-steady true ns = (tt, tt)
   between-steady false ns = penalty-steady (Text.glue_at_end (last_or (plain (pen p.interlinepenalty)) (map (λ m. m.kind) ns)))
 
-  between-class : (nobreak : Bool) (ns : List PlainNode) → AllOfClass ks (Text.penalty_between p.interlinepenalty nobreak ns)
+  between-class : (nobreak : Bool) (ns : List PlainNode) → AllPlaced ks (Text.penalty_between p.interlinepenalty nobreak ns)
   between-class true ns = (tt, tt)
   between-class false ns = penalty-class (Text.glue_at_end (last_or (plain (pen p.interlinepenalty)) (map (λ m. m.kind) ns)))
 
@@ -167,7 +167,7 @@ module _ (ks : List ℕ) (p : Params) (calm : int_le p.interlinepenalty eject_pe
   here-steady true f = (tt, (tt, (rw calm tt, (tt, (tt, tt)))))
   here-steady false f = (tt, (tt, (rw calm tt, (tt, tt))))
 
-  here-class : (vert : Bool) (f : Float) → AllOfClass ks (Text.here_nodes p vert f)
+  here-class : (vert : Bool) (f : Float) → AllPlaced ks (Text.here_nodes p vert f)
   here-class true f = (tt, (tt, (tt, (tt, (tt, tt)))))
   here-class false f = (tt, (tt, (tt, (tt, tt))))
 
@@ -200,22 +200,22 @@ module _ (ks : List ℕ) (p : Params) (calm : int_le p.interlinepenalty eject_pe
   notes-steady [] = tt
   notes-steady (n ∷ ns) = (tt, notes-steady ns)
 
-  with-class : (c : Class) (o : Option (List Leaf)) (ns : List Notes) → IsOnce ks c.number → AllOfClass ks (Text.notes_nodes p ns) → AllOfClass ks (Text.notes_nodes p (with_notes c o ns))
-  with-class c None ns h rest = rest
-  with-class c (Some ls) ns h rest = (h, rest)
+  with-class : (c : Class) (o : Option (List Leaf)) (ns : List Notes) → IsOnce ks c.number → BareAt c.number (content_of o) → AllPlaced ks (Text.notes_nodes p ns) → AllPlaced ks (Text.notes_nodes p (with_notes c o ns))
+  with-class c None ns h k rest = rest
+  with-class c (Some ls) ns h k rest = ((h, k), rest)
 
-  notes-class : (cs : List Class) (bs : List Boxed) → AreAmong ks cs → AllOfClass ks (Text.notes_nodes p (notes_in cs bs))
-  notes-class [] bs h = tt
-  notes-class (c ∷ cs) bs h = with-class c (box_content bs c.number) (notes_in cs bs) h.0 (notes-class cs bs h.1)
+  notes-class : (cs : List Class) (bs : List Boxed) → AreAmong ks cs → BoxesBare bs → AllPlaced ks (Text.notes_nodes p (notes_in cs bs))
+  notes-class [] bs h k = tt
+  notes-class (c ∷ cs) bs h k = with-class c (box_content bs c.number) (notes_in cs bs) h.0 (content-bare c.number bs k) (notes-class cs bs h.1 k)
 
   -- a float or note is served: steady nodes are put back, and no page is held afterwards
-  pub serve-puts : (vert : Bool) (body : List PlainNode) (w : Work) → AreAmong ks w.state.classes → Extends ks many false w.state.held_page → Extends ks many false (Text.without_firing_box body) → Opens ks many false w.put_back → Opens ks many false (Text.float_or_note p vert body w).put_back × ((Text.float_or_note p vert body w).state.held_page ≡ []) × ((Text.float_or_note p vert body w).state.classes ≡ w.state.classes)
-  serve-puts vert body w among h k o =
+  pub serve-puts : (vert : Bool) (body : List PlainNode) (w : Work) → AreAmong ks w.state.classes → BoxesBare w.state.boxes → Extends ks many false w.state.held_page → Extends ks many false (Text.without_firing_box body) → Opens ks many false w.put_back → Opens ks many false (Text.float_or_note p vert body w).put_back × ((Text.float_or_note p vert body w).state.held_page ≡ []) × ((Text.float_or_note p vert body w).state.classes ≡ w.state.classes)
+  serve-puts vert body w among bare h k o =
       let notes = Text.notes_nodes p (footnotes w.state) in
       let ns = w.state.held_page ++ Text.without_firing_box body in
       let w0 : Work = record w { state = record w.state { held_page = []; boxes = Columns.emptied_boxes w.state.boxes } } in
       let a = Text.list_back p ns w in
-      let x : Puts ks many false w0 a = extended ks many false (ns ++ notes) w0 (extends-both ks many false ns notes (extends-both ks many false w.state.held_page (Text.without_firing_box body) h k) (steady-extends ks notes (notes-steady (footnotes w.state)) (notes-class w.state.classes w.state.boxes among))) in
+      let x : Puts ks many false w0 a = extended ks many false (ns ++ notes) w0 (extends-both ks many false ns notes (extends-both ks many false w.state.held_page (Text.without_firing_box body) h k) (steady-extends ks notes (notes-steady (footnotes w.state)) (notes-class w.state.classes w.state.boxes among bare))) in
       let y : Puts ks many false a (Text.float_or_note p vert body w) = first-puts vert _ _ _ w.state.floats.current a in
       (y.opens (x.opens o), y.held, y.classes)
 
@@ -243,7 +243,7 @@ clear_floats-puts ks p body w x =
     (joined ks many false p b c (Clear.clear_rest c) (clear_wide-puts ks p b) (puts_if ks many false p c (has_floats c.state.floats.deferred || has_floats c.state.floats.second) (puts Clear.clear_again c) c (extended ks many false Clear.clear_again c (again-extends ks)) (same ks many false refl refl refl)))))
 
 pub clear_by-puts : (ks : List ℕ) (p : Params) (body : List PlainNode) (w : Work) (o : List Notes) → Extends ks many false (Clear.cleared_front p body) → Puts ks many false w (Clear.clear_by p body w o)
-clear_by-puts ks p body w [] x = clear_floats-puts ks p body w x
+clear_by-puts ks p body w [] x = joined ks many false p w (Clear.without_notes w) (Clear.clear_floats p body (Clear.without_notes w)) (same ks many false refl refl refl) (clear_floats-puts ks p body (Clear.without_notes w) x)
 clear_by-puts ks p body w (n ∷ notes) x =
     let a = Columns.put_out_text p (body ++ made (skip filling_glue) ∷ []) w in
     joined ks many false p w a (puts Clear.clear_again a) (put_out_text-puts ks many false p _ w) (extended ks many false Clear.clear_again a (again-extends ks))

@@ -1,5 +1,5 @@
 -- The firing for a float or note takes the first of the current list, and puts back steady nodes.
-use Rattle.std.proofs.Common.{◌≡◌, refl, sym, ◌∙◌, ap, subst, ℕ, suc, ◌≤◌, ◌⊎◌, inl, inr, Bool, true, false, List, [], ◌∷◌, ◌++◌, map, arith, append-nil, append_assoc}
+use Rattle.std.proofs.Common.{◌≡◌, refl, sym, ◌∙◌, ap, subst, ℕ, suc, ◌≤◌, ◌⊎◌, inl, inr, Bool, true, false, List, [], ◌∷◌, ◌++◌, arith, append-nil, append_assoc}
 use Rattle.std.specs.Prelude.{ℤ, int_le, if◌then◌else◌}
 use Rattle.std.specs.List.{AllByRecursion}
 use Rattle.tb_break.proofs.EachLemmas.{all-join}
@@ -8,8 +8,7 @@ use Rattle.tb_node.specs.declared.Float.{Float}
 use Rattle.tb_node.specs.declared.Margin.{Margin}
 use Rattle.tb_node.specs.declared.Where.{Where}
 use Rattle.tb_node.specs.declared.Where.TheVariants as places
-use Rattle.tb_node.specs.PlainNodes.{PlainNode, plain, pen}
-use Rattle.tb_break.specs.Places.{last_or}
+use Rattle.tb_node.specs.PlainNodes.{PlainNode}
 use Rattle.tb_param.specs.declared.Params.{Params}
 use Rattle.tb_float.specs.declared.Entry.{Entry}
 use Rattle.tb_float.specs.declared.Entry.TheVariants as entries

@@ -13,10 +13,10 @@ use Rattle.tb_area.specs.Area.{at_top, at_bottom, deferred}
 use Rattle.tb_float.specs.declared.Part.{Part}
 use Rattle.tb_float.specs.declared.Part.TheVariants as parts
 use Rattle.tb_float.specs.Lists.{FloatLists, IsWaiting, with_floats_of, wide_part, wide_waiting, with_wide_waiting}
-use Rattle.tb_column.specs.Column.{PlainColumn, wide_floats_column, text_column}
+use Rattle.tb_column.specs.Column.{PlainColumn, wide_floats_column}
 use Rattle.tb_sheet.specs.Sheet.{PlainSheet, one, wide, pair_sheet}
 use Rattle.tb_laws.proofs.Closed.Closings.{never}
-use Rattle.tb_output.specs.State.{State, Work, Recorded, placed, output, records_also, with_floats, footnotes}
+use Rattle.tb_output.specs.State.{State, Work, Recorded, placed, output, records_also, with_floats}
 use Rattle.tb_output.specs.FloatMoves
 use Rattle.tb_output.specs.Pages
 use Rattle.tb_output.specs.Columns
@@ -170,7 +170,7 @@ text-takes : (w a : Work) → Spares (Columns.without_column_floats w) a → Tak
 text-takes w a x = record { columns = x.columns; current = x.current; here = x.here; page = x.page; put_back = x.put_back; single = λ h. x.single h }
 
 pub put_out_text-takes : (p : Params) (body : List PlainNode) (w : Work) → TakesText w (Columns.put_out_text p body w)
-put_out_text-takes p body w = text-takes w _ (columns-spare (put_out-moves p (text_column p w.state.floats body (footnotes w.state)) (Columns.without_column_floats w)))
+put_out_text-takes p body w = text-takes w _ (columns-spare (put_out-moves p (Columns.text_of p w.state body) (Columns.without_column_floats w)))
 
 -- deferred floats that go to the top and bottom of a column
 top-takes : (p : Params) (w₀ : Work) (f : Float) (fs : List Float) (w : Work) → TakesText w₀ w → (t : Bool) → TakesText w₀ (moved p places.Top f (staying parts.Deferred fs w) w t)
@@ -191,5 +191,5 @@ fill-takes w₀ (places_next deferred f before rest w c e i) h = absurd c
 pub ordinary-takes : (p : Params) (body : List PlainNode) (w : Work) → TakesText w (Columns.ordinary p body w)
 ordinary-takes p body w =
     let b = Columns.all_float_columns p false (Columns.put_out_text p body w) in
-    let x : TakesText w b = text-takes w b (columns-spare (text_columns-moves p (text_column p w.state.floats body (footnotes w.state)) (Columns.without_column_floats w))) in
+    let x : TakesText w b = text-takes w b (columns-spare (text_columns-moves p (Columns.text_of p w.state body) (Columns.without_column_floats w))) in
     holds-on (λ h v. TakesText w v) (λ h i a b m. fill-takes w m) (fill_column-moves p b) x

@@ -1,6 +1,6 @@
 -- What the acts of a page do to the floats: each that is taken costs what it was to cost, and a change of columns comes when no float is left.
 use Rattle.std.proofs.Common.{◌≡◌, refl, sym, ◌∙◌, subst, ℕ, zero, suc, ℤ, pos, ◌+◌, ◌*◌, ◌≤◌, inl, inr, ◌⊎◌, Bool, true, false, List, [], ◌∷◌, ◌++◌, length, Option, arith}
-use Rattle.std.specs.Prelude.{int_le, int_lt, ◌&&◌, if◌then◌else◌}
+use Rattle.std.specs.Prelude.{int_le, int_lt, ◌&&◌, if◌then◌else◌, not}
 use Rattle.std.specs.List.{AllByRecursion}
 use Rattle.std.proofs.lemmas.Int.{ints}
 use Rattle.std.proofs.lemmas.Bool.{and_right, and_parts, and_left, both_ways}
@@ -23,7 +23,7 @@ use Rattle.tb_float.specs.Lists.{FloatLists, live_count, wide_part}
 use Rattle.tb_sheet.specs.declared.Warn.{Warn}
 use Rattle.tb_column.specs.Column.{PlainColumn}
 use Rattle.tb_output.specs.State.{State, Recorded}
-use Rattle.tb_output.specs.Act.{Acted, went, full, act_on, taken_float}
+use Rattle.tb_output.specs.Act.{Acted, went, full, act_on, taken_float, has_head_room, taken_head, lists_with_head, with_head}
 use Rattle.tb_laws.proofs.Closed.Sorts.{Sort, light, blank, pause, clear, pen_sort, box_sort, kind_sort, sorts}
 use Rattle.tb_laws.proofs.DeadCycles.AgainLemmas.{Again}
 use Rattle.tb_laws.proofs.DeadCycles.WaitCosts.{sort_cost, kind_cost, wait_cost, act_cost}
@@ -33,6 +33,7 @@ use Rattle.tb_laws.proofs.StepLaws.SideLemmas.{Sides}
 use Rattle.tb_laws.proofs.DeadCycles.ServeOutcomes.{current_floats, AllCurrent, way_floats}
 use Rattle.tb_laws.proofs.DeadCycles.CycleStates.{IsSecond, FloatsFit}
 use Rattle.tb_laws.proofs.DeadCycles.CycleBreaks.{none-left}
+use Rattle.tb_output.proofs.Acts.HeadLemmas.{head-room}
 
 -- the entries of the current list change
 current-sides : (from : Part) (es : List Entry) (l : FloatLists) → Sides from l → Sides from (record l { current = es })
@@ -48,6 +49,7 @@ EmptyAt s (acts.Take f) = Unit {0}
 EmptyAt s (acts.TakeMargin m) = Unit {0}
 EmptyAt s (acts.Suppress area) = Unit {0}
 EmptyAt s (acts.Page n) = Unit {0}
+EmptyAt s (acts.Head f) = Unit {0}
 EmptyAt s (acts.Columns two) = way_floats s.floats ≡ 0
 
 -- the state after acts that cost so much
@@ -64,9 +66,9 @@ pub record Acts (p : Params) (n : ℕ) (s t : State) : Type 0 where
 pub no-acts : (p : Params) (s : State) → Acts p 0 s s
 no-acts p s = record { waiting = refl; held = refl; boxes = refl; classes = refl; cycles = refl; floats = λ h. h; way = omega arith; second = λ h. inl h }
 
--- an act changes the floats, the columns, what is suppressed and the page number, and nothing beside
-acts-of : {fl : FloatLists} {two first : Bool} {left : Option PlainColumn} {x : Suppress} {number : ℕ} (p : Params) (n : ℕ) (s : State)
-    → (let t : State = record s { floats = fl; two_columns = two; first_column = first; left_column = left; suppress = x; number = number } in (FloatsFit p s → FloatsFit p t) → 2 * way_floats fl ≤ 2 * way_floats s.floats + n → (IsSecond s → IsSecond t ⊎ (2 * way_floats fl + 1 ≤ 2 * way_floats s.floats + n)) → Acts p n s t)
+-- an act changes the floats, the goal, the columns, what is suppressed and the page number, and nothing beside
+acts-of : {fl : FloatLists} {goal : ℤ} {two first : Bool} {left : Option PlainColumn} {x : Suppress} {number : ℕ} (p : Params) (n : ℕ) (s : State)
+    → (let t : State = record s { floats = fl; goal = goal; two_columns = two; first_column = first; left_column = left; suppress = x; number = number } in (FloatsFit p s → FloatsFit p t) → 2 * way_floats fl ≤ 2 * way_floats s.floats + n → (IsSecond s → IsSecond t ⊎ (2 * way_floats fl + 1 ≤ 2 * way_floats s.floats + n)) → Acts p n s t)
 acts-of p n s floats way second = record { waiting = refl; held = refl; boxes = refl; classes = refl; cycles = refl; floats = floats; way = way; second = second }
 
 pub acts-then : (p : Params) (i j : ℕ) (s t u : State) → Acts p i s t → Acts p j t u → Acts p (i + j) s u
@@ -190,6 +192,35 @@ act-acts p s (acts.TakeMargin m) h =
     }) (omega arith) (λ x. inl (record { columns = x.columns; first = x.first })))
 act-acts p s (acts.Suppress area) h = acts-of p 0 s (λ x. record { fit = x.fit; current = x.current; single = x.single; double = record { wide = x.double.wide; none = x.double.none }; sides = x.sides; narrow = x.narrow }) (omega arith) (λ x. inl (record { columns = x.columns; first = x.first }))
 act-acts p s (acts.Page n) h = acts-of p 0 s (λ x. record { fit = x.fit; current = x.current; single = x.single; double = record { wide = x.double.wide; none = x.double.none }; sides = x.sides; narrow = x.narrow }) (omega arith) (λ x. inl (record { columns = x.columns; first = x.first }))
+act-acts p s (acts.Head f) h = by_head (has_head_room p s) refl
+  where
+    t : Float
+    t = taken_head p f
+
+    more-long : (fs : List Float) → length (fs ++ taken_head p f ∷ []) ≡ length fs + 1
+    more-long [] = refl
+    more-long (g ∷ fs) = let h : length (fs ++ taken_head p f ∷ []) ≡ length fs + 1 = more-long fs in omega arith
+
+    head-sides : (from : Part) → Sides from s.floats → Sides from (lists_with_head (taken_head p f) s.floats)
+    head-sides parts.Deferred x = x
+    head-sides parts.Second x = (record { top = x.0.top; bottom = x.0.bottom; deferred = x.0.deferred }, x.1)
+    head-sides from x = tt
+
+    two-true : has_head_room p s ≡ true → s.two_columns ≡ false → ⊥
+    two-true e c = both_ways s.two_columns c (head-room p s e).two
+
+    by_head : (b : Bool) → has_head_room p s ≡ b → ActActs p 2 s (if not b then full f.line (live_count s.floats) else went (with_head p s (taken_head p f)) [] [])
+    by_head false e = tt
+    by_head true e =
+        let k : length (s.floats.double ++ taken_head p f ∷ []) ≡ length s.floats.double + 1 = more-long s.floats.double in
+        acts-of p 2 s (λ x. record {
+          fit = record { top = x.fit.top; bottom = x.fit.bottom; deferred = x.fit.deferred; double = all-push (Fits p) s.floats.double (taken_head p f) x.fit.double (low f.height p.textheight); second = x.fit.second };
+          current = x.current;
+          single = λ c. absurd (two-true e c);
+          double = record { wide = all-push Wide s.floats.double (taken_head p f) x.double.wide refl; none = λ c. absurd (two-true e c) };
+          sides = head-sides (wide_part p) x.sides;
+          narrow = x.narrow;
+        }) (omega arith) (λ x. inl (record { columns = x.columns; first = x.first }))
 act-acts p s (acts.Columns two) h =
     let none : NoneWait s.floats = none-left s.floats (waits (waiting_floats s.floats) (current_floats s.floats.current) h) in
     acts-of p 1 s (λ x. record {

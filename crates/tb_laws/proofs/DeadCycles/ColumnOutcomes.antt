@@ -12,9 +12,9 @@ use Rattle.tb_float.specs.Rooms.{column_height_of}
 use Rattle.tb_fpage.specs.declared.Wanted.{Wanted}
 use Rattle.tb_fpage.specs.Company.{Choice, company, chosen_floats, left_floats}
 use Rattle.tb_area.specs.Area
-use Rattle.tb_column.specs.Column.{PlainColumn, text_column, single_floats_column}
+use Rattle.tb_column.specs.Column.{PlainColumn, single_floats_column}
 use Rattle.tb_sheet.specs.Sheet.{PlainSheet, one, pair_sheet}
-use Rattle.tb_output.specs.State.{State, Work, Recorded, placed, output, records_also, with_floats, footnotes}
+use Rattle.tb_output.specs.State.{State, Work, Recorded, placed, output, records_also, with_floats}
 use Rattle.tb_output.specs.FloatMoves
 use Rattle.tb_output.specs.Pages
 use Rattle.tb_output.specs.Columns
@@ -266,7 +266,7 @@ module _ (P : Float → Type 0) (p : Params) where
   pub text-out : (body : List PlainNode) (w b : Work) → Follows P (Columns.put_out_text p body w) b → TextOut w b
   text-out body w b y =
       let v = Columns.without_column_floats w in
-      let x : Follows P (Columns.without_column_floats w) (Columns.put_out_text p body w) = follows-put_out P p (text_column p w.state.floats body (footnotes w.state)) v in
+      let x : Follows P (Columns.without_column_floats w) (Columns.put_out_text p body w) = follows-put_out P p (Columns.text_of p w.state body) v in
       let z : Follows P (Columns.without_column_floats w) b = follows-then P v (Columns.put_out_text p body w) b x y in
       let e : waiting_floats (Columns.without_column_floats w).state.floats + (length w.state.floats.top + length w.state.floats.bottom) ≡ waiting_floats w.state.floats = text-follows w in
       record {
@@ -306,7 +306,7 @@ module _ (P : Float → Type 0) (p : Params) where
     bare = Columns.without_column_floats w
 
     abbrev text : PlainColumn
-    text = text_column p w.state.floats body (footnotes w.state)
+    text = Columns.text_of p w.state body
 
     -- the text column with them is out
     abbrev out : Work

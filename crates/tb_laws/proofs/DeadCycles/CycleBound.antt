@@ -1,6 +1,6 @@
 -- A run of a valid galley does not end for its dead cycles, if the limit has room for what its items can bring.
 use Rattle.std.proofs.Common.{◌≡◌, refl, ap, ℕ, pos, ◌+◌, Bool, true, false, List, [], ◌∷◌, arith, ℤ, ◌≤◌}
-use Rattle.std.specs.Prelude.{◌≤ℤ◌, IsTrue, int_le, int_lt, if◌then◌else◌, ◌<ℤ◌}
+use Rattle.std.specs.Prelude.{◌≤ℤ◌, IsTrue, int_le, int_lt, if◌then◌else◌, ◌<ℤ◌, not}
 use Rattle.std.proofs.lemmas.Int.{ints}
 use Rattle.tb_float.proofs.ParamLemmas.{all-at, dim-extent}
 use Rattle.tb_node.specs.declared.Act.{Act}
@@ -15,8 +15,11 @@ use Rattle.tb_float.specs.Lists.{FloatLists, no_floats, live_count}
 use Rattle.tb_sheet.specs.declared.Warn.{Warn}
 use Rattle.tb_builder.proofs.Cutting.CutLemmas.{acted_of}
 use Rattle.tb_output.specs.State.{State, Recorded}
-use Rattle.tb_output.specs.Act.{went, full}
+use Rattle.tb_output.specs.Act.{went, full, has_head_room}
 use Rattle.tb_scaled.specs.Scaled.{eject_penalty}
+use Rattle.tb_items.specs.Classes.{classes_of}
+use Rattle.tb_laws.proofs.NothingLost.StateWeights.{class_numbers}
+use Rattle.tb_laws.proofs.DeadCycles.OtherFeet.{NoneHigher, start-other}
 use Rattle.tb_laws.proofs.DeadCycles.ServeOutcomes.{way_floats}
 use Rattle.tb_laws.proofs.DeadCycles.CycleStates.{Bounded}
 use Rattle.tb_laws.proofs.DeadCycles.HighStates.{BoundedHigh}
@@ -49,6 +52,7 @@ closing-changes p o s (acts.Take f ∷ ds) e c = (tt, went-by (λ t. ChangesEmpt
 closing-changes p o s (acts.TakeMargin m ∷ ds) e c = (tt, went-by (λ t. ChangesEmpty p t ds) (int_lt p.pool (pos (live_count s.floats + 2))) _ _ _ _ _ (closing-changes p false _ ds (λ h. cc) c))
 closing-changes p o s (acts.Suppress area ∷ ds) e c = (tt, closing-changes p o _ ds e c)
 closing-changes p o s (acts.Page n ∷ ds) e c = (tt, closing-changes p o _ ds e c)
+closing-changes p o s (acts.Head f ∷ ds) e c = (tt, went-by (λ t. ChangesEmpty p t ds) (not (has_head_room p s)) _ _ _ _ _ (closing-changes p false _ ds (λ h. cc) c))
 closing-changes p o s (acts.Columns two ∷ ds) e c = (none-way s.floats (e c.0), closing-changes p o _ ds e c.1)
 
 -- ---- the ranges of the parameters
@@ -101,13 +105,13 @@ module _ (g : Galley) (valid : IsValid g) where
   empties s c k = closing-changes g.params k.done s (acted_of (page_of g.params s).reached) (empty g.params calm s c k) (page_closes g.params calm s c k).acts_close
 
   low-bound : g.params.topskip ≤ℤ g.params.textheight → HasRoomForCycles g → EndsWithinCycles (run_of g).end
-  low-bound room = not-cycles g calm (valid-differ g valid) (valid-fit g valid) (Bounded g.params m) (λ s b. more s.dead_cycles (low-few g.params m calm low room deep s b)) (low-goes g.params m calm low room deep) (low-start g calm (valid-differ g valid) (valid-fit g valid)) (Closing g.params) empties stays (start-closing g (valid-fit g valid))
+  low-bound room c = not-cycles g calm (valid-differ g valid) (valid-fit g valid) (λ s. Bounded g.params m s × NoneHigher s) (λ s b. more s.dead_cycles (low-few g.params m calm low room deep s b.0)) (low-goes g.params m calm low room deep) (low-start g calm (valid-differ g valid) (valid-fit g valid), start-other (class_numbers (classes_of g)) g (valid-fit g valid) c.0) (Closing g.params) empties stays (start-closing g (valid-fit g valid)) c
     where
       more : (d : ℕ) → d ≤ m + 2 → d ≤ m + 3
       more d h = omega arith
 
   high-bound : g.params.textheight <ℤ g.params.topskip → HasRoomForCycles g → EndsWithinCycles (run_of g).end
-  high-bound high = not-cycles g calm (valid-differ g valid) (valid-fit g valid) (BoundedHigh g.params m) (high-few g.params m calm deep (textheight-low g.params valid.params) high) (high-goes g.params m calm deep (textheight-low g.params valid.params) high) (high-start g calm (valid-differ g valid) (valid-fit g valid)) (Closing g.params) empties stays (start-closing g (valid-fit g valid))
+  high-bound high c = not-cycles g calm (valid-differ g valid) (valid-fit g valid) (λ s. BoundedHigh g.params m s × NoneHigher s) (λ s b. high-few g.params m calm deep (textheight-low g.params valid.params) high s b.0) (high-goes g.params m calm deep (textheight-low g.params valid.params) high) (high-start g calm (valid-differ g valid) (valid-fit g valid), start-other (class_numbers (classes_of g)) g (valid-fit g valid) c.0) (Closing g.params) empties stays (start-closing g (valid-fit g valid)) c
 
 -- the dead-cycle bound
 pub dead-cycle-bound : DeadCyclesAreFew

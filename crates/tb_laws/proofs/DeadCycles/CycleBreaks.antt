@@ -14,6 +14,7 @@ use Rattle.tb_laws.proofs.PageBreaks.FittingFired.{Fitted}
 use Rattle.tb_laws.proofs.PageBreaks.PausedPages.{Paused}
 use Rattle.tb_insert.specs.declared.Class.{Class}
 use Rattle.tb_float.specs.Lists.{FloatLists, wide_part}
+use Rattle.tb_column.specs.Column.{standing_notes}
 use Rattle.tb_output.specs.State.{State, Work, footnotes, notes_in, with_notes}
 use Rattle.tb_output.specs.Columns
 use Rattle.tb_output.specs.Clear
@@ -78,9 +79,9 @@ pub record FiresWell (p : Params) (s : State) (total : ℕ) (n : ℕ) (kind : Ki
   -- after a blank column a clear comes, and the page in between fits
   pub once : kind ≡ once → (int_le eject_penalty f.penalty ≡ true) × (f.held ≡ []) × ((rest : List PlainNode) × Fitted Asked.clear_penalty rest f.rest)
   -- a clear without footnotes comes next
-  pub ready : kind ≡ ready → (Output.is_int f.penalty Asked.clear_penalty ≡ true) × (footnotes (record s { boxes = f.boxes }) ≡ [])
+  pub ready : kind ≡ ready → (Output.is_int f.penalty Asked.clear_penalty ≡ true) × (standing_notes (footnotes (record s { boxes = f.boxes })) ≡ [])
   -- the page of a clear without footnotes has no insertions, and is light but for its blank box, so a blank column and a clear may come after its front
-  pub blank : Output.is_int f.penalty Asked.clear_penalty ≡ true → footnotes (record s { boxes = f.boxes }) ≡ [] → (f.held ≡ []) × ((rest : List PlainNode) → Fitted eject_penalty (made whatsit ∷ made blank_box ∷ made (pen Asked.clear_penalty) ∷ rest) (Clear.cleared_front p f.body ++ (made blank_box ∷ Clear.clear_again ++ rest)) × Paused (Clear.cleared_front p f.body ++ (made blank_box ∷ Clear.clear_again ++ rest))) × AllByRecursion Idle (sorts (Clear.cleared_front p f.body)) × (wait_cost (Clear.cleared_front p f.body) ≡ 0)
+  pub blank : Output.is_int f.penalty Asked.clear_penalty ≡ true → standing_notes (footnotes (record s { boxes = f.boxes })) ≡ [] → (f.held ≡ []) × ((rest : List PlainNode) → Fitted eject_penalty (made whatsit ∷ made blank_box ∷ made (pen Asked.clear_penalty) ∷ rest) (Clear.cleared_front p f.body ++ (made blank_box ∷ Clear.clear_again ++ rest)) × Paused (Clear.cleared_front p f.body ++ (made blank_box ∷ Clear.clear_again ++ rest))) × AllByRecursion Idle (sorts (Clear.cleared_front p f.body)) × (wait_cost (Clear.cleared_front p f.body) ≡ 0)
 
 -- ---- the state after the goal is set
 

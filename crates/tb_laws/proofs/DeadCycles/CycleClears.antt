@@ -8,7 +8,7 @@ use Rattle.tb_node.specs.PlainNodes.{PlainNode, made, skip}
 use Rattle.tb_param.specs.declared.Params.{Params}
 use Rattle.tb_builder.specs.FiredPages.{Fired}
 use Rattle.tb_float.specs.Lists.{FloatLists}
-use Rattle.tb_column.specs.Column.{Notes, PlainColumn, text_column}
+use Rattle.tb_column.specs.Column.{Notes, PlainColumn, standing_notes}
 use Rattle.tb_output.specs.State.{State, Work, begun, puts, footnotes}
 use Rattle.tb_output.specs.Columns
 use Rattle.tb_output.specs.Clear
@@ -20,7 +20,7 @@ use Rattle.tb_laws.proofs.DeadCycles.WaitCosts.{sort_cost, wait_cost}
 use Rattle.tb_output.proofs.StepLaws.FollowLemmas.{waiting_floats, follows-same}
 use Rattle.tb_laws.proofs.DeadCycles.ColumnOutcomes.{IsKept, IsPaired, TextOut, last-ships, first-kept, second-pairs, text-out, text-follows}
 use Rattle.tb_laws.proofs.DeadCycles.ClearOutcomes.{NoneWait, Fits, Single}
-use Rattle.tb_laws.proofs.StepLaws.WideLemmas.{KeepsDouble, clear_by-double}
+use Rattle.tb_laws.proofs.StepLaws.WideLemmas.{KeepsDouble, text_out-double}
 use Rattle.tb_laws.proofs.StepLaws.SideSteps.{text_out-sides}
 use Rattle.tb_laws.proofs.DeadCycles.ServeOutcomes.{current_floats, way_floats}
 use Rattle.tb_laws.proofs.DeadCycles.CycleStates.{Kind, any, doubled, once, topped, ready, halted, clean, single, closed, credit, Holds, Phase, starting, second, ending, phase_cost, PhaseHolds, FloatsFit, Bounded, GoalOut, goal-out}
@@ -95,7 +95,7 @@ module _ (p : Params) (m : ℕ) (s : State) (total a : ℕ) (kind : Kind) (phase
 
   pub n-fits : (head : Notes) (notes : List Notes) → FloatsFit p n.state
   n-fits head notes =
-      let x : KeepsDouble w0 n = clear_by-double p f.body w0 (head ∷ notes) in
+      let x : KeepsDouble w0 q = text_out-double p (f.body ++ made (skip filling_glue) ∷ []) w0 in
       text-fits p m s total a kind phase f calm holds at floats weight bound well q q-out (text-out Single p (f.body ++ made (skip filling_glue) ∷ []) w0 q (follows-same Single q)) (record { by = x.by; columns = x.columns }) (text_out-sides p (f.body ++ made (skip filling_glue) ∷ []) w0 (record { wide = floats.double.wide; none = floats.double.none }) floats.sides)
 
   abbrev n-done : State
@@ -168,15 +168,15 @@ module _ (p : Params) (m : ℕ) (s : State) (total a : ℕ) (kind : Kind) (phase
   q-taken = text-follows (Fits p) p w0
 
   abbrev column : PlainColumn
-  column = text_column p w0.state.floats (f.body ++ made (skip filling_glue) ∷ []) (footnotes w0.state)
+  column = Columns.text_of p w0.state (f.body ++ made (skip filling_glue) ∷ [])
 
   one-fewer : (x y z t : ℕ) → 1 ≤ t → x ≤ z → z + t ≡ y → x + 1 ≤ y
   one-fewer x y z t h i j = omega arith
 
-  void-not : (head : Notes) (notes : List Notes) → footnotes w0.state ≡ head ∷ notes → {X : Type 0} → kind ≡ ready → X
+  void-not : (head : Notes) (notes : List Notes) → standing_notes (footnotes w0.state) ≡ head ∷ notes → {X : Type 0} → kind ≡ ready → X
   void-not head notes e i = let no : head ∷ notes ≡ [] = sym e ∙ (well.ready i).1 in cc
 
-  notes-second : (head : Notes) (notes : List Notes) → footnotes w0.state ≡ head ∷ notes → s.two_columns ≡ true → s.first_column ≡ false → n.refused ≡ false → Bounded p m n-done
+  notes-second : (head : Notes) (notes : List Notes) → standing_notes (footnotes w0.state) ≡ head ∷ notes → s.two_columns ≡ true → s.first_column ≡ false → n.refused ≡ false → Bounded p m n-done
   notes-second head notes e t c r = by_left (left-of a)
     where
       dead : n.state.dead_cycles ≡ 0
@@ -206,7 +206,7 @@ module _ (p : Params) (m : ℕ) (s : State) (total a : ℕ) (kind : Kind) (phase
       by_left (inl z) = n-shipped head notes dead any tt (item-sums z)
       by_left (inr l) = by_kind l kind refl holds
 
-  notes-first : (head : Notes) (notes : List Notes) → footnotes w0.state ≡ head ∷ notes → s.two_columns ≡ true → s.first_column ≡ true → Bounded p m n-done
+  notes-first : (head : Notes) (notes : List Notes) → standing_notes (footnotes w0.state) ≡ head ∷ notes → s.two_columns ≡ true → s.first_column ≡ true → Bounded p m n-done
   notes-first head notes e t c = by_left (left-of a)
     where
       kept : IsKept (Fits p) p (Columns.without_column_floats w0) q
@@ -239,7 +239,7 @@ module _ (p : Params) (m : ℕ) (s : State) (total a : ℕ) (kind : Kind) (phase
       sums : (x y k : ℕ) → x ≤ y → a ≤ d + 1 → 2 * x + 0 + 2 * a ≤ 2 * y + k + 2 * suc d
       sums x y k h i = omega arith
 
-  pub with-notes : (head : Notes) (notes : List Notes) → footnotes w0.state ≡ head ∷ notes → Result (Clear.clear_by p f.body w0 (head ∷ notes))
+  pub with-notes : (head : Notes) (notes : List Notes) → standing_notes (footnotes w0.state) ≡ head ∷ notes → Result (Clear.clear_by p f.body w0 (head ∷ notes))
   with-notes head notes e r = by_columns s.two_columns s.first_column refl refl
     where
       by_columns : (t c : Bool) → s.two_columns ≡ t → s.first_column ≡ c → Bounded p m n-done

@@ -6,7 +6,7 @@ use Rattle.tb_scaled.specs.Glue.{filling_glue}
 use Rattle.tb_node.specs.PlainNodes.{PlainNode, made, skip}
 use Rattle.tb_param.specs.declared.Params.{Params}
 use Rattle.tb_builder.specs.FiredPages.{Fired}
-use Rattle.tb_column.specs.Column.{Notes}
+use Rattle.tb_column.specs.Column.{Notes, standing_notes}
 use Rattle.tb_output.specs.State.{State, Work, begun, footnotes}
 use Rattle.tb_output.specs.Columns
 use Rattle.tb_output.specs.Text
@@ -59,13 +59,13 @@ module _ (p : Params) (m : ℕ) (s : State) (total a : ℕ) (kind : Kind) (phase
       keeps (Text.float_or_note p vert f.body begins) (free-ended false (Text.float_or_note p vert f.body begins).put_back x.cost)
 
   keeps-clear : int_le eject_penalty f.penalty ≡ false → Output.is_int f.penalty Asked.clear_penalty ≡ true → Keeps (Clear.clear p f.body begins)
-  keeps-clear h k = by_notes (footnotes (record s { boxes = f.boxes })) refl
+  keeps-clear h k = by_notes (standing_notes (footnotes (record s { boxes = f.boxes }))) refl
     where
-      by_notes : (o : List Notes) → footnotes (record s { boxes = f.boxes }) ≡ o → Keeps (Clear.clear_by p f.body begins o)
+      by_notes : (o : List Notes) → standing_notes (footnotes (record s { boxes = f.boxes })) ≡ o → Keeps (Clear.clear_by p f.body begins o)
       by_notes [] e =
           let z = well.blank k e in
           let o = c p m s total a kind phase f calm holds at floats weight bound well h k e in
-          keeps (Clear.clear_floats p f.body begins) (subst (Ended false) (sym (v-back p m s total a kind phase f calm holds at floats weight bound well h k e)) (ended-both false (Clear.cleared_front p f.body) (half_nodes o.half ++ rest_nodes o.rest) (free-ended false (Clear.cleared_front p f.body) z.3) (ended-both false (half_nodes o.half) (rest_nodes o.rest) (half-ended o.half) (rest-ended o.rest))))
+          keeps (Clear.clear_floats p f.body (Clear.without_notes begins)) (subst (Ended false) (sym (v-back p m s total a kind phase f calm holds at floats weight bound well h k e)) (ended-both false (Clear.cleared_front p f.body) (half_nodes o.half ++ rest_nodes o.rest) (free-ended false (Clear.cleared_front p f.body) z.3) (ended-both false (half_nodes o.half) (rest_nodes o.rest) (half-ended o.half) (rest-ended o.rest))))
       by_notes (head ∷ notes) e =
           let q = Columns.put_out_text p (f.body ++ made (skip filling_glue) ∷ []) begins in
           keeps (Clear.clear_by p f.body begins (head ∷ notes)) (subst (λ (ns : List PlainNode). Ended false (ns ++ Clear.clear_again)) (sym (text-out (Fits p) p (f.body ++ made (skip filling_glue) ∷ []) begins q (follows-same (Fits p) q)).back) again-ended)

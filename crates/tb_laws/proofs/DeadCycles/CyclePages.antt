@@ -12,10 +12,11 @@ use Rattle.tb_builder.specs.Reach.{Reach}
 use Rattle.tb_builder.specs.FiredPages.{Fired, page_break, fired_by, fired_of, frozen_for, penalty_at, with_spent_break, held_insertions}
 use Rattle.tb_builder.proofs.FiredPages.PageWeights.{AllOfClass, labelled-class}
 use Rattle.tb_builder.proofs.Cutting.CutLemmas.{acted_of, CutAt, reach-cut, cut-class, class-pruned, held-ins}
-use Rattle.tb_builder.proofs.FiredPages.HeldLemmas.{GivesNone, none-labelled}
+use Rattle.tb_laws.proofs.Closed.BareFeet.{placed-class}
 use Rattle.tb_laws.proofs.PageBreaks.FittingFired.{Topmost, AllTopmost, Fitted, FiresAt, fitted-fires, flat_box, break_at}
 use Rattle.tb_laws.proofs.PageBreaks.PausedPages.{Paused, paused-ordinary}
 use Rattle.tb_steps.proofs.LedLemmas.{led-actless}
+use Rattle.tb_column.specs.Column.{standing_notes}
 use Rattle.tb_output.specs.State.{State, notes_in, footnotes, has_floats}
 use Rattle.tb_steps.specs.Run.{led_through, led, ask_for}
 use Rattle.tb_output.specs.Text
@@ -33,7 +34,8 @@ use Rattle.tb_laws.proofs.Closed.ClearPages.{OneFlat, one-flat, clear-ended, Fro
 use Rattle.tb_laws.proofs.DeadCycles.CycleStates.{Kind, any, once, ready, halted, closed, Holds, Phase, starting, second, ending, PhaseHolds}
 use Rattle.tb_laws.proofs.DeadCycles.CycleBreaks.{clear-sort, FiresWell}
 use Rattle.tb_laws.proofs.NothingLost.RunWeights.{Kept, page_of}
-use Rattle.tb_laws.proofs.NothingLost.ClosingRuns.{void-given}
+use Rattle.tb_laws.proofs.NothingLost.LastLabels.{GivesLast, void-last, clear-last}
+use Rattle.tb_laws.proofs.DeadCycles.OtherFeet.{NoneHigher, no-last, page-labels}
 
 take-free : (k : ℕ) (ns : List PlainNode) → wait_cost ns ≡ 0 → wait_cost (take k ns) ≡ 0
 take-free zero ns h = refl
@@ -65,7 +67,7 @@ fitted-led p q tail ns s h = ap (λ xs. led_through p xs s) (h.whole ∙ append_
 is-special : (q : ℤ) → Output.is_int q Asked.clear_penalty ≡ true → int_le eject_penalty q ≡ false
 is-special q h = grind (arith, ints, h)
 
-module _ (p : Params) (s : State) (kept : Kept s) (ended : Ended false s.waiting) where
+module _ (p : Params) (s : State) (kept : Kept s) (ended : Ended false s.waiting) (other : NoneHigher s) where
   abbrev pub w : Reach
   w = page_of p s
 
@@ -76,7 +78,7 @@ module _ (p : Params) (s : State) (kept : Kept s) (ended : Ended false s.waiting
   cut = reach-cut (ask_for p s).max_depth (terms_after (frozen_for (ask_for p s) s.classes s.boxes)) [] (pruned_nodes p.topskip s.waiting)
 
   feet : AllOfClass (class_numbers s.classes) (take k w.passed) × AllOfClass (class_numbers s.classes) (with_spent_break (drop k w.passed ++ w.beyond))
-  feet = cut-class (class_numbers s.classes) k (pruned_nodes p.topskip s.waiting) w cut (class-pruned (class_numbers s.classes) p.topskip s.waiting kept.placed.feet)
+  feet = cut-class (class_numbers s.classes) k (pruned_nodes p.topskip s.waiting) w cut (class-pruned (class_numbers s.classes) p.topskip s.waiting (placed-class (class_numbers s.classes) s.waiting kept.placed.feet))
 
   stands : PageStands kept.placed.held k w
   stands = cut-stands (pruned_nodes p.topskip s.waiting) w kept.placed.held k cut (pruned-stands p.topskip s.waiting kept.placed.held kept.placed.stands)
@@ -151,8 +153,11 @@ module _ (p : Params) (s : State) (kept : Kept s) (ended : Ended false s.waiting
         sums x y v a b c = omega arith
 
     -- a clear without footnotes has no insertions on its page, and its front is light
-    pub none-there : footnotes (record t { boxes = page.boxes }) ≡ [] → labelled z (take k w.passed) ≡ []
-    none-there h = none-labelled (class_numbers s.classes) z (take k w.passed) (labelled-class (class_numbers s.classes) z [] [] (take k w.passed) tt feet.0) (subst (λ cs. GivesNone (class_numbers cs) (labelled z (take k w.passed))) same_classes (void-given (labelled z (take k w.passed)) t.classes t.boxes fit h))
+    pub none-there : standing_notes (footnotes (record t { boxes = page.boxes })) ≡ [] → labelled z (take k w.passed) ≡ []
+    none-there h =
+        let ks = class_numbers s.classes in
+        let ls = labelled z (take k w.passed) in
+        no-last ls (clear-last ks z (take k w.passed) (labelled-class ks z [] [] (take k w.passed) tt feet.0) (subst (λ cs. GivesLast (class_numbers cs) ls) same_classes (void-last ls t.classes t.boxes fit h))) (page-labels p.topskip s.waiting w cut other.waiting z)
 
     pub flat : Output.is_int page.penalty Asked.clear_penalty ≡ true → OneFlat page.body
     flat h =
@@ -205,10 +210,10 @@ module _ (p : Params) (s : State) (kept : Kept s) (ended : Ended false s.waiting
         let x = fits eject_penalty (made whatsit ∷ made blank_box ∷ made (pen Asked.clear_penalty) ∷ i.2.rest) refl i.2.goal i.2.fit in
         (paused-ends i.1, x.held, (i.2.rest, subst (Fitted Asked.clear_penalty i.2.rest) (sym x.rest) (behind-blank x.line i.2.rest)))
 
-    known-ready : Holds p s 0 ready → (Output.is_int fired.penalty Asked.clear_penalty ≡ true) × (footnotes (record s { boxes = fired.boxes }) ≡ [])
+    known-ready : Holds p s 0 ready → (Output.is_int fired.penalty Asked.clear_penalty ≡ true) × (standing_notes (footnotes (record s { boxes = fired.boxes })) ≡ [])
     known-ready i =
         let x = fits Asked.clear_penalty i.1.rest refl i.1.goal i.1.fit in
-        (ap (λ q. Output.is_int q Asked.clear_penalty) x.penalty, ap (λ bs. notes_in s.classes bs) x.boxes ∙ i.1.void)
+        (ap (λ q. Output.is_int q Asked.clear_penalty) x.penalty, ap (λ bs. standing_notes (notes_in s.classes bs)) x.boxes ∙ ap (λ ns. standing_notes ns) i.1.void)
 
     pub open-well : (a : ℕ) (kind : Kind) (phase : Phase) → Again a (sorts s.waiting) → Holds p s a kind → PhaseHolds s phase → FiresWell p s (wait_cost fired.rest + sort_cost (pen_sort fired.penalty)) a kind phase fired
     open-well a kind phase r holds at = record {
@@ -235,6 +240,6 @@ module _ (p : Params) (s : State) (kept : Kept s) (ended : Ended false s.waiting
         by_once once h e = known-once h
         by_once x h e = cc
 
-        by_ready : (x : Kind) → Holds p s a x → x ≡ ready → (Output.is_int fired.penalty Asked.clear_penalty ≡ true) × (footnotes (record s { boxes = fired.boxes }) ≡ [])
+        by_ready : (x : Kind) → Holds p s a x → x ≡ ready → (Output.is_int fired.penalty Asked.clear_penalty ≡ true) × (standing_notes (footnotes (record s { boxes = fired.boxes })) ≡ [])
         by_ready ready h e = known-ready h
         by_ready x h e = cc

@@ -108,6 +108,7 @@ item-ended ks p two line (items.Float x vert) f = by_taking (has_second p && two
     by_taking true = (tt, tt)
     by_taking false = firings-ended line (acts.Take x) vert
 item-ended ks p two line (items.Margin x vert) f = firings-ended line (acts.TakeMargin x) vert
+item-ended ks p two line (items.Head x) f = (tt, tt)
 item-ended ks p two line items.ClearPage f = clear-ended line
 item-ended ks p two line items.OneColumn f = (tt, (λ h. cc, (tt, (tt, (λ h. refl, (tt, tt))))))
 item-ended ks p two line items.TwoColumn f = (tt, (λ h. cc, (tt, (tt, (λ h. refl, (tt, tt))))))
@@ -142,6 +143,7 @@ item-spaced ks p two line (items.Float x vert) f = by_taking (has_second p && tw
     by_taking true = (tt, tt)
     by_taking false = firings-spaced line (acts.Take x) vert
 item-spaced ks p two line (items.Margin x vert) f = firings-spaced line (acts.TakeMargin x) vert
+item-spaced ks p two line (items.Head x) f = (tt, tt)
 item-spaced ks p two line items.ClearPage f = clear-spaced line
 item-spaced ks p two line items.OneColumn f = (tt, (λ h. cc, (tt, (tt, (λ h. refl, (tt, tt))))))
 item-spaced ks p two line items.TwoColumn f = (tt, (λ h. cc, (tt, (tt, (λ h. refl, (tt, tt))))))
@@ -220,7 +222,7 @@ module _ (g : Galley) (calm : int_le g.params.interlinepenalty eject_penalty ≡
 
   -- a run that has a reason to end for its dead cycles had as many as there may be, and those were few
   no-reason : (e : End) → HasReason g.params e → RunCycles (most + 3) e → HasRoomForCycles g → EndsWithinCycles e
-  no-reason (dead_cycles n) h k c = no-room (cycling_items g.items) n g.params.maxdeadcycles c h k
+  no-reason (dead_cycles n) h k c = no-room (cycling_items g.items) n g.params.maxdeadcycles c.1 h k
     where
       no-room : (i n : ℕ) (d : ℤ) → pos (4 * i + 16) ≤ℤ d → d ≤ℤ pos n → n ≤ 4 * i + 3 + 3 → ⊥
       no-room i n d a b e = let h : 4 * i + 16 ≤ n = grind (arith, ints, a, b) in omega arith

@@ -11,7 +11,7 @@ use Rattle.tb_builder.specs.FiredPages.{Fired}
 use Rattle.tb_laws.proofs.PageBreaks.FittingFired.{Fitted}
 use Rattle.tb_laws.proofs.PageBreaks.PausedPages.{Paused}
 use Rattle.tb_float.specs.Lists.{FloatLists}
-use Rattle.tb_column.specs.Column.{Notes}
+use Rattle.tb_column.specs.Column.{Notes, standing_notes}
 use Rattle.tb_output.specs.State.{State, Work, begun, footnotes, has_floats}
 use Rattle.tb_output.specs.Clear
 use Rattle.tb_output.specs.Output
@@ -24,9 +24,9 @@ use Rattle.tb_laws.proofs.DeadCycles.WaitCosts.{wait_cost, cost-append}
 use Rattle.tb_output.proofs.StepLaws.FollowLemmas.{waiting_floats}
 use Rattle.tb_laws.proofs.DeadCycles.ClearOutcomes.{NoneWait, Fits, Single, WaitsWell, How, ClearOut, halves, more, gathered, gathered-count, halved-state, clear-all}
 use Rattle.tb_laws.proofs.DeadCycles.ClearCases.{clear-out}
-use Rattle.tb_laws.proofs.StepLaws.WideLemmas.{KeepsDouble, clear_by-double}
+use Rattle.tb_laws.proofs.StepLaws.WideLemmas.{KeepsDouble, clear_floats-double}
 use Rattle.tb_laws.proofs.StepLaws.SideLemmas.{narrow-lists, wide-second, none-second}
-use Rattle.tb_laws.proofs.StepLaws.SideSteps.{clear_by-sides}
+use Rattle.tb_laws.proofs.StepLaws.SideSteps.{clear_floats-sides}
 use Rattle.tb_laws.proofs.DeadCycles.ServeOutcomes.{AllCurrent, current_floats, way_floats}
 use Rattle.tb_laws.proofs.DeadCycles.CycleStates.{Kind, any, doubled, once, topped, ready, halted, clean, single, closed, credit, IsSecond, Holds, Phase, starting, second, ending, phase_cost, PhaseHolds, FloatsFit, Bounded, GoalOut, goal-out}
 use Rattle.tb_laws.proofs.DeadCycles.CycleFirings.{at-ordinary, at-serve, at-hold}
@@ -77,9 +77,9 @@ module _ (p : Params) (m : ℕ) (s : State) (total a : ℕ) (kind : Kind) (phase
     (weight : total + 2 * way_floats s.floats + credit kind ≤ m + 2 * a)
     (bound : s.dead_cycles + total + 2 * way_floats s.floats + credit kind + phase_cost phase ≤ m + 2 + 2 * a)
     (well : FiresWell p s total a kind phase f)
-    (special : int_le eject_penalty f.penalty ≡ false) (clears : Output.is_int f.penalty Asked.clear_penalty ≡ true) (void : footnotes (record s { boxes = f.boxes }) ≡ []) where
+    (special : int_le eject_penalty f.penalty ≡ false) (clears : Output.is_int f.penalty Asked.clear_penalty ≡ true) (void : standing_notes (footnotes (record s { boxes = f.boxes })) ≡ []) where
   abbrev w0 : Work
-  w0 = begun (Output.after_page s f)
+  w0 = Clear.without_notes (begun (Output.after_page s f))
 
   abbrev v : Work
   v = Clear.clear_floats p f.body w0
@@ -146,13 +146,13 @@ module _ (p : Params) (m : ℕ) (s : State) (total a : ℕ) (kind : Kind) (phase
 
   pub v-fits : FloatsFit p v.state
   v-fits =
-      let x : KeepsDouble w0 v = clear_by-double p f.body w0 [] in
+      let x : KeepsDouble w0 v = clear_floats-double p f.body w0 in
       record {
         fit = clear-all (Fits p) p f.body w0 floats.fit;
         current = subst (AllCurrent (Fits p)) (sym v-current) floats.current;
         single = λ k. let y = floats.single (sym v-columns ∙ k) in (clear-all Single p f.body w0 y.0, subst (AllCurrent Single) (sym v-current) y.1);
         double = x.by (record { wide = floats.double.wide; none = floats.double.none });
-        sides = clear_by-sides p f.body w0 [] (record { wide = floats.double.wide; none = floats.double.none }) floats.sides;
+        sides = clear_floats-sides p f.body w0 (record { wide = floats.double.wide; none = floats.double.none }) floats.sides;
         narrow = λ k. subst (AllCurrent Single) (sym v-current) (floats.narrow k);
       }
 
@@ -431,9 +431,9 @@ module _ (p : Params) (m : ℕ) (s : State) (total a : ℕ) (kind : Kind) (phase
   Result w = w.refused ≡ false → Bounded p m (Output.waiting_again f (Output.next_goal p f.penalty w)).state
 
   at-clear : int_le eject_penalty f.penalty ≡ false → Output.is_int f.penalty Asked.clear_penalty ≡ true → Result (Clear.clear p f.body started)
-  at-clear h k = by_notes (footnotes (record s { boxes = f.boxes })) refl
+  at-clear h k = by_notes (standing_notes (footnotes (record s { boxes = f.boxes }))) refl
     where
-      by_notes : (o : List Notes) → footnotes (record s { boxes = f.boxes }) ≡ o → Result (Clear.clear_by p f.body started o)
+      by_notes : (o : List Notes) → standing_notes (footnotes (record s { boxes = f.boxes })) ≡ o → Result (Clear.clear_by p f.body started o)
       by_notes [] e r = at-void p m s total a kind phase f calm holds at floats weight bound well h k e r
       by_notes (head ∷ notes) e r = with-notes p m s total a kind phase f calm holds at floats weight bound well h k head notes e r
 

@@ -7,7 +7,7 @@ use Rattle.tb_scaled.specs.Glue.{filling_glue}
 use Rattle.tb_node.specs.PlainNodes.{PlainNode, made, skip}
 use Rattle.tb_param.specs.declared.Params.{Params}
 use Rattle.tb_builder.specs.FiredPages.{Fired}
-use Rattle.tb_column.specs.Column.{Notes, text_column}
+use Rattle.tb_column.specs.Column.{Notes, standing_notes}
 use Rattle.tb_output.specs.State.{State, Work, begun, footnotes}
 use Rattle.tb_output.specs.Columns
 use Rattle.tb_output.specs.Clear
@@ -36,7 +36,7 @@ pub record FiresHigh (p : Params) (s : State) (total n : ℕ) (stage : Stage) (f
   pub well : FiresWell p s total n any (phase_of stage) f
   pub spaced : Spaced true f.rest
   pub behind : Output.is_int f.penalty Asked.clear_penalty ≡ true → Spaced false f.rest
-  pub guard : stage ≡ guarded → Output.is_int f.penalty Asked.clear_penalty ≡ true → footnotes (record s { boxes = f.boxes }) ≡ [] → ⊥
+  pub guard : stage ≡ guarded → Output.is_int f.penalty Asked.clear_penalty ≡ true → standing_notes (footnotes (record s { boxes = f.boxes })) ≡ [] → ⊥
 
 again-spaced : (b : Bool) → Spaced b Clear.clear_again
 again-spaced b = (tt, (λ h. cc, (tt, (tt, (λ h. refl, tt)))))
@@ -229,7 +229,7 @@ module _ (p : Params) (m : ℕ) (s : State) (total a : ℕ) (stage : Stage) (f :
     abbrev n : Notes → List Notes → Work
     n head notes = Clear.clear_by p f.body w0 (head ∷ notes)
 
-    with-notes : (head : Notes) (notes : List Notes) → footnotes w0.state ≡ head ∷ notes → Result (Clear.clear_by p f.body w0 (head ∷ notes))
+    with-notes : (head : Notes) (notes : List Notes) → standing_notes (footnotes w0.state) ≡ head ∷ notes → Result (Clear.clear_by p f.body w0 (head ∷ notes))
     with-notes head notes e r = by_columns s.two_columns s.first_column refl refl
       where
         region : (bs : List PlainNode) → AllByRecursion Idle (sorts bs) → Again (suc d) (sorts (n head notes).put_back ++ (sorts bs ++ sorts f.rest))
@@ -248,11 +248,11 @@ module _ (p : Params) (m : ℕ) (s : State) (total a : ℕ) (stage : Stage) (f :
             sums b r y y' h i j k = omega arith
 
         shipped : (s.two_columns ≡ false) ⊎ (s.first_column ≡ false) → BoundedHigh p m (after p m f well.held (n head notes))
-        shipped l = out-by (n head notes) (suc d) region fits spaced paid (last-ships (Fits p) p (text_column p w0.state.floats (f.body ++ made (skip filling_glue) ∷ []) (footnotes w0.state)) (Columns.without_column_floats w0) l r)
+        shipped l = out-by (n head notes) (suc d) region fits spaced paid (last-ships (Fits p) p (Columns.text_of p w0.state (f.body ++ made (skip filling_glue) ∷ [])) (Columns.without_column_floats w0) l r)
 
         kept : s.two_columns ≡ true → s.first_column ≡ true → BoundedHigh p m (after p m f well.held (n head notes))
         kept t c =
-            let k : IsKept (Fits p) p (Columns.without_column_floats w0) q = first-kept (Fits p) p (text_column p w0.state.floats (f.body ++ made (skip filling_glue) ∷ []) (footnotes w0.state)) (Columns.without_column_floats w0) t c in
+            let k : IsKept (Fits p) p (Columns.without_column_floats w0) q = first-kept (Fits p) p (Columns.text_of p w0.state (f.body ++ made (skip filling_glue) ∷ [])) (Columns.without_column_floats w0) t c in
             kept-by (n head notes) (suc d) region fits spaced paid t c (q-out p big s total a any (phase_of stage) f calm tt at floats big-weight big-bound well special clears).columns k.first k.cycles
 
         by_columns : (t c : Bool) → s.two_columns ≡ t → s.first_column ≡ c → BoundedHigh p m (after p m f well.held (n head notes))
@@ -262,14 +262,14 @@ module _ (p : Params) (m : ℕ) (s : State) (total a : ℕ) (stage : Stage) (f :
 
     -- without footnotes
 
-    module _ (void : footnotes (record s { boxes = f.boxes }) ≡ []) where
+    module _ (void : standing_notes (footnotes (record s { boxes = f.boxes })) ≡ []) where
       abbrev v : Work
-      v = Clear.clear_floats p f.body w0
+      v = Clear.clear_floats p f.body (Clear.without_notes w0)
 
       abbrev v-done : State
-      v-done = after p m f well.held (Clear.clear_floats p f.body w0)
+      v-done = after p m f well.held (Clear.clear_floats p f.body (Clear.without_notes w0))
 
-      abbrev k : ClearOut (Fits p) p f.body w0 (Clear.clear_floats p f.body w0)
+      abbrev k : ClearOut (Fits p) p f.body (Clear.without_notes w0) (Clear.clear_floats p f.body (Clear.without_notes w0))
       k = c p big s total a any (phase_of stage) f calm tt at floats big-weight big-bound well special clears void
 
       abbrev again : ℕ
@@ -382,18 +382,18 @@ module _ (p : Params) (m : ℕ) (s : State) (total a : ℕ) (stage : Stage) (f :
             by_cycles (inl e) = lowered last is-last (λ x. some-later) e stage-paid
             by_cycles (inr e) = shipped e
 
-      at-void : Result (Clear.clear_floats p f.body w0)
+      at-void : Result (Clear.clear_floats p f.body (Clear.without_notes w0))
       at-void r = by_how k.how
         where
-          by_how : How (Fits p) p w0 v k.half k.rest → BoundedHigh p m v-done
+          by_how : How (Fits p) p (Clear.without_notes w0) v k.half k.rest → BoundedHigh p m v-done
           by_how (inl h) = emptied r h.0 h.1 h.2 h.3
           by_how (inr (inl h)) = blanked h.0 h.1 h.2 h.3 h.4 h.5 h.6 r
           by_how (inr (inr h)) = shipped (h.0 r)
 
     at-clear : Result (Clear.clear p f.body w0)
-    at-clear = by_notes (footnotes (record s { boxes = f.boxes })) refl
+    at-clear = by_notes (standing_notes (footnotes (record s { boxes = f.boxes }))) refl
       where
-        by_notes : (x : List Notes) → footnotes (record s { boxes = f.boxes }) ≡ x → Result (Clear.clear_by p f.body w0 x)
+        by_notes : (x : List Notes) → standing_notes (footnotes (record s { boxes = f.boxes })) ≡ x → Result (Clear.clear_by p f.body w0 x)
         by_notes [] e r = at-void e r
         by_notes (head ∷ notes) e r = with-notes head notes e r
 

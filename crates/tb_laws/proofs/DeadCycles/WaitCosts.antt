@@ -26,6 +26,7 @@ act_cost (acts.Take f) = 2
 act_cost (acts.TakeMargin m) = 0
 act_cost (acts.Suppress area) = 0
 act_cost (acts.Page n) = 0
+act_cost (acts.Head f) = 2
 act_cost (acts.Columns two) = 1
 
 abbrev pub kind_cost : PlainKind → ℕ

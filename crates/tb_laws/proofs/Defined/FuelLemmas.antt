@@ -1,6 +1,6 @@
 -- Each firing that goes on lowers what is left of the firings, so the fuel of a run is never used up.
 use Rattle.std.proofs.Common.{◌≡◌, refl, ◌∙◌, ap, ℕ, zero, suc, pos, ◌≤ℤ◌, ◌+◌, ◌*◌, ◌-◌, ◌<◌, ◌≤◌, inl, inr, ◌⊎◌, Bool, true, false, List, [], ◌∷◌, ◌++◌, map, Option, Some, None, arith}
-use Rattle.std.specs.Prelude.{ℤ, pred, nat_abs, int_lt, int_le, if◌then◌else◌}
+use Rattle.std.specs.Prelude.{ℤ, pred, nat_abs, int_lt, int_le, if◌then◌else◌, not}
 use Rattle.std.proofs.lemmas.Int.{ints}
 use Rattle.std.proofs.lemmas.Nat.{mul-le}
 use Rattle.tb_scaled.specs.Scaled.{awful_bad, min_ℤ}
@@ -13,7 +13,7 @@ use Rattle.tb_builder.specs.FiredPages.{Fired, reach_of, fired_of}
 use Rattle.tb_float.specs.Lists.{live_count}
 use Rattle.tb_sheet.specs.declared.Warn.{Warn}
 use Rattle.tb_output.specs.State.{State, Recorded, emptied, begun, Work}
-use Rattle.tb_output.specs.Act.{Acted, went, full, act_on}
+use Rattle.tb_output.specs.Act.{Acted, went, full, act_on, has_head_room}
 use Rattle.tb_output.specs.Output.{out, after_page}
 use Rattle.tb_laws.proofs.StepLaws.TurnLemmas.{Turned, out-turned}
 use Rattle.tb_laws.specs.Firings.{HasReason}
@@ -41,6 +41,7 @@ act-counts p s (acts.Take f) = by_room s (int_le p.pool (pos (live_count s.float
 act-counts p s (acts.TakeMargin m) = by_room s (int_lt p.pool (pos (live_count s.floats + 2))) _ _ _ _ _ (refl, refl)
 act-counts p s (acts.Suppress area) = (refl, refl)
 act-counts p s (acts.Page n) = (refl, refl)
+act-counts p s (acts.Head f) = by_room s (not (has_head_room p s)) _ _ _ _ _ (refl, refl)
 act-counts p s (acts.Columns two) = (refl, refl)
 
 by_act-counts : (later : State → Progress) (s : State) → ((t : State) → SameCounts t (later t).state) → (a : Acted) → CountsKept s a → SameCounts s (progress_by later s a).state

@@ -42,6 +42,9 @@ params-runnable p h =
         split_depth = dim-extent (pos 0) p.footsplitdepth (omega (arith, ints)) (all-at test rows 29 _ refl h);
         split_top = dim-extent (pos 0) p.footsplittop (omega (arith, ints)) (all-at test rows 28 _ refl h);
         floating = floating p.footfloating (all-at test rows 30 _ refl h);
+        enlarging_depth = dim-extent (pos 0) p.splitmaxdepth (omega (arith, ints)) (all-at test rows 32 _ refl h);
+        enlarging_top = dim-extent (pos 0) p.splittopskip (omega (arith, ints)) (all-at test rows 31 _ refl h);
+        enlarging_floating = floating p.floatingpenalty (all-at test rows 33 _ refl h);
       };
     }
 

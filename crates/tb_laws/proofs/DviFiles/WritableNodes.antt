@@ -28,13 +28,15 @@ use Rattle.tb_builder.specs.Reach.{Reached, acted, tried, Reach, also_reached, p
 use Rattle.tb_builder.specs.FiredPages.{Boxed, Fired, page_break, from_break, spent_kind, with_spent_break, given_by, given_to, is_given, content_of, box_after, unless_empty, held_of, held_insertions, fired_by}
 use Rattle.tb_float.specs.Lists.{FloatLists}
 use Rattle.tb_margin.specs.Margin.{note_height, note_depth}
-use Rattle.tb_report.specs.Lines.{where_text, side_text}
-use Rattle.tb_text.specs.Fields.{and_count, and_text}
-use Rattle.tb_column.specs.Column.{Notes, is_no_glue, glue_if_any, rule_if_any, kern_if_any, foot_kern, floats_with, floats_above, floats_below, floats_after, floats_column, feet_above, above_class, class_below, notes_below, notes_among, text_above_feet, text_nodes, closing_glue, text_column, pair_floats}
+use Rattle.tb_report.specs.Lines.{float_label, side_text}
+use Rattle.tb_text.specs.Fields.{and_text}
+use Rattle.tb_column.specs.declared.Enlarged.{Enlarged}
+use Rattle.tb_column.specs.Column.{Notes, is_no_glue, glue_if_any, rule_if_any, kern_if_any, foot_kern, floats_with, floats_above, floats_below, floats_after, floats_column, feet_above, above_class, class_below, notes_below, notes_among, text_above_feet, text_nodes, closing_glue, text_column, pair_floats, pair_rule}
 use Rattle.tb_column.specs.Ranges.{IsSizedRule, AreColumnParams}
 use Rattle.tb_column.proofs.ColumnParts.{below-has, among-have}
 use Rattle.tb_sheet.specs.Sheet.{PlainSheet, one, wide, two}
 use Rattle.tb_dvi.specs.Placement.{Spot, matter_spot}
+use Rattle.tb_column.proofs.PageLemmas.{pair_rule-sized}
 
 -- ---- what has bytes
 
@@ -50,7 +52,7 @@ WritableLeaves ls = AllByRecursion (λ l. WritableMatter l.matter) ls
 
 -- a float has bytes wherever it is placed
 abbrev pub WritableFloat : Float → Type 0
-WritableFloat f = ((place : Where) → length (codes "float " ++ f.name ++ and_count f.class ++ and_text (where_text place)) < 256) × FitsSigned w32 f.height
+WritableFloat f = ((place : Where) → length (float_label f.name f.class place) < 256) × FitsSigned w32 f.height
 
 abbrev pub WritableFloats : List Float → Type 0
 WritableFloats fs = AllByRecursion WritableFloat fs
@@ -64,6 +66,7 @@ WritableAct (acts.Take f) = WritableFloat f
 WritableAct (acts.TakeMargin m) = WritableNote m
 WritableAct (acts.Suppress area) = Unit {0}
 WritableAct (acts.Page n) = n ≤ 1000000
+WritableAct (acts.Head f) = WritableFloat f
 WritableAct (acts.Columns pair) = Unit {0}
 
 abbrev pub WritableKind : PlainKind → Type 0
@@ -325,8 +328,8 @@ all-notes : (p : Params) (ranges : AreColumnParams p) (kern : Option ℤ) (ns : 
 all-notes p ranges kern [] h = tt
 all-notes p ranges kern (n ∷ ns) h = nodes-join (class_below p kern n) (notes_below p kern ns) (class-notes p ranges kern n h.0) (all-notes p ranges kern ns h.1)
 
-pub text-writable : (p : Params) → AreColumnParams p → (l : FloatLists) (body : List PlainNode) (notes : List Notes) → WritableFloats l.top → WritableFloats l.bottom → WritableNodes body → WritableNotes notes → WritableNodes (text_column p l body notes).nodes
-text-writable p ranges l body notes top bottom h g =
+pub text-writable : (p : Params) → AreColumnParams p → (l : FloatLists) (body : List PlainNode) (notes : List Notes) (higher : Enlarged) → WritableFloats l.top → WritableFloats l.bottom → WritableNodes body → WritableNotes notes → WritableNodes (text_column p l body notes higher).nodes
+text-writable p ranges l body notes higher top bottom h g =
     let texts = text_nodes p l body notes in
     let tops = floats_above places.Top p.floatsep p.toprule p.textfloatsep l.top in
     let bottoms = floats_below places.Bottom p.floatsep p.bottomrule p.textfloatsep l.bottom in
@@ -342,7 +345,7 @@ text-writable p ranges l body notes top bottom h g =
     (glue-if p.textbottom)
 
 pub pair-writable : (p : Params) → AreColumnParams p → (l : FloatLists) → WritableFloats l.double → WritableNodes (pair_floats p l)
-pair-writable p ranges l h = floats-above places.Double p.dblfloatsep p.dblrule p.dbltextfloatsep l.double ranges.dblrule h
+pair-writable p ranges l h = floats-above places.Double p.dblfloatsep (pair_rule p l) p.dbltextfloatsep l.double (pair_rule-sized p l ranges.dblrule) h
 
 abbrev pub WritableSheet : PlainSheet → Type 0
 WritableSheet (one c) = WritableNodes c.nodes

@@ -1,6 +1,6 @@
 -- Each page that a run of a valid galley ships has bytes in a DVI file.
-use Rattle.std.proofs.Common.{ℕ, zero, suc, ℤ, pos, negsuc, ◌+ℤ◌, ◌≤◌, ◌<◌, Bool, true, false, List, [], ◌∷◌, ◌++◌, map, length, Option, Some, None, FitsSigned, arith}
-use Rattle.std.specs.Prelude.{pred, ◌&&◌, ◌||◌, ◌==◌, nat_le, int_lt, int_le, IsTrue, codes, decimal, if◌then◌else◌}
+use Rattle.std.proofs.Common.{◌≡◌, refl, ℕ, zero, suc, ℤ, pos, negsuc, ◌+ℤ◌, ◌≤◌, ◌<◌, Bool, true, false, List, [], ◌∷◌, ◌++◌, map, length, Option, Some, None, FitsSigned, arith}
+use Rattle.std.specs.Prelude.{pred, ◌&&◌, ◌||◌, ◌==◌, nat_le, int_lt, int_le, IsTrue, codes, decimal, if◌then◌else◌, not}
 use Rattle.std.specs.Int.{w32}
 use Rattle.std.specs.List.{AllByRecursion, list_all}
 use Rattle.std.proofs.lemmas.Int.{ints}
@@ -29,9 +29,9 @@ use Rattle.tb_galley.specs.declared.Item.{Item}
 use Rattle.tb_galley.specs.declared.ItemKind.{ItemKind}
 use Rattle.tb_galley.specs.declared.ItemKind.TheVariants as items
 use Rattle.tb_galley.specs.declared.Galley.{Galley}
-use Rattle.tb_galley.specs.GalleyNodes.{plain_leaf, with_firings, item_kinds, two_after, item_nodes, expanded}
+use Rattle.tb_galley.specs.GalleyNodes.{plain_leaf, with_firings, enlarge_list, item_kinds, two_after, item_nodes, expanded}
 use Rattle.tb_galley.specs.declared.ClassLine.{ClassLine}
-use Rattle.tb_galley.specs.Valid.{is_size, is_leaf, is_float, is_margin, is_item, IsValid, may_stand, do_all_stand}
+use Rattle.tb_galley.specs.Valid.{is_size, is_leaf, is_float, is_margin, is_item, IsValid, may_stand, do_all_stand, is_head, is_top_alone}
 use Rattle.tb_insert.specs.declared.Class.{Class}
 use Rattle.tb_insert.specs.Account.{terms_after}
 use Rattle.tb_break.specs.PageTop.{pruned_nodes}
@@ -48,11 +48,11 @@ use Rattle.tb_sheet.specs.Sheet.{PlainSent, warned}
 use Rattle.tb_column.specs.Ranges.{AreColumnParams}
 use Rattle.tb_column.proofs.RangeLemmas.{column-params}
 use Rattle.tb_output.specs.State.{State, Work, Recorded, emptied, first_state, void_boxes}
-use Rattle.tb_output.specs.Act.{Acted, went, full, act_on, taken_float, lists_with_taken}
+use Rattle.tb_output.specs.Act.{Acted, went, full, act_on, taken_float, lists_with_taken, has_head_room, taken_head}
 use Rattle.tb_output.specs.Output.{out}
 use Rattle.tb_steps.specs.Run.{Run, done, dead_cycles, page_limit, node_limit, Progress, progress_by, progress, Step, ends, goes_on, held_count, after_firing, fire, after_progress, step, run_by, run_from, firings_left, run_of, ask_for}
 use Rattle.tb_items.specs.RunEvents.{RunEvent, offered, sent}
-use Rattle.tb_items.specs.Classes.{classes_of, foot_class, class_of}
+use Rattle.tb_items.specs.Classes.{classes_of, foot_class, enlarging_class, class_of}
 use Rattle.tb_laws.proofs.DviFiles.WritableNodes.{WritableLeaves, WritableFloat, WritableNote, WritableAct, WritableNodes, nodes-join, nodes-pruned, WritableReached, WritableReach, reached-writable, WritableBoxes, fired-writable}
 use Rattle.tb_items.proofs.GalleyClasses.{standing-rule}
 use Rattle.tb_laws.proofs.DviFiles.WritableWorks.{WritableLists, WritableState, WritableSent, WritableWork, out-writable, WritableClasses}
@@ -87,6 +87,7 @@ module _ (p : Params) (height : FitsSigned w32 p.textheight) where
   acts-on s (acts.TakeMargin m) h g = acted-if _ _ _ _ _ _ (h.0, h.1, h.2, (all-join _ s.floats.current (entries.Left m ∷ entries.Right m ∷ []) h.3.0 (g, (tt, tt)), h.3.1, h.3.2, h.3.3, h.3.4, h.3.5), h.4, h.5, h.6)
   acts-on s (acts.Suppress area) h g = h
   acts-on s (acts.Page n) h g = let fits : n ≤ 1000000 = g in (h.0, h.1, h.2, h.3, h.4, omega (arith, fits), h.6)
+  acts-on s (acts.Head f) h g = acted-if (not (has_head_room p s)) _ _ _ _ _ (h.0, h.1, h.2, (h.3.0, h.3.1, h.3.2, h.3.3, all-join WritableFloat s.floats.double (taken_head p f ∷ []) h.3.4 ((g.0, min-fits f.height p.textheight g.1 height), tt), h.3.5), h.4, h.5, h.6)
   acts-on s (acts.Columns pair) h g = (h.0, h.1, h.2, h.3, tt, h.5, h.6)
 
   -- ---- events
@@ -235,20 +236,38 @@ side-short sides.Right = omega arith
 class-small : (k : ℕ) → IsTrue (is_between 1 26 k) → k < 100
 class-small k v = grind (arith, v)
 
+-- a float with such a class has bytes, and so has a title
+named-writable : (f : Float) → IsTrue (is_name f.name) → f.class < 100 → IsTrue (is_size f.height) → WritableFloat f
+named-writable f name k size =
+    let n : length f.name ≤ 63 = name-short f.name name in
+    let d : length (decimal f.class) ≤ 2 = length-decimal-le 2 f.class (omega arith) k (omega arith) in
+    ((λ place. label place n d (f.class == 0)), height-fits f.height size)
+  where
+    label : (place : Where) → length f.name ≤ 63 → length (decimal f.class) ≤ 2 → (b : Bool) → length (if b then codes "head " ++ f.name else codes "float " ++ f.name ++ and_count f.class ++ and_text (where_text place)) < 256
+    label place n d true = omega (arith, n, length-append (codes "head ") f.name)
+    label place n d false =
+        let w = where-short place in
+        omega (arith, n, d, w, length-append (codes "float " ++ f.name ++ and_count f.class) (and_text (where_text place)), length-append (codes "float " ++ f.name) (and_count f.class), length-append (codes "float ") f.name)
+
 float-writable : (f : Float) → IsTrue (is_float f) → WritableFloat f
 float-writable f v =
     let a = and_parts (is_name f.name && is_between 1 26 f.class && (f.places.h || f.places.t || f.places.b || f.places.p)) (is_size f.height) v in
     let b = and_parts (is_name f.name && is_between 1 26 f.class) (f.places.h || f.places.t || f.places.b || f.places.p) a.0 in
     let c = and_parts (is_name f.name) (is_between 1 26 f.class) b.0 in
-    let n : length f.name ≤ 63 = name-short f.name c.0 in
-    let k : f.class < 100 = class-small f.class c.1 in
-    let d : length (decimal f.class) ≤ 2 = length-decimal-le 2 f.class (omega arith) k (omega arith) in
-    ((λ place. label place n d), height-fits f.height a.1)
+    named-writable f c.0 (class-small f.class c.1) a.1
+
+head-writable : (f : Float) → IsTrue (is_head f) → WritableFloat f
+head-writable f v =
+    let a = and_parts (is_name f.name && is_size f.height) ((f.class == 0) && f.wide && is_top_alone f.places && f.bang && not (f.deep || f.nobreak)) v in
+    let b = and_parts (is_name f.name) (is_size f.height) a.0 in
+    named-writable f b.0 (none-small f.class (first-of (f.class == 0) f.wide (is_top_alone f.places) f.bang (not (f.deep || f.nobreak)) a.1)) b.1
   where
-    label : (place : Where) → length f.name ≤ 63 → length (decimal f.class) ≤ 2 → length (codes "float " ++ f.name ++ and_count f.class ++ and_text (where_text place)) < 256
-    label place n d =
-        let w = where-short place in
-        omega (arith, n, d, w, length-append (codes "float " ++ f.name ++ and_count f.class) (and_text (where_text place)), length-append (codes "float " ++ f.name) (and_count f.class), length-append (codes "float ") f.name)
+    first-of : (a b c d e : Bool) → (a && b && c && d && e) ≡ true → a ≡ true
+    first-of true b c d e h = refl
+    first-of false b c d e h = h
+
+    none-small : (k : ℕ) → (k == 0) ≡ true → k < 100
+    none-small k e = grind (arith, nat_tests, e)
 
 note-writable : (m : Margin) → IsTrue (is_margin m) → WritableNote m
 note-writable m v =
@@ -274,6 +293,11 @@ item-writable p two n (items.Penalty q) v = (tt, tt)
 item-writable p two n (items.Mark name) v = ((short (codes "mark ") name (omega arith) (name-short name v), tt), tt)
 item-writable p two n (items.Note name) v = ((short (codes "note ") name (omega arith) (name-short name v), tt), tt)
 item-writable p two n (items.Foot class ls) v = (all-leaves ls v, tt)
+item-writable p two n (items.Enlarge by star) v = (enlarge-writable star, tt)
+  where
+    enlarge-writable : (t : Bool) → WritableLeaves (enlarge_list by t)
+    enlarge-writable true = (tt, (tt, tt))
+    enlarge-writable false = (tt, tt)
 item-writable p two n (items.Float f vert) v = by_taking (has_second p && two && f.wide)
   where
     float : WritableFloat f
@@ -291,6 +315,7 @@ item-writable p two n items.OneColumn v = (tt, (tt, (tt, (tt, (tt, (tt, tt))))))
 item-writable p two n items.TwoColumn v = (tt, (tt, (tt, (tt, (tt, (tt, tt))))))
 item-writable p two n (items.Suppress area) v = (tt, tt)
 item-writable p two n (items.Page k) v = let fits : k ≤ 1000000 = grind (arith, nat_tests, v) in (fits, tt)
+item-writable p two n (items.Head f) v = (head-writable f (and_parts (f.line == n) (is_head f) v).1, tt)
 
 items-writable : (p : Params) (two : Bool) (ns : List Item) → IsTrue (list_all (λ n. is_item n.line n.kind) ns) → WritableNodes (item_nodes p two ns)
 items-writable p two [] v = tt
@@ -306,10 +331,10 @@ void : (cs : List Class) → WritableBoxes (void_boxes cs)
 void [] = tt
 void (c ∷ cs) = (tt, void cs)
 
-foot-writable : (p : Params) → WritableClasses (foot_class p ∷ [])
-foot-writable p = (tt, tt)
+foot-writable : (p : Params) → WritableClasses (foot_class p ∷ enlarging_class ∷ [])
+foot-writable p = (tt, (tt, tt))
 
-lines-writable : (version : ℕ) (p : Params) (cs : List ClassLine) → IsTrue (do_all_stand version cs) → WritableClasses (map class_of cs ++ foot_class p ∷ [])
+lines-writable : (version : ℕ) (p : Params) (cs : List ClassLine) → IsTrue (do_all_stand version cs) → WritableClasses (map class_of cs ++ foot_class p ∷ enlarging_class ∷ [])
 lines-writable version p [] v = foot-writable p
 lines-writable version p (c ∷ cs) v =
     let parts = and_parts (may_stand version c.below) (do_all_stand version cs) v in (standing-rule version c.below parts.0, lines-writable version p cs parts.1)

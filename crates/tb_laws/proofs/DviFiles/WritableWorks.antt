@@ -23,7 +23,7 @@ use Rattle.tb_float.specs.Lists.{FloatLists, floats_of, with_floats_of, wide_wai
 use Rattle.tb_float.specs.Rooms.{column_height_of}
 use Rattle.tb_fpage.proofs.FirstLemmas.{company-all}
 use Rattle.tb_fpage.specs.Company.{chosen_floats, left_floats}
-use Rattle.tb_column.specs.Column.{Notes, PlainColumn, wide_floats_column}
+use Rattle.tb_column.specs.Column.{Notes, PlainColumn, standing_notes, enlarged_of, wide_floats_column}
 use Rattle.tb_column.specs.Ranges.{AreColumnParams, IsSizedRule}
 use Rattle.tb_sheet.specs.Sheet.{PlainSheet, one, wide, pair_sheet, PlainSent, warned, shipped}
 use Rattle.tb_area.specs.Area.{where_of}
@@ -36,9 +36,10 @@ use Rattle.tb_output.specs.Clear.{clear_again, cleared_front, deferred_again, do
 use Rattle.tb_output.specs.Output.{blank_column, out}
 use Rattle.tb_output.specs.Firing.{page_work}
 use Rattle.tb_output.proofs.StepLaws.RefusedSteps.{by-sends, by-records, by-ship}
-use Rattle.tb_output.proofs.StepLaws.Moves.{Hand, nothing, of_text, of_column, of_float, of_note, deferred_float, ColumnMove, takes_company, records_column, ships_column, keeps_left, ships_pair, ends_column, ships_wide, places_double, places_next, PageMove, by_column, by_fill, takes_text, fills_text, keeps_front, gathers, gathers_wide, leaves_second, clears_again, TextMove, goes_back, places_current, defers_current, takes_float, stands_here, takes_note, stands_beside, puts_penalty, warns, Move, by_page, by_text, holds_page, leaves_blank, sets_goal, holds-on}
+use Rattle.tb_output.proofs.StepLaws.Moves.{Hand, nothing, of_text, of_column, of_float, of_note, deferred_float, ColumnMove, takes_company, records_column, ships_column, keeps_left, ships_pair, ends_column, ships_wide, places_double, places_next, PageMove, by_column, by_fill, takes_text, fills_text, drops_notes, keeps_front, gathers, gathers_wide, leaves_second, clears_again, TextMove, goes_back, places_current, defers_current, takes_float, stands_here, takes_note, stands_beside, puts_penalty, warns, Move, by_page, by_text, holds_page, leaves_blank, sets_goal, holds-on}
 use Rattle.tb_output.proofs.StepLaws.FiringTree.{page-moves}
-use Rattle.tb_laws.proofs.DviFiles.WritableNodes.{WritableFloat, WritableFloats, WritableNote, WritableNodes, nodes-join, nodes-take, WritableContent, WritableBoxes, WritableFired, floats-column, WritableNotes, text-writable, pair-writable, WritableSheet}
+use Rattle.tb_laws.proofs.StepLaws.StandingNotes.{standing-have}
+use Rattle.tb_laws.proofs.DviFiles.WritableNodes.{WritableFloat, WritableFloats, WritableNote, WritableNodes, nodes-join, nodes-take, WritableContent, WritableBoxes, WritableFired, floats-column, WritableNotes, WritableClass, text-writable, pair-writable, WritableSheet}
 
 -- ---- states
 
@@ -256,7 +257,8 @@ module _ (p : Params) where
         (tt, goes-to (where_of a) f (record w.state.floats { deferred = before ++ rest }) w g.0 (l.0, l.1, l.2, g.1, l.4, l.5) k.1)
     page-writable (takes_text body w) k =
         let s = k.1.0 in
-        (text-writable p ranges w.state.floats body (footnotes w.state) s.3.1 s.3.2 k.0 (notes-of w.state.classes w.state.boxes s.1 s.6), ((s.0, emptied w.state.boxes, s.2, (s.3.0, tt, tt, s.3.3, s.3.4, s.3.5), s.4, s.5, s.6), k.1.1, k.1.2))
+        (text-writable p ranges w.state.floats body (standing_notes (footnotes w.state)) (enlarged_of w.state.shrink (footnotes w.state)) s.3.1 s.3.2 k.0 (standing-have WritableClass (footnotes w.state) (notes-of w.state.classes w.state.boxes s.1 s.6)), ((s.0, emptied w.state.boxes, s.2, (s.3.0, tt, tt, s.3.3, s.3.4, s.3.5), s.4, s.5, s.6), k.1.1, k.1.2))
+    page-writable (drops_notes body w e) k = let s = k.1.0 in (k.0, ((s.0, emptied w.state.boxes, s.2, s.3, s.4, s.5, s.6), k.1.1, k.1.2))
     page-writable (fills_text body w) k = (nodes-join body (made (skip filling_glue) ∷ []) k.0 (tt, tt), k.1)
     page-writable (keeps_front body w) k = (tt, puts-more (cleared_front p body) w (nodes-take _ body k.0) k.1)
     page-writable (gathers w) k =

@@ -10,7 +10,7 @@ use Rattle.tb_param.specs.declared.Params.{Params}
 use Rattle.tb_float.specs.Lists.{FloatLists, with_wide_waiting}
 use Rattle.tb_float.specs.Rooms.{column_height_of}
 use Rattle.tb_fpage.specs.Company.{chosen_floats, left_floats}
-use Rattle.tb_column.specs.Column.{Notes, PlainColumn, text_column, single_floats_column, wide_floats_column, floats_above}
+use Rattle.tb_column.specs.Column.{Notes, PlainColumn, standing_notes, enlarged_of, single_floats_column, wide_floats_column, floats_above, pair_rule}
 use Rattle.tb_sheet.specs.Sheet.{PlainSheet, one, wide, PlainSent, warned, shipped, pair_sheet}
 use Rattle.tb_sheet.specs.declared.Warn.{Warn}
 use Rattle.tb_area.specs.Area.{where_of}
@@ -22,7 +22,7 @@ use Rattle.tb_output.specs.Text
 use Rattle.tb_output.specs.Output
 use Rattle.tb_output.specs.Clear
 use Rattle.tb_output.proofs.StepLaws.RefusedSteps.{by-sends, by-ship}
-use Rattle.tb_output.proofs.StepLaws.Moves.{Hand, nothing, of_text, of_column, of_float, of_note, ColumnMove, takes_company, records_column, ships_column, keeps_left, ships_pair, ends_column, ships_wide, places_double, places_next, PageMove, by_column, by_fill, takes_text, fills_text, TextMove, places_current, defers_current, takes_float, puts_penalty, warns, Move, by_page, by_text, Moves, goes-on, widen}
+use Rattle.tb_output.proofs.StepLaws.Moves.{Hand, nothing, of_text, of_column, of_float, of_note, ColumnMove, takes_company, records_column, ships_column, keeps_left, ships_pair, ends_column, ships_wide, places_double, places_next, PageMove, by_column, by_fill, takes_text, drops_notes, fills_text, TextMove, places_current, defers_current, takes_float, puts_penalty, warns, Move, by_page, by_text, Moves, goes-on, widen}
 use Rattle.tb_output.proofs.StepLaws.FiringTree.{ordinary-columns, clear_by-moves, float_or_note-moves, goal-moves}
 use Rattle.tb_laws.proofs.NothingLost.StateWeights.{ColumnsFit, first-left, one-left}
 use Rattle.tb_laws.proofs.Closed.Closings.{never}
@@ -194,8 +194,8 @@ pair-shows p c w d t f x = record {
   goes = x.goes;
   fit = λ h. tt;
   hand = λ s. tt;
-  shows = λ r h. subst (Within (shown w ++ prints c.nodes)) (all r) (inside (prints (floats_above places.Double p.dblfloatsep p.dblrule p.dbltextfloatsep w.state.floats.double)) (has-left w.state.left_column (fits h)));
-  plain = λ s h. (x.plain (above-plain places.Double p.dblfloatsep p.dblrule p.dbltextfloatsep w.state.floats.double, left-plain s w.state.left_column h.1, s) h.0, tt);
+  shows = λ r h. subst (Within (shown w ++ prints c.nodes)) (all r) (inside (prints (floats_above places.Double p.dblfloatsep (pair_rule p w.state.floats) p.dbltextfloatsep w.state.floats.double)) (has-left w.state.left_column (fits h)));
+  plain = λ s h. (x.plain (above-plain places.Double p.dblfloatsep (pair_rule p w.state.floats) p.dbltextfloatsep w.state.floats.double, left-plain s w.state.left_column h.1, s) h.0, tt);
 }
   where
     fits : Fits w → ColumnsFit true false w.state.left_column
@@ -219,7 +219,7 @@ pair-shows p c w d t f x = record {
         let d : Within (sent_prints w.sent ++ (left ++ here)) (sent_prints w.sent ++ (tops ++ last ++ here)) = both-within (sent_prints w.sent) (sent_prints w.sent) (left ++ here) (tops ++ last ++ here) (itself (sent_prints w.sent)) b in
         subst (Within (shown w ++ here)) (sym (append-nil (sent_prints w.sent ++ (tops ++ last ++ here)))) (subst (λ l. Within l (sent_prints w.sent ++ (tops ++ last ++ here))) (sym (append_assoc (sent_prints w.sent) left here)) d)
 
-    all : d.refused ≡ false → (sent_prints w.sent ++ (prints (floats_above places.Double p.dblfloatsep p.dblrule p.dbltextfloatsep w.state.floats.double) ++ prints (Pages.left_or c w.state.left_column).nodes ++ prints c.nodes)) ++ [] ≡ shown (Pages.without_double d)
+    all : d.refused ≡ false → (sent_prints w.sent ++ (prints (floats_above places.Double p.dblfloatsep (pair_rule p w.state.floats) p.dbltextfloatsep w.state.floats.double) ++ prints (Pages.left_or c w.state.left_column).nodes ++ prints c.nodes)) ++ [] ≡ shown (Pages.without_double d)
     all r = sym (ap (λ l. l ++ []) (page-more w.sent d.sent (x.sends_it r).0 (pair_sheet p w.state.floats (Pages.left_or c w.state.left_column) c) (x.sends_it r).1))
 
 -- ---- each move
@@ -244,8 +244,9 @@ module _ (p : Params) where
   page-shown (by_column m) = column-shows m
   page-shown (by_fill (places_next a f before rest w c e i)) = placed-shows p nothing (where_of a) f _ w (λ k. k) (itself (shown w))
   page-shown (takes_text body w) =
-      let c = text_column p w.state.floats body (footnotes w.state) in
-      alike (of_text body) (of_column c) w _ refl refl refl (λ k. k) (λ s. text-plain p w.state.floats body (footnotes w.state) s) (within-front (shown w) (prints c.nodes))
+      let c = Columns.text_of p w.state body in
+      alike (of_text body) (of_column c) w _ refl refl refl (λ k. k) (λ s. text-plain p w.state.floats body (standing_notes (footnotes w.state)) (enlarged_of w.state.shrink (footnotes w.state)) s) (within-front (shown w) (prints c.nodes))
+  page-shown (drops_notes body w e) = alike (of_text body) (of_text body) w _ refl refl refl (λ k. k) (λ k. k) (itself (shown w))
   page-shown (fills_text body w) = alike (of_text body) (of_text _) w w refl refl refl (λ k. k) (λ s. plain-both body (made (skip filling_glue) ∷ []) s (tt, tt)) (itself (shown w))
   page-shown {h = h} {a = a} {i = i} {b = b} m = alike h i a b refl refl refl (λ k. k) (λ k. tt) (itself (shown a))
 
@@ -278,12 +279,12 @@ module _ (p : Params) where
 
   pub ordinary-prints : (body : List PlainNode) (w : Work) → AllPlain body → Prints (prints body) w (Columns.ordinary p body w)
   ordinary-prints body w s =
-      let c = text_column p w.state.floats body (footnotes w.state) in
-      let x = columns-print (ordinary-columns p body w) (text-plain p w.state.floats body (footnotes w.state) s) in
-      fewer (prints body) (prints c.nodes) w (Columns.ordinary p body w) (text-prints p w.state.floats body (footnotes w.state)) (record { goes = x.goes; fit = x.fit; shows = x.shows; plain = x.plain })
+      let c = Columns.text_of p w.state body in
+      let x = columns-print (ordinary-columns p body w) (text-plain p w.state.floats body (standing_notes (footnotes w.state)) (enlarged_of w.state.shrink (footnotes w.state)) s) in
+      fewer (prints body) (prints c.nodes) w (Columns.ordinary p body w) (text-prints p w.state.floats body (standing_notes (footnotes w.state)) (enlarged_of w.state.shrink (footnotes w.state))) (record { goes = x.goes; fit = x.fit; shows = x.shows; plain = x.plain })
 
-  pub clear_by-prints : (body : List PlainNode) (w : Work) (o : List Notes) → AllPlain body → Prints [] w (Clear.clear_by p body w o)
-  clear_by-prints body w o s = moves-print (widen (λ h i a b m. by_page m) (clear_by-moves p body w o)) (λ l. refl) s
+  pub clear_by-prints : (body : List PlainNode) (w : Work) (o : List Notes) → standing_notes (footnotes w.state) ≡ o → AllPlain body → Prints [] w (Clear.clear_by p body w o)
+  clear_by-prints body w o e s = moves-print (widen (λ h i a b m. by_page m) (clear_by-moves p body w o e)) (λ l. refl) s
 
   pub float_or_note-prints : (vert : Bool) (body : List PlainNode) (w : Work) → AllPlain body → Prints [] w (Text.float_or_note p vert body w)
   float_or_note-prints vert body w s = moves-print (widen (λ h i a b m. by_text m) (float_or_note-moves p vert body w)) (λ l. refl) s

@@ -12,6 +12,7 @@ use Rattle.tb_builder.proofs.Cutting.CutLemmas.{AllCalm, AllFree, ActFree}
 use Rattle.tb_float.specs.Rooms.{column_room_of}
 use Rattle.tb_sheet.specs.Sheet.{warned}
 use Rattle.tb_sheet.specs.declared.Warn.TheVariants as warnings
+use Rattle.tb_column.specs.Column.{standing_notes}
 use Rattle.tb_output.specs.State.{State, Work, begun, footnotes}
 use Rattle.tb_output.specs.Columns
 use Rattle.tb_output.specs.Text
@@ -147,7 +148,7 @@ module _ (p : Params) (calm : int_le p.interlinepenalty eject_penalty ≡ false)
   clear-reads h k = at-clear (Reads f w (Clear.clear p f.body w)) (BreakStands b (seen_all none (sorts before)) f.rest) f.penalty h k (λ x. cleared x.0 x.1) stands
     where
       cleared : seen_all none (sorts before) ≡ one → b ≡ false → Reads f w (Clear.clear p f.body w)
-      cleared e g = shows-none (Clear.clear p f.body w) (clear_by-prints p f.body w (footnotes w.state) plain_body) (one-body e) (subst (λ l. Within l (prints (Clear.clear p f.body w).state.held_page ++ prints (Clear.clear p f.body w).put_back)) (sym (no-page g)) tt)
+      cleared e g = shows-none (Clear.clear p f.body w) (clear_by-prints p f.body w (standing_notes (footnotes w.state)) refl plain_body) (one-body e) (subst (λ l. Within l (prints (Clear.clear p f.body w).state.held_page ++ prints (Clear.clear p f.body w).put_back)) (sym (no-page g)) tt)
 
   pub output-reads : Reads f w (Output.output_by p f w)
   output-reads = by_penalty (int_le eject_penalty f.penalty) (Output.is_int f.penalty Asked.clear_penalty) (Output.is_int f.penalty Asked.par_penalty) (Output.is_int f.penalty Asked.vert_penalty) ordinary-reads clear-reads (serve-reads false) (serve-reads true) hold-reads

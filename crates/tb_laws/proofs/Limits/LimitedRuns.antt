@@ -1,6 +1,6 @@
 -- The floats that a run places keep the limits of their lists.
 use Rattle.std.proofs.Common.{sym, subst, ℕ, zero, suc, pos, ◌+◌, Bool, true, false, List, [], ◌∷◌, Option, Some, None}
-use Rattle.std.specs.Prelude.{ℤ, int_lt, int_le, if◌then◌else◌}
+use Rattle.std.specs.Prelude.{ℤ, int_lt, int_le, if◌then◌else◌, not}
 use Rattle.std.specs.List.{AllByRecursion}
 use Rattle.std.proofs.lemmas.Bool.{not-true}
 use Rattle.tb_scaled.specs.Scaled.{awful_bad, min_ℤ}
@@ -19,7 +19,7 @@ use Rattle.tb_float.specs.Lists.{FloatLists, live_count}
 use Rattle.tb_float.specs.Rooms.{column_height_of}
 use Rattle.tb_area.specs.Laws as area
 use Rattle.tb_output.specs.State.{State, Recorded, placed, output, emptied, first_state}
-use Rattle.tb_output.specs.Act.{Acted, went, full, act_on}
+use Rattle.tb_output.specs.Act.{Acted, went, full, act_on, has_head_room}
 use Rattle.tb_output.specs.Output.{out}
 use Rattle.tb_laws.proofs.Limits.LimitLemmas.{IsLimited, AreLimited, limited-append, out-keeps}
 use Rattle.tb_steps.specs.Run.{Run, Progress, progress_by, progress, Step, ends, goes_on, held_count, after_firing, fire, after_progress, step, run_by, run_from, firings_left, run_of, ask_for}
@@ -64,6 +64,7 @@ act-limited p s (acts.Take f) = room-limited p (int_le p.pool (pos (live_count s
 act-limited p s (acts.TakeMargin m) = room-limited p (int_lt p.pool (pos (live_count s.floats + 2))) _ _ _ tt
 act-limited p s (acts.Suppress a) = tt
 act-limited p s (acts.Page n) = tt
+act-limited p s (acts.Head f) = room-limited p (not (has_head_room p s)) _ _ _ tt
 act-limited p s (acts.Columns two) = (tt, tt)
 
 acted-limited : (p : Params) (later : State → Progress) → ((s : State) → AreLimited p (later s).records) → (s : State) (a : Acted) → ActedLimited p a → AreLimited p (progress_by later s a).records

@@ -1,5 +1,5 @@
 -- No area holds more floats without the mark `!` than its number, at any step of a firing.
-use Rattle.std.proofs.Common.{◌≡◌, refl, sym, ◌∙◌, ap, subst, ℕ, ℤ, zero, suc, pos, ◌+◌, ◌≤◌, Bool, true, false, List, [], ◌∷◌, ◌++◌, length, Option, Some, None, length-append, arith}
+use Rattle.std.proofs.Common.{◌≡◌, refl, sym, ap, subst, ℕ, ℤ, zero, suc, pos, ◌+◌, ◌≤◌, Bool, true, false, List, [], ◌∷◌, ◌++◌, length, Option, Some, None, arith}
 use Rattle.std.specs.Prelude.{◌≤ℤ◌, ◌<ℤ◌, ◌||◌, int_lt, int_le, not, if◌then◌else◌}
 use Rattle.std.specs.List.{AllByRecursion}
 use Rattle.std.proofs.lemmas.Int.{ints}
@@ -25,7 +25,7 @@ use Rattle.tb_area.specs.Area.{current_place, next_place, double_place}
 use Rattle.tb_area.specs.Laws.{KeepsLimits}
 use Rattle.tb_area.proofs.LawLemmas.{current-laws, next-laws, double-laws}
 use Rattle.tb_margin.specs.declared.Placed.{Placed}
-use Rattle.tb_column.specs.Column.{PlainColumn, Notes}
+use Rattle.tb_column.specs.Column.{PlainColumn, Notes, standing_notes}
 use Rattle.tb_sheet.specs.Asked
 use Rattle.tb_sheet.specs.Sheet.{PlainSheet, PlainSent, warned, shipped, one, pair_sheet}
 use Rattle.tb_sheet.specs.declared.Warn.TheVariants as warnings
@@ -360,7 +360,7 @@ module _ (p : Params) where
       numbered_if (has_floats c.state.floats.deferred || has_floats c.state.floats.second) (puts Clear.clear_again c) c (puts-numbered _ c d) d
 
   clear_by-numbered : (body : List PlainNode) (w : Work) (notes : List Notes) → Numbered w → Numbered (Clear.clear_by p body w notes)
-  clear_by-numbered body w [] h = clear_floats-numbered body w h
+  clear_by-numbered body w [] h = clear_floats-numbered body (Clear.without_notes w) (record { lists = h.lists; records = h.records })
   clear_by-numbered body w (n ∷ notes) h = puts-numbered _ _ (put_out_text-numbered (body ++ made (skip filling_glue) ∷ []) w h)
 
   -- ---- a firing
@@ -368,7 +368,7 @@ module _ (p : Params) where
   output_by-numbered : (f : Fired) (w : Work) → Numbered w → Numbered (Output.output_by p f w)
   output_by-numbered f w h =
       numbered_if (int_le eject_penalty f.penalty) (Columns.ordinary p f.body w) _ (ordinary-numbered f.body w h)
-      (numbered_if (Output.is_int f.penalty Asked.clear_penalty) (Clear.clear p f.body w) _ (clear_by-numbered f.body w (footnotes w.state) h)
+      (numbered_if (Output.is_int f.penalty Asked.clear_penalty) (Clear.clear p f.body w) _ (clear_by-numbered f.body w (standing_notes (footnotes w.state)) h)
       (numbered_if (Output.is_int f.penalty Asked.par_penalty) (Text.float_or_note p false f.body w) _ (float_or_note-numbered false f.body w h)
       (numbered_if (Output.is_int f.penalty Asked.vert_penalty) (Text.float_or_note p true f.body w) (Output.hold f.body w) (float_or_note-numbered true f.body w h) (record { lists = h.lists; records = h.records }))))
 

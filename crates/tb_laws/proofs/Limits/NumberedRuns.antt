@@ -1,6 +1,6 @@
 -- At no moment of a run does an area hold more floats without the mark `!` than its number.
-use Rattle.std.proofs.Common.{ℕ, zero, suc, pos, ◌+◌, Bool, true, false, List, [], ◌∷◌, ◌++◌, Option, Some, None}
-use Rattle.std.specs.Prelude.{ℤ, ◌&&◌, int_lt, int_le, if◌then◌else◌}
+use Rattle.std.proofs.Common.{◌≡◌, refl, sym, ap, subst, ℕ, zero, suc, pos, ◌+◌, Bool, true, false, List, [], ◌∷◌, ◌++◌, Option, Some, None}
+use Rattle.std.specs.Prelude.{ℤ, ◌&&◌, int_lt, int_le, if◌then◌else◌, not, ◌≤ℤ◌}
 use Rattle.std.specs.List.{AllByRecursion}
 use Rattle.tb_scaled.specs.Scaled.{awful_bad, min_ℤ}
 use Rattle.tb_break.proofs.EachLemmas.{all-join}
@@ -9,20 +9,18 @@ use Rattle.tb_node.specs.declared.Act.TheVariants as acts
 use Rattle.tb_node.specs.declared.Float.{Float}
 use Rattle.tb_param.specs.declared.Params.{Params}
 use Rattle.tb_param.specs.Release.{has_second}
-use Rattle.tb_galley.specs.declared.Galley.{Galley}
 use Rattle.tb_galley.specs.GalleyNodes.{expanded}
-use Rattle.tb_galley.specs.Valid.{IsValid}
 use Rattle.tb_builder.specs.declared.Ask.{Ask}
 use Rattle.tb_builder.specs.Reach.{Reached, acted, tried, Reach}
 use Rattle.tb_builder.specs.FiredPages.{fired_of, reach_of}
 use Rattle.tb_float.specs.declared.Entry.TheVariants as entries
 use Rattle.tb_float.specs.Lists.{FloatLists, live_count}
 use Rattle.tb_output.specs.State.{State, Recorded, emptied, first_state}
-use Rattle.tb_output.specs.Act.{Acted, went, full, act_on, taken_float, lists_with_taken}
+use Rattle.tb_output.specs.Act.{Acted, went, full, act_on, taken_float, lists_with_taken, has_head_room, taken_head, lists_with_head}
 use Rattle.tb_output.specs.Output.{out}
 use Rattle.tb_steps.specs.Run.{Run, Progress, progress_by, progress, Step, ends, goes_on, held_count, after_firing, fire, after_progress, step, run_by, run_from, firings_left, run_of, ask_for}
 use Rattle.tb_items.specs.Classes.{classes_of}
-use Rattle.tb_laws.specs.AreaNumbers.{HoldsNumbers, KeepsNumbers, NumbersHold}
+use Rattle.tb_laws.specs.AreaNumbers.{HoldsNumbers, KeepsNumbers, NumbersHold, unmarked}
 use Rattle.tb_laws.proofs.Limits.NumberLemmas.{out-numbered}
 use Rattle.tb_laws.proofs.Defined.RunParams.{params-runnable}
 
@@ -51,12 +49,21 @@ module _ (p : Params) where
       by_test true = record { top = h.top; bottom = h.bottom; double = h.double; text = h.text }
       by_test false = record { top = h.top; bottom = h.bottom; double = h.double; text = h.text }
 
+  -- a title has the mark `!`
+  titled-more : (f : Float) (fs : List Float) → f.bang ≡ true → unmarked (fs ++ f ∷ []) ≡ unmarked fs
+  titled-more f [] e = ap (λ b. (if b then 0 else 1) + 0) e
+  titled-more f (g ∷ fs) e = ap (λ n. (if g.bang then 0 else 1) + n) (titled-more f fs e)
+
+  titled-holds : (f : Float) (l : FloatLists) → f.bang ≡ true → Holds l → Holds (lists_with_head f l)
+  titled-holds f l e h = record { top = h.top; bottom = h.bottom; double = subst (λ n. pos n ≤ℤ p.dbltopnumber) (sym (titled-more f l.double e)) h.double; text = h.text }
+
   act-holds : (s : State) (a : Act) → Holds s.floats → ActedHolds (act_on p s a)
   unfolding ActedHolds
   act-holds s (acts.Take f) h = room-holds (int_le p.pool (pos (live_count s.floats))) _ _ _ (tt, taken-holds (taken_float p s f) s.floats h)
   act-holds s (acts.TakeMargin m) h = room-holds (int_lt p.pool (pos (live_count s.floats + 2))) _ _ _ (tt, record { top = h.top; bottom = h.bottom; double = h.double; text = h.text })
   act-holds s (acts.Suppress a) h = (tt, h)
   act-holds s (acts.Page n) h = (tt, h)
+  act-holds s (acts.Head f) h = room-holds (not (has_head_room p s)) _ _ _ (tt, titled-holds (taken_head p f) s.floats refl h)
   act-holds s (acts.Columns two) h = ((h, tt), h)
 
   -- ---- a page

@@ -1,6 +1,6 @@
 -- The acts of a page, if what waits closes: a change of columns meets empty lists, and what is taken is owed a firing.
 use Rattle.std.proofs.Common.{◌≡◌, refl, sym, ◌∙◌, ap, subst, ℕ, suc, pos, ◌+◌, ◌≤◌, Bool, true, false, List, [], ◌∷◌, ◌++◌, Option, None, arith}
-use Rattle.std.specs.Prelude.{ℤ, int_lt, int_le, ◌&&◌, if◌then◌else◌}
+use Rattle.std.specs.Prelude.{ℤ, int_lt, int_le, ◌&&◌, if◌then◌else◌, not}
 use Rattle.std.specs.List.{AllByRecursion}
 use Rattle.std.proofs.lemmas.Option.{none-some}
 use Rattle.tb_scaled.specs.Scaled.{min_ℤ}
@@ -18,7 +18,7 @@ use Rattle.tb_float.specs.Lists.{FloatLists, no_floats, live_count}
 use Rattle.tb_sheet.specs.declared.Warn.{Warn}
 use Rattle.tb_column.specs.Column.{PlainColumn}
 use Rattle.tb_output.specs.State.{State, Recorded}
-use Rattle.tb_output.specs.Act.{Acted, went, full, act_on, taken_float}
+use Rattle.tb_output.specs.Act.{Acted, went, full, act_on, taken_float, has_head_room, taken_head, with_head}
 use Rattle.tb_laws.proofs.NothingLost.StateWeights.{left_weight}
 use Rattle.tb_column.proofs.PrintedLines.{left_prints, LeftPlain}
 use Rattle.tb_laws.proofs.Closed.Closings.{owed_after, never, Still, act_token}
@@ -29,6 +29,7 @@ use Rattle.tb_laws.proofs.Closed.ServedLists.{entry_items}
 use Rattle.tb_laws.proofs.NothingLost.RunWeights.{ActFits, ActsFit}
 use Rattle.tb_steps.specs.Run.{Progress, progress_by, progress}
 use Rattle.tb_laws.specs.Laws.{IsEmptied}
+use Rattle.tb_output.proofs.Acts.HeadLemmas.{head-room}
 
 -- ---- a kept column at a change of columns
 
@@ -43,6 +44,7 @@ acts-fit v o d (acts.Take f ∷ ds) h c = (tt, acts-fit v o false ds (λ e. neve
 acts-fit v o d (acts.TakeMargin m ∷ ds) h c = (tt, acts-fit v o false ds (λ e. never e) c)
 acts-fit v o d (acts.Suppress area ∷ ds) h c = (tt, acts-fit v o d ds h c)
 acts-fit v o d (acts.Page n ∷ ds) h c = (tt, acts-fit v o d ds h c)
+acts-fit v o d (acts.Head f ∷ ds) h c = (tt, acts-fit v o false ds (λ e. never e) c)
 acts-fit v o d (acts.Columns two ∷ ds) h c = (h c.0, acts-fit v o d ds h c.1)
 
 -- ---- an act
@@ -112,6 +114,29 @@ act-went p n o s (acts.TakeMargin m) ds e b i g c =
     room-went p n s (acts.TakeMargin m) ds (int_lt p.pool (pos (live_count s.floats + 2))) _ _ _ _ _ (record { records = tt; owed = suc n; done = false; empty = λ z. never z; items = omega arith; single = g; close = c; same_owed = refl; same_ways = refl; here = refl; still = λ z. absurd z; bare = λ z. never z; left = refl; left_plain = λ z. z })
 act-went p n o s (acts.Suppress area) ds e b i g c = record { records = tt; owed = n; done = o; empty = e; items = i; single = g; close = c; same_owed = refl; same_ways = refl; here = refl; still = λ z. refl; bare = b; left = refl; left_plain = λ z. z }
 act-went p n o s (acts.Page number) ds e b i g c = record { records = tt; owed = n; done = o; empty = e; items = i; single = g; close = c; same_owed = refl; same_ways = refl; here = refl; still = λ z. refl; bare = b; left = refl; left_plain = λ z. z }
+act-went p n o s (acts.Head f) ds e b i g c = by_room (has_head_room p s) refl
+  where
+    apart : s.two_columns ≡ true → s.two_columns ≡ false → ⊥
+    apart x y = never (sym y ∙ x)
+
+    by_room : (t : Bool) → has_head_room p s ≡ t → ActWent p n s (acts.Head f) ds (if not t then full f.line (live_count s.floats) else went (with_head p s (taken_head p f)) [] [])
+    by_room false x = tt
+    by_room true x = record {
+      records = tt;
+      owed = n;
+      done = false;
+      empty = λ z. never z;
+      items = i;
+      single = λ z. absurd (apart (head-room p s x).two z);
+      close = c;
+      same_owed = refl;
+      same_ways = refl;
+      here = refl;
+      still = λ z. absurd z;
+      bare = λ z. never z;
+      left = refl;
+      left_plain = λ z. z;
+    }
 act-went p n o s (acts.Columns two) ds e b i g c = record { records = (e c.0, tt); owed = n; done = o; empty = e; items = i; single = λ z. ap (λ l. l.double) (e c.0); close = c.1; same_owed = refl; same_ways = refl; here = refl; still = λ z. refl; bare = λ z. refl; left = sym (b c.0); left_plain = λ z. tt }
 
 -- ---- all acts of a page
@@ -155,6 +180,7 @@ pub still-weight : (v : Weight) (rs : List Reached) → AllStill (acted_of rs) �
 still-weight v [] h = refl
 still-weight v (acted (acts.Take f) ∷ rs) h = absurd h.0
 still-weight v (acted (acts.TakeMargin m) ∷ rs) h = absurd h.0
+still-weight v (acted (acts.Head f) ∷ rs) h = absurd h.0
 still-weight v (acted (acts.Suppress area) ∷ rs) h = let k : acted_weight v rs ≡ 0 = still-weight v rs h.1 in omega arith
 still-weight v (acted (acts.Page n) ∷ rs) h = let k : acted_weight v rs ≡ 0 = still-weight v rs h.1 in omega arith
 still-weight v (acted (acts.Columns two) ∷ rs) h = let k : acted_weight v rs ≡ 0 = still-weight v rs h.1 in omega arith

@@ -11,11 +11,11 @@ use Rattle.tb_node.specs.declared.What.TheVariants as what
 use Rattle.tb_node.specs.PlainNodes.{Leaf, hbox, rule, PlainKind, plain, ins, act, PlainNode, without_acts, without_insertions}
 use Rattle.tb_node.proofs.Weights.{Weight, nodes_weight, kind_weight, weight-append}
 use Rattle.tb_param.specs.declared.Params.{Params}
-use Rattle.tb_insert.specs.Account.{Frozen, Labelled, labelled, labelled_from}
+use Rattle.tb_insert.specs.Account.{Frozen, Labelled, labelled}
 use Rattle.tb_break.specs.PageTop.{pruned_nodes}
 use Rattle.tb_builder.specs.FiredPages.{Boxed, Fired, page_break, from_break, penalty_at, box_after, box_content, content_of, given_to, is_given, fired_by, fired_of, frozen_for, held_insertions}
 use Rattle.tb_builder.proofs.Cutting.CutLemmas.{acted_of, CutAt, held-ins}
-use Rattle.tb_builder.proofs.FiredPages.HeldLemmas.{GivesNone, none-labelled}
+use Rattle.tb_builder.proofs.FiredPages.HeldLemmas.{GivesNone}
 use Rattle.tb_builder.proofs.FiredPages.PageWeights.{hits, IsOnce, AllOfClass, acted_weight, boxes_weight, fired-weight, labelled-class, LabelsOfClass}
 use Rattle.tb_float.specs.declared.Entry.{Entry}
 use Rattle.tb_float.specs.declared.Entry.TheVariants as entries
@@ -32,13 +32,15 @@ use Rattle.tb_laws.proofs.NothingLost.StateWeights.{BoxesFit, class_numbers, Pai
 use Rattle.tb_laws.proofs.Closed.SortLemmas.{pen_sort, sorts, sorts-append, take-drop}
 use Rattle.tb_laws.proofs.Closed.PlaceLemmas.{AllSteady, body-steady}
 use Rattle.tb_column.proofs.PrintedLines.{printed, prints, left_prints}
-use Rattle.tb_laws.proofs.Closed.Closings.{Closes, Quiet, kind_token, tokens}
+use Rattle.tb_laws.proofs.Closed.Closings.{Closes, Quiet, kind_token, tokens, ins-last}
 use Rattle.tb_laws.proofs.Closed.ClosingPages.{owed_acts, ways_acts, pruned-closes, PageCloses, cut-closes, break-closes, tokens-take}
 use Rattle.tb_laws.proofs.DeadCycles.BoxesFirst.{RealFirst, HasReal, BreakReal, pruned-first, acts-first, break-real}
 use Rattle.tb_laws.proofs.Closed.ClosingStates.{ways_of, Clean, HereKept, Closing, OutClosed, out-closed}
 use Rattle.tb_laws.proofs.Limits.LimitLemmas.{out-records}
 use Rattle.tb_laws.proofs.NothingLost.ClosingActs.{acts-fit, ActsClosed, ProgressClosed, emptied-append, progress-closed, still-weight}
-use Rattle.tb_laws.proofs.NothingLost.RunWeights.{ActsFit, After, progress-adds, box-fired, fit-numbers, box_after-number, Kept, page_of, cut, cut_feet, cut_stands, reached, fired-keeps}
+use Rattle.tb_laws.proofs.NothingLost.RunWeights.{ActsFit, After, progress-adds, box-fired, fit-numbers, box_after-number, Kept, page_of, cut, passed_bare, cut_bare, cut_feet, cut_stands, reached, fired-keeps}
+use Rattle.tb_laws.proofs.NothingLost.LastLabels.{LabelsLast, GivesLast, quiet-last, same-boxes, held-quiet, void-last, clear-last}
+use Rattle.tb_laws.proofs.Closed.BareFeet.{HoldsBare, HoldBare, LabelsBare, bare-weight, body-bare, labelled-bare, held-bare}
 use Rattle.tb_items.specs.RunEvents.{sent}
 use Rattle.tb_steps.specs.Run.{done, pool_full, dead_cycles, page_limit, node_limit, Progress, progress, Step, ends, goes_on, held_count, after_firing, fire, after_progress, step, ask_for}
 use Rattle.tb_laws.specs.Laws.{IsEmptied}
@@ -93,21 +95,22 @@ what-quiet : (v : Weight) (l : ℕ) (w : What) (h d : ℤ) → Quiet (kind_token
 what-quiet v l what.Blank h d q = refl
 what-quiet v l w h d q = absurd q
 
-kind-quiet : (v : Weight) (l : ℕ) (k : PlainKind) → Quiet (kind_token k) → kind_weight v l k ≡ 0
-kind-quiet v l (plain (hbox w h d)) q = what-quiet v l w h d q
-kind-quiet v l (plain (rule name h d)) q = absurd q
-kind-quiet v l (ins i) q = absurd q
-kind-quiet v l (act (acts.Take f)) q = absurd q
-kind-quiet v l (act (acts.TakeMargin m)) q = absurd q
-kind-quiet v l (act (acts.Columns two)) q = absurd q
-kind-quiet v l k q = refl
+kind-quiet : (v : Weight) (l : ℕ) (k : PlainKind) → HoldsBare k → Quiet (kind_token k) → kind_weight v l k ≡ 0
+kind-quiet v l (plain (hbox w h d)) b q = what-quiet v l w h d q
+kind-quiet v l (plain (rule name h d)) b q = absurd q
+kind-quiet v l (ins i) b q = bare-weight v i.inner (b (ins-last (i.class == 255) q))
+kind-quiet v l (act (acts.Take f)) b q = absurd q
+kind-quiet v l (act (acts.TakeMargin m)) b q = absurd q
+kind-quiet v l (act (acts.Head f)) b q = absurd q
+kind-quiet v l (act (acts.Columns two)) b q = absurd q
+kind-quiet v l k b q = refl
 
 -- they weigh nothing
-quiet-weight : (v : Weight) (ns : List PlainNode) → AllByRecursion Quiet (tokens ns) → nodes_weight v ns ≡ 0
-quiet-weight v [] q = refl
-quiet-weight v (n ∷ ns) q =
-    let a : kind_weight v n.line n.kind ≡ 0 = kind-quiet v n.line n.kind q.0 in
-    let b : nodes_weight v ns ≡ 0 = quiet-weight v ns q.1 in
+quiet-weight : (v : Weight) (ns : List PlainNode) → HoldBare ns → AllByRecursion Quiet (tokens ns) → nodes_weight v ns ≡ 0
+quiet-weight v [] b q = refl
+quiet-weight v (n ∷ ns) b q =
+    let a : kind_weight v n.line n.kind ≡ 0 = kind-quiet v n.line n.kind b.0 q.0 in
+    let c : nodes_weight v ns ≡ 0 = quiet-weight v ns b.1 q.1 in
     omega arith
 
 body-more : (l : ℕ) (k : PlainKind) (ns : List PlainNode) → Quiet (kind_token k) → AllByRecursion Quiet (tokens (without_insertions ns)) → AllByRecursion Quiet (tokens (without_insertions (record { line = l; kind = k } ∷ ns)))
@@ -118,22 +121,6 @@ body-more l (act a) ns q h = (q, h)
 quiet-body : (ns : List PlainNode) → AllByRecursion Quiet (tokens ns) → AllByRecursion Quiet (tokens (without_insertions ns))
 quiet-body [] q = tt
 quiet-body (n ∷ ns) q = body-more n.line n.kind ns q.0 (quiet-body ns q.1)
-
--- and have no insertion
-node-labels : (z : Frozen) (before : List PlainNode) (l : ℕ) (k : PlainKind) (ns : List PlainNode) → Quiet (kind_token k) → labelled_from z [] (before ++ record { line = l; kind = k } ∷ []) ns ≡ [] → labelled_from z [] before (record { line = l; kind = k } ∷ ns) ≡ []
-node-labels z before l (plain m) ns q h = h
-node-labels z before l (ins i) ns q h = absurd q
-node-labels z before l (act a) ns q h = h
-
-no-labels : (z : Frozen) (before ns : List PlainNode) → AllByRecursion Quiet (tokens ns) → labelled_from z [] before ns ≡ []
-no-labels z before [] q = refl
-no-labels z before (n ∷ ns) q = node-labels z before n.line n.kind ns q.0 (no-labels z (before ++ n ∷ []) ns q.1)
-
--- ---- the insertion box
-
-same-boxes : (v : Weight) (bs : List Boxed) → boxes_weight v (map (box_after []) bs) ≡ boxes_weight v bs
-same-boxes v [] = refl
-same-boxes v (b ∷ bs) = let h : boxes_weight v (map (box_after []) bs) ≡ boxes_weight v bs = same-boxes v bs in omega arith
 
 -- what a class's box holds is None if it comes before what no class holds
 void-first : (c : Class) (o : Option (List Leaf)) (ns : List Notes) → with_notes c o ns ≡ [] → (o ≡ None) × (ns ≡ [])
@@ -240,8 +227,11 @@ module _ (p : Params) (calm : int_le p.interlinepenalty eject_penalty ≡ false)
     labels_class : LabelsOfClass (class_numbers s.classes) (labelled z (take (page_break (page_of p s)).place (page_of p s).passed))
     labels_class = labelled-class (class_numbers s.classes) z [] [] (take (page_break (page_of p s)).place (page_of p s).passed) tt (cut_feet ones p calm s kept).0
 
-    unlabelled : page_closes.done ≡ true → labelled z (take (page_break (page_of p s)).place (page_of p s).passed) ≡ []
-    unlabelled e = no-labels z [] (take (page_break (page_of p s)).place (page_of p s).passed) (tokens-take Quiet (page_break (page_of p s)).place (page_of p s).passed (page_closes.still e).1)
+    labels_bare : LabelsBare (labelled z (take (page_break (page_of p s)).place (page_of p s).passed))
+    labels_bare = labelled-bare z [] [] (take (page_break (page_of p s)).place (page_of p s).passed) tt (cut_bare ones p calm s kept).0
+
+    labels_last : page_closes.done ≡ true → LabelsLast (labelled z (take (page_break (page_of p s)).place (page_of p s).passed))
+    labels_last e = quiet-last z (take (page_break (page_of p s)).place (page_of p s).passed) (tokens-take Quiet (page_break (page_of p s)).place (page_of p s).passed (page_closes.still e).1)
 
     -- the firing of the page in the state after its acts
     pub fired_closes : let f = fired_by (labelled z (take (page_break (page_of p s)).place (page_of p s).passed)) t.boxes (page_of p s) in OutClosed (ways_acts (ways_of p s) (acted_of (page_of p s).reached)) page_closes.done f.rest (out p t f).state × ((out p t f).state.two_columns ≡ t.two_columns)
@@ -256,7 +246,7 @@ module _ (p : Params) (calm : int_le p.interlinepenalty eject_penalty ≡ false)
         (break-closes (from_break w) (ways_acts (ways_of p s) (acted_of w.reached)) (owed_acts (ways_of p s) closing.owed (acted_of w.reached)) page_closes.done page_closes.first page_closes.rest)
         (λ h. a.held ∙ kept.placed.free h) (subst AllSteady (sym a.held) kept.placed.steady) (body-steady before stands.calm stands.free)
         acts_done.items a.sound.entries acts_done.single a.sound.columns (here_now closing.here)
-        (held-ins (class_numbers s.classes) ls labels_class) (λ e. ap held_insertions (unlabelled e)) (λ e. ap held_insertions (none-labelled (class_numbers s.classes) z before labels_class (subst (λ ks. GivesNone ks ls) same_classes (void-given ls t.classes t.boxes fit_boxes e)))) (box-fired ls t.classes t.boxes fit_boxes)
+        (held-ins (class_numbers s.classes) ls labels_class) (λ e. held-quiet ls (labels_last e)) (λ e. held-quiet ls (clear-last (class_numbers s.classes) z before labels_class (subst (λ ks. GivesLast ks ls) same_classes (void-last ls t.classes t.boxes fit_boxes e)))) (box-fired ls t.classes t.boxes fit_boxes)
 
     -- if nothing came up to the stop, nothing is kept behind an ordinary firing
     nothing_kept : let f = fired_by (labelled z (take (page_break (page_of p s)).place (page_of p s).passed)) t.boxes (page_of p s) in (out p t f).refused ≡ false → page_closes.done ≡ true → (v : Weight) → boxes_weight v (out p t f).state.boxes + nodes_weight v (out p t f).state.held_page + lists_weight v (out p t f).state.floats + left_weight v (out p t f).state.left_column ≡ 0
@@ -272,12 +262,12 @@ module _ (p : Params) (calm : int_le p.interlinepenalty eject_penalty ≡ false)
         (nodes_weight v s.waiting) (boxes_weight v s.boxes) (nodes_weight v s.held_page) (lists_weight v s.floats) (left_weight v s.left_column)
         (nodes_weight v w.passed) (acted_weight v w.reached) (nodes_weight v w.beyond)
         (nodes_weight v f.body) (boxes_weight v f.boxes) (nodes_weight v f.held) (nodes_weight v f.rest) (boxes_weight v t.boxes) (nodes_weight v fired_closes.0.front)
-        k ((closing.clean q.0).weightless v) (quiet-weight v w.passed q.1) (still-weight v w.reached q.2) (reached v p calm s kept)
+        k ((closing.clean q.0).weightless v) (quiet-weight v w.passed (passed_bare ones p calm s kept).0 q.1) (still-weight v w.reached q.2) (reached v p calm s kept)
         (fired-weight v z t.boxes w (subst (λ ms. AllOfClass ms before) (sym same_classes ∙ fit-numbers t.classes t.boxes fit_boxes) (cut_feet ones p calm s kept).0))
-        (quiet-weight v f.body (quiet-body before (tokens-take Quiet (page_break w).place w.passed q.1)))
-        (ap (λ l. boxes_weight v (map (box_after l) t.boxes)) (unlabelled e) ∙ same-boxes v t.boxes)
+        (quiet-weight v f.body (body-bare before) (quiet-body before (tokens-take Quiet (page_break w).place w.passed q.1)))
+        (same-boxes v ls t.boxes (labels_last e) labels_bare)
         (ap (boxes_weight v) (after ones).boxes)
-        (ap (λ l. nodes_weight v (held_insertions l)) (unlabelled e))
+        (quiet-weight v (held_insertions ls) (held-bare ls labels_bare) (held-quiet ls (labels_last e)))
         (ap (nodes_weight v) fired_closes.0.whole ∙ weight-append v fired_closes.0.front f.rest)
       where
         sums : (Wu Bu Hu Lu Ku S Ws B H L K P A Y Fb Fx Fh Fr Bt F : ℕ) → Wu + Bu + Hu + Lu + Ku + S ≡ Ws + B + H + L + K → B + H + L + K ≡ 0 → P ≡ 0 → A ≡ 0 → P + A + Y ≡ Ws → Fb + Fx + Fh + Fr ≡ Bt + (P + Y) → Fb ≡ 0 → Fx ≡ Bt → Bt ≡ B → Fh ≡ 0 → Wu ≡ F + Fr → Bu + Hu + Lu + Ku ≡ 0
@@ -328,7 +318,7 @@ module _ (p : Params) (calm : int_le p.interlinepenalty eject_penalty ≡ false)
       let w = page_of p s in
       let e : page_closes.done ≡ true = subst (λ l. Closes (ways_acts (ways_of p s) (acted_of w.reached)) (owed_acts (ways_of p s) closing.owed (acted_of w.reached)) page_closes.done (tokens l)) (page_cut.ended u) page_closes.beyond in
       let q = page_closes.still e in
-      (d.still q.2 ∙ empty q.0, λ v. sums (nodes_weight v s.waiting) (boxes_weight v s.boxes) (nodes_weight v s.held_page) (lists_weight v s.floats) (left_weight v s.left_column) (nodes_weight v w.passed) (acted_weight v w.reached) (nodes_weight v w.beyond) ((closing.clean q.0).weightless v) (quiet-weight v w.passed q.1) (still-weight v w.reached q.2) (ap (nodes_weight v) (page_cut.ended u)) (reached v p calm s kept))
+      (d.still q.2 ∙ empty q.0, λ v. sums (nodes_weight v s.waiting) (boxes_weight v s.boxes) (nodes_weight v s.held_page) (lists_weight v s.floats) (left_weight v s.left_column) (nodes_weight v w.passed) (acted_weight v w.reached) (nodes_weight v w.beyond) ((closing.clean q.0).weightless v) (quiet-weight v w.passed (passed_bare ones p calm s kept).0 q.1) (still-weight v w.reached q.2) (ap (nodes_weight v) (page_cut.ended u)) (reached v p calm s kept))
     where
       sums : (W B H L K P A Y : ℕ) → B + H + L + K ≡ 0 → P ≡ 0 → A ≡ 0 → Y ≡ 0 → P + A + Y ≡ W → W + B + H + L + K ≡ 0
       sums W B H L K P A Y b c d e f = omega arith

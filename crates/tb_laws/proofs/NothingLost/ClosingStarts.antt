@@ -21,7 +21,7 @@ use Rattle.tb_laws.proofs.NothingLost.StateWeights.{class_numbers}
 use Rattle.tb_output.specs.Output.{is_int}
 use Rattle.tb_sheet.specs.Asked.{clear_penalty, par_penalty, vert_penalty, hold_penalty}
 use Rattle.tb_laws.proofs.Closed.SortLemmas.{light, pause, hold, serve, clear, odd, pen_sort}
-use Rattle.tb_laws.proofs.Closed.Closings.{Ways, never, Token, Closes, sort_token, tokens, tokens-append}
+use Rattle.tb_laws.proofs.Closed.Closings.{Ways, never, Token, Closes, sort_token, ins_token, tokens, tokens-append}
 use Rattle.tb_laws.proofs.Closed.ClearedLists.{tokens-parts}
 use Rattle.tb_laws.proofs.Closed.ClosingStates.{Closing}
 use Rattle.tb_laws.proofs.NothingLost.StartLemmas.{ItemFits, ItemsFit}
@@ -66,7 +66,7 @@ item-ends ks p two line (items.Kern w) f ys e o = e o
 item-ends ks p two line (items.Penalty n) f ys e o = high-penalty n f (ways p two) ys e o
 item-ends ks p two line (items.Mark name) f ys e o = e o
 item-ends ks p two line (items.Note name) f ys e o = e o
-item-ends ks p two line (items.Foot class foot) f ys e o = e false
+item-ends ks p two line (items.Foot class foot) f ys e o = subst (λ t. Closes (ways p two) 0 o (ins_token t ∷ ys)) (sym f.1) (e false)
 item-ends ks p two line (items.Float x vert) f ys e o = by_taking (has_second p && two && x.wide) vert refl
   where
     by_taking : (t u : Bool) → (has_second p && two && x.wide) ≡ t → Closes (ways p two) 0 o (tokens (on_line line (if t then act (acts.Take x) ∷ [] else with_firings (acts.Take x) u)) ++ ys)
@@ -91,6 +91,8 @@ item-ends ks p two line items.OneColumn f ys e o = (refl, e true)
 item-ends ks p two line items.TwoColumn f ys e o = (refl, e true)
 item-ends ks p two line (items.Suppress area) f ys e o = e o
 item-ends ks p two line (items.Page n) f ys e o = e o
+item-ends ks p two line (items.Enlarge by star) f ys e o = e o
+item-ends ks p two line (items.Head x) f ys e o = e false
 
 items-end : (ks : List ℕ) (p : Params) (two : Bool) (ns : List Item) → ItemsFit ks ns → (ys : List Token) → ((y : Ways) → Ends y ys) → Ends (ways p two) (tokens (item_nodes p two ns) ++ ys)
 items-end ks p two [] f ys e o = e (ways p two) o

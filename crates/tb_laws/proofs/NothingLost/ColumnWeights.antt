@@ -1,5 +1,5 @@
 -- What columns and companies of floats weigh.
-use Rattle.std.proofs.Common.{◌≡◌, refl, ℕ, ◌+◌, Bool, true, false, not, List, [], ◌∷◌, ◌++◌, map, length, Option, Some, None, arith, unwrap_or}
+use Rattle.std.proofs.Common.{◌≡◌, refl, ℕ, ◌+◌, Bool, true, false, List, [], ◌∷◌, ◌++◌, map, length, Option, Some, None, arith, unwrap_or}
 use Rattle.std.specs.Prelude.{ℤ, ◌==◌, ◌&&◌, if◌then◌else◌}
 use Rattle.tb_scaled.specs.declared.Glue.{Glue}
 use Rattle.tb_scaled.specs.Glue.{negated_glue}
@@ -16,6 +16,7 @@ use Rattle.tb_fpage.specs.declared.Wanted.{Wanted}
 use Rattle.tb_fpage.specs.Company.{Choice, passed_over, joins, choices_from, company_of_head, is_head, is_made, company_from, company, chosen_floats, left_floats}
 use Rattle.tb_column.specs.declared.Standing.{Standing}
 use Rattle.tb_column.specs.declared.Standing.TheVariants as standings
+use Rattle.tb_column.specs.declared.Enlarged.{Enlarged}
 use Rattle.tb_column.specs.Column.{Notes, is_no_glue, glue_if_any, rule_if_any, kern_if_any, is_below, foot_kern, floats_with, floats_above, floats_below, feet_above, above_class, class_below, notes_below, standing_of, is_at, notes_at, notes_among, text_above_feet, with_feet, with_bottoms, with_below, text_nodes, closing_glue, text_column, floats_after, floats_column}
 use Rattle.tb_laws.proofs.NothingLost.StateWeights.{floats_weight, floats-append}
 
@@ -163,11 +164,11 @@ text_above-weight v p l body notes =
     let n : nodes_weight v others ≡ notes_weight v (notes_among false notes) = notes_below-weight v p None (notes_among false notes) in
     omega arith
 
-pub text_column-weight : (v : Weight) (p : Params) (l : FloatLists) (body : List PlainNode) (notes : List Notes) → nodes_weight v (text_column p l body notes).nodes ≡ floats_weight v l.top + nodes_weight v body + notes_weight v notes + floats_weight v l.bottom
-text_column-weight v p l body notes =
+pub text_column-weight : (v : Weight) (p : Params) (l : FloatLists) (body : List PlainNode) (notes : List Notes) (higher : Enlarged) → nodes_weight v (text_column p l body notes higher).nodes ≡ floats_weight v l.top + nodes_weight v body + notes_weight v notes + floats_weight v l.bottom
+text_column-weight v p l body notes higher =
     let texts = text_nodes p l body notes in
     let last = made (skip (closing_glue p texts)) ∷ [] in
-    let e : nodes_weight v (text_column p l body notes).nodes ≡ nodes_weight v (texts ++ last) + nodes_weight v (glue_if_any p.textbottom) = weight-append v (texts ++ last) (glue_if_any p.textbottom) in
+    let e : nodes_weight v (text_column p l body notes higher).nodes ≡ nodes_weight v (texts ++ last) + nodes_weight v (glue_if_any p.textbottom) = weight-append v (texts ++ last) (glue_if_any p.textbottom) in
     let d : nodes_weight v (texts ++ last) ≡ nodes_weight v texts + 0 = weight-append v texts last in
     let g : nodes_weight v (glue_if_any p.textbottom) ≡ 0 = glue-weight v p.textbottom in
     let a : nodes_weight v texts ≡ nodes_weight v (text_above_feet p l body notes) + notes_weight v (notes_among true notes) + floats_weight v l.bottom = with_below-weight v p l notes (text_above_feet p l body notes) in

@@ -21,7 +21,7 @@ use Rattle.tb_laws.proofs.NothingLost.StateWeights.{floats_weight, lists_weight,
 -- ---- moving floats
 
 pub lists-adds : (v : Weight) (l : FloatLists) (w : Work) → (Paired w.state.floats.current → Paired l.current) → lists_weight v l ≡ lists_weight v w.state.floats → Adds v 0 w (with_floats l w)
-lists-adds v l w h e = record { waits = refl; classes = refl; goes = λ k. k; by = λ k s. (record { box = s.box; columns = s.columns; entries = h s.entries }, sums (nodes_weight v w.state.waiting + boxes_weight v w.state.boxes + nodes_weight v w.state.held_page) (lists_weight v w.state.floats) (lists_weight v l) (left_weight v w.state.left_column) (nodes_weight v w.put_back) (sent_weight v w.sent) e) }
+lists-adds v l w h e = record { waits = refl; classes = refl; goes = λ k. k; by = λ k s. (record { box = s.box; bare = s.bare; columns = s.columns; entries = h s.entries }, sums (nodes_weight v w.state.waiting + boxes_weight v w.state.boxes + nodes_weight v w.state.held_page) (lists_weight v w.state.floats) (lists_weight v l) (left_weight v w.state.left_column) (nodes_weight v w.put_back) (sent_weight v w.sent) e) }
   where
     sums : (a b c d x y : ℕ) → c ≡ b → a + c + d + x + y ≡ a + b + d + x + y + 0
     sums a b c d x y e = omega arith

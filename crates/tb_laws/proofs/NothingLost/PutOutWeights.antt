@@ -1,6 +1,6 @@
 -- Putting out pages and columns loses nothing.
 use Rattle.std.proofs.Common.{add-zero, subst, ◌≡◌, refl, sym, ◌∙◌, ap, ℕ, suc, ◌+◌, Bool, true, false, List, [], ◌∷◌, Option, Some, None, arith}
-use Rattle.std.specs.Prelude.{◌==◌, if◌then◌else◌}
+use Rattle.std.specs.Prelude.{◌==◌, not, if◌then◌else◌}
 use Rattle.tb_node.specs.declared.Float.{Float}
 use Rattle.tb_node.specs.declared.Where.TheVariants as places
 use Rattle.tb_node.specs.PlainNodes.{Leaf, PlainNode}
@@ -17,13 +17,15 @@ use Rattle.tb_float.proofs.WaitingLemmas.{wide-waits}
 use Rattle.tb_float.specs.Rooms.{column_height_of}
 use Rattle.tb_fpage.specs.declared.Wanted.{Wanted}
 use Rattle.tb_fpage.specs.Company.{Choice, company, chosen_floats, left_floats}
-use Rattle.tb_column.specs.Column.{Notes, PlainColumn, floats_above, text_column, single_floats_column, wide_floats_column}
+use Rattle.tb_column.specs.Column.{Notes, PlainColumn, is_enlarging, standing_notes, enlarged_of, floats_above, single_floats_column, wide_floats_column, pair_rule}
 use Rattle.tb_sheet.specs.Sheet.{PlainSheet, one, wide, pair_sheet}
 use Rattle.tb_output.specs.State.{Work, output, with_floats, with_notes, notes_in, footnotes}
 use Rattle.tb_output.specs.Pages
 use Rattle.tb_output.specs.Columns
+use Rattle.tb_output.specs.Clear
 use Rattle.tb_output.proofs.StepLaws.RefusedSteps.{by-any-ship}
 use Rattle.tb_output.proofs.StepLaws.Moves.{Hand, nothing, of_column, ColumnMove, takes_company, records_column, ships_column, keeps_left, ships_pair, ends_column, ships_wide, places_double}
+use Rattle.tb_laws.proofs.Closed.BareFeet.{NotesBare, bare-weight, emptied-bare, notes-bare}
 use Rattle.tb_laws.proofs.NothingLost.StateWeights.{Paired, hand_weight, Light, Weighs, gives, keeps, weighs-then, class_numbers, BoxesFit, floats_weight, lists_weight, left_weight, sheet_weight, sent_weight, work_weight, ColumnsFit, Sound, Adds, records-adds, shipped-adds}
 use Rattle.tb_laws.proofs.NothingLost.ColumnWeights.{floats_above-weight, notes_weight, text_column-weight, floats_column-weight, CompanyOf, company-weight, parted-weight}
 use Rattle.tb_laws.proofs.NothingLost.FloatWeights.{double-adds, paired-with, lists-with}
@@ -48,7 +50,7 @@ takes-weighs v i l w light h e = record {
   classes = refl;
   goes = λ r. r;
   light = λ u. light;
-  by = λ r u s. (record { box = s.box; columns = s.columns; entries = h s.entries }, sums (nodes_weight v w.state.waiting + boxes_weight v w.state.boxes + nodes_weight v w.state.held_page) (lists_weight v w.state.floats) (lists_weight v l) (left_weight v w.state.left_column) (nodes_weight v w.put_back) (sent_weight v w.sent) (hand_weight v i) e);
+  by = λ r u s. (record { box = s.box; bare = s.bare; columns = s.columns; entries = h s.entries }, sums (nodes_weight v w.state.waiting + boxes_weight v w.state.boxes + nodes_weight v w.state.held_page) (lists_weight v w.state.floats) (lists_weight v l) (left_weight v w.state.left_column) (nodes_weight v w.put_back) (sent_weight v w.sent) (hand_weight v i) e);
 }
   where
     sums : (a b c d x y n : ℕ) → c + n ≡ b → a + c + d + x + y + n ≡ a + b + d + x + y + 0
@@ -75,15 +77,15 @@ pair-adds : (v : Weight) (p : Params) (c : PlainColumn) (w : Work) → w.state.f
 pair-adds v p c w f =
     let sheet = pair_sheet p w.state.floats (Pages.left_or c w.state.left_column) c in
     let x : Adds v (sheet_weight v sheet) w (Pages.ship p sheet w) = shipped-adds v p sheet w in
-    let d : nodes_weight v (floats_above places.Double p.dblfloatsep p.dblrule p.dbltextfloatsep w.state.floats.double) ≡ floats_weight v w.state.floats.double = floats_above-weight v places.Double p.dblfloatsep p.dblrule p.dbltextfloatsep w.state.floats.double in
-    gone (nodes_weight v (floats_above places.Double p.dblfloatsep p.dblrule p.dbltextfloatsep w.state.floats.double)) (nodes_weight v (Pages.left_or c w.state.left_column).nodes) d (Pages.ship p sheet w) (ap (λ l. floats_weight v l.double) (ship-keeps p sheet w).0) (ap (left_weight v) (ship-keeps p sheet w).1) x
+    let d : nodes_weight v (floats_above places.Double p.dblfloatsep (pair_rule p w.state.floats) p.dbltextfloatsep w.state.floats.double) ≡ floats_weight v w.state.floats.double = floats_above-weight v places.Double p.dblfloatsep (pair_rule p w.state.floats) p.dbltextfloatsep w.state.floats.double in
+    gone (nodes_weight v (floats_above places.Double p.dblfloatsep (pair_rule p w.state.floats) p.dbltextfloatsep w.state.floats.double)) (nodes_weight v (Pages.left_or c w.state.left_column).nodes) d (Pages.ship p sheet w) (ap (λ l. floats_weight v l.double) (ship-keeps p sheet w).0) (ap (left_weight v) (ship-keeps p sheet w).1) x
   where
     gone : (m n : ℕ) → m ≡ floats_weight v w.state.floats.double → (a : Work) → floats_weight v a.state.floats.double ≡ floats_weight v w.state.floats.double → left_weight v a.state.left_column ≡ left_weight v w.state.left_column → Adds v (m + nodes_weight v (Pages.left_or c w.state.left_column).nodes + nodes_weight v c.nodes) w a → Adds v (nodes_weight v c.nodes) w (Pages.without_double a)
     gone m n d a e l x = record { waits = x.waits; classes = x.classes; goes = λ r. x.goes r; by = λ r s. all s (x.by r s) }
       where
         all : Sound w.state → Sound a.state × (work_weight v a ≡ work_weight v w + (m + nodes_weight v (Pages.left_or c w.state.left_column).nodes + nodes_weight v c.nodes)) → Sound (Pages.without_double a).state × (work_weight v (Pages.without_double a) ≡ work_weight v w + nodes_weight v c.nodes)
         all s h =
-            (record { box = h.0.box; columns = tt; entries = h.0.entries }, sums (work_weight v w) (work_weight v a) (work_weight v (Pages.without_double a)) (floats_weight v w.state.floats.double) (floats_weight v a.state.floats.double) (left_weight v w.state.left_column) (left_weight v a.state.left_column) (nodes_weight v (Pages.left_or c w.state.left_column).nodes) (nodes_weight v c.nodes) d e l (left-weight v c w.state.two_columns w.state.first_column w.state.left_column f s.columns) h.1 (without-weight v a))
+            (record { box = h.0.box; bare = h.0.bare; columns = tt; entries = h.0.entries }, sums (work_weight v w) (work_weight v a) (work_weight v (Pages.without_double a)) (floats_weight v w.state.floats.double) (floats_weight v a.state.floats.double) (left_weight v w.state.left_column) (left_weight v a.state.left_column) (nodes_weight v (Pages.left_or c w.state.left_column).nodes) (nodes_weight v c.nodes) d e l (left-weight v c w.state.two_columns w.state.first_column w.state.left_column f s.columns) h.1 (without-weight v a))
           where
             sums : (W A B q q' y y' z k : ℕ) → m ≡ q → q' ≡ q → y' ≡ y → z ≡ y → A ≡ W + (m + z + k) → B + (q' + y') ≡ A → B ≡ W + k
             sums W A B q q' y y' z k d e l g h i = omega arith
@@ -95,7 +97,7 @@ keep_left-adds v c w t f = record { waits = refl; classes = refl; goes = λ r. r
     sums a x y n = omega arith
 
     by_left : (o : Option PlainColumn) → ColumnsFit w.state.two_columns w.state.first_column o → Sound w.state → Sound (Pages.keep_left c w).state × (work_weight v (Pages.keep_left c w) ≡ nodes_weight v w.state.waiting + boxes_weight v w.state.boxes + nodes_weight v w.state.held_page + lists_weight v w.state.floats + left_weight v o + nodes_weight v w.put_back + sent_weight v w.sent + nodes_weight v c.nodes)
-    by_left None h s = (record { box = s.box; columns = subst (λ x. ColumnsFit x false (Some c)) (sym t) tt; entries = s.entries }, sums (nodes_weight v w.state.waiting + boxes_weight v w.state.boxes + nodes_weight v w.state.held_page + lists_weight v w.state.floats) (nodes_weight v w.put_back) (sent_weight v w.sent) (nodes_weight v c.nodes))
+    by_left None h s = (record { box = s.box; bare = s.bare; columns = subst (λ x. ColumnsFit x false (Some c)) (sym t) tt; entries = s.entries }, sums (nodes_weight v w.state.waiting + boxes_weight v w.state.boxes + nodes_weight v w.state.held_page + lists_weight v w.state.floats) (nodes_weight v w.put_back) (sent_weight v w.sent) (nodes_weight v c.nodes))
     by_left (Some d) h s = absurd (subst (λ x. ColumnsFit w.state.two_columns x (Some d)) f h)
 
 -- ---- each move
@@ -114,7 +116,7 @@ column-weighs {p} v (records_column c w) = keeps v (of_column c) w _ (records-ad
 column-weighs {p} v (ships_column c w t) = gone v c w _ (shipped-adds v p (one c) w)
 column-weighs {p} v (keeps_left c w t f) = gone v c w _ (keep_left-adds v c w t f)
 column-weighs {p} v (ships_pair c w t f) = gone v c w _ (pair-adds v p c w f)
-column-weighs {p} v (ends_column w) = keeps v nothing w _ (record { waits = refl; classes = refl; goes = λ r. r; by = λ r s. (record { box = s.box; columns = s.columns; entries = s.entries }, omega arith) })
+column-weighs {p} v (ends_column w) = keeps v nothing w _ (record { waits = refl; classes = refl; goes = λ r. r; by = λ r s. (record { box = s.box; bare = s.bare; columns = s.columns; entries = s.entries }, omega arith) })
 column-weighs {p} v (ships_wide clearing cs w e) =
     let c = wide_floats_column p p.textheight (chosen_floats cs) in
     let l = with_wide_waiting p (left_floats cs) w.state.floats in
@@ -165,12 +167,33 @@ emptied-box (c ∷ cs) (b ∷ bs) h = (h.0, h.1, emptied-box cs bs h.2)
 
 -- ---- a text column
 
--- it takes its floats and the insertions with it
-pub text-taken : (v : Weight) (p : Params) (body : List PlainNode) (w : Work) → Sound w.state → Sound (Columns.without_column_floats w).state × (work_weight v (Columns.without_column_floats w) + nodes_weight v (text_column p w.state.floats body (footnotes w.state)).nodes ≡ work_weight v w + nodes_weight v body)
-text-taken v p body w s = (record { box = emptied-box w.state.classes w.state.boxes s.box; columns = s.columns; entries = s.entries }, weight (nodes_weight v (text_column p w.state.floats body (footnotes w.state)).nodes) (text_column-weight v p w.state.floats body (footnotes w.state)))
+-- the insertions that stand in it weigh as all
+standing-weight : (v : Weight) (ns : List Notes) → NotesBare ns → notes_weight v (standing_notes ns) ≡ notes_weight v ns
+standing-weight v [] h = refl
+standing-weight v (n ∷ ns) h = by_test (is_enlarging n) (λ e. bare-weight v n.inner (h.0 e)) (standing-weight v ns h.1)
   where
-    weight : (n : ℕ) → n ≡ floats_weight v w.state.floats.top + nodes_weight v body + notes_weight v (footnotes w.state) + floats_weight v w.state.floats.bottom → work_weight v (Columns.without_column_floats w) + n ≡ work_weight v w + nodes_weight v body
+    by_test : (t : Bool) → (t ≡ true → leaves_weight v n.inner ≡ 0) → notes_weight v (standing_notes ns) ≡ notes_weight v ns → notes_weight v (if not t then n ∷ standing_notes ns else standing_notes ns) ≡ leaves_weight v n.inner + notes_weight v ns
+    by_test true k e = let z : leaves_weight v n.inner ≡ 0 = k refl in omega arith
+    by_test false k e = omega arith
+
+-- if none stand, the boxes hold nothing that weighs
+none-stand : (v : Weight) (w : Work) → Sound w.state → standing_notes (footnotes w.state) ≡ [] → boxes_weight v w.state.boxes ≡ 0
+none-stand v w s e = sym (box-weight v w.state.classes w.state.boxes s.box) ∙ sym (standing-weight v (footnotes w.state) (notes-bare w.state.classes w.state.boxes s.bare)) ∙ ap (notes_weight v) e
+
+-- what made a page higher is dropped
+pub notes-dropped : (v : Weight) (w : Work) → standing_notes (footnotes w.state) ≡ [] → Sound w.state → Sound (Clear.without_notes w).state × (work_weight v (Clear.without_notes w) ≡ work_weight v w)
+notes-dropped v w e s =
+    let z : boxes_weight v w.state.boxes ≡ 0 = none-stand v w s e in
+    let m : boxes_weight v (Columns.emptied_boxes w.state.boxes) ≡ 0 = emptied-weight v w.state.boxes in
+    (record { box = emptied-box w.state.classes w.state.boxes s.box; bare = emptied-bare w.state.boxes; columns = s.columns; entries = s.entries }, omega arith)
+
+-- it takes its floats and the insertions with it
+pub text-taken : (v : Weight) (p : Params) (body : List PlainNode) (w : Work) → Sound w.state → Sound (Columns.without_column_floats w).state × (work_weight v (Columns.without_column_floats w) + nodes_weight v (Columns.text_of p w.state body).nodes ≡ work_weight v w + nodes_weight v body)
+text-taken v p body w s = (record { box = emptied-box w.state.classes w.state.boxes s.box; bare = emptied-bare w.state.boxes; columns = s.columns; entries = s.entries }, weight (nodes_weight v (Columns.text_of p w.state body).nodes) (text_column-weight v p w.state.floats body (standing_notes (footnotes w.state)) (enlarged_of w.state.shrink (footnotes w.state))))
+  where
+    weight : (n : ℕ) → n ≡ floats_weight v w.state.floats.top + nodes_weight v body + notes_weight v (standing_notes (footnotes w.state)) + floats_weight v w.state.floats.bottom → work_weight v (Columns.without_column_floats w) + n ≡ work_weight v w + nodes_weight v body
     weight n e =
         let b : notes_weight v (footnotes w.state) ≡ boxes_weight v w.state.boxes = box-weight v w.state.classes w.state.boxes s.box in
+        let c : notes_weight v (standing_notes (footnotes w.state)) ≡ notes_weight v (footnotes w.state) = standing-weight v (footnotes w.state) (notes-bare w.state.classes w.state.boxes s.bare) in
         let m : boxes_weight v (Columns.emptied_boxes w.state.boxes) ≡ 0 = emptied-weight v w.state.boxes in
         omega (arith, e)

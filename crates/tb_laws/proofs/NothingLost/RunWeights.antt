@@ -1,6 +1,6 @@
 -- A run loses nothing: what is sent and what is on the way weighs as much as the galley.
 use Rattle.std.proofs.Common.{◌≡◌, refl, sym, ◌∙◌, ap, subst, ℕ, suc, pos, ◌+◌, Bool, true, false, List, [], ◌∷◌, ◌++◌, map, take, drop, Option, Some, None, arith}
-use Rattle.std.specs.Prelude.{ℤ, pred, ◌==◌, int_lt, int_le, ◌&&◌, if◌then◌else◌}
+use Rattle.std.specs.Prelude.{ℤ, pred, ◌==◌, int_lt, int_le, ◌&&◌, if◌then◌else◌, not}
 use Rattle.std.specs.List.{AllByRecursion}
 use Rattle.tb_scaled.specs.Scaled.{awful_bad, min_ℤ, eject_penalty}
 use Rattle.tb_node.specs.declared.Act.{Act}
@@ -25,8 +25,9 @@ use Rattle.tb_sheet.specs.declared.Warn.{Warn}
 use Rattle.tb_column.specs.Column.{PlainColumn}
 use Rattle.tb_sheet.specs.Sheet.{PlainSent, warned, shipped}
 use Rattle.tb_output.specs.State.{State, Recorded, emptied, Work}
-use Rattle.tb_output.specs.Act.{Acted, went, full, act_on, taken_float, lists_with_taken}
+use Rattle.tb_output.specs.Act.{Acted, went, full, act_on, taken_float, lists_with_taken, has_head_room, taken_head}
 use Rattle.tb_output.specs.Output.{out}
+use Rattle.tb_laws.proofs.Closed.BareFeet.{HoldBare, LabelsBare, BoxesBare, AllPlaced, all-placed, placed-class, placed-bare, labelled-bare, boxes-bare, held-bare, pruned-bare, spent-bare, bare-passed, bare-take, bare-drop, bare-join}
 use Rattle.tb_laws.proofs.NothingLost.StateWeights.{floats_weight, floats-append}
 use Rattle.tb_laws.proofs.NothingLost.WorkWeights.{Sound, class_numbers, BoxesFit, Paired, entries_weight, lists_weight, left_weight, state_weight, sheet_weight, sent_weight, out-weight}
 use Rattle.tb_laws.proofs.Closed.SortLemmas.{PageStands, cut-stands, pruned-stands, page-careful}
@@ -79,6 +80,7 @@ ActFits v o (acts.Take f) = Unit {0}
 ActFits v o (acts.TakeMargin m) = Unit {0}
 ActFits v o (acts.Suppress area) = Unit {0}
 ActFits v o (acts.Page n) = Unit {0}
+ActFits v o (acts.Head f) = Unit {0}
 ActFits v o (acts.Columns two) = left_weight v o ≡ 0
 
 abbrev pub ActsFit : Weight → Option PlainColumn → List Act → Type 0
@@ -129,15 +131,18 @@ act-adds : (v : Weight) (p : Params) (s : State) (a : Act) (ds : List Act) → S
 unfolding ActAdds
 act-adds v p s (acts.Take f) ds d h =
     let e : lists_weight v (lists_with_taken p (taken_float p s f) s.floats) ≡ lists_weight v s.floats + v.float f.line = taken-weight v p (taken_float p s f) s.floats in
-    room-adds v s (acts.Take f) ds (int_le p.pool (pos (live_count s.floats))) _ _ _ _ _ (record { sound = record { box = d.box; columns = d.columns; entries = taken-paired p (taken_float p s f) s.floats d.entries }; waiting = refl; held = refl; boxes = refl; classes = refl; weight = omega (arith, e) }, h.1)
+    room-adds v s (acts.Take f) ds (int_le p.pool (pos (live_count s.floats))) _ _ _ _ _ (record { sound = record { box = d.box; bare = d.bare; columns = d.columns; entries = taken-paired p (taken_float p s f) s.floats d.entries }; waiting = refl; held = refl; boxes = refl; classes = refl; weight = omega (arith, e) }, h.1)
 act-adds v p s (acts.TakeMargin m) ds d h =
     let e : entries_weight v (s.floats.current ++ entries.Left m ∷ entries.Right m ∷ []) ≡ entries_weight v s.floats.current + (v.margin m.line + 0) = entries-append v s.floats.current (entries.Left m ∷ entries.Right m ∷ []) in
-    room-adds v s (acts.TakeMargin m) ds (int_lt p.pool (pos (live_count s.floats + 2))) _ _ _ _ _ (record { sound = record { box = d.box; columns = d.columns; entries = paired-append s.floats.current (entries.Left m ∷ entries.Right m ∷ []) d.entries tt }; waiting = refl; held = refl; boxes = refl; classes = refl; weight = omega arith }, h.1)
-act-adds v p s (acts.Suppress area) ds d h = (record { sound = record { box = d.box; columns = d.columns; entries = d.entries }; waiting = refl; held = refl; boxes = refl; classes = refl; weight = omega arith }, h.1)
-act-adds v p s (acts.Page n) ds d h = (record { sound = record { box = d.box; columns = d.columns; entries = d.entries }; waiting = refl; held = refl; boxes = refl; classes = refl; weight = omega arith }, h.1)
+    room-adds v s (acts.TakeMargin m) ds (int_lt p.pool (pos (live_count s.floats + 2))) _ _ _ _ _ (record { sound = record { box = d.box; bare = d.bare; columns = d.columns; entries = paired-append s.floats.current (entries.Left m ∷ entries.Right m ∷ []) d.entries tt }; waiting = refl; held = refl; boxes = refl; classes = refl; weight = omega arith }, h.1)
+act-adds v p s (acts.Suppress area) ds d h = (record { sound = record { box = d.box; bare = d.bare; columns = d.columns; entries = d.entries }; waiting = refl; held = refl; boxes = refl; classes = refl; weight = omega arith }, h.1)
+act-adds v p s (acts.Page n) ds d h = (record { sound = record { box = d.box; bare = d.bare; columns = d.columns; entries = d.entries }; waiting = refl; held = refl; boxes = refl; classes = refl; weight = omega arith }, h.1)
+act-adds v p s (acts.Head f) ds d h =
+    let e : floats_weight v (s.floats.double ++ taken_head p f ∷ []) ≡ floats_weight v s.floats.double + (v.float f.line + 0) = floats-append v s.floats.double (taken_head p f ∷ []) in
+    room-adds v s (acts.Head f) ds (not (has_head_room p s)) _ _ _ _ _ (record { sound = record { box = d.box; bare = d.bare; columns = d.columns; entries = d.entries }; waiting = refl; held = refl; boxes = refl; classes = refl; weight = omega arith }, h.1)
 act-adds v p s (acts.Columns two) ds d h =
     let e : left_weight v s.left_column ≡ 0 = h.0 in
-    (record { sound = record { box = d.box; columns = tt; entries = d.entries }; waiting = refl; held = refl; boxes = refl; classes = refl; weight = omega arith }, fits-none v ds)
+    (record { sound = record { box = d.box; bare = d.bare; columns = tt; entries = d.entries }; waiting = refl; held = refl; boxes = refl; classes = refl; weight = omega arith }, fits-none v ds)
 
 -- what is reached weighs nothing, and its acts bring what they take
 pub record Progressed (v : Weight) (n : ℕ) (s : State) (q : Progress) : Type 0 where
@@ -234,7 +239,17 @@ module _ (v : Weight) (p : Params) (calm : int_le p.interlinepenalty eject_penal
   cut = reach-cut (ask_for p s).max_depth (terms_after (frozen_for (ask_for p s) s.classes s.boxes)) [] (pruned_nodes p.topskip s.waiting)
 
   pub cut_feet : AllOfClass (class_numbers s.classes) (take (page_break (page_of p s)).place (page_of p s).passed) × AllOfClass (class_numbers s.classes) (with_spent_break (drop (page_break (page_of p s)).place (page_of p s).passed ++ (page_of p s).beyond))
-  cut_feet = cut-class (class_numbers s.classes) (page_break (page_of p s)).place (pruned_nodes p.topskip s.waiting) (page_of p s) cut (class-pruned (class_numbers s.classes) p.topskip s.waiting kept.placed.feet)
+  cut_feet = cut-class (class_numbers s.classes) (page_break (page_of p s)).place (pruned_nodes p.topskip s.waiting) (page_of p s) cut (class-pruned (class_numbers s.classes) p.topskip s.waiting (placed-class (class_numbers s.classes) s.waiting kept.placed.feet))
+
+  pub passed_bare : HoldBare (page_of p s).passed × HoldBare (page_of p s).beyond
+  passed_bare = bare-passed (pruned_nodes p.topskip s.waiting) (page_of p s) cut (pruned-bare p.topskip s.waiting (placed-bare (class_numbers s.classes) s.waiting kept.placed.feet))
+
+  -- the insertions on the page, and those behind its break
+  pub cut_bare : HoldBare (take (page_break (page_of p s)).place (page_of p s).passed) × HoldBare (with_spent_break (drop (page_break (page_of p s)).place (page_of p s).passed ++ (page_of p s).beyond))
+  cut_bare =
+      let w = page_of p s in
+      let b = passed_bare in
+      (bare-take (page_break w).place w.passed b.0, spent-bare (drop (page_break w).place w.passed ++ w.beyond) (bare-join (drop (page_break w).place w.passed) w.beyond (bare-drop (page_break w).place w.passed b.0) b.1))
 
   pub cut_stands : PageStands kept.placed.held (page_break (page_of p s)).place (page_of p s)
   cut_stands = cut-stands (pruned_nodes p.topskip s.waiting) (page_of p s) kept.placed.held (page_break (page_of p s)).place cut (pruned-stands p.topskip s.waiting kept.placed.held kept.placed.stands)
@@ -256,8 +271,10 @@ module _ (v : Weight) (p : Params) (calm : int_le p.interlinepenalty eject_penal
       let same : class_numbers t.classes ≡ ks = ap class_numbers a.classes in
       let fit : BoxesFit t.classes t.boxes = a.sound.box in
       let whole : AllOfClass (numbers t.boxes) (take (page_break w).place w.passed) = subst (λ ms. AllOfClass ms (take (page_break w).place w.passed)) (sym same ∙ fit-numbers t.classes t.boxes fit) cut_feet.0 in
-      let x = out-weight v p t f (record { box = box-fired ls t.classes t.boxes fit; columns = a.sound.columns; entries = a.sound.entries }) (page-careful v kept.placed.held ls t.boxes w t.held_page free cut_stands) r in
-      let y = out-placed ks p calm t f kept.placed.held _ free (subst AllSteady (sym a.held) kept.placed.steady) (subst (AllOfClass ks) (sym a.held) kept.placed.held_feet) (body-steady (take (page_break w).place w.passed) cut_stands.calm cut_stands.free) (body-class ks (take (page_break w).place w.passed)) (held-ins ks ls (labelled-class ks z [] [] (take (page_break w).place w.passed) tt cut_feet.0)) cut_feet.1 cut_stands.rest same (subst (λ ms. AreAmong ms t.classes) same (fit-among t.classes t.boxes fit)) in
+      let labels : LabelsBare ls = labelled-bare z [] [] (take (page_break w).place w.passed) tt cut_bare.0 in
+      let boxed : BoxesBare f.boxes = boxes-bare ls t.boxes labels a.sound.bare in
+      let x = out-weight v p t f (record { box = box-fired ls t.classes t.boxes fit; bare = boxed; columns = a.sound.columns; entries = a.sound.entries }) (page-careful v kept.placed.held ls t.boxes w t.held_page free cut_stands) r in
+      let y = out-placed ks p calm t f kept.placed.held _ free (subst AllSteady (sym a.held) kept.placed.steady) (subst (AllPlaced ks) (sym a.held) kept.placed.held_feet) (body-steady (take (page_break w).place w.passed) cut_stands.calm cut_stands.free) (body-class ks (take (page_break w).place w.passed)) (held-ins ks ls (labelled-class ks z [] [] (take (page_break w).place w.passed) tt cut_feet.0)) (held-bare ls labels) (all-placed ks (with_spent_break (drop (page_break w).place w.passed ++ w.beyond)) cut_feet.1 cut_bare.1) cut_stands.rest same (subst (λ ms. AreAmong ms t.classes) same (fit-among t.classes t.boxes fit)) boxed in
       let i : fired_weight v f ≡ boxes_weight v t.boxes + (nodes_weight v w.passed + nodes_weight v w.beyond) = fired-weight v z t.boxes w whole in
       let j : nodes_weight v w.passed + acted_weight v w.reached + nodes_weight v w.beyond ≡ nodes_weight v s.waiting = reached in
       let k : lists_weight v t.floats + left_weight v t.left_column ≡ lists_weight v s.floats + left_weight v s.left_column + acted_weight v w.reached = a.weight in

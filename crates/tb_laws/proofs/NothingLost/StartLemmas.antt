@@ -1,9 +1,8 @@
 -- The nodes of a galley are in an allowed order, and weigh as its items.
-use Rattle.std.proofs.Common.{◌≡◌, refl, sym, ◌∙◌, ap, subst, ℕ, zero, suc, ◌+◌, Bool, true, false, List, [], ◌∷◌, ◌++◌, map, arith, append_assoc}
+use Rattle.std.proofs.Common.{◌≡◌, refl, sym, ◌∙◌, ap, subst, ℕ, zero, suc, ◌+◌, Bool, true, false, List, [], ◌∷◌, ◌++◌, map, arith, append_assoc, ◌==◌}
 use Rattle.std.specs.Prelude.{ℤ, int_le, ◌||◌, ◌&&◌, if◌then◌else◌}
 use Rattle.std.specs.List.{AllByRecursion}
 use Rattle.std.proofs.lemmas.Int.{ints}
-use Rattle.tb_builder.proofs.Cutting.CutLemmas.{class-both}
 use Rattle.tb_scaled.specs.Scaled.{eject_penalty}
 use Rattle.tb_node.specs.PlainNodes.{act, on_line, clearpage_kinds}
 use Rattle.tb_node.specs.declared.Act.TheVariants as acts
@@ -17,22 +16,25 @@ use Rattle.tb_galley.specs.declared.Item.{Item}
 use Rattle.tb_galley.specs.declared.ItemKind.{ItemKind}
 use Rattle.tb_galley.specs.declared.ItemKind.TheVariants as items
 use Rattle.tb_galley.specs.declared.Galley.{Galley}
-use Rattle.tb_galley.specs.GalleyNodes.{plain_leaf, with_firings, item_kinds, item_nodes, two_after, expanded}
+use Rattle.tb_galley.specs.GalleyNodes.{plain_leaf, enlarge_list, with_firings, item_kinds, item_nodes, two_after, expanded}
 use Rattle.tb_insert.specs.declared.Class.{Class}
 use Rattle.tb_builder.proofs.FiredPages.PageWeights.{hits, IsOnce, boxes_weight}
 use Rattle.tb_items.specs.Classes.{classes_of}
 use Rattle.tb_output.specs.State.{first_state, void_boxes}
 use Rattle.tb_output.specs.Output.{is_int}
 use Rattle.tb_sheet.specs.Asked.{clear_penalty, par_penalty, vert_penalty, hold_penalty}
+use Rattle.tb_laws.proofs.Closed.Closings.{never}
+use Rattle.tb_laws.proofs.Closed.BareFeet.{AreBare, placed-both, void-bare}
 use Rattle.tb_laws.proofs.NothingLost.WorkWeights.{class_numbers, BoxesFit, state_weight}
 use Rattle.tb_laws.proofs.Closed.SortLemmas.{Sort, light, pause, hold, serve, clear, odd, none, many, Stands, pen_sort, sorts, sorts-append, fewer}
 use Rattle.tb_laws.proofs.Closed.PutLemmas.{Extends}
 use Rattle.tb_laws.proofs.NothingLost.RunWeights.{Kept}
 
--- no penalty of an item is below that of a page's end, and the class of a footnote is one of these numbers
+-- no penalty of an item is below that of a page's end, the class of a footnote is one of these numbers and not 255, and this is one of them if a page is made higher
 abbrev pub ItemFits : List ℕ → ItemKind → Type 0
 ItemFits ks (items.Penalty n) = int_le eject_penalty n ≡ true
-ItemFits ks (items.Foot class ls) = IsOnce ks class
+ItemFits ks (items.Foot class ls) = IsOnce ks class × ((class == 255) ≡ false)
+ItemFits ks (items.Enlarge by star) = IsOnce ks 255
 ItemFits ks _ = Unit {0}
 
 -- such a penalty is the end of a page, or light
@@ -44,9 +46,15 @@ high-penalty q h ys s = by_tests (int_le q eject_penalty) (is_int q eject_penalt
     by_tests true false c x z u = let no : ⊥ = grind (arith, u refl) in absurd no
     by_tests false e c x z u = (tt, s)
 
+-- the list of a page that is made higher holds nothing that weighs
+list-bare : (by : ℤ) (star : Bool) → AreBare (enlarge_list by star)
+list-bare by true = ((λ v. refl), ((λ v. refl), tt))
+list-bare by false = ((λ v. refl), tt)
+
 item-extends : (ks : List ℕ) (p : Params) (two : Bool) (line : ℕ) (k : ItemKind) → ItemFits ks k → Extends ks many false (on_line line (item_kinds p two k))
 item-extends ks p two line (items.Penalty n) f = record { by = λ ys s. high-penalty n f ys s; feet = (tt, tt) }
-item-extends ks p two line (items.Foot class foot) f = record { by = λ ys s. (tt, s); feet = (f, tt) }
+item-extends ks p two line (items.Foot class foot) f = record { by = λ ys s. (tt, s); feet = ((f.0, λ e. never (sym f.1 ∙ e)), tt) }
+item-extends ks p two line (items.Enlarge by star) f = record { by = λ ys s. (tt, s); feet = ((f, λ e. list-bare by star), tt) }
 item-extends ks p two line (items.Float x vert) f = by_taking (has_second p && two && x.wide) vert
   where
     by_taking : (t u : Bool) → Extends ks many false (on_line line (if t then act (acts.Take x) ∷ [] else with_firings (acts.Take x) u))
@@ -86,7 +94,7 @@ items-stand ks p two (n ∷ ns) f =
     let after = two_after two n.kind in
     let x = item-extends ks p two n.line n.kind f.0 in
     let y = items-stand ks p after ns f.1 in
-    record { by = λ ys s. subst (Stands many false) (sym (ap (λ l. l ++ ys) (sorts-append (on_line n.line (item_kinds p two n.kind)) (item_nodes p after ns)) ∙ append_assoc (sorts (on_line n.line (item_kinds p two n.kind))) (sorts (item_nodes p after ns)) ys)) (x.by (sorts (item_nodes p after ns) ++ ys) (y.by ys s)); feet = class-both ks (on_line n.line (item_kinds p two n.kind)) (item_nodes p after ns) x.feet y.feet }
+    record { by = λ ys s. subst (Stands many false) (sym (ap (λ l. l ++ ys) (sorts-append (on_line n.line (item_kinds p two n.kind)) (item_nodes p after ns)) ∙ append_assoc (sorts (on_line n.line (item_kinds p two n.kind))) (sorts (item_nodes p after ns)) ys)) (x.by (sorts (item_nodes p after ns) ++ ys) (y.by ys s)); feet = placed-both ks (on_line n.line (item_kinds p two n.kind)) (item_nodes p after ns) x.feet y.feet }
 
 -- no two classes have one number
 abbrev pub NumbersDiffer : List Class → Type 0
@@ -104,13 +112,13 @@ start-kept g d f =
     let ks = class_numbers (classes_of g) in
     let x = items-stand ks g.params false g.items f in
     record {
-      sound = record { box = void-fit (classes_of g) d; columns = tt; entries = tt };
+      sound = record { box = void-fit (classes_of g) d; bare = void-bare (classes_of g); columns = tt; entries = tt };
       placed = record {
         held = false;
         stands = fewer none false _ (subst (Stands many false) (sym (sorts-append (item_nodes g.params false g.items) (on_line g.end_line clearpage_kinds))) (x.by (sorts (on_line g.end_line clearpage_kinds)) (tt, (tt, (tt, (tt, (tt, tt)))))));
         free = λ h. refl;
         steady = tt;
-        feet = class-both ks (item_nodes g.params false g.items) (on_line g.end_line clearpage_kinds) x.feet (tt, (tt, (tt, (tt, (tt, tt)))));
+        feet = placed-both ks (item_nodes g.params false g.items) (on_line g.end_line clearpage_kinds) x.feet (tt, (tt, (tt, (tt, (tt, tt)))));
         held_feet = tt;
       };
     }
@@ -133,6 +141,7 @@ item_weight v n (items.Hbox name h d) = v.box n
 item_weight v n (items.Rule name h d) = v.box n
 item_weight v n (items.Foot class ls) = foot_weight v ls
 item_weight v n (items.Float f vert) = v.float f.line
+item_weight v n (items.Head f) = v.float f.line
 item_weight v n (items.Margin m vert) = v.margin m.line
 item_weight v n _ = 0
 
@@ -161,6 +170,9 @@ item-expanded v p two n (items.Float f vert) = by_taking (has_second p && two &&
     by_taking true = omega arith
     by_taking false = omega arith
 item-expanded v p two n (items.Margin m vert) = omega arith
+item-expanded v p two n (items.Head f) = omega arith
+item-expanded v p two n (items.Enlarge by true) = refl
+item-expanded v p two n (items.Enlarge by false) = refl
 item-expanded v p two n k = refl
 
 items-expanded : (v : Weight) (p : Params) (two : Bool) (ns : List Item) → nodes_weight v (item_nodes p two ns) ≡ items_weight v ns

@@ -18,6 +18,7 @@ use Rattle.tb_output.proofs.StepLaws.RefusedSteps.{by-sends, by-records, by-ship
 use Rattle.tb_output.proofs.StepLaws.Moves.{Hand, nothing, of_text, of_column, of_float, of_note}
 pub use Rattle.tb_sheet.proofs.PrintedSheets.{sheet_weight, sent_weight}
 use Rattle.tb_sheet.proofs.PrintedSheets.{sent_weight-append}
+use Rattle.tb_laws.proofs.Closed.BareFeet.{BoxesBare}
 use Rattle.tb_output.specs.State.{State, Work, Recorded, puts, sends, records_also}
 use Rattle.tb_output.specs.Pages
 
@@ -93,6 +94,7 @@ Paired (entries.Right m ∷ es) = ⊥
 
 pub record Sound (s : State) : Type 0 where
   pub box : BoxesFit s.classes s.boxes
+  pub bare : BoxesBare s.boxes
   pub columns : ColumnsFit s.two_columns s.first_column s.left_column
   pub entries : Paired s.floats.current
 
@@ -151,7 +153,7 @@ pub shipped-adds : (v : Weight) (p : Params) (sheet : PlainSheet) (w : Work) →
 shipped-adds v p sheet w =
     by-ship (Adds v (sheet_weight v sheet) w) p sheet w (λ h. record { waits = refl; classes = refl; goes = λ k. k; by = λ k s. let no : ⊥ = grind (arith, k, h) in absurd no })
     (λ h. record { waits = refl; classes = refl; goes = λ k. let no : ⊥ = grind (arith, k) in absurd no; by = λ k s. let no : ⊥ = grind (arith, k) in absurd no })
-    (λ h e. record { waits = refl; classes = refl; goes = λ k. k; by = λ k s. (record { box = s.box; columns = s.columns; entries = s.entries }, sums (state_weight v w.state + nodes_weight v w.put_back) (sent_weight v w.sent) (sent_weight v (w.sent ++ shipped w.state.number sheet ∷ [])) (sheet_weight v sheet) (sent_weight-append v w.sent (shipped w.state.number sheet ∷ []))) })
+    (λ h e. record { waits = refl; classes = refl; goes = λ k. k; by = λ k s. (record { box = s.box; bare = s.bare; columns = s.columns; entries = s.entries }, sums (state_weight v w.state + nodes_weight v w.put_back) (sent_weight v w.sent) (sent_weight v (w.sent ++ shipped w.state.number sheet ∷ [])) (sheet_weight v sheet) (sent_weight-append v w.sent (shipped w.state.number sheet ∷ []))) })
   where
     sums : (x y z n : ℕ) → z ≡ y + (n + 0) → x + z ≡ x + y + n
     sums x y z n e = omega arith

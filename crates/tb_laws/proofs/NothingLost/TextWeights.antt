@@ -24,6 +24,7 @@ use Rattle.tb_output.specs.Text
 use Rattle.tb_output.proofs.StepLaws.FollowLemmas.{records-state}
 use Rattle.tb_output.proofs.StepLaws.Moves.{Hand, nothing, of_text, of_float, of_note, IsInColumn, deferred_float, TextMove, goes_back, places_current, defers_current, takes_float, stands_here, takes_note, stands_beside, puts_penalty, warns, goes-on}
 use Rattle.tb_output.proofs.StepLaws.FiringTree.{float_or_note-moves}
+use Rattle.tb_laws.proofs.Closed.BareFeet.{emptied-bare}
 use Rattle.tb_laws.proofs.NothingLost.StateWeights.{hand_weight, Light, Weighs, gives, keeps, weighs-then, all-added, entries_weight, lists_weight, work_weight, Paired, Sound, Adds, unchanged, puts-adds, records-adds, warns-adds}
 use Rattle.tb_laws.proofs.NothingLost.FloatWeights.{Joins, placed-adds}
 use Rattle.tb_laws.proofs.NothingLost.ColumnWeights.{notes_weight}
@@ -56,7 +57,7 @@ notes_nodes-weight v p (n ∷ ns) = let h : nodes_weight v (Text.notes_nodes p n
 
 -- the held page and what follows it go back, and the footnotes after them
 list_back-adds : (v : Weight) (p : Params) (ns : List PlainNode) (w : Work) → Adds v (nodes_weight v ns) w (Text.list_back p (w.state.held_page ++ ns) w)
-list_back-adds v p ns w = record { waits = refl; classes = refl; goes = λ r. r; by = λ r s. (record { box = emptied-box w.state.classes w.state.boxes s.box; columns = s.columns; entries = s.entries }, weight s) }
+list_back-adds v p ns w = record { waits = refl; classes = refl; goes = λ r. r; by = λ r s. (record { box = emptied-box w.state.classes w.state.boxes s.box; bare = emptied-bare w.state.boxes; columns = s.columns; entries = s.entries }, weight s) }
   where
     weight : Sound w.state → work_weight v (Text.list_back p (w.state.held_page ++ ns) w) ≡ work_weight v w + nodes_weight v ns
     weight s =
@@ -108,7 +109,7 @@ note-weighs v m es at w e = record { waits = refl; classes = refl; goes = λ r. 
     all s h =
         let k : entries_weight v w.state.floats.current ≡ v.margin m.line + entries_weight v es = ap (entries_weight v) e in
         let g : entries_weight v (drop 1 es) ≡ entries_weight v es = h.1 in
-        (record { box = s.box; columns = s.columns; entries = h.0 }, omega arith)
+        (record { box = s.box; bare = s.bare; columns = s.columns; entries = h.0 }, omega arith)
 
 -- nodes that are in hand go back
 pub put-weighs : (v : Weight) (h : Hand) (ns : List PlainNode) (w : Work) → (Light v h → nodes_weight v ns ≡ hand_weight v h) → Weighs v h w nothing (puts ns w)

@@ -14,7 +14,7 @@ use Rattle.tb_float.specs.declared.Part.TheVariants as parts
 use Rattle.tb_float.specs.Lists.{FloatLists, floats_of, IsWaiting, wide_part, wide_waiting}
 use Rattle.tb_float.proofs.WaitingLemmas.{wide-waits}
 use Rattle.tb_float.specs.Rooms.{column_room_of}
-use Rattle.tb_column.specs.Column.{text_column, PlainColumn, Notes}
+use Rattle.tb_column.specs.Column.{PlainColumn, Notes, standing_notes}
 use Rattle.tb_sheet.specs.Sheet.{warned}
 use Rattle.tb_sheet.specs.declared.Warn.TheVariants as warnings
 use Rattle.tb_output.specs.State.{State, Work, begun, sends, with_floats, footnotes}
@@ -25,9 +25,9 @@ use Rattle.tb_sheet.specs.Asked
 use Rattle.tb_output.specs.Output
 use Rattle.tb_laws.proofs.NothingLost.StateWeights.{Weighs, gives, keeps, weighs-then, all-added, floats_weight, lists_weight, left_weight, state_weight, sent_weight, work_weight, floats-append, Sound, Adds, then_kept, adds_if, unchanged, warns-adds}
 use Rattle.tb_laws.proofs.NothingLost.FloatWeights.{next-adds, lists-adds, paired-with, lists-with}
-use Rattle.tb_output.proofs.StepLaws.Moves.{Hand, nothing, of_text, of_column, places_next, PageMove, by_column, by_fill, takes_text, fills_text, keeps_front, gathers, gathers_wide, leaves_second, clears_again, goes-on}
+use Rattle.tb_output.proofs.StepLaws.Moves.{Hand, nothing, of_text, of_column, places_next, PageMove, by_column, by_fill, takes_text, drops_notes, fills_text, keeps_front, gathers, gathers_wide, leaves_second, clears_again, goes-on}
 use Rattle.tb_output.proofs.StepLaws.FiringTree.{ordinary-columns, clear_by-moves}
-use Rattle.tb_laws.proofs.NothingLost.PutOutWeights.{column-weighs, text-taken}
+use Rattle.tb_laws.proofs.NothingLost.PutOutWeights.{column-weighs, text-taken, notes-dropped}
 use Rattle.tb_laws.proofs.NothingLost.TextWeights.{put-weighs, front-light, puts-nothing, float_or_note-adds}
 pub use Rattle.tb_laws.proofs.NothingLost.StateWeights.{Sound, class_numbers, BoxesFit, Paired, entries_weight, lists_weight, left_weight, state_weight, sheet_weight, sent_weight}
 
@@ -68,6 +68,7 @@ page-weighs : {p : Params} {h : Hand} {a : Work} {i : Hand} {b : Work} (v : Weig
 page-weighs {p} v (by_column m) = column-weighs v m
 page-weighs {p} v (by_fill (places_next a f before rest w c e i)) = keeps v nothing w _ (next-adds v p a f before rest w e)
 page-weighs {p} v (takes_text body w) = record { waits = refl; classes = refl; goes = λ r. r; light = λ l. tt; by = λ r l s. text-taken v p body w s }
+page-weighs {p} v (drops_notes body w e) = record { waits = refl; classes = refl; goes = λ r. r; light = λ l. l; by = λ r l s. let d = notes-dropped v w e s in (d.0, ap (λ n. n + nodes_weight v body) d.1) }
 page-weighs {p} v (fills_text body w) =
     let fill = made (skip filling_glue) ∷ [] in
     let e = weight-append v body fill ∙ add-zero (nodes_weight v body) in
@@ -79,8 +80,8 @@ page-weighs {p} v (leaves_second w t f) = keeps v nothing w _ (puts-nothing v (m
 page-weighs {p} v (clears_again w) = keeps v nothing w _ (puts-nothing v Clear.clear_again w refl)
 
 -- the list of the page, if it weighs nothing
-clear_by-adds : (v : Weight) (p : Params) (body : List PlainNode) (w : Work) (o : List Notes) → nodes_weight v body ≡ 0 → Adds v (nodes_weight v body) w (Clear.clear_by p body w o)
-clear_by-adds v p body w o light = all-added v (of_text body) w (Clear.clear_by p body w o) (goes-on (Weighs v) (λ h w. keeps v h w w (unchanged v w)) (weighs-then v) (λ h i a b m. page-weighs v m) (clear_by-moves p body w o)) light
+clear_by-adds : (v : Weight) (p : Params) (body : List PlainNode) (w : Work) (o : List Notes) → standing_notes (footnotes w.state) ≡ o → nodes_weight v body ≡ 0 → Adds v (nodes_weight v body) w (Clear.clear_by p body w o)
+clear_by-adds v p body w o e light = all-added v (of_text body) w (Clear.clear_by p body w o) (goes-on (Weighs v) (λ h w. keeps v h w w (unchanged v w)) (weighs-then v) (λ h i a b m. page-weighs v m) (clear_by-moves p body w o e)) light
 
 -- ---- a firing
 
@@ -88,7 +89,7 @@ ordinary-adds : (v : Weight) (p : Params) (body : List PlainNode) (w : Work) →
 ordinary-adds v p body w = record { waits = x.waits; classes = x.classes; goes = λ r. x.goes r; by = λ r s. let d = text-taken v p body w s in let e = x.by r tt d.0 in (e.0, sym (add-zero (work_weight v (Columns.ordinary p body w))) ∙ e.1 ∙ d.1) }
   where
     c : PlainColumn
-    c = text_column p w.state.floats body (footnotes w.state)
+    c = Columns.text_of p w.state body
 
     x : Weighs v (of_column c) (Columns.without_column_floats w) nothing (Columns.ordinary p body w)
     x = goes-on (Weighs v) (λ h w. keeps v h w w (unchanged v w)) (weighs-then v) (λ h i a b m. page-weighs v m) (ordinary-columns p body w)
@@ -100,7 +101,7 @@ goal-adds v p n w = adds_if v 0 w (Output.is_int n Asked.hold_penalty) (Output.w
     room = column_room_of p w.state.floats
 
     goal : (g : ℤ) → Adds v 0 w (Output.with_goal g w)
-    goal g = record { waits = refl; classes = refl; goes = λ r. r; by = λ r s. (record { box = s.box; columns = s.columns; entries = s.entries }, omega arith) }
+    goal g = record { waits = refl; classes = refl; goes = λ r. r; by = λ r s. (record { box = s.box; bare = s.bare; columns = s.columns; entries = s.entries }, omega arith) }
 
     told : Work
     told = sends (warned (warnings.Floats w.state.number)) w
@@ -125,10 +126,10 @@ output-adds : (v : Weight) (p : Params) (f : Fired) (w : Work) → Careful v w.s
 output-adds v p f w h = by_penalty (int_le eject_penalty f.penalty) (Output.is_int f.penalty Asked.clear_penalty) (Output.is_int f.penalty Asked.par_penalty) (Output.is_int f.penalty Asked.vert_penalty) h.list h.page
   where
     held : nodes_weight v w.state.held_page ≡ 0 → Adds v (nodes_weight v f.body) w (Output.hold f.body w)
-    held e = record { waits = refl; classes = refl; goes = λ r. r; by = λ r s. (record { box = s.box; columns = s.columns; entries = s.entries }, omega (arith, e)) }
+    held e = record { waits = refl; classes = refl; goes = λ r. r; by = λ r s. (record { box = s.box; bare = s.bare; columns = s.columns; entries = s.entries }, omega (arith, e)) }
 
     cleared : nodes_weight v f.body ≡ 0 → Adds v (nodes_weight v f.body) w (Clear.clear p f.body w)
-    cleared e = clear_by-adds v p f.body w (footnotes w.state) e
+    cleared e = clear_by-adds v p f.body w (standing_notes (footnotes w.state)) refl e
 
     by_penalty : (t c x y : Bool) → (t ≡ false → (c || (x || y)) ≡ true → nodes_weight v f.body ≡ 0) → (t ≡ false → (c || (x || y)) ≡ false → nodes_weight v w.state.held_page ≡ 0) → Adds v (nodes_weight v f.body) w (if t then Columns.ordinary p f.body w else (if c then Clear.clear p f.body w else (if x then Text.float_or_note p false f.body w else (if y then Text.float_or_note p true f.body w else Output.hold f.body w))))
     by_penalty true c x y k l = ordinary-adds v p f.body w
@@ -158,4 +159,4 @@ out-weight v p s f sound h r = all (Output.next_goal p f.penalty b) x r
         let d : nodes_weight v c.state.waiting ≡ 0 = ap (nodes_weight v) y.waits in
         let e : nodes_weight v (f.held ++ c.put_back ++ f.rest) ≡ nodes_weight v (f.held ++ c.put_back) + nodes_weight v f.rest = weight-append v (f.held ++ c.put_back) f.rest in
         let i : nodes_weight v (f.held ++ c.put_back) ≡ nodes_weight v f.held + nodes_weight v c.put_back = weight-append v f.held c.put_back in
-        (record { box = k.0.box; columns = k.0.columns; entries = k.0.entries }, omega arith)
+        (record { box = k.0.box; bare = k.0.bare; columns = k.0.columns; entries = k.0.entries }, omega arith)

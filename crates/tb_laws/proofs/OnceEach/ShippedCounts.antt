@@ -195,6 +195,7 @@ module _ (m : Measure) where
   item-floats : (n : ℕ) (k : ItemKind) → item_weight of_floats n k ≡ m.of (float_lines (float_of k))
   item-floats n (items.Foot class ls) = no-foot of_floats (λ n. refl) ls ∙ sym m.nothing
   item-floats n (items.Float f vert) = refl
+  item-floats n (items.Head f) = refl
   item-floats n k = sym m.nothing
 
   pub galley-has-floats : (ns : List Item) → items_weight of_floats ns ≡ m.of (float_lines (galley_floats ns))

@@ -12,14 +12,14 @@ use Rattle.tb_float.proofs.WaitingLemmas.{wide-waits}
 use Rattle.tb_fpage.specs.Company.{chosen_floats, left_floats}
 use Rattle.tb_fpage.proofs.FirstLemmas.{company-leaves}
 use Rattle.tb_area.specs.Area.{where_of}
-use Rattle.tb_column.specs.Column.{Notes, wide_floats_column}
+use Rattle.tb_column.specs.Column.{Notes, standing_notes, wide_floats_column}
 use Rattle.tb_sheet.specs.Sheet.{PlainSheet, one, pair_sheet, wide}
-use Rattle.tb_output.specs.State.{Work, output, with_floats}
+use Rattle.tb_output.specs.State.{Work, output, with_floats, footnotes}
 use Rattle.tb_output.specs.Pages
 use Rattle.tb_output.specs.Columns
 use Rattle.tb_output.specs.Clear
 use Rattle.tb_output.proofs.StepLaws.Moves.{Hand, ColumnMove, takes_company, records_column, ships_column, ships_pair, ships_wide, places_double, places_next, PageMove, by_column, by_fill, takes_text, gathers, gathers_wide, Moves, moves, holds-on}
-use Rattle.tb_output.proofs.StepLaws.FiringTree.{put_out_text-moves, ordinary-moves, clear_by-moves}
+use Rattle.tb_output.proofs.StepLaws.FiringTree.{put_out_text-moves, ordinary-moves, clear_floats-moves, clear_by-moves}
 use Rattle.tb_output.proofs.StepLaws.FollowLemmas.{records-state}
 use Rattle.tb_laws.proofs.DeadCycles.ColumnOutcomes.{area-single, ship-lists}
 use Rattle.tb_laws.proofs.DeadCycles.ClearOutcomes.{Single, Wide}
@@ -83,5 +83,8 @@ module _ (p : Params) where
   pub ordinary-sides : (body : List PlainNode) (w : Work) → DoubleFits w.state → S w → S (Columns.ordinary p body w)
   ordinary-sides body w d h = keeps-sides (ordinary-moves p body w) d h
 
-  pub clear_by-sides : (body : List PlainNode) (w : Work) (ns : List Notes) → DoubleFits w.state → S w → S (Clear.clear_by p body w ns)
-  clear_by-sides body w ns d h = keeps-sides (clear_by-moves p body w ns) d h
+  pub clear_floats-sides : (body : List PlainNode) (w : Work) → DoubleFits w.state → S w → S (Clear.clear_floats p body w)
+  clear_floats-sides body w d h = keeps-sides (clear_floats-moves p body w) d h
+
+  pub clear_by-sides : (body : List PlainNode) (w : Work) (ns : List Notes) → standing_notes (footnotes w.state) ≡ ns → DoubleFits w.state → S w → S (Clear.clear_by p body w ns)
+  clear_by-sides body w ns e d h = keeps-sides (clear_by-moves p body w ns e) d h

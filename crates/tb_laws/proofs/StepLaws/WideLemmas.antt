@@ -10,16 +10,16 @@ use Rattle.tb_float.specs.Lists.{with_floats_of, wide_part, wide_waiting, with_w
 use Rattle.tb_float.proofs.WaitingLemmas.{wide-waits}
 use Rattle.tb_fpage.specs.Company.{chosen_floats, left_floats}
 use Rattle.tb_area.specs.Area.{AreaPlace, deferred, where_of}
-use Rattle.tb_column.specs.Column.{Notes, wide_floats_column}
+use Rattle.tb_column.specs.Column.{Notes, standing_notes, wide_floats_column}
 use Rattle.tb_sheet.specs.Sheet.{one, wide}
-use Rattle.tb_output.specs.State.{State, Work, output, with_floats}
+use Rattle.tb_output.specs.State.{State, Work, output, with_floats, footnotes}
 use Rattle.tb_output.specs.FloatMoves
 use Rattle.tb_output.specs.Columns
 use Rattle.tb_output.specs.Clear
 use Rattle.tb_output.proofs.StepLaws.FollowLemmas.{records-state}
 use Rattle.tb_output.proofs.StepLaws.ColumnSteps.{no_law, place_float-step, stays}
 use Rattle.tb_output.proofs.StepLaws.Moves.{Hand, ColumnMove, records_column, ships_column, ships_pair, ships_wide, places_double, IsInColumn, places_next, PageMove, by_column, by_fill, gathers_wide, Moves, goes-on}
-use Rattle.tb_output.proofs.StepLaws.FiringTree.{two-stays, ordinary-moves, clear_by-moves}
+use Rattle.tb_output.proofs.StepLaws.FiringTree.{two-stays, put_out_text-moves, ordinary-moves, clear_floats-moves, clear_by-moves}
 use Rattle.tb_laws.proofs.Closed.SparedLists.{waiting-double}
 use Rattle.tb_laws.proofs.DeadCycles.ColumnOutcomes.{ship-lists}
 use Rattle.tb_laws.proofs.DeadCycles.ClearOutcomes.{Wide}
@@ -85,5 +85,11 @@ module _ (p : Params) where
 pub ordinary-double : (p : Params) (body : List PlainNode) (w : Work) → KeepsDouble w (Columns.ordinary p body w)
 ordinary-double p body w = keeps-double p (ordinary-moves p body w)
 
-pub clear_by-double : (p : Params) (body : List PlainNode) (w : Work) (o : List Notes) → KeepsDouble w (Clear.clear_by p body w o)
-clear_by-double p body w o = keeps-double p (clear_by-moves p body w o)
+pub text_out-double : (p : Params) (body : List PlainNode) (w : Work) → KeepsDouble w (Columns.put_out_text p body w)
+text_out-double p body w = keeps-double p (put_out_text-moves p body w)
+
+pub clear_floats-double : (p : Params) (body : List PlainNode) (w : Work) → KeepsDouble w (Clear.clear_floats p body w)
+clear_floats-double p body w = keeps-double p (clear_floats-moves p body w)
+
+pub clear_by-double : (p : Params) (body : List PlainNode) (w : Work) (o : List Notes) → standing_notes (footnotes w.state) ≡ o → KeepsDouble w (Clear.clear_by p body w o)
+clear_by-double p body w o e = keeps-double p (clear_by-moves p body w o e)

@@ -430,6 +430,7 @@ module _ (wanted : Bool) (r q d : Makeup) (hs : List Happening) (ready : IsReady
         penalty = fires.page.penalty i;
         cost = fires.page.cost i;
         size = fires.page.size i;
+        shrink = fires.page.shrink i;
         line = fires.page.line i;
       }
 

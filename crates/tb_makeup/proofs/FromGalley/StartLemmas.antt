@@ -99,6 +99,8 @@ module _ (cs : List Class) (p : Params) where
   fits l items.TwoColumn s i a = not-served s
   fits l (items.Suppress area) s i a = not-served s
   fits l (items.Page n) s i a = not-served s
+  fits l (items.Head f) s i a = not-served s
+  fits l (items.Enlarge by star) s i a = not-served s
   fits l k s i a = record { one_column = refl; nodes = sized l k a; led = (tt, tt); item = tt }
 
   -- ---- of all items
@@ -137,6 +139,8 @@ module _ (p : Params) where
   -- twenty for each line of items at most
   item-few : (l : ℕ) (k : ItemKind) → weigh (on_line l (makeup_kinds p k)) ≤ 20 * weight_of k
   item-few l (items.Foot class ls) = let e = length-map {B = PlainLeaf} ls plain_leaf in omega (arith, e)
+  item-few l (items.Enlarge by true) = omega arith
+  item-few l (items.Enlarge by false) = omega arith
   item-few l k = omega arith
 
   items-few : (ns : List Item) → weigh (makeup_nodes p ns) ≤ 20 * weight ns

@@ -1,27 +1,33 @@
 -- A machine after a float was taken.
-use Rattle.std.proofs.Common.{◌≡◌, refl, sym, subst, ap, ◌∙◌, ℕ, ◌+◌, ◌≤◌, Bool, List, [], ◌∷◌, ◌++◌, Result, arith}
-use Rattle.std.specs.Prelude.{OnOk, IfErr}
+use Rattle.std.proofs.Common.{◌≡◌, refl, sym, subst, ap, ◌∙◌, ℕ, ◌+◌, ◌≤◌, Bool, List, [], ◌∷◌, ◌++◌, Result, arith, append-nil}
+use Rattle.std.specs.Prelude.{OnOk, IfErr, pos, not, ◌&&◌, ◌==◌, int_lt, if◌then◌else◌}
 use Rattle.std.specs.List.{AllByRecursion}
 use Rattle.tb_break.proofs.EachLemmas.{all-join}
 use Rattle.tb_pool.specs.Lists.{Lists}
 use Rattle.tb_node.specs.declared.Float.{Float}
 use Rattle.tb_node.specs.declared.Node.{Node}
+use Rattle.tb_node.specs.declared.Act.TheVariants as acts
 use Rattle.tb_param.specs.declared.Params.{Params}
 use Rattle.tb_float.specs.declared.Full.{Full}
 use Rattle.tb_float.specs.Pool.{FloatPool, HasNoMarks}
 use Rattle.tb_sheet.specs.declared.Sent.{Sent}
 use Rattle.tb_sheet.specs.declared.Warn.{Warn}
-use Rattle.tb_output.specs.Act.{large_warning}
-use Rattle.tb_output.specs.Machine.{MachineView, event_lists, left_lists, machine_lists, IsMachine}
+use Rattle.tb_output.specs.Act.{large_warning, Acted, went, full, has_head_room, taken_head, with_head}
+use Rattle.tb_output.specs.Machine.{MachineView, event_lists, left_lists, machine_lists, IsMachine, state_shown}
 use Rattle.tb_sheet.specs.StoredSheets.{sent_lists, IsPageSent}
 use Rattle.tb_pool.specs.Frame.{IsNoneOf}
 use Rattle.tb_column.specs.Notes.{AreDistinct}
-use Rattle.tb_output.specs.ActCalls.{warnings_sent, TakesNoList, clipped, taken_into, with_float, with_columns, with_page_number, HasTaken, HasNoRoom}
+use Rattle.tb_output.specs.ActCalls.{warnings_sent, TakesNoList, clipped, taken_into, with_float, with_columns, with_page_number, HasTaken, HasNoRoom, IsActed, acted_in, has_title_room, HasTakenTitle, HasNoTitleRoom}
 use Rattle.tb_sheet.specs.ApartLists.{AreNoneOf}
 use Rattle.tb_pool.proofs.FrameLemmas.{none-front}
 use Rattle.tb_sheet.proofs.ListsApart.{apart-cons, distinct-apart}
 use Rattle.tb_output.proofs.FiringWork.BesideLemmas.{machine-with}
 use Rattle.tb_output.proofs.FiringWork.ResultLemmas.{either-way}
+use Rattle.tb_output.specs.State.{State}
+use Rattle.tb_builder.specs.Pageable.{IsGoal}
+use Rattle.tb_builder.specs.FiredPages.{Boxed}
+use Rattle.tb_node.specs.PlainNodes.{PlainNode}
+use Rattle.tb_float.specs.Lists.{live_count}
 
 -- ---- warnings have no lists
 
@@ -88,6 +94,7 @@ machine-numbered n m store is small = record {
   first = is.first;
   last = is.last;
   numbered = omega (arith, small);
+  shrink = is.shrink;
   pool = is.pool;
   unmarked = is.unmarked;
   left = is.left;
@@ -97,3 +104,47 @@ machine-numbered n m store is small = record {
   events = is.events;
   apart = is.apart;
 }
+
+-- ---- a title was taken
+
+module _ (m now : MachineView) (f : Float) where
+  machine-title : (store : Lists Node) → HasTakenTitle f m now → IsMachine m store → IsMachine now store
+  machine-title store h is =
+      subst (λ v. IsMachine v store) (sym h.machine)
+      (machine-with m store is (subst (λ (v : MachineView). IsGoal v.goal) h.machine h.goal) refl (subst (λ (v : MachineView). HasNoMarks v.pool) h.machine (h.unmarked is.unmarked)) is.events is.apart)
+
+  module _ {T : Type 0} (r : Result T Full) (ok : OnOk r (HasTakenTitle f m now)) (err : IfErr r (λ e. HasNoTitleRoom e.live m now)) where
+    -- what holds between two calls holds whether there was room or not
+    pub title-stands : (store : Lists Node) → IsMachine m store → IsMachine now store
+    title-stands store is =
+        either-way r (λ x. HasTakenTitle f m now) (λ e. HasNoTitleRoom e.live m now) (IsMachine now store)
+        (λ x h. machine-title store h is)
+        (λ e h. subst (λ v. IsMachine v store) (sym h.machine) is)
+        ok err
+
+    -- no list becomes the machine's
+    pub title-takes : TakesNoList m now
+    title-takes q apart =
+        either-way r (λ x. HasTakenTitle f m now) (λ e. HasNoTitleRoom e.live m now) (IsNoneOf q (machine_lists now))
+        (λ x h. subst (λ v. IsNoneOf q (machine_lists v)) (sym h.machine) apart)
+        (λ e h. subst (λ v. IsNoneOf q (machine_lists v)) (sym h.machine) apart)
+        ok err
+
+  -- what the definition does
+  module _ (size : pos m.pool.size ≡ m.params.pool) (store : Lists Node) (boxes : List Boxed) (waiting : List PlainNode) where
+    s : State
+    s = state_shown store boxes waiting m
+
+    room-same : has_title_room (m.two_columns && m.first_column) m.pool ≡ has_head_room m.params (state_shown store boxes waiting m)
+    room-same = ap (λ z. (m.two_columns && m.first_column) && (live_count m.pool.lists == 0) && int_lt (pos 0) z) size
+
+    abbrev by_room : Bool → Acted
+    by_room t = if not t then full f.line (live_count m.pool.lists) else went (with_head m.params (state_shown store boxes waiting m) (taken_head m.params f)) [] []
+
+    pub title-acted : HasTakenTitle f m now → IsActed store boxes waiting m now (acted_in store boxes waiting m (acts.Head f))
+    title-acted h =
+        subst (λ t. IsActed store boxes waiting m now (by_room t)) (sym h.room ∙ room-same)
+        (record { state = ap (state_shown store boxes waiting) h.machine; sent = ap (λ (v : MachineView). v.events) h.machine ∙ sym (append-nil m.events) })
+
+    pub title-full : (live : ℕ) → HasNoTitleRoom live m now → acted_in store boxes waiting m (acts.Head f) ≡ full f.line live
+    title-full live h = ap by_room (sym room-same ∙ h.room) ∙ ap (full f.line) (sym h.shown)

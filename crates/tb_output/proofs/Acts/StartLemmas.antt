@@ -49,6 +49,7 @@ module _ (p : Params) (cs : List Class) (store new : Lists Node) (l : ℕ) (open
     first = omega arith;
     last = omega arith;
     numbered = omega arith;
+    shrink = record { low = omega (arith, ints); high = omega (arith, ints) };
     pool = size-is p.pool ok.pool;
     unmarked = record { deferred = refl; second = refl };
     left = λ e. absurd (true≢false e);

@@ -8,7 +8,7 @@ use Rattle.tb_float.specs.declared.Entry.{Entry}
 use Rattle.tb_float.specs.declared.Entry.TheVariants as entries
 use Rattle.tb_float.specs.declared.Part.TheVariants as parts
 use Rattle.tb_float.specs.Lists.{live_count, without_place, HasFloatAt}
-use Rattle.tb_float.specs.Pool.{FloatPool, HasNoMarks, with_current, moved_float}
+use Rattle.tb_float.specs.Pool.{FloatPool, HasNoMarks, with_current, moved_float, with_floats_after}
 use Rattle.tb_output.specs.Events.{HasRoomFor}
 use Rattle.tb_output.specs.ActCalls.{taken_into}
 
@@ -44,26 +44,39 @@ module _ {X : Type 0} where
   at-last [] x = refl
   at-last (y ∷ xs) x = at-last xs x
 
+module _ (f : Float) (v mid : FloatPool) (taken : mid ≡ with_current (entries.Float f ∷ []) v) (k : ℕ) (last : k ≡ length mid.lists.current - 1) where
+  place-is : k ≡ length v.lists.current
+  place-is = last ∙ ap (λ (m : FloatPool). length m.lists.current - 1) taken ∙ omega (arith, length-append v.lists.current (entries.Float f ∷ []))
+
+  there : slice_get mid.lists.current k ≡ Some (entries.Float f)
+  there = (λ i. slice_get (taken i).lists.current (place-is i)) ∙ at-last v.lists.current (entries.Float f)
+
+  pub float-there : HasFloatAt mid.lists.current k
+  float-there = (f, there)
+
+  moved : moved_float parts.Current k parts.Second f mid ≡ taken_by true f v
+  moved =
+      (λ i. moved_float parts.Current (place-is i) parts.Second f (taken i))
+      ∙ ap (λ (es : List Entry). record v { lists = record v.lists { current = es; second = v.lists.second ++ f ∷ [] }; second_marks = v.second_marks ++ false ∷ [] }) (without-last v.lists.current (entries.Float f))
+
+  moved-above : moved_float parts.Current k parts.Double f mid ≡ with_floats_after parts.Double (f ∷ []) v
+  moved-above =
+      (λ i. moved_float parts.Current (place-is i) parts.Double f (taken i))
+      ∙ ap (λ (es : List Entry). record v { lists = record v.lists { current = es; double = v.lists.double ++ f ∷ [] } }) (without-last v.lists.current (entries.Float f))
+
+  -- it is a title
+  pub taken-above : (now : FloatPool) → ((g : Float) → slice_get mid.lists.current k ≡ Some (entries.Float g) → now ≡ moved_float parts.Current k parts.Double g mid) → now ≡ with_floats_after parts.Double (f ∷ []) v
+  taken-above now is = is f there ∙ moved-above
+
 module _ (p : Params) (f : Float) (v mid : FloatPool) (taken : mid ≡ with_current (entries.Float f ∷ []) v) where
   -- it does not wait for a page
   pub taken-current : (has_second p && f.wide) ≡ false → mid ≡ taken_into p f v
   taken-current e = taken ∙ ap (λ t. taken_by t f v) (sym e)
 
-  module _ (k : ℕ) (last : k ≡ length mid.lists.current - 1) where
-    place-is : k ≡ length v.lists.current
-    place-is = last ∙ ap (λ (m : FloatPool). length m.lists.current - 1) taken ∙ omega (arith, length-append v.lists.current (entries.Float f ∷ []))
+  -- it waits for a page
+  pub taken-second : (k : ℕ) (last : k ≡ length mid.lists.current - 1) → (has_second p && f.wide) ≡ true → (now : FloatPool) → ((g : Float) → slice_get mid.lists.current k ≡ Some (entries.Float g) → now ≡ moved_float parts.Current k parts.Second g mid) → now ≡ taken_into p f v
+  taken-second k last e now is = is f (there f v mid taken k last) ∙ moved f v mid taken k last ∙ ap (λ t. taken_by t f v) (sym e)
 
-    there : slice_get mid.lists.current k ≡ Some (entries.Float f)
-    there = (λ i. slice_get (taken i).lists.current (place-is i)) ∙ at-last v.lists.current (entries.Float f)
-
-    pub float-there : HasFloatAt mid.lists.current k
-    float-there = (f, there)
-
-    moved : moved_float parts.Current k parts.Second f mid ≡ taken_by true f v
-    moved =
-        (λ i. moved_float parts.Current (place-is i) parts.Second f (taken i))
-        ∙ ap (λ (es : List Entry). record v { lists = record v.lists { current = es; second = v.lists.second ++ f ∷ [] }; second_marks = v.second_marks ++ false ∷ [] }) (without-last v.lists.current (entries.Float f))
-
-    -- it waits for a page
-    pub taken-second : (has_second p && f.wide) ≡ true → (now : FloatPool) → ((g : Float) → slice_get mid.lists.current k ≡ Some (entries.Float g) → now ≡ moved_float parts.Current k parts.Second g mid) → now ≡ taken_into p f v
-    taken-second e now is = is f there ∙ moved ∙ ap (λ t. taken_by t f v) (sym e)
+-- a title takes a place that a warning would have
+pub room-above : (f : Float) (v now : FloatPool) (a b : ℕ) → now ≡ with_floats_after parts.Double (f ∷ []) v → HasRoomFor v a → a ≤ b → HasRoomFor now b
+room-above f v now a b e room less = subst (λ x. HasRoomFor x b) (sym e) (omega (arith, length-append v.lists.double (f ∷ []), room, less))

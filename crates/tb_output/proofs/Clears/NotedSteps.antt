@@ -6,19 +6,22 @@ use Rattle.std.proofs.lemmas.Bool.{eqb-true}
 use Rattle.std.proofs.lemmas.Int.{ints}
 use Rattle.std.proofs.lemmas.List.{map-append}
 use Rattle.std.proofs.lemmas.List.Elements.{All-append, All-from_recursion}
-use Rattle.tb_break.proofs.EachLemmas.{all-front}
+use Rattle.std.specs.FinMap.{get}
+use Rattle.tb_break.proofs.EachLemmas.{all-front, all-back}
 use Rattle.tb_scaled.specs.declared.Glue.{Glue}
 use Rattle.tb_scaled.specs.Glue.{filling_glue}
 use Rattle.tb_pool.specs.Lists.{Lists, list_at, with_list}
 use Rattle.tb_pool.specs.Frame.{IsNoneOf}
-use Rattle.tb_pool.proofs.FrameLemmas.{none-back}
+use Rattle.tb_pool.proofs.FrameLemmas.{none-front, none-back}
 use Rattle.tb_node.specs.declared.Kind.TheVariants as kinds
 use Rattle.tb_node.specs.declared.Node.{Node}
 use Rattle.tb_node.specs.PlainNodes.{PlainNode, plain_of, made, skip, plain_list}
 use Rattle.tb_node.specs.Fit.{IsSizedNode}
 use Rattle.tb_param.specs.declared.Params.{Params}
 use Rattle.tb_column.specs.declared.NoteBox.{NoteBox}
-use Rattle.tb_column.specs.Column.{text_column}
+use Rattle.tb_builder.specs.Ownership.{inner_ids}
+use Rattle.tb_sheet.specs.Sheet.{PlainSent}
+use Rattle.tb_column.specs.Column.{standing_notes}
 use Rattle.tb_column.specs.FloatColumns.{made_node}
 use Rattle.tb_column.specs.Notes.{AreNotes, notes_shown, note_lists}
 use Rattle.tb_column.specs.Page.{AreLeaves, IsPageList}
@@ -26,8 +29,10 @@ use Rattle.tb_column.proofs.FloatLemmas.{leaves-append}
 use Rattle.tb_output.specs.declared.RunFault.{RunFault}
 use Rattle.tb_output.specs.declared.RunFault.TheVariants as faults
 use Rattle.tb_output.specs.State.{Work, puts, footnotes}
-use Rattle.tb_output.specs.Columns.{without_column_floats, put_out_text}
-use Rattle.tb_output.specs.Clear.{clear_again, clear_floats, clear_by, clear}
+use Rattle.tb_output.specs.Columns.{emptied_boxes, text_of, without_column_floats, put_out_text}
+use Rattle.tb_output.specs.Clear.{clear_again, clear_floats, without_notes, clear_by, clear}
+use Rattle.tb_output.specs.Notes.{standing_boxes}
+use Rattle.tb_output.proofs.ColumnPages.StandingBoxes.{shown-standing}
 use Rattle.tb_output.specs.BackList.{clear_list}
 use Rattle.tb_output.specs.FiringParts.{clear_noted}
 use Rattle.tb_output.specs.Machine.{MachineView, machine_lists, IsMachine}
@@ -35,7 +40,7 @@ use Rattle.tb_output.specs.FiringWork.{shows, shows_back, shows_notes, shows_pag
 use Rattle.tb_sheet.specs.ApartLists.{AreNoneOf}
 use Rattle.tb_output.specs.MachineFrame.{AreTextLists, HasGrown, IsBack, back_lists, KeepsMachine, KeepsBack}
 use Rattle.tb_sheet.proofs.ListsApart.{apart-back, apart-swap}
-use Rattle.tb_sheet.proofs.StandLemmas.{Stands, leaves-shown}
+use Rattle.tb_sheet.proofs.StandLemmas.{Stands, leaves-shown, list-same, list-stands, nodes-stand}
 use Rattle.tb_output.proofs.FiringWork.StandLemmas.{notes-same, count-same, notes-stay, IsShownBy, stands-shown, lists-shown}
 use Rattle.tb_output.proofs.FiringWork.KeepLemmas.{fields-same, keeps-then, keeps-more, keeps-beside, beside-shows, keeps-back_same, keeps-back_then}
 use Rattle.tb_output.proofs.InText.PushLemmas.{pushed-first, grown-of}
@@ -51,7 +56,7 @@ notes-stand store new body ns h k = record { rising = k.rising; apart = k.apart;
 
 -- a page that is put out puts nothing back
 pub put_out_text-stays : (p : Params) (body : List PlainNode) (w : Work) → (put_out_text p body w).put_back ≡ w.put_back
-put_out_text-stays p body w = (stays (put_out-step p (no_law p) (text_column p w.state.floats body (footnotes w.state)) (without_column_floats w))).put_back
+put_out_text-stays p body w = (stays (put_out-step p (no_law p) (text_of p w.state body) (without_column_floats w))).put_back
 
 -- ---- the page is filled
 
@@ -184,6 +189,77 @@ module _ (l body : ℕ) (notes : List NoteBox) (m : MachineView) (store : Lists 
           pub noted-keeps : KeepsBack l mine m now store last
           noted-keeps = keeps-back_then l mine [] m now now store new last out-keeps again.keeps (λ q live none. tt)
 
+-- ---- the lists of the insertions are dropped
+
+module _ (l body : ℕ) (notes : List NoteBox) (m : MachineView) (store new : Lists Node) (is : IsMachine m store) (back : IsBack l m store) (lists : AreTextLists 8355839 (back_lists store l ++ machine_lists m) store body notes)
+    (dropped : (q : ℕ) → IsNoneOf q (note_lists notes) → get new.lists q ≡ get store.lists q) where
+  abbrev ours : List ℕ
+  ours = body ∷ note_lists notes
+
+  stand-beside : (ls : List ℕ) → AreNoneOf ls ours → AllByRecursion (Stands store new) ls
+  stand-beside [] none = tt
+  stand-beside (q ∷ ls) none = (dropped q none.0.1, stand-beside ls none.1)
+
+  beside-ours : AreNoneOf (back_lists store l ++ machine_lists m) ours
+  beside-ours = apart-swap ours (back_lists store l ++ machine_lists m) lists.apart
+
+  back-away : AreNoneOf (back_lists store l) ours
+  back-away = all-front (λ q. IsNoneOf q ours) (back_lists store l) (machine_lists m) beside-ours
+
+  dropped-shown : IsShownBy m store new
+  dropped-shown = stands-shown m store new is (stand-beside (machine_lists m) (all-back (λ q. IsNoneOf q ours) (back_lists store l) (machine_lists m) beside-ours))
+
+  dropped-keeps : KeepsMachine ours m m store new
+  dropped-keeps = record {
+    machine = dropped-shown.machine;
+    frame = λ q live none. (dropped q (none-front q (note_lists notes) (machine_lists m) none.1), none-back q (note_lists notes) (machine_lists m) none.1);
+    fields = fields-same m;
+  }
+
+  dropped-whole : KeepsBack l ours m m store new
+  dropped-whole = keeps-beside ours m m store new l back dropped-keeps back-away
+
+  body-stands : Stands store new body
+  body-stands = dropped body lists.notes.apart.0
+
+  pub dropped-machine : IsMachine m new
+  dropped-machine = dropped-shown.machine
+
+  pub dropped-back : IsBack l m new
+  dropped-back = dropped-whole.back
+
+  dropped-lists-of : back_lists new l ≡ back_lists store l
+  dropped-lists-of = ap (λ (ns : List Node). l ∷ inner_ids ns) (list-same store new l (dropped l back-away.0.1))
+
+  pub dropped-lists : AreTextLists 8355839 (back_lists new l ++ machine_lists m) new body []
+  dropped-lists = record {
+    text = list-stands store new body body-stands lists.text;
+    notes = record { rising = tt; apart = (tt, tt); each = tt };
+    few = let few = lists.few in let same = ap length (list-same store new body body-stands) in omega (arith, few, same);
+    apart = subst (λ ls. AreNoneOf (body ∷ []) (ls ++ machine_lists m)) (sym dropped-lists-of) (lists.apart.0, tt);
+  }
+
+  dropped-does : Does (shows_page l notes m store) (shows_back l m new) without_notes
+  dropped-does before w h = (
+    record {
+      served = h.0.served;
+      sent = dropped-shown.events ∙ h.0.sent;
+      state = dropped-shown.state (emptied_boxes w.state.boxes) w.state.waiting ∙ (λ i. record (h.0.state i) { boxes = emptied_boxes w.state.boxes });
+    },
+    beside-shows ours m m store new l back dropped-keeps back-away ∙ h.1,
+  )
+
+  -- without insertions that stand on a page the floats are cleared
+  module _ (none : standing_boxes notes ≡ []) (to : Fact) where
+    pub noteless-clear : Does (shows_back l m new) to (clear_floats m.params (plain_list new body)) → Does (shows_page l notes m store) to (clear m.params (plain_list store body))
+    noteless-clear does before w h =
+        let standing : standing_notes (footnotes w.state) ≡ [] = ap standing_notes h.2 ∙ sym (shown-standing store notes) ∙ ap (notes_shown store) none in
+        subst (λ v. to before v) (ap (λ ns. clear_floats m.params ns (without_notes w)) (nodes-stand store new body body-stands lists.text.leaves) ∙ ap (λ ns. clear_by m.params (plain_list store body) w ns) (sym standing))
+        (does before (without_notes w) (dropped-does before w h))
+
+  pub noteless-keeps : (now : MachineView) (last : Lists Node) → KeepsBack l (body ∷ []) m now new last → KeepsBack l ours m now store last
+  noteless-keeps now last k = keeps-back_then l ours (body ∷ []) m m now store new last dropped-whole k (λ q live none. (none.0, tt))
+
 -- ---- with and without insertions
 
 pub no-notes : (ns : List NoteBox) → (length ns == 0) ≡ true → ns ≡ []
@@ -198,9 +274,12 @@ module _ (l body : ℕ) (m : MachineView) (store : Lists Node) (to : Fact) where
   abbrev page_nodes : List PlainNode
   page_nodes = plain_list store body
 
-  pub noteless-clear : (notes : List NoteBox) → notes ≡ [] → Does (shows_back l m store) to (clear_floats m.params page_nodes) → Does (shows_page l notes m store) to (clear m.params page_nodes)
-  noteless-clear notes none does before w h = subst (λ v. to before v) (ap (λ ns. clear_by m.params page_nodes w ns) (sym (h.2 ∙ ap (notes_shown store) none))) (does before w (h.0, h.1))
+  -- a list that is not empty
+  by-notes : (before : List PlainSent) (w : Work) (ns : List NoteBox) → (ns ≡ [] → ⊥) → to before (clear_noted m.params page_nodes w) → to before (clear_by m.params page_nodes w (notes_shown store ns))
+  by-notes before w [] some done = absurd (some refl)
+  by-notes before w (n ∷ ns) some done = done
 
-  pub noted-clear : (notes : List NoteBox) → (notes ≡ [] → ⊥) → Does (shows_page l notes m store) to (clear_noted m.params page_nodes) → Does (shows_page l notes m store) to (clear m.params page_nodes)
-  noted-clear [] some does before w h = absurd (some refl)
-  noted-clear (n ∷ ns) some does before w h = subst (λ v. to before v) (ap (λ ms. clear_by m.params page_nodes w ms) (sym h.2)) (does before w h)
+  pub noted-clear : (notes : List NoteBox) → (standing_boxes notes ≡ [] → ⊥) → Does (shows_page l notes m store) to (clear_noted m.params page_nodes) → Does (shows_page l notes m store) to (clear m.params page_nodes)
+  noted-clear notes some does before w h =
+      let standing : notes_shown store (standing_boxes notes) ≡ standing_notes (footnotes w.state) = shown-standing store notes ∙ ap standing_notes (sym h.2) in
+      subst (λ ms. to before (clear_by m.params page_nodes w ms)) standing (by-notes before w (standing_boxes notes) some (does before w h))

@@ -157,6 +157,7 @@ module _ (m now : MachineView) (store s : Lists Node) (tops : ℕ) (at : ℤ) (l
       first = omega arith;
       last = last-page m.params m.page is.params.maxpages.high room;
       numbered = let n = is.numbered in omega (arith, n);
+      shrink = is.shrink;
       pool = is.pool;
       unmarked = record { deferred = is.unmarked.deferred; second = is.unmarked.second };
       left = λ e. absurd cc;

@@ -92,6 +92,7 @@ left-keeps m store c is page apart = record {
     first = is.first;
     last = is.last;
     numbered = is.numbered;
+    shrink = is.shrink;
     pool = is.pool;
     unmarked = is.unmarked;
     left = λ e. refl;

@@ -87,6 +87,7 @@ module _ (m : MachineView) (store : Lists Node) (sheet : Sheet) (is : IsMachine 
     first = omega arith;
     last = last-page m.params m.page is.params.maxpages.high room;
     numbered = let n = is.numbered in omega (arith, n);
+    shrink = is.shrink;
     pool = is.pool;
     unmarked = is.unmarked;
     left = is.left;

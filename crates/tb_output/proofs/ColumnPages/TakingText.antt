@@ -9,13 +9,15 @@ use Rattle.tb_node.specs.declared.Node.{Node}
 use Rattle.tb_node.specs.PlainNodes.{plain_list}
 use Rattle.tb_column.specs.declared.Column.{Column}
 use Rattle.tb_column.specs.declared.NoteBox.{NoteBox}
-use Rattle.tb_column.specs.Column.{PlainColumn, text_column}
+use Rattle.tb_column.specs.Column.{PlainColumn, standing_notes, enlarged_of, text_column}
 use Rattle.tb_column.specs.StoredColumns.{column_shown}
 use Rattle.tb_column.specs.Notes.{note_lists, notes_shown}
 use Rattle.tb_column.specs.Page.{IsPageColumn}
 use Rattle.tb_column.specs.ColumnChanges.{AreJoined, without_text_floats}
 use Rattle.tb_output.specs.declared.RunFault.TheVariants as faults
-use Rattle.tb_output.specs.State.{State, Work, footnotes}
+use Rattle.tb_output.specs.State.{State, Work}
+use Rattle.tb_output.specs.Notes.{standing_boxes}
+use Rattle.tb_output.proofs.ColumnPages.StandingBoxes.{none-standing}
 use Rattle.tb_output.specs.Columns
 use Rattle.tb_output.specs.Pages
 use Rattle.tb_output.specs.Machine.{MachineView, events_shown, machine_lists, IsMachine}
@@ -28,11 +30,11 @@ use Rattle.tb_output.proofs.FiringWork.StandLemmas.{IsShownBy, stands-shown, lis
 use Rattle.tb_sheet.proofs.ListsApart.{apart-swap}
 use Rattle.tb_output.proofs.ColumnPages.FloatMoves.{pooled-lists, pooled-fields, pooled-state, pooled-machine}
 
-module _ (m now : MachineView) (store mid new : Lists Node) (body : ℕ) (notes : List NoteBox) (is : IsMachine m store) (lists : AreTextLists 8355840 (machine_lists m) store body notes) (joined : AreJoined body notes store mid)
+module _ (m now : MachineView) (store mid new : Lists Node) (body : ℕ) (notes : List NoteBox) (is : IsMachine m store) (lists : AreTextLists 8355840 (machine_lists m) store body notes) (joined : AreJoined body (standing_boxes notes) store mid)
     (closed : (q : ℕ) → IsNoneOf q (note_lists notes) → get new.lists q ≡ get mid.lists q) (is_now : now ≡ record m { pool = without_text_floats m.pool }) where
   -- every other list is as before
   others-stand : (q : ℕ) → IsNoneOf q (body ∷ note_lists notes) → get new.lists q ≡ get store.lists q
-  others-stand q none = closed q none.1 ∙ joined.others q none
+  others-stand q none = closed q none.1 ∙ joined.others q (none.0, none-standing q notes none.1)
 
   all-stand : (ls : List ℕ) → AreNoneOf ls (body ∷ note_lists notes) → AllByRecursion (Stands store new) ls
   all-stand [] none = tt
@@ -70,13 +72,15 @@ module _ (m now : MachineView) (store mid new : Lists Node) (body : ℕ) (notes 
     text-page = column-stands mid new c column-same page
 
 -- it is put out
-pub text-out : (m mid : MachineView) (store s : Lists Node) (body : ℕ) (notes : List NoteBox) (to : Fact) (c : PlainColumn) → c ≡ text_column m.params m.pool.lists (plain_list store body) (notes_shown store notes)
+pub text-out : (m mid : MachineView) (store s : Lists Node) (body : ℕ) (notes : List NoteBox) (to : Fact) (c : PlainColumn) → c ≡ text_column m.params m.pool.lists (plain_list store body) (standing_notes (notes_shown store notes)) (enlarged_of m.shrink (notes_shown store notes))
     → Does (shows_notes notes m store) (shows mid s) Columns.without_column_floats → Does (shows mid s) to (Pages.put_out m.params c) → Does (shows_notes notes m store) to (Columns.put_out_text m.params (plain_list store body))
 text-out m mid store s body notes to c is text does before w h =
     subst (λ k. to before (Pages.put_out m.params k (Columns.without_column_floats w))) (is ∙ made) (does before (Columns.without_column_floats w) (text before w h))
   where
-    made : text_column m.params m.pool.lists (plain_list store body) (notes_shown store notes) ≡ text_column m.params w.state.floats (plain_list store body) (footnotes w.state)
-    made = λ i. text_column m.params (ap (λ (x : State). x.floats) h.0.state i) (plain_list store body) (sym h.1 i)
+    made : text_column m.params m.pool.lists (plain_list store body) (standing_notes (notes_shown store notes)) (enlarged_of m.shrink (notes_shown store notes)) ≡ Columns.text_of m.params w.state (plain_list store body)
+    made = λ i.
+        text_column m.params (ap (λ (x : State). x.floats) h.0.state i) (plain_list store body) (standing_notes (sym h.1 i))
+        (enlarged_of (ap (λ (x : State). x.shrink) h.0.state i) (sym h.1 i))
 
 -- there was no memory, and nothing changed
 pub text-fails : (m now : MachineView) (store new : Lists Node) (notes : List NoteBox) (f : Work → Work) → IsMachine m store → now ≡ m → new.lists ≡ store.lists → ((w : Work) → Continues w (f w)) → Does (shows_notes notes m store) (IsCutShort faults.Memory now new) f

@@ -3,6 +3,7 @@ use Rattle.std.proofs.Common.{◌≡◌, refl, ◌∙◌, ap, ℕ, ℤ, pos, Lis
 use Rattle.std.specs.List.{AllByRecursion}
 use Rattle.tb_pool.specs.Lists.{Lists}
 use Rattle.tb_node.specs.declared.Node.{Node}
+use Rattle.tb_scaled.specs.Amount.{IsAmount}
 use Rattle.tb_builder.specs.Pageable.{IsGoal}
 use Rattle.tb_float.specs.declared.Suppress.{Suppress}
 use Rattle.tb_float.specs.Pool.{FloatPool, HasNoMarks}
@@ -23,6 +24,7 @@ machine-with m store is goal size unmarked events apart = record {
   first = is.first;
   last = is.last;
   numbered = is.numbered;
+  shrink = is.shrink;
   pool = ap (λ n. pos n) size ∙ is.pool;
   unmarked = unmarked;
   left = is.left;
@@ -36,3 +38,23 @@ machine-with m store is goal size unmarked events apart = record {
 -- the floats and the events are as before
 pub machine-beside : (m : MachineView) (store : Lists Node) → IsMachine m store → (g : ℤ) → IsGoal g → (cycles : ℕ) (bottom : ℤ) (fault : Option RunFault) → IsMachine (record m { goal = g; dead_cycles = cycles; note_bottom = bottom; fault = fault }) store
 machine-beside m store is g small cycles bottom fault = machine-with m store is small refl is.unmarked is.events is.apart
+
+-- it serves a page of another shrink
+pub machine-shrunk : (m : MachineView) (store : Lists Node) (s : ℤ) → IsMachine m store → IsAmount s → IsMachine (record m { shrink = s }) store
+machine-shrunk m store s is small = record {
+  params = is.params;
+  classes = is.classes;
+  goal = is.goal;
+  first = is.first;
+  last = is.last;
+  numbered = is.numbered;
+  shrink = small;
+  pool = is.pool;
+  unmarked = is.unmarked;
+  left = is.left;
+  held_page = is.held_page;
+  held_room = is.held_room;
+  left_column = is.left_column;
+  events = is.events;
+  apart = is.apart;
+}

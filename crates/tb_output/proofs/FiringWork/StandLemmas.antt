@@ -66,6 +66,7 @@ module _ (store new : Lists Node) where
       first = is.first;
       last = is.last;
       numbered = is.numbered;
+      shrink = is.shrink;
       pool = is.pool;
       unmarked = is.unmarked;
       left = is.left;

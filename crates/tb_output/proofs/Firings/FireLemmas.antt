@@ -15,11 +15,16 @@ use Rattle.tb_output.specs.Machine.{MachineView, state_shown, events_shown, AreO
 use Rattle.tb_output.specs.FiringWork.{shows_boxes, shows_all, IsCutShort, Does}
 use Rattle.tb_output.specs.Firing.{fired_in, state_in, whole_work, IsFired, fault_or_cycles, refusal_of, IsRefusal, KeepsAll}
 use Rattle.tb_output.specs.FiringParts.{served}
-use Rattle.tb_output.proofs.FiringWork.BesideLemmas.{machine-beside}
+use Rattle.tb_scaled.specs.Amount.{IsAmount}
+use Rattle.tb_output.proofs.FiringWork.BesideLemmas.{machine-beside, machine-shrunk}
 
--- a firing is counted
-abbrev pub counted : MachineView → MachineView
-counted m = record m { dead_cycles = m.dead_cycles + 1 }
+-- a firing of a page with this shrink is counted
+abbrev pub counted : ℤ → MachineView → MachineView
+counted s m = record m { dead_cycles = m.dead_cycles + 1; shrink = s }
+
+-- no page is served any more
+abbrev pub rested : MachineView → MachineView
+rested m = record m { shrink = pos 0 }
 
 -- a fault ended the run
 abbrev pub faulted : RunFault → MachineView → MachineView
@@ -30,11 +35,17 @@ faulted e m = record m { fault = Some e }
 pub faulted-machine : (e : RunFault) (m : MachineView) (store : Lists Node) → IsMachine m store → IsMachine (faulted e m) store
 faulted-machine e m store is = machine-beside m store is m.goal is.goal m.dead_cycles m.note_bottom (Some e)
 
-pub keeps-counted : (body : ℕ) (m now : MachineView) (b later : Builder) (store new : Lists Node) → KeepsAll body (counted m) now b later store new → KeepsAll body m now b later store new
-keeps-counted body m now b later store new h = record { machine = h.machine; builder = h.builder; frame = h.frame; params = h.params; classes = h.classes }
+pub counted-machine : (m : MachineView) (store : Lists Node) (s : ℤ) → IsMachine m store → IsAmount s → IsMachine (counted s m) store
+counted-machine m store s is small = machine-shrunk (record m { dead_cycles = m.dead_cycles + 1 }) store s (machine-beside m store is m.goal is.goal (m.dead_cycles + 1) m.note_bottom m.fault) small
 
-pub keeps-faulted : (e : RunFault) (body : ℕ) (m now : MachineView) (b later : Builder) (store new : Lists Node) → KeepsAll body (counted m) now b later store new → KeepsAll body m (faulted e now) b later store new
-keeps-faulted e body m now b later store new h = record { machine = faulted-machine e now new h.machine; builder = h.builder; frame = h.frame; params = h.params; classes = h.classes }
+rested-machine : (m : MachineView) (store : Lists Node) → IsMachine m store → IsMachine (rested m) store
+rested-machine m store is = machine-shrunk m store (pos 0) is (record { low = omega (arith, ints); high = omega (arith, ints) })
+
+pub keeps-rested : (s : ℤ) (body : ℕ) (m now : MachineView) (b later : Builder) (store new : Lists Node) → KeepsAll body (counted s m) now b later store new → KeepsAll body m (rested now) b later store new
+keeps-rested s body m now b later store new h = record { machine = rested-machine now new h.machine; builder = h.builder; frame = h.frame; params = h.params; classes = h.classes }
+
+pub keeps-faulted : (e : RunFault) (s : ℤ) (body : ℕ) (m now : MachineView) (b later : Builder) (store new : Lists Node) → KeepsAll body (counted s m) now b later store new → KeepsAll body m (faulted e now) b later store new
+keeps-faulted e s body m now b later store new h = record { machine = faulted-machine e now new h.machine; builder = h.builder; frame = h.frame; params = h.params; classes = h.classes }
 
 -- ---- why no firing begins
 
@@ -107,7 +118,7 @@ module _ (m : MachineView) (b : Builder) (store : Lists Node) (page : Page) wher
   abbrev end : Work
   end = served m.params (fired_in b store page) (begun (after_page (state_in m b store) (fired_in b store page)))
 
-  start-shows : shows_boxes b (counted m) store (events_shown store m.events) start
+  start-shows : shows_boxes b (counted page.shrink m) store (events_shown store m.events) start
   start-shows = (record { served = refl; sent = sym (append-nil (events_shown store m.events)); state = refl }, refl, refl)
 
   work-is : waiting_again (fired_in b store page) end ≡ whole_work m b store page
@@ -115,20 +126,20 @@ module _ (m : MachineView) (b : Builder) (store : Lists Node) (page : Page) wher
   work-is = refl
 
   module _ (begins : IsBegun m) (later : Builder) (now : MachineView) (new : Lists Node) where
-    module _ (l : ℕ) (done : Does (shows_boxes b (counted m) store) (shows_all l later now new) (served m.params (fired_in b store page))) where
+    module _ (l : ℕ) (done : Does (shows_boxes b (counted page.shrink m) store) (shows_all l later now new) (served m.params (fired_in b store page))) where
       shown : shows_all l later now new (events_shown store m.events) end
       shown = done (events_shown store m.events) start start-shows
 
       -- the turn is that of the definition
-      pub is-fired : IsFired (record { put_back = l }) m now later store new (whole_work m b store page)
-      is-fired = subst (IsFired (record { put_back = l }) m now later store new) work-is (record {
+      pub is-fired : IsFired (record { put_back = l }) m (rested now) later store new (whole_work m b store page)
+      is-fired = subst (IsFired (record { put_back = l }) m (rested now) later store new) work-is (record {
         alive = begins.alive;
         served = shown.0.served;
         put_back = shown.1;
         sent = shown.0.sent;
         state =
-            ap (λ bs. state_shown new bs ((fired_in b store page).held ++ end.put_back ++ (fired_in b store page).rest) now) shown.2
-            ∙ (λ i. record (shown.0.state i) { waiting = (fired_in b store page).held ++ end.put_back ++ (fired_in b store page).rest });
+            ap (λ bs. state_shown new bs ((fired_in b store page).held ++ end.put_back ++ (fired_in b store page).rest) (rested now)) shown.2
+            ∙ (λ i. record (shown.0.state i) { waiting = (fired_in b store page).held ++ end.put_back ++ (fired_in b store page).rest; shrink = pos 0 });
       })
 
       -- and so are the boxes
@@ -136,7 +147,7 @@ module _ (m : MachineView) (b : Builder) (store : Lists Node) (page : Page) wher
       fired-contents alone = alone ∙ ap (λ bs. record (contents_of b store) { boxes = bs }) (shown.2 ∙ ap (λ (w : Work). w.state.boxes) work-is)
 
     -- it was cut short
-    pub fired-refused : (e : RunFault) → Does (shows_boxes b (counted m) store) (IsCutShort e now new) (served m.params (fired_in b store page)) → IsRefusal e m (faulted e now) b later store new (whole_work m b store page)
+    pub fired-refused : (e : RunFault) → Does (shows_boxes b (counted page.shrink m) store) (IsCutShort e now new) (served m.params (fired_in b store page)) → IsRefusal e m (faulted e now) b later store new (whole_work m b store page)
     fired-refused (faults.DeadCycles n) cut = absurd (cut (events_shown store m.events) start start-shows)
     fired-refused (faults.PageLimit n) cut =
         let h = cut (events_shown store m.events) start start-shows in

@@ -142,6 +142,7 @@ module _ (store opened : Lists Node) (l : ℕ) (fresh : get store.lists l ≡ No
         penalty = page.penalty;
         cost = page.cost;
         size = page.size;
+        shrink = page.shrink;
         line = page.line;
       }
 
@@ -155,6 +156,7 @@ module _ (store opened : Lists Node) (l : ℕ) (fresh : get store.lists l ≡ No
         awaits = subst NoPage (sym opened-contents) fire.awaits;
         classes = ap (λ (c : Contents). c.classes) opened-contents ∙ fire.classes;
         penalty = fire.penalty;
+        shrink = fire.shrink;
         note_bottom = fire.note_bottom;
         body = list-stands store opened page.body page-stands fire.body;
         boxes = subst AreSizedBoxes (sym (ap (λ (c : Contents). c.boxes) opened-contents)) fire.boxes;

@@ -32,6 +32,7 @@ module _ (body : ℕ) (room : ℤ) (m : MachineView) (store new : Lists Node) (i
     first = is.first;
     last = is.last;
     numbered = is.numbered;
+    shrink = is.shrink;
     pool = is.pool;
     unmarked = is.unmarked;
     left = is.left;

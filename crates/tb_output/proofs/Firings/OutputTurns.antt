@@ -7,7 +7,6 @@ use Rattle.tb_node.specs.declared.Node.{Node}
 use Rattle.tb_node.specs.PlainNodes.{PlainNode, plain_list}
 use Rattle.tb_param.specs.declared.Params.{Params}
 use Rattle.tb_column.specs.declared.NoteBox.{NoteBox}
-use Rattle.tb_column.specs.Column.{text_column}
 use Rattle.tb_column.specs.Notes.{note_lists}
 use Rattle.tb_output.specs.declared.RunFault.{RunFault}
 use Rattle.tb_output.specs.State.{Work, footnotes}
@@ -44,7 +43,7 @@ module _ (p : Params) (body : List PlainNode) where
       let b = Columns.all_float_columns p false a in
       (stays (place_next-step p (no_law p) [] b.state.floats.deferred b)).put_back
       ∙ (stays (float_columns-step p (no_law p) false (length a.state.floats.deferred) a)).put_back
-      ∙ (stays (put_out-step p (no_law p) (text_column p w.state.floats body (footnotes w.state)) (Columns.without_column_floats w))).put_back
+      ∙ (stays (put_out-step p (no_law p) (Columns.text_of p w.state body) (Columns.without_column_floats w))).put_back
 
 module _ (l : ℕ) (body : ℕ) (notes : List NoteBox) (m now : MachineView) (store new : Lists Node) (back : IsBack l m store) (lists : AreTextLists 8355839 (back_lists store l ++ machine_lists m) store body notes)
     (keeps : KeepsMachine (body ∷ note_lists notes) m now store new) where

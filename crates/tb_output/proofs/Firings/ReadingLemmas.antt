@@ -1,6 +1,6 @@
 -- What is read of a page before it is served: the size of its text, and what the insertions in the builder's boxes take.
 use Rattle.std.proofs.Common.{◌≡◌, refl, sym, subst, ◌∙◌, ap, ℕ, zero, suc, ◌+◌, ◌-◌, ◌*◌, ◌<◌, ◌≤◌, ℤ, pos, ◌+ℤ◌, ◌-ℤ◌, List, [], ◌∷◌, ◌++◌, map, take, length, length-take, length-append, Bool, true, false, Option, Some, None, is_none, w64, to_z, of_z, rules, arith}
-use Rattle.std.specs.Prelude.{◌==◌, All, FitsSigned, if◌then◌else◌}
+use Rattle.std.specs.Prelude.{◌==◌, ◌||◌, not, All, FitsSigned, if◌then◌else◌}
 use Rattle.std.proofs.lemmas.Int.{ints}
 use Rattle.std.proofs.lemmas.Bool.{true≢false}
 use Rattle.std.proofs.lemmas.List.{length-map, map-append, take-map}
@@ -24,7 +24,7 @@ use Rattle.tb_builder.specs.SizedContents.{AreBoxesOf}
 use Rattle.tb_builder.specs.PageEvents.{SizesFit}
 use Rattle.tb_builder.proofs.Ranges.PageableLemmas.{sizes_fit}
 use Rattle.tb_float.specs.Ranges.{IsWithin}
-use Rattle.tb_column.specs.Column.{Notes}
+use Rattle.tb_column.specs.Column.{Notes, has_box, standing_notes}
 use Rattle.tb_column.specs.Page.{IsPageList}
 use Rattle.tb_column.specs.Ranges.{IsSizedGlue}
 use Rattle.tb_column.proofs.ShownLemmas.{shapes-held}
@@ -145,10 +145,20 @@ content-within o h =
     let w = subst (λ k. fits.IsWithin (2147483646 * k) (box_size o)) n (fits.size_within (map leaf_shape (content_of o)) (shapes-sized o h)) in
     record { low = w.low; high = w.high }
 
--- with the glue above it
-height-of : (c : Class) (o : Option (List Leaf)) → is_none o ≡ false → notes_height (with_notes c o []) ≡ box_size o +ℤ c.skip.width
-height-of c None h = absurd (true≢false h)
-height-of c (Some inner) h = omega (arith, ints)
+-- what the insertions of a class take with the glue above them, or what makes a page higher takes
+abbrev room_by : Bool → Bool → Class → List Leaf → ℤ
+room_by higher some c inner = if higher then (if some then pos 0 else box_size (Some inner)) else box_size (Some inner) +ℤ c.skip.width
+
+height-of : (c : Class) (inner : List Leaf) → notes_height (with_notes c (Some inner) []) ≡ room_by (c.number == 255) (has_box inner) c inner
+height-of c inner = plain (room_by (c.number == 255) (has_box inner) c inner)
+  where
+    plain : (z : ℤ) → z +ℤ pos 0 ≡ z
+    plain z = omega (arith, ints)
+
+-- by the tests
+by-room : (higher some : Bool) (c : Class) (o : Option (List Leaf)) → is_none o ≡ false → (c.number == 255) ≡ higher → has_box (content_of o) ≡ some → notes_height (with_notes c o []) ≡ room_by higher some c (content_of o)
+by-room higher some c None h e f = absurd (true≢false h)
+by-room higher some c (Some inner) h e f = height-of c inner ∙ (λ i. room_by (e i) (f i) c inner)
 
 no-height : (c : Class) (o : Option (List Leaf)) → is_none o ≡ true → pos 0 ≡ notes_height (with_notes c o [])
 no-height c None h = refl
@@ -167,9 +177,15 @@ module _ (c : Class) (bs : List Boxed) (sized : AreSizedBoxes bs) (few : box_cou
   pub box-amount : IsAmount (box_size own)
   box-amount = within-amount (2147483646 * length (content_of own)) (box_size own) (let less = count-at bs c.number in omega (arith, less, few)) (content-within own (sized-content bs c.number sized))
 
+  tests-within : (higher some : Bool) (inner : List Leaf) → IsWithin (2147483646 * length inner) (box_size (Some inner)) → IsSizedGlue c.skip → IsWithin (2147483646 * length inner + 1073741823) (room_by higher some c inner)
+  tests-within true true inner i skip = record { low = omega (arith, ints); high = omega (arith, ints) }
+  tests-within true false inner i skip = record { low = omega (arith, ints, i.low); high = omega (arith, ints, i.high) }
+  tests-within false some inner i skip = record { low = omega (arith, ints, i.low, skip.width.low); high = omega (arith, ints, i.high, skip.width.high) }
+
   room-within : (o : Option (List Leaf)) → All IsSizedLeaf (content_of o) → IsSizedGlue c.skip → IsWithin (2147483646 * length (content_of o) + 1073741823) (notes_height (with_notes c o []))
   room-within None h skip = record { low = omega (arith, ints); high = omega (arith, ints) }
-  room-within (Some inner) h skip = let i = content-within (Some inner) h in record { low = omega (arith, ints, i.low, skip.width.low); high = omega (arith, ints, i.high, skip.width.high) }
+  room-within (Some inner) h skip =
+      subst (IsWithin (2147483646 * length inner + 1073741823)) (sym (height-of c inner)) (tests-within (c.number == 255) (has_box inner) inner (content-within (Some inner) h) skip)
 
   -- with the glue above it
   pub room-amount : IsSizedGlue c.skip → (room : ℤ) → room ≡ notes_height (notes_in (c ∷ []) bs) → IsAmount room
@@ -183,8 +199,27 @@ module _ (c : Class) (bs : List Boxed) (sized : AreSizedBoxes bs) (few : box_cou
   pub box-void : is_none own ≡ true → pos 0 ≡ notes_height (notes_in (c ∷ []) bs)
   box-void h = no-height c own h
 
-  pub box-full : (size height : ℤ) → is_none own ≡ false → size ≡ box_size own → height ≡ size +ℤ c.skip.width → height ≡ notes_height (notes_in (c ∷ []) bs)
-  box-full size height h s e = e ∙ ap (λ z. z +ℤ c.skip.width) s ∙ sym (height-of c own h)
+  pub box-full : (size height : ℤ) → is_none own ≡ false → (c.number == 255) ≡ false → size ≡ box_size own → height ≡ size +ℤ c.skip.width → height ≡ notes_height (notes_in (c ∷ []) bs)
+  box-full size height h stands s e = e ∙ ap (λ z. z +ℤ c.skip.width) (s ∙ full-size own h) ∙ sym (by-room false (has_box (content_of own)) c own h stands refl)
+    where
+      full-size : (o : Option (List Leaf)) → is_none o ≡ false → box_size o ≡ box_size (Some (content_of o))
+      full-size None h = absurd (true≢false h)
+      full-size (Some inner) h = refl
+
+  -- of what makes a page higher
+  pub box-none : is_none own ≡ false → (c.number == 255) ≡ true → has_box (content_of own) ≡ true → pos 0 ≡ notes_height (notes_in (c ∷ []) bs)
+  box-none h class some = sym (by-room true true c own h class some)
+
+  pub box-size : (size : ℤ) → is_none own ≡ false → (c.number == 255) ≡ true → has_box (content_of own) ≡ false → size ≡ box_size own → size ≡ notes_height (notes_in (c ∷ []) bs)
+  box-size size h class none s = s ∙ full-size own h ∙ sym (by-room true false c own h class none)
+    where
+      full-size : (o : Option (List Leaf)) → is_none o ≡ false → box_size o ≡ box_size (Some (content_of o))
+      full-size None h = absurd (true≢false h)
+      full-size (Some inner) h = refl
+
+-- what the box of a class held
+abbrev note_in : Class → List Leaf → Notes
+note_in c inner = record { class = c.number; below = c.below; skip = c.skip; inner = inner }
 
 -- ---- the boxes of several classes
 
@@ -231,12 +266,24 @@ more c None ns most k height room whole skip sized r e few w = record {
   within = record { low = omega (arith, ints, r, w.low); high = omega (arith, ints, r, w.high) };
 }
 more c (Some inner) ns most k height room whole skip sized r e few w =
-    let i = content-within (Some inner) sized in record {
-      value = omega (arith, ints, r, e);
+    let i = class-within (c.number == 255) (has_box inner) in
+    let is : room ≡ room_by (c.number == 255) (has_box inner) c inner = r ∙ height-of c inner in record {
+      value = summed (room_by (c.number == 255) (has_box inner) c inner) is e;
       most = most + 2147483646 * length inner + 1073741823;
       few = omega (arith, few);
-      within = record { low = omega (arith, ints, r, w.low, i.low, skip.width.low); high = omega (arith, ints, r, w.high, i.high, skip.width.high) };
+      within = added (room_by (c.number == 255) (has_box inner) c inner) is i;
     }
+  where
+    class-within : (higher some : Bool) → IsWithin (2147483646 * length inner + 1073741823) (room_by higher some c inner)
+    class-within true true = record { low = omega (arith, ints); high = omega (arith, ints) }
+    class-within true false = let i = content-within (Some inner) sized in record { low = omega (arith, ints, i.low); high = omega (arith, ints, i.high) }
+    class-within false some = let i = content-within (Some inner) sized in record { low = omega (arith, ints, i.low, skip.width.low); high = omega (arith, ints, i.high, skip.width.high) }
+
+    summed : (z : ℤ) → room ≡ z → height +ℤ (z +ℤ notes_height ns) ≡ whole → (height +ℤ room) +ℤ notes_height ns ≡ whole
+    summed z is h = omega (arith, ints, is, h)
+
+    added : (z : ℤ) → room ≡ z → IsWithin (2147483646 * length inner + 1073741823) z → IsWithin (most + 2147483646 * length inner + 1073741823) (height +ℤ room)
+    added z is h = record { low = omega (arith, ints, is, h.low, w.low); high = omega (arith, ints, is, h.high, w.high) }
 
 pub read-amount : (all left : List Class) (bs : List Boxed) (k : ℕ) (height : ℤ) → IsReadSoFar all left bs k height → IsAmount height
 read-amount all left bs k height h = within-amount h.most height (omega (arith, h.few, h.top)) h.within
@@ -263,13 +310,33 @@ read-all all bs k height h = (
 
 -- ---- whether there are any
 
-pub any-later : (c : Class) (o : Option (List Leaf)) (ns : List Notes) → is_none o ≡ true → with_notes c o ns ≡ ns
-any-later c None ns h = refl
-any-later c (Some inner) ns h = absurd (true≢false (sym h))
+-- those of the first class, or those of the others
+any-of : (c : Class) (o : Option (List Leaf)) (ns : List Notes) → any_notes (standing_notes (with_notes c o ns)) ≡ (any_notes (standing_notes (with_notes c o [])) || any_notes (standing_notes ns))
+any-of c None ns = refl
+any-of c (Some inner) ns = by_test (not (c.number == 255))
+  where
+    by_test : (b : Bool) → any_notes (if b then note_in c inner ∷ standing_notes ns else standing_notes ns) ≡ (any_notes (if b then note_in c inner ∷ [] else []) || any_notes (standing_notes ns))
+    by_test true = refl
+    by_test false = refl
 
-pub any-own : (c : Class) (o : Option (List Leaf)) (ns : List Notes) → is_none o ≡ false → true ≡ any_notes (with_notes c o ns)
-any-own c None ns h = absurd (true≢false h)
-any-own c (Some inner) ns h = refl
+pub any-split : (c : Class) (cs : List Class) (bs : List Boxed) → any_notes (standing_notes (notes_in (c ∷ cs) bs)) ≡ (any_notes (standing_notes (notes_in (c ∷ []) bs)) || any_notes (standing_notes (notes_in cs bs)))
+any-split c cs bs = any-of c (box_content bs c.number) (notes_in cs bs)
+
+-- what makes a page higher stands nowhere
+pub none-stands : (c : Class) (bs : List Boxed) → (c.number == 255) ≡ true → false ≡ any_notes (standing_notes (notes_in (c ∷ []) bs))
+none-stands c bs e = by_content (box_content bs c.number)
+  where
+    by_content : (o : Option (List Leaf)) → false ≡ any_notes (standing_notes (with_notes c o []))
+    by_content None = refl
+    by_content (Some inner) = ap (λ t. any_notes (if not t then note_in c inner ∷ [] else [])) (sym e)
+
+-- another class stands if its box is not void
+pub one-stands : (c : Class) (bs : List Boxed) → (c.number == 255) ≡ false → not (is_none (box_content bs c.number)) ≡ any_notes (standing_notes (notes_in (c ∷ []) bs))
+one-stands c bs e = by_content (box_content bs c.number)
+  where
+    by_content : (o : Option (List Leaf)) → not (is_none o) ≡ any_notes (standing_notes (with_notes c o []))
+    by_content None = refl
+    by_content (Some inner) = ap (λ t. any_notes (if not t then note_in c inner ∷ [] else [])) (sym e)
 
 -- ---- the whole
 
@@ -292,7 +359,7 @@ module _ (store : Lists Node) (held body : ℕ) (first : IsPageList store held) 
   page-amount notes within =
       both-within (2147483646 * length (text store held body)) room notes (let n = text-few store held body first page few in omega (arith, n)) text-taken.within within
 
-  pub reading-is : (notes : List Notes) (z : Reading) (high : ℤ) → high ≡ notes_height notes → IsWithin 18014948265590784 high → z.height ≡ room -ℤ depth → z.page_height ≡ room +ℤ high → z.has_notes ≡ any_notes notes
+  pub reading-is : (notes : List Notes) (z : Reading) (high : ℤ) → high ≡ notes_height notes → IsWithin 18014948265590784 high → z.height ≡ room -ℤ depth → z.page_height ≡ room +ℤ high → z.has_notes ≡ any_notes (standing_notes notes)
       → IsReading z (plain_list store held ++ without_firing_box (plain_list store body)) notes
   reading-is notes z high is within h p n =
       let same = text-shapes store held body in

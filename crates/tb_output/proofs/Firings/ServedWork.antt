@@ -27,7 +27,7 @@ use Rattle.tb_output.specs.FiringParts.{page_output}
 use Rattle.tb_output.proofs.FiringWork.StandLemmas.{IsShownBy}
 use Rattle.tb_output.proofs.FiringWork.WorkingLemmas.{shows-moved}
 use Rattle.tb_output.proofs.Firings.GoalLemmas.{int-same}
-use Rattle.tb_output.proofs.StepLaws.ClassBoxes.{page-boxes, page-is, void-boxes}
+use Rattle.tb_output.proofs.StepLaws.ClassBoxes.{page-boxes, page-is}
 
 module _ (m now : MachineView) (b later : Builder) (store middle new : Lists Node) (l : ℕ) (notes : List NoteBox) (f : Fired)
     (shown : IsShownBy m store middle) (back : plain_list middle l ≡ plain_list store l) (classes : AreClassesFrom 0 m.classes) (known : (contents_of b store).classes ≡ m.classes)
@@ -40,15 +40,6 @@ module _ (m now : MachineView) (b later : Builder) (store middle new : Lists Nod
     (λ i. notes_in (ap (λ (s : State). s.classes) (sym h.0.state) i) (sym h.2 i)) ∙ sym taken.shown,
   )
 
-  -- a work without insertions has boxes that hold nothing
-  void : (before : List PlainSent) (w : Work) → shows_all l b m store before w → footnotes w.state ≡ [] → emptied_boxes w.state.boxes ≡ w.state.boxes
-  void before w h none =
-      let own : w.state.classes ≡ m.classes = sym (ap (λ (s : State). s.classes) h.0.state) in
-      let empty : notes_in m.classes (contents_of b store).boxes ≡ [] = (λ i. notes_in (sym own i) (h.2 i)) ∙ none in
-      let same : emptied_boxes (contents_of b store).boxes ≡ (contents_of b store).boxes =
-      void-boxes 0 m.classes (contents_of b store).boxes classes (subst (λ cs. AreBoxesOf cs (contents_of b store).boxes) known (boxes_of store b.boxes)) empty in
-      subst (λ bs. emptied_boxes bs ≡ bs) h.2 same
-
   module _ (above : hold_penalty <ℤ f.penalty) (contents : contents_of later new ≡ contents_of later middle)
       (done : Does (shows_page l notes m middle) (shows_back l now new) (page_output m.params f.penalty f.body)) where
     -- it was done, and the boxes are the builder's
@@ -59,7 +50,7 @@ module _ (m now : MachineView) (b later : Builder) (store middle new : Lists Nod
           subst (ShowsWork before now new) same v.0,
           v.1 ∙ ap (λ (x : Work). x.put_back) same,
           ap (λ (x : Contents). x.boxes) contents ∙ ap (λ (x : Contents). x.boxes) taken.contents ∙ ap emptied_boxes h.2
-              ∙ sym (page-boxes m.params f.penalty f.body w (void before w h)) ∙ ap (λ (x : Work). x.state.boxes) same,
+              ∙ sym (page-boxes m.params f.penalty f.body w) ∙ ap (λ (x : Work). x.state.boxes) same,
         )
 
   -- it was cut short

@@ -83,6 +83,7 @@ module _ (m : MachineView) (store new : Lists Node) (is : IsMachine m store) (em
     first = is.first;
     last = is.last;
     numbered = is.numbered;
+    shrink = is.shrink;
     pool = is.pool;
     unmarked = is.unmarked;
     left = is.left;

@@ -20,7 +20,7 @@ use Rattle.tb_float.specs.Lists.{FloatLists}
 use Rattle.tb_float.specs.Rooms.{column_room_of}
 use Rattle.tb_margin.specs.declared.Placed.{Placed}
 use Rattle.tb_margin.specs.Margin.{placed_note}
-use Rattle.tb_column.specs.Column.{Notes, text_column}
+use Rattle.tb_column.specs.Column.{Notes, standing_notes}
 use Rattle.tb_sheet.specs.Sheet.{warned}
 use Rattle.tb_sheet.specs.declared.Warn.TheVariants as warnings
 use Rattle.tb_output.specs.State.{Work, puts, sends, with_floats, footnotes, notes_in, with_notes, has_floats}
@@ -45,7 +45,7 @@ boxes_if false a b w x y = y
 
 module _ (p : Params) where
   put_out_text-boxes : (body : List PlainNode) (w : Work) → (Columns.put_out_text p body w).state.boxes ≡ Columns.emptied_boxes w.state.boxes
-  put_out_text-boxes body w = (stays (put_out-step p (no_law p) (text_column p w.state.floats body (footnotes w.state)) (Columns.without_column_floats w))).boxes
+  put_out_text-boxes body w = (stays (put_out-step p (no_law p) (Columns.text_of p w.state body) (Columns.without_column_floats w))).boxes
 
   float_columns-boxes : (clearing : Bool) (w : Work) → (Columns.all_float_columns p clearing w).state.boxes ≡ w.state.boxes
   float_columns-boxes clearing w = (stays (float_columns-step p (no_law p) clearing (length w.state.floats.deferred) w)).boxes
@@ -73,10 +73,9 @@ module _ (p : Params) where
       let c = Clear.clear_wide p b in
       boxes_if (has_floats c.state.floats.deferred || has_floats c.state.floats.second) (puts Clear.clear_again c) c c refl refl ∙ clear_wide-boxes b ∙ float_columns-boxes true a
 
-  -- without insertions no box holds any
-  clear_by-boxes : (body : List PlainNode) (w : Work) (notes : List Notes) → (notes ≡ [] → Columns.emptied_boxes w.state.boxes ≡ w.state.boxes) → (Clear.clear_by p body w notes).state.boxes ≡ Columns.emptied_boxes w.state.boxes
-  clear_by-boxes body w [] void = clear_floats-boxes body w ∙ sym (void refl)
-  clear_by-boxes body w (n ∷ notes) void = put_out_text-boxes (body ++ made (skip filling_glue) ∷ []) w
+  clear_by-boxes : (body : List PlainNode) (w : Work) (notes : List Notes) → (Clear.clear_by p body w notes).state.boxes ≡ Columns.emptied_boxes w.state.boxes
+  clear_by-boxes body w [] = clear_floats-boxes body (Clear.without_notes w)
+  clear_by-boxes body w (n ∷ notes) = put_out_text-boxes (body ++ made (skip filling_glue) ∷ []) w
 
   -- ---- floats and notes in the text
 
@@ -110,10 +109,10 @@ module _ (p : Params) where
   if-emptied true a b w x y = x
   if-emptied false a b w x y = y
 
-  pub page-boxes : (n : ℤ) (body : List PlainNode) (w : Work) → (footnotes w.state ≡ [] → Columns.emptied_boxes w.state.boxes ≡ w.state.boxes) → (page_output p n body w).state.boxes ≡ Columns.emptied_boxes w.state.boxes
-  page-boxes n body w void =
+  pub page-boxes : (n : ℤ) (body : List PlainNode) (w : Work) → (page_output p n body w).state.boxes ≡ Columns.emptied_boxes w.state.boxes
+  page-boxes n body w =
       if-emptied (int_le eject_penalty n) (Columns.ordinary p body w) _ w (ordinary-boxes body w)
-      (if-emptied (Output.is_int n Asked.clear_penalty) (Clear.clear p body w) _ w (clear_by-boxes body w (footnotes w.state) void)
+      (if-emptied (Output.is_int n Asked.clear_penalty) (Clear.clear p body w) _ w (clear_by-boxes body w (standing_notes (footnotes w.state)))
       (if-emptied (Output.is_int n Asked.par_penalty) (Text.float_or_note p false body w) (Text.float_or_note p true body w) w (float_or_note-boxes false body w) (float_or_note-boxes true body w)))
 
   -- the penalty says that it is not

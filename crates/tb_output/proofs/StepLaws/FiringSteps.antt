@@ -18,7 +18,7 @@ use Rattle.tb_float.specs.Rooms.{column_height_of, column_room_of}
 use Rattle.tb_area.specs.Area.{current_place}
 use Rattle.tb_area.proofs.LawLemmas.{current-laws}
 use Rattle.tb_margin.specs.declared.Placed.{Placed}
-use Rattle.tb_column.specs.Column.{Notes}
+use Rattle.tb_column.specs.Column.{Notes, standing_notes}
 use Rattle.tb_sheet.specs.Sheet.{warned}
 use Rattle.tb_sheet.specs.declared.Warn.{Warn}
 use Rattle.tb_sheet.specs.declared.Warn.TheVariants as warnings
@@ -141,7 +141,7 @@ module _ (p : Params) (law : RecordLaw p) where
       (silent (clear_wide-step b) (step_if c (has_floats c.state.floats.deferred || has_floats c.state.floats.second) (puts Clear.clear_again c) c (changes refl) (changes refl))))
 
   pub clear_by-step : (body : List PlainNode) (w : Work) (notes : List Notes) → Step 0 w (Clear.clear_by p body w notes)
-  clear_by-step body w [] = clear_floats-step body w
+  clear_by-step body w [] = silent {b = Clear.without_notes w} (changes refl) (clear_floats-step body (Clear.without_notes w))
   clear_by-step body w (n ∷ notes) = silent (put_out_text-step (body ++ made (skip filling_glue) ∷ []) w) (changes refl)
 
   -- ---- a firing
@@ -149,7 +149,7 @@ module _ (p : Params) (law : RecordLaw p) where
   pub output_by-step : (f : Fired) (w : Work) → Step 1 w (Output.output_by p f w)
   output_by-step f w =
       step_if w (int_le eject_penalty f.penalty) (Columns.ordinary p f.body w) _ (quiet (ordinary-step f.body w))
-      (step_if w (Output.is_int f.penalty Asked.clear_penalty) (Clear.clear p f.body w) _ (quiet (clear_by-step f.body w (footnotes w.state)))
+      (step_if w (Output.is_int f.penalty Asked.clear_penalty) (Clear.clear p f.body w) _ (quiet (clear_by-step f.body w (standing_notes (footnotes w.state))))
       (step_if w (Output.is_int f.penalty Asked.par_penalty) (Text.float_or_note p false f.body w) _ (float_or_note-step false f.body w)
       (step_if w (Output.is_int f.penalty Asked.vert_penalty) (Text.float_or_note p true f.body w) (Output.hold f.body w) (float_or_note-step true f.body w) (quiet (changes refl)))))
 

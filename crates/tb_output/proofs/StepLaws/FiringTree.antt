@@ -21,7 +21,7 @@ use Rattle.tb_fpage.specs.Company.{Choice, company, left_floats}
 use Rattle.tb_area.specs.Area.{AreaPlace, at_top, at_bottom, deferred, where_of, current_place, next_area_place, goes_double}
 use Rattle.tb_margin.specs.declared.Placed.{Placed}
 use Rattle.tb_margin.specs.Margin.{placed_note}
-use Rattle.tb_column.specs.Column.{PlainColumn, Notes, text_column}
+use Rattle.tb_column.specs.Column.{PlainColumn, Notes, standing_notes}
 use Rattle.tb_sheet.specs.Sheet.{one, pair_sheet, warned}
 use Rattle.tb_sheet.specs.declared.Warn.TheVariants as warnings
 use Rattle.tb_output.specs.State.{State, Work, output, begun, puts, sends, records_also, with_floats, footnotes, has_floats}
@@ -34,7 +34,7 @@ use Rattle.tb_sheet.specs.Asked
 use Rattle.tb_output.specs.Output
 use Rattle.tb_output.specs.Firing.{page_work}
 use Rattle.tb_output.proofs.StepLaws.ColumnSteps.{no_law, records_one, ships_one, ship_wide-step, place_float-step, stays}
-use Rattle.tb_output.proofs.StepLaws.Moves.{Hand, nothing, of_text, of_column, of_float, of_note, deferred_float, ColumnMove, takes_company, records_column, ships_column, keeps_left, ships_pair, ends_column, ships_wide, places_double, FillMove, places_next, PageMove, by_column, by_fill, takes_text, fills_text, keeps_front, gathers, gathers_wide, leaves_second, clears_again, TextMove, goes_back, places_current, defers_current, takes_float, stands_here, takes_note, stands_beside, puts_penalty, warns, Move, by_page, by_text, holds_page, leaves_blank, sets_goal, Moves, rests, moves, in_turn, goes-on, widen}
+use Rattle.tb_output.proofs.StepLaws.Moves.{Hand, nothing, of_text, of_column, of_float, of_note, deferred_float, ColumnMove, takes_company, records_column, ships_column, keeps_left, ships_pair, ends_column, ships_wide, places_double, FillMove, places_next, PageMove, by_column, by_fill, takes_text, fills_text, keeps_front, drops_notes, gathers, gathers_wide, leaves_second, clears_again, TextMove, goes_back, places_current, defers_current, takes_float, stands_here, takes_note, stands_beside, puts_penalty, warns, Move, by_page, by_text, holds_page, leaves_blank, sets_goal, Moves, rests, moves, in_turn, goes-on, widen}
 
 -- the list of a place that was not taken still has its float
 still-waits : (before : List Float) (f : Float) (rest fs : List Float) → fs ≡ before ++ f ∷ rest → fs ≡ (before ++ f ∷ []) ++ rest
@@ -149,7 +149,7 @@ module _ (p : Params) where
       in_turn (moves (records_column c w)) (in_turn (put_out_by-moves c a) (moves (ends_column (Pages.put_out_by p c a))))
 
   pub put_out_text-moves : (body : List PlainNode) (w : Work) → OfPage (of_text body) w (Columns.put_out_text p body w)
-  put_out_text-moves body w = in_turn (moves (takes_text body w)) (page (put_out-moves (text_column p w.state.floats body (footnotes w.state)) (Columns.without_column_floats w)))
+  put_out_text-moves body w = in_turn (moves (takes_text body w)) (page (put_out-moves (Columns.text_of p w.state body) (Columns.without_column_floats w)))
 
   pub float_columns-moves : (clearing : Bool) (n : ℕ) (w : Work) → OfColumn nothing w (Columns.float_columns p clearing n w)
   float_columns-moves clearing zero w = rests
@@ -170,9 +170,9 @@ module _ (p : Params) where
   text_columns-moves c w = in_turn (put_out-moves c w) (all_columns-moves false (Pages.put_out p c w))
 
   -- an ordinary page once its text is made a column
-  pub ordinary-columns : (body : List PlainNode) (w : Work) → OfPage (of_column (text_column p w.state.floats body (footnotes w.state))) (Columns.without_column_floats w) (Columns.ordinary p body w)
+  pub ordinary-columns : (body : List PlainNode) (w : Work) → OfPage (of_column (Columns.text_of p w.state body)) (Columns.without_column_floats w) (Columns.ordinary p body w)
   ordinary-columns body w =
-      let c = text_column p w.state.floats body (footnotes w.state) in
+      let c = Columns.text_of p w.state body in
       let b = Columns.all_float_columns p false (Columns.put_out_text p body w) in
       in_turn (page (text_columns-moves c (Columns.without_column_floats w))) (widen (λ h i a b m. by_fill m) (fill_column-moves b))
 
@@ -244,9 +244,9 @@ module _ (p : Params) where
       let c = Clear.clear_wide p b in
       in_turn (moves (keeps_front body w)) (in_turn (moves (gathers z)) (in_turn (page (all_columns-moves true a)) (in_turn (clear_wide-moves b) (clear_rest-moves c))))
 
-  pub clear_by-moves : (body : List PlainNode) (w : Work) (notes : List Notes) → OfPage (of_text body) w (Clear.clear_by p body w notes)
-  clear_by-moves body w [] = clear_floats-moves body w
-  clear_by-moves body w (n ∷ notes) =
+  pub clear_by-moves : (body : List PlainNode) (w : Work) (notes : List Notes) → standing_notes (footnotes w.state) ≡ notes → OfPage (of_text body) w (Clear.clear_by p body w notes)
+  clear_by-moves body w [] none = in_turn (moves (drops_notes body w none)) (clear_floats-moves body (Clear.without_notes w))
+  clear_by-moves body w (n ∷ notes) some =
       let text = body ++ made (skip filling_glue) ∷ [] in
       in_turn (moves (fills_text body w)) (in_turn (put_out_text-moves text w) (moves (clears_again (Columns.put_out_text p text w))))
 
@@ -255,7 +255,7 @@ module _ (p : Params) where
   pub output-moves : (f : Fired) (w : Work) → Of (of_text f.body) w (Output.output_by p f w)
   output-moves f w =
       by_test (int_le eject_penalty f.penalty) (Columns.ordinary p f.body w) _ (λ e. widen (λ h i a b m. by_page m) (ordinary-moves f.body w))
-      (λ e. by_test (Output.is_int f.penalty Asked.clear_penalty) (Clear.clear p f.body w) _ (λ e. widen (λ h i a b m. by_page m) (clear_by-moves f.body w (footnotes w.state)))
+      (λ e. by_test (Output.is_int f.penalty Asked.clear_penalty) (Clear.clear p f.body w) _ (λ e. widen (λ h i a b m. by_page m) (clear_by-moves f.body w (standing_notes (footnotes w.state)) refl))
       (λ e. by_test (Output.is_int f.penalty Asked.par_penalty) (Text.float_or_note p false f.body w) _ (λ e. widen (λ h i a b m. by_text m) (float_or_note-moves false f.body w))
       (λ e. by_test (Output.is_int f.penalty Asked.vert_penalty) (Text.float_or_note p true f.body w) (Output.hold f.body w) (λ e. widen (λ h i a b m. by_text m) (float_or_note-moves true f.body w)) (λ e. moves (holds_page f.body w)))))
 

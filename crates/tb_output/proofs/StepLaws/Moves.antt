@@ -16,7 +16,7 @@ use Rattle.tb_fpage.specs.Company.{Choice, company, chosen_floats, left_floats}
 use Rattle.tb_area.specs.Area.{AreaPlace, deferred, where_of, current_place, next_area_place, goes_double}
 use Rattle.tb_margin.specs.declared.Placed.{Placed}
 use Rattle.tb_margin.specs.Margin.{placed_note}
-use Rattle.tb_column.specs.Column.{PlainColumn, text_column, single_floats_column}
+use Rattle.tb_column.specs.Column.{PlainColumn, standing_notes, single_floats_column}
 use Rattle.tb_sheet.specs.Sheet.{one, pair_sheet, warned}
 use Rattle.tb_sheet.specs.declared.Warn.{Warn}
 use Rattle.tb_output.specs.State.{Work, output, puts, sends, records_also, with_floats, footnotes}
@@ -66,9 +66,10 @@ pub data FillMove (p : Params) : Hand → Work → Hand → Work → Type 0 wher
 -- what is done with a page at an ordinary break and at a clear: the above, the text is made a column, and floats wait again
 pub data PageMove (p : Params) : Hand → Work → Hand → Work → Type 0 where
   by_column : {h i : Hand} {a b : Work} → ColumnMove p h a i b → PageMove p h a i b
-  takes_text : (body : List PlainNode) (w : Work) → PageMove p (of_text body) w (of_column (text_column p w.state.floats body (footnotes w.state))) (Columns.without_column_floats w)
+  takes_text : (body : List PlainNode) (w : Work) → PageMove p (of_text body) w (of_column (Columns.text_of p w.state body)) (Columns.without_column_floats w)
   by_fill : {h i : Hand} {a b : Work} → FillMove p h a i b → PageMove p h a i b
   fills_text : (body : List PlainNode) (w : Work) → PageMove p (of_text body) w (of_text (body ++ made (skip filling_glue) ∷ [])) w
+  drops_notes : (body : List PlainNode) (w : Work) → standing_notes (footnotes w.state) ≡ [] → PageMove p (of_text body) w (of_text body) (Clear.without_notes w)
   keeps_front : (body : List PlainNode) (w : Work) → PageMove p (of_text body) w nothing (puts (Clear.cleared_front p body) w)
   gathers : (w : Work) → PageMove p nothing w nothing (with_floats (Clear.deferred_again w.state.floats) w)
   gathers_wide : (w : Work) → w.state.two_columns ≡ true → w.state.first_column ≡ true → PageMove p nothing w nothing (with_floats (Clear.double_again p w.state.floats) w)

@@ -243,12 +243,14 @@ fn box_of(height: u8, depth: u8) -> Kind
 fn page_of(body: ListId, penalty: i64) -> Page
     ensures body { result.body ≡ body }
     ensures penalty { result.penalty ≡ penalty }
+    ensures shrink { result.shrink ≡ pos 0 }
 {
     Page {
         body,
         penalty,
         cost: 0,
         size: 0,
+        shrink: 0,
         line: 1,
         held: 0,
     }

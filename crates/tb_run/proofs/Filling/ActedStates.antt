@@ -1,6 +1,6 @@
 -- An act leaves a state that can be served.
 use Rattle.std.proofs.Common.{◌≡◌, refl, sym, subst, ◌∙◌, ap, ℕ, ◌+◌, ◌≤◌, pos, Bool, true, false, List, [], ◌∷◌, ◌++◌, arith}
-use Rattle.std.specs.Prelude.{All, ◌&&◌, int_le, int_lt, if◌then◌else◌}
+use Rattle.std.specs.Prelude.{All, ◌&&◌, int_le, int_lt, if◌then◌else◌, not}
 use Rattle.std.specs.List.{AllByRecursion}
 use Rattle.std.proofs.lemmas.List.Elements.{All-from_recursion, recursion_from_All}
 use Rattle.tb_break.proofs.EachLemmas.{all-join, all-front, all-back}
@@ -23,7 +23,7 @@ use Rattle.tb_float.specs.Lists.{live_count}
 use Rattle.tb_float.specs.Ranges.{IsWithin, IsSizedEntry}
 use Rattle.tb_sheet.specs.declared.Warn.{Warn}
 use Rattle.tb_output.specs.State.{State, Recorded}
-use Rattle.tb_output.specs.Act.{Acted, went, full, taken_float, large_warning, with_taken, act_on}
+use Rattle.tb_output.specs.Act.{Acted, went, full, taken_float, large_warning, with_taken, act_on, has_head_room, taken_head, with_head}
 use Rattle.tb_sheet.specs.Asked.{IsSizedAct}
 use Rattle.tb_items.specs.GalleyNodes.{IsGalleyNode}
 use Rattle.tb_steps.specs.Runnable.{AreRunnable}
@@ -109,6 +109,13 @@ module _ (p : Params) (s : State) (runs : AreRunnable p) (sized : AllByRecursion
       goes-is 0 _ t (went-state _ t [] ws [] rs e) (record { keeps = record { waiting = refl; classes = refl; boxes = refl; held = refl; bottom = refl }; entries = sized; notes = omega arith })
   acted-goes (acts.Page n) t ws rs h e =
       goes-is 0 _ t (went-state _ t [] ws [] rs e) (record { keeps = record { waiting = refl; classes = refl; boxes = refl; held = refl; bottom = refl }; entries = sized; notes = omega arith })
+  acted-goes (acts.Head f) t ws rs h e = by_room (has_head_room p s) e
+    where
+      by_room : (b : Bool) → (if not b then full f.line (live_count s.floats) else went (with_head p s (taken_head p f)) [] []) ≡ went t ws rs → Goes p 0 s t
+      by_room false e = absurd (full-went f.line (live_count s.floats) t ws rs e)
+      by_room true e =
+          goes-is 0 (with_head p s (taken_head p f)) t (went-state (with_head p s (taken_head p f)) t [] ws [] rs e)
+          (record { keeps = record { waiting = refl; classes = refl; boxes = refl; held = refl; bottom = refl }; entries = sized; notes = omega arith })
   acted-goes (acts.Columns two) t ws rs h e =
       goes-is 0 _ t (went-state _ t [] ws _ rs e) (record { keeps = record { waiting = refl; classes = refl; boxes = refl; held = refl; bottom = refl }; entries = sized; notes = omega arith })
 

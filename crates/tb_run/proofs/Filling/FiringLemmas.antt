@@ -133,6 +133,7 @@ module _ (wanted : Bool) (r q d : Routine) (hs : List Happening) (ready : IsRead
     penalty = fires.page.penalty i;
     cost = fires.page.cost i;
     size = fires.page.size i;
+    shrink = fires.page.shrink i;
     line = fires.page.line i;
   }
 
@@ -191,6 +192,7 @@ module _ (wanted : Bool) (r q d : Routine) (hs : List Happening) (ready : IsRead
     awaits = record { page = ap (λ (c : Contents). c.page) fires.after; frozen = ap (λ (c : Contents). c.frozen) fires.after };
     classes = ap (λ (c : Contents). c.classes) fires.after ∙ h.coming.come.stays.classes ∙ sym classes-now;
     penalty = subst (λ z. hold_penalty ≤ℤ z) (sym fires.page.penalty) (fired-mild p s set.params set.classes goal set.served few h.rs (held_in q) (state_now r q) h.coming fires.stopped (page-quiet q.builder q.store h.whole.builder fires.stopped) of-boxes);
+    shrink = fires.page.amount;
     note_bottom = reach-within (notes_left ((fired_whole d page).held ++ (fired_whole d page).rest) (state_of d)) d.machine.note_bottom served-now.bottom;
     body = record {
       live = fires.page.live;

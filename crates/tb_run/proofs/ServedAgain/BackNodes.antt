@@ -219,7 +219,7 @@ module _ (p : Params) where
 
 -- ---- how many classes
 
-classes-up : (k : ℕ) (cs : List Class) → AreClassesFrom k cs → ClassesFit cs → k ≤ 255 → k + length cs ≤ 255
+classes-up : (k : ℕ) (cs : List Class) → AreClassesFrom k cs → ClassesFit cs → k ≤ 256 → k + length cs ≤ 256
 classes-up k [] a f h = omega (arith, h)
 classes-up k (c ∷ cs) a f h =
     let low = a.0 in
@@ -227,7 +227,7 @@ classes-up k (c ∷ cs) a f h =
     let rest = classes-up (suc c.number) cs a.2 f.3 (omega (arith, high)) in
     omega (arith, low, rest)
 
-pub classes-few : (cs : List Class) → AreClassesFrom 0 cs → ClassesFit cs → length cs ≤ 255
+pub classes-few : (cs : List Class) → AreClassesFrom 0 cs → ClassesFit cs → length cs ≤ 256
 classes-few cs a f = let h = classes-up 0 cs a f (omega arith) in omega (arith, h)
 
 -- ---- emptied boxes

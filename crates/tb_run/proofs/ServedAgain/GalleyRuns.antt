@@ -6,6 +6,8 @@ use Rattle.std.specs.List.{list_all, AllByRecursion}
 use Rattle.std.proofs.lemmas.Int.{ints}
 use Rattle.std.proofs.lemmas.List.Elements.{All-from_recursion}
 use Rattle.tb_scaled.specs.declared.Glue.{Glue}
+use Rattle.tb_scaled.specs.Glue.{fixed_glue}
+use Rattle.tb_node.specs.Fit.{IsDimension}
 use Rattle.tb_param.specs.declared.Params.{Params}
 use Rattle.tb_param.specs.Table.{is_within, is_dimen, is_glue}
 use Rattle.tb_insert.specs.Arrival.{ClassFits}
@@ -51,9 +53,16 @@ line-sized c h =
 
 -- ---- all of them
 
+no-size : IsDimension (pos 0)
+no-size = record { low = omega (arith, ints); high = omega (arith, ints) }
+
+-- the class of what makes a page higher skips nothing
+no-skip : IsSizedGlue (fixed_glue (pos 0))
+no-skip = record { width = no-size; stretch = no-size; shrink = no-size }
+
 module _ (p : Params) (foot : IsSizedGlue p.skipfootins) (version : ℕ) where
   rising-from : (n : ℕ) (cs : List ClassLine) → n ≤ 253 → AreAbove n cs → IsTrue (list_all is_class cs) → IsTrue (do_all_stand version cs) → IsTrue (do_classes_rise cs) → AreClassesFrom (suc n) (with_foot p cs)
-  rising-from n [] small above v s r = (omega (arith, small), foot, tt, tt)
+  rising-from n [] small above v s r = (omega (arith, small), foot, (omega arith, no-skip, tt, tt), tt)
   rising-from n (c ∷ cs) small above v s r =
       let here = first_so (is_class c) (list_all is_class cs) v in (
         above.0,
@@ -63,7 +72,7 @@ module _ (p : Params) (foot : IsSizedGlue p.skipfootins) (version : ℕ) where
       )
 
   rising : (cs : List ClassLine) → IsTrue (list_all is_class cs) → IsTrue (do_all_stand version cs) → IsTrue (do_classes_rise cs) → AreClassesFrom 0 (with_foot p cs)
-  rising [] v s r = (omega arith, foot, tt, tt)
+  rising [] v s r = (omega arith, foot, (omega arith, no-skip, tt, tt), tt)
   rising (c ∷ cs) v s r =
       let here = first_so (is_class c) (list_all is_class cs) v in (
         omega arith,
@@ -73,7 +82,7 @@ module _ (p : Params) (foot : IsSizedGlue p.skipfootins) (version : ℕ) where
       )
 
   all-sized : (cs : List ClassLine) → IsTrue (list_all is_class cs) → AllByRecursion IsSizedClass (with_foot p cs)
-  all-sized [] v = (record { factor = record { low = omega (arith, ints); high = omega (arith, ints) }; width = foot.width; stretch = foot.stretch; shrink = foot.shrink }, tt)
+  all-sized [] v = (record { factor = record { low = omega (arith, ints); high = omega (arith, ints) }; width = foot.width; stretch = foot.stretch; shrink = foot.shrink }, (record { factor = record { low = omega (arith, ints); high = omega (arith, ints) }; width = no-size; stretch = no-size; shrink = no-size }, tt))
   all-sized (c ∷ cs) v =
       let one = line-sized c (first_so (is_class c) (list_all is_class cs) v) in
       (record { factor = one.factor; width = one.skip.width; stretch = one.skip.stretch; shrink = one.skip.shrink }, all-sized cs (second_so (is_class c) (list_all is_class cs) v))

@@ -18,7 +18,7 @@ use Rattle.tb_float.specs.Lists.{wide_part, wide_waiting}
 use Rattle.tb_float.specs.Ranges.{IsWithin, IsSizedEntry}
 use Rattle.tb_float.specs.Rooms.{column_room_of}
 use Rattle.tb_float.proofs.WaitingLemmas.{wide-waits}
-use Rattle.tb_column.specs.Column.{Notes, text_column}
+use Rattle.tb_column.specs.Column.{Notes, standing_notes}
 use Rattle.tb_sheet.specs.Sheet.{PlainSent, warned}
 use Rattle.tb_sheet.specs.declared.Warn.TheVariants as warnings
 use Rattle.tb_output.specs.State.{Work, puts, sends, with_floats, footnotes, has_floats}
@@ -134,10 +134,22 @@ module _ (cs : List Class) (left : ℕ) where
     few = let f = k.few in let e = emptied-count w.state.boxes in omega (arith, f, e);
   }
 
+  kept-unnoted : (n : ℕ) (w : Work) → Kept cs left n w → Kept cs left n (Clear.without_notes w)
+  kept-unnoted n w k = record {
+    back = k.back;
+    held = k.held;
+    boxes = emptied-sized w.state.boxes;
+    classes = k.classes;
+    entries = k.entries;
+    notes = k.notes;
+    bottom = k.bottom;
+    few = let f = k.few in let e = emptied-count w.state.boxes in omega (arith, f, e);
+  }
+
   kept-text : (n : ℕ) (p : Params) (body : List PlainNode) (w : Work) → Kept cs left n w → Kept cs left n (Columns.put_out_text p body w)
   kept-text n p body w k =
       let a = Columns.without_column_floats w in
-      let c = text_column p w.state.floats body (footnotes w.state) in
+      let c = Columns.text_of p w.state body in
       kept-follows n a (Pages.put_out p c a) (kept-emptied n w k) (follows-put_out AnyFloat p c a) (put_out-eases p c a)
 
   kept-columns : (n : ℕ) (p : Params) (clearing : Bool) (w : Work) → Kept cs left n w → Kept cs left n (Columns.all_float_columns p clearing w)
@@ -180,10 +192,10 @@ module _ (cs : List Class) (left : ℕ) where
       (kept-step m a b (kept-puts_few n (node_count body) front w (text-back cs front (all-take _ _ body text)) (count-take _ body) k) refl refl refl refl (record { classes = refl; bottom = inl refl })))))
 
   pub kept-clear : (n : ℕ) (p : Params) (body : List PlainNode) (w : Work) → AreText body → Kept cs left n w → Kept cs left (n + node_count body + 11) (Clear.clear p body w)
-  kept-clear n p body w text k = by_notes (footnotes w.state)
+  kept-clear n p body w text k = by_notes (standing_notes (footnotes w.state))
     where
       by_notes : (ns : List Notes) → Kept cs left (n + node_count body + 11) (Clear.clear_by p body w ns)
-      by_notes [] = kept-floats n p body w text k
+      by_notes [] = kept-floats n p body (Clear.without_notes w) text (kept-unnoted n w k)
       by_notes (x ∷ ns) =
           let a = Columns.put_out_text p (body ++ made (skip filling_glue) ∷ []) w in
           kept-more (n + 5) (n + node_count body + 11) (puts Clear.clear_again a) (omega arith) (kept-puts n Clear.clear_again a (clear-back cs) (kept-text n p (body ++ made (skip filling_glue) ∷ []) w k))

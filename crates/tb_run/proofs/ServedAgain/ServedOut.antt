@@ -1,5 +1,5 @@
 -- The firing of a page leaves a state that can be served again, and holds not many more nodes.
-use Rattle.std.proofs.Common.{◌≡◌, refl, sym, subst, ap, ℕ, zero, suc, ◌+◌, ◌-◌, ◌≤◌, true, false, List, [], ◌∷◌, ◌++◌, length, take, arith}
+use Rattle.std.proofs.Common.{◌≡◌, refl, sym, subst, ap, ℕ, zero, suc, pos, ◌+◌, ◌-◌, ◌≤◌, true, false, List, [], ◌∷◌, ◌++◌, length, take, arith}
 use Rattle.std.specs.Prelude.{All, int_le}
 use Rattle.std.specs.List.{AllByRecursion}
 use Rattle.std.proofs.lemmas.List.{length-append}
@@ -99,7 +99,7 @@ module _ (p : Params) (s : State) (f : Fired) (runs : AreRunnable p) (classes : 
   unfolding out
   waits = refl
 
-  state-is : (out p s f).state ≡ record w1.state { waiting = f.held ++ w1.put_back ++ f.rest }
+  state-is : (out p s f).state ≡ record w1.state { waiting = f.held ++ w1.put_back ++ f.rest; shrink = pos 0 }
   unfolding out
   state-is = refl
 
@@ -108,7 +108,7 @@ module _ (p : Params) (s : State) (f : Fired) (runs : AreRunnable p) (classes : 
   back-is = refl
 
   -- not many more nodes are held
-  pub out-count : held_count (out p s f).state ≤ fired_count f + node_count s.held_page + 270
+  pub out-count : held_count (out p s f).state ≤ fired_count f + node_count s.held_page + 271
   out-count =
       let e = ap held_count state-is in
       let a = count-append (f.held ++ w1.put_back) f.rest in

@@ -102,6 +102,8 @@ module _ (p : Params) where
   item-few : (two : Bool) (l : ℕ) (k : ItemKind) → node_count (on_line l (item_kinds p two k)) ≤ 6 * weight_of k
   item-few two l (items.Foot class ls) = let e = length-map {B = PlainLeaf} ls plain_leaf in omega (arith, e)
   item-few two l (items.Float f vert) = let few = float-few (has_second p && two && f.wide) l f vert in omega (arith, few)
+  item-few two l (items.Enlarge by true) = omega arith
+  item-few two l (items.Enlarge by false) = omega arith
   item-few two l k = omega arith
 
   items-few : (two : Bool) (ns : List Item) → node_count (item_nodes p two ns) ≤ 6 * weight ns
@@ -124,6 +126,9 @@ module _ (p : Params) where
   place-few next two b l items.TwoColumn h = absurd (no-place b h)
   place-few next two b l (items.Suppress area) h = absurd (no-place b h)
   place-few next two b l (items.Page n) h = absurd (no-place b h)
+  place-few next two b l (items.Head f) h = absurd (no-place b h)
+  place-few next two b l (items.Enlarge by true) h = omega arith
+  place-few next two b l (items.Enlarge by false) h = omega arith
   place-few next two b l k h = omega arith
 
   -- ---- one item of a galley with breaks

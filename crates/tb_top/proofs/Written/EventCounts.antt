@@ -1,7 +1,7 @@
 -- How many warnings and pages a step of a run sends: a warning for each act that it reaches and two at its firing, and a page for each
 -- step of the page number.
 use Rattle.std.proofs.Common.{◌≡◌, refl, ◌∙◌, ap, ℕ, suc, pos, ◌+◌, ◌≤◌, Bool, true, false, List, [], ◌∷◌, ◌++◌, map, length, Option, Some, None, arith}
-use Rattle.std.specs.Prelude.{ℤ, pred, nat_abs, int_lt, int_le, if◌then◌else◌}
+use Rattle.std.specs.Prelude.{ℤ, pred, nat_abs, int_lt, int_le, if◌then◌else◌, not}
 use Rattle.tb_scaled.specs.Scaled.{awful_bad, min_ℤ}
 use Rattle.tb_node.specs.Shape.{Shape, box}
 use Rattle.tb_node.specs.declared.Act.{Act}
@@ -20,7 +20,7 @@ use Rattle.tb_sheet.specs.Sheet.{PlainSent, warned}
 use Rattle.tb_sheet.specs.declared.Warn.{Warn}
 use Rattle.tb_float.specs.Lists.{live_count}
 use Rattle.tb_output.specs.State.{State, Work, Recorded, begun, emptied}
-use Rattle.tb_output.specs.Act.{Acted, went, full, act_on}
+use Rattle.tb_output.specs.Act.{Acted, went, full, act_on, has_head_room}
 use Rattle.tb_output.specs.Output.{out, after_page}
 use Rattle.tb_laws.proofs.StepLaws.SentCounts.{warning_count, page_count, warnings-append, pages-append, SendsFew, out-few}
 use Rattle.tb_items.specs.RunEvents.{RunEvent, offered, sent}
@@ -74,6 +74,7 @@ act-once p s (acts.Take f) = unfolding_room (int_le p.pool (pos (live_count s.fl
 act-once p s (acts.TakeMargin m) = unfolding_room (int_lt p.pool (pos (live_count s.floats + 2))) _ _ _ _ _ (omega arith)
 act-once p s (acts.Suppress area) = omega arith
 act-once p s (acts.Page n) = omega arith
+act-once p s (acts.Head f) = unfolding_room (not (has_head_room p s)) _ _ _ _ _ (omega arith)
 act-once p s (acts.Columns two) = omega arith
 
 abbrev acts_among : List Reached → ℕ

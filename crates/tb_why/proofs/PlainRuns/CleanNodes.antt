@@ -23,7 +23,8 @@ use Rattle.tb_insert.specs.Account.{Frozen, Labelled, Label, whole, split, late,
 use Rattle.tb_builder.specs.Reach.{Reached, acted, tried, Reach, also_reached, page_place, stopped_at, reach_at_place, reach_at, reach_node, reach_from}
 use Rattle.tb_builder.specs.FiredPages.{Boxed, Fired, page_break, from_break, spent_kind, with_spent_break, given_by, given_to, is_given, content_of, box_after, unless_empty, held_of, held_insertions, fired_by}
 use Rattle.tb_float.specs.Lists.{FloatLists}
-use Rattle.tb_column.specs.Column.{Notes, is_no_glue, glue_if_any, rule_if_any, kern_if_any, foot_kern, floats_with, floats_above, floats_below, floats_after, floats_column, feet_above, above_class, class_below, notes_below, notes_among, text_above_feet, text_nodes, closing_glue, text_column, pair_floats}
+use Rattle.tb_column.specs.declared.Enlarged.{Enlarged}
+use Rattle.tb_column.specs.Column.{Notes, is_enlarging, standing_notes, is_no_glue, glue_if_any, rule_if_any, kern_if_any, foot_kern, floats_with, floats_above, floats_below, floats_after, floats_column, feet_above, above_class, class_below, notes_below, notes_among, text_above_feet, text_nodes, closing_glue, text_column, pair_floats, pair_rule}
 use Rattle.tb_column.proofs.ColumnParts.{below-has, among-have}
 use Rattle.tb_sheet.specs.Sheet.{PlainSheet, one, wide, two}
 use Rattle.tb_text.specs.Lines.{IsUnended}
@@ -45,6 +46,7 @@ CleanAct (acts.Take f) = IsPlainFloat f
 CleanAct (acts.TakeMargin m) = CleanNote m
 CleanAct (acts.Suppress area) = Unit {0}
 CleanAct (acts.Page n) = Unit {0}
+CleanAct (acts.Head f) = IsPlainFloat f
 CleanAct (acts.Columns pair) = Unit {0}
 
 abbrev pub CleanKind : PlainKind → Type 0
@@ -297,8 +299,8 @@ all-notes : (p : Params) (kern : Option ℤ) (ns : List Notes) → CleanNotes ns
 all-notes p kern [] h = tt
 all-notes p kern (n ∷ ns) h = nodes-join (class_below p kern n) (notes_below p kern ns) (class-notes p kern n h.0) (all-notes p kern ns h.1)
 
-pub text-clean : (p : Params) (l : FloatLists) (body : List PlainNode) (notes : List Notes) → CleanFloats l.top → CleanFloats l.bottom → CleanNodes body → CleanNotes notes → CleanNodes (text_column p l body notes).nodes
-text-clean p l body notes top bottom h g =
+pub text-clean : (p : Params) (l : FloatLists) (body : List PlainNode) (notes : List Notes) (e : Enlarged) → CleanFloats l.top → CleanFloats l.bottom → CleanNodes body → CleanNotes notes → CleanNodes (text_column p l body notes e).nodes
+text-clean p l body notes e top bottom h g =
     let texts = text_nodes p l body notes in
     let tops = floats_above places.Top p.floatsep p.toprule p.textfloatsep l.top in
     let bottoms = floats_below places.Bottom p.floatsep p.bottomrule p.textfloatsep l.bottom in
@@ -314,7 +316,16 @@ text-clean p l body notes top bottom h g =
     (glue-if p.textbottom)
 
 pub pair-clean : (p : Params) (l : FloatLists) → CleanFloats l.double → CleanNodes (pair_floats p l)
-pair-clean p l h = floats-above places.Double p.dblfloatsep p.dblrule p.dbltextfloatsep l.double h
+pair-clean p l h = floats-above places.Double p.dblfloatsep (pair_rule p l) p.dbltextfloatsep l.double h
+
+-- what holds of all insertions holds of those that stand
+pub standing-clean : (ns : List Notes) → CleanNotes ns → CleanNotes (standing_notes ns)
+standing-clean [] h = tt
+standing-clean (n ∷ ns) h = by_test (not (is_enlarging n)) (standing-clean ns h.1)
+  where
+    by_test : (b : Bool) → CleanNotes (standing_notes ns) → CleanNotes (if b then n ∷ standing_notes ns else standing_notes ns)
+    by_test true k = (h.0, k)
+    by_test false k = k
 
 abbrev pub CleanSheet : PlainSheet → Type 0
 CleanSheet (one c) = CleanNodes c.nodes

@@ -21,7 +21,7 @@ use Rattle.tb_galley.specs.declared.ItemKind.{ItemKind}
 use Rattle.tb_galley.specs.declared.ItemKind.TheVariants as items
 use Rattle.tb_galley.specs.declared.Galley.{Galley}
 use Rattle.tb_galley.specs.GalleyNodes.{plain_leaf, with_firings, item_kinds, two_after, item_nodes, expanded}
-use Rattle.tb_galley.specs.Valid.{is_size, is_leaf, is_float, is_margin, is_item, IsValid}
+use Rattle.tb_galley.specs.Valid.{is_size, is_leaf, is_float, is_margin, is_item, IsValid, is_head, is_top_alone}
 use Rattle.tb_insert.specs.declared.Class.{Class}
 use Rattle.tb_insert.specs.Account.{terms_after}
 use Rattle.tb_break.specs.PageTop.{pruned_nodes}
@@ -33,7 +33,7 @@ use Rattle.tb_float.specs.Lists.{FloatLists}
 use Rattle.tb_sheet.specs.declared.Warn.{Warn}
 use Rattle.tb_sheet.specs.Sheet.{PlainSent, warned}
 use Rattle.tb_output.specs.State.{State, Work, Recorded, emptied, first_state, void_boxes}
-use Rattle.tb_output.specs.Act.{Acted, went, full, act_on, taken_float, lists_with_taken, large_warning, with_taken, with_current}
+use Rattle.tb_output.specs.Act.{Acted, went, full, act_on, taken_float, lists_with_taken, large_warning, with_taken, with_current, has_head_room, taken_head, with_head}
 use Rattle.tb_output.specs.Output.{out}
 use Rattle.tb_steps.specs.Run.{Run, End, done, dead_cycles, page_limit, node_limit, Progress, progress_by, progress, Step, ends, goes_on, held_count, after_firing, fire, after_progress, step, run_by, run_from, firings_left, run_of, ask_for}
 use Rattle.tb_items.specs.RunEvents.{RunEvent, sent}
@@ -138,6 +138,8 @@ module _ (p : Params) where
       acted-if _ _ _ (with_current s (entries.Left m ∷ entries.Right m ∷ [])) [] [] (h.0, h.1, h.2, (all-join _ s.floats.current (entries.Left m ∷ entries.Right m ∷ []) h.3.0 (g, (tt, tt)), h.3.1, h.3.2, h.3.3, h.3.4, h.3.5, h.3.6), h.4) tt
   acts-on s (acts.Suppress area) h g = (h, tt)
   acts-on s (acts.Page n) h g = (h, tt)
+  acts-on s (acts.Head f) h g =
+      acted-if (not (has_head_room p s)) _ _ (with_head p s (taken_head p f)) [] [] (h.0, h.1, h.2, (h.3.0, h.3.1, h.3.2, h.3.3, all-join IsPlainFloat s.floats.double (taken_head p f ∷ []) h.3.4 (g, tt), h.3.5, h.3.6), h.4) tt
   acts-on s (acts.Columns pair) h g = ((h.0, h.1, h.2, h.3, tt), tt)
 
   -- ---- one page and the firing after it
@@ -286,6 +288,11 @@ float-clean f v =
     let b = and_parts (is_name f.name && is_between 1 26 f.class) (f.places.h || f.places.t || f.places.b || f.places.p) a.0 in
     name-plain f.name (and_parts (is_name f.name) (is_between 1 26 f.class) b.0).0
 
+head-clean : (f : Float) → IsTrue (is_head f) → IsPlainFloat f
+head-clean f v =
+    let a = and_parts (is_name f.name && is_size f.height) ((f.class == 0) && f.wide && is_top_alone f.places && f.bang && not (f.deep || f.nobreak)) v in
+    name-plain f.name (and_parts (is_name f.name) (is_size f.height) a.0).0
+
 note-clean : (m : Margin) → IsTrue (is_margin m) → CleanNote m
 note-clean m v =
     let a = and_parts (is_name m.name && is_size m.left_height && is_size m.left_depth && is_size m.right_height) (is_size m.right_depth) v in
@@ -319,6 +326,9 @@ item-clean p pair n items.OneColumn v = (tt, (tt, (tt, (tt, (tt, (tt, tt))))))
 item-clean p pair n items.TwoColumn v = (tt, (tt, (tt, (tt, (tt, (tt, tt))))))
 item-clean p pair n (items.Suppress area) v = (tt, tt)
 item-clean p pair n (items.Page k) v = (tt, tt)
+item-clean p pair n (items.Head f) v = (head-clean f (and_parts (f.line == n) (is_head f) v).1, tt)
+item-clean p pair n (items.Enlarge by true) v = ((tt, (tt, tt)), tt)
+item-clean p pair n (items.Enlarge by false) v = ((tt, tt), tt)
 
 items-clean : (p : Params) (pair : Bool) (ns : List Item) → IsTrue (list_all (λ n. is_item n.line n.kind) ns) → CleanNodes (item_nodes p pair ns)
 items-clean p pair [] v = tt

@@ -24,7 +24,7 @@ use Rattle.tb_float.proofs.WaitingLemmas.{wide-waits}
 use Rattle.tb_area.specs.Area.{at_top, where_of, next_place, double_place, text_minimum, next_separator, tries_top}
 use Rattle.tb_fpage.specs.declared.Wanted.{Wanted}
 use Rattle.tb_fpage.specs.Company.{Choice, company, passed_over, joins, choices_from, company_of_head, is_made, chosen_floats, left_floats}
-use Rattle.tb_column.specs.Column.{PlainColumn, Notes, text_column, single_floats_column}
+use Rattle.tb_column.specs.Column.{PlainColumn, Notes, standing_notes, single_floats_column}
 use Rattle.tb_sheet.specs.Sheet.{pair_sheet}
 use Rattle.tb_told.specs.Tested.{all_hold, first_of_class, first_float}
 use Rattle.tb_told.specs.declared.Told.{Told}
@@ -42,8 +42,8 @@ use Rattle.tb_told.specs.Tales.{tales, decisions, has_width, column_tales, back_
 use Rattle.tb_output.specs.State.{State, Work, begun, footnotes, output, puts, records_also, with_floats}
 use Rattle.tb_output.specs.FloatMoves.{is_placed, place_float, still_deferred, place_waiting}
 use Rattle.tb_output.specs.Pages.{ship, wide_wanted, ship_wide, all_wide_pages, left_or, without_double, with_deferred}
-use Rattle.tb_output.specs.Columns.{put_out_text, put_out_company, single_wanted, all_float_columns, without_column_floats}
-use Rattle.tb_output.specs.Clear.{cleared_front, deferred_again, double_again}
+use Rattle.tb_output.specs.Columns.{text_of, put_out_text, put_out_company, single_wanted, all_float_columns, without_column_floats}
+use Rattle.tb_output.specs.Clear.{without_notes, cleared_front, deferred_again, double_again}
 use Rattle.tb_output.specs.Text.{without_firing_box, notes_height, list_back}
 use Rattle.tb_sheet.specs.Asked.{clear_penalty, par_penalty, vert_penalty}
 use Rattle.tb_output.specs.Output.{is_int, after_page}
@@ -52,7 +52,7 @@ use Rattle.tb_output.proofs.StepLaws.FiringTree.{all_wide-moves, put_out-moves, 
 use Rattle.tb_why.specs.Firing.{unless_over, spot_of, ship_pieces, wide_pieces_by, wide_pieces, all_wide_pieces, double_pieces, fill_double_pieces, after_pair, pair_pieces, put_out_pieces_by, put_out_pieces, text_pieces, company_pieces, float_pieces_by, float_pieces, all_float_pieces, next_pieces, fill_pieces, start_pieces, ordinary_pieces, clear_wide_pieces, clear_columns_pieces, clear_floats_pieces, clear_pieces_by, first_tales, text_tales, text_float_pieces, firing_pieces}
 use Rattle.tb_why.specs.PlainNames.{IsPlainFloat, IsPlainBlocker, IsPlainTold, IsPlainColumn, IsPlainTale}
 use Rattle.tb_why.proofs.PlainRuns.CleanNodes.{CleanFloats, CleanNodes, CleanFired}
-use Rattle.tb_why.proofs.PlainRuns.CleanWorks.{CleanLists, CleanEntries, CleanState, CleanWork, floats-join, waiting, goes-to, work-if, records-more, pair-ships, wide-again, column-clean, page-clean, columns-clean, pages-clean}
+use Rattle.tb_why.proofs.PlainRuns.CleanWorks.{emptied, CleanLists, CleanEntries, CleanState, CleanWork, floats-join, waiting, goes-to, work-if, records-more, pair-ships, wide-again, column-clean, page-clean, columns-clean, pages-clean}
 
 -- ---- lists of what is told
 
@@ -308,7 +308,7 @@ module _ (p : Params) where
 
   text-clean : (body : List PlainNode) (w : Work) → CleanNodes body → CleanWork p w → CleanPieces (text_pieces p body w)
   text-clean body w h k =
-      let c = text_column p w.state.floats body (footnotes w.state) in
+      let c = text_of p w.state body in
       let g = page-clean p (takes_text body w) (h, k) in
       join (unless_over w (tales (stands_tales body))) (put_out_pieces p c (without_column_floats w)) (tells w (stands_tales body) (stands-tales (here_lines body)))
       (put_out-clean c (without_column_floats w) g.0 g.1)
@@ -367,7 +367,9 @@ module _ (p : Params) where
       (join (all_float_pieces p true a) (clear_wide_pieces p (all_float_columns p true a)) (all_float-clean true a g.1) (clear_wide-clean (all_float_columns p true a) (columns-after true a g.1)))
 
   clear-clean : (body : List PlainNode) (w : Work) (notes : List Notes) → CleanNodes body → CleanWork p w → CleanPieces (clear_pieces_by p body w notes)
-  clear-clean body w [] h k = clear_floats-clean body w h k
+  clear-clean body w [] h k =
+      let s = k.0 in
+      clear_floats-clean body (without_notes w) h ((s.0, emptied w.state.boxes, s.2, s.3, s.4), k.1, k.2)
   clear-clean body w (n ∷ ns) h k = let g = page-clean p (fills_text body w) (h, k) in text-clean (body ++ made (skip filling_glue) ∷ []) w g.0 g.1
 
   -- ---- floats and notes in the text
@@ -395,6 +397,6 @@ module _ (p : Params) where
       let w = begun (after_page s f) in
       let k : CleanWork p w = ((tt, g.boxes, h.2, h.3, h.4), tt, tt) in
       pieces-if (int_le eject_penalty f.penalty) (ordinary_pieces p f.body w) _ (ordinary-clean f.body w g.body k)
-      (pieces-if (is_int f.penalty clear_penalty) (clear_pieces_by p f.body w (footnotes w.state)) _ (clear-clean f.body w (footnotes w.state) g.body k)
+      (pieces-if (is_int f.penalty clear_penalty) (clear_pieces_by p f.body w (standing_notes (footnotes w.state))) _ (clear-clean f.body w (standing_notes (footnotes w.state)) g.body k)
       (pieces-if (is_int f.penalty par_penalty) (text_float_pieces p f.body w) _ (text_float-clean f.body w k)
       (pieces-if (is_int f.penalty vert_penalty) (text_float_pieces p f.body w) [] (text_float-clean f.body w k) tt)))

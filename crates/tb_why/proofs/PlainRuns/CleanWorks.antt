@@ -1,6 +1,6 @@
 -- A firing keeps the nodes and floats of the galley: what it sends and leaves has no name with a line feed, if what it began
 -- with has none.
-use Rattle.std.proofs.Common.{subst, ℕ, ℤ, ◌+ℤ◌, ◌-ℤ◌, Bool, true, false, List, [], ◌∷◌, ◌++◌, map, Option, Some, None}
+use Rattle.std.proofs.Common.{refl, subst, ℕ, ℤ, ◌+ℤ◌, ◌-ℤ◌, Bool, true, false, List, [], ◌∷◌, ◌++◌, map, Option, Some, None}
 use Rattle.std.specs.Prelude.{◌==◌, int_le, not, ◌&&◌, if◌then◌else◌}
 use Rattle.std.specs.List.{AllByRecursion}
 use Rattle.tb_break.proofs.EachLemmas.{all-join}
@@ -22,7 +22,7 @@ use Rattle.tb_float.specs.Lists.{FloatLists, floats_of, with_floats_of, wide_wai
 use Rattle.tb_float.specs.Rooms.{column_height_of, column_room_of}
 use Rattle.tb_fpage.proofs.FirstLemmas.{company-all}
 use Rattle.tb_fpage.specs.Company.{chosen_floats, left_floats}
-use Rattle.tb_column.specs.Column.{Notes, PlainColumn, wide_floats_column}
+use Rattle.tb_column.specs.Column.{Notes, standing_notes, enlarged_of, PlainColumn, wide_floats_column}
 use Rattle.tb_sheet.specs.Sheet.{PlainSheet, one, wide, pair_sheet, PlainSent, warned, shipped}
 use Rattle.tb_area.specs.Area.{where_of, current_place}
 use Rattle.tb_margin.specs.declared.Placed.{Placed}
@@ -40,10 +40,10 @@ use Rattle.tb_output.specs.Clear.{clear_again, cleared_front, deferred_again, do
 use Rattle.tb_output.specs.Output.{is_int, hold, output_by, with_goal, blank_column, is_crowded, leave_column, goal_by, next_goal, after_page, out}
 use Rattle.tb_output.specs.Firing.{page_work}
 use Rattle.tb_output.proofs.StepLaws.RefusedSteps.{by-sends, by-records, by-ship}
-use Rattle.tb_output.proofs.StepLaws.Moves.{Hand, nothing, of_text, of_column, of_float, of_note, ColumnMove, takes_company, records_column, ships_column, keeps_left, ships_pair, ends_column, ships_wide, places_double, places_next, PageMove, by_column, by_fill, takes_text, fills_text, keeps_front, gathers, gathers_wide, leaves_second, clears_again, Moves, holds-on}
+use Rattle.tb_output.proofs.StepLaws.Moves.{Hand, nothing, of_text, of_column, of_float, of_note, ColumnMove, takes_company, records_column, ships_column, keeps_left, ships_pair, ends_column, ships_wide, places_double, places_next, PageMove, by_column, by_fill, takes_text, fills_text, drops_notes, keeps_front, gathers, gathers_wide, leaves_second, clears_again, Moves, holds-on}
 use Rattle.tb_output.proofs.StepLaws.FiringTree.{ordinary-moves, clear_by-moves}
 use Rattle.tb_why.specs.PlainNames.{IsPlainFloat, IsPlainWarning}
-use Rattle.tb_why.proofs.PlainRuns.CleanNodes.{CleanFloats, CleanNote, CleanNodes, nodes-join, nodes-take, CleanContent, CleanBoxes, CleanFired, floats-column, CleanNotes, text-clean, pair-clean, CleanSheet}
+use Rattle.tb_why.proofs.PlainRuns.CleanNodes.{CleanFloats, CleanNote, CleanNodes, nodes-join, nodes-take, CleanContent, CleanBoxes, CleanFired, floats-column, CleanNotes, standing-clean, text-clean, pair-clean, CleanSheet}
 
 -- ---- states
 
@@ -112,7 +112,7 @@ notes-of : (cs : List Class) (bs : List Boxed) → CleanBoxes bs → CleanNotes 
 notes-of [] bs h = tt
 notes-of (c ∷ cs) bs h = one-class c (box_content bs c.number) (notes_in cs bs) (box-content bs c.number h) (notes-of cs bs h)
 
-emptied : (bs : List Boxed) → CleanBoxes (emptied_boxes bs)
+pub emptied : (bs : List Boxed) → CleanBoxes (emptied_boxes bs)
 emptied [] = tt
 emptied (b ∷ bs) = (tt, emptied bs)
 
@@ -240,8 +240,11 @@ module _ (p : Params) where
       (tt, goes-to (where_of a) f (record w.state.floats { deferred = before ++ rest }) w g.0 (l.0, l.1, l.2, g.1, l.4, l.5, l.6) k.1)
   page-clean (takes_text body w) k =
       let s = k.1.0 in
-      (text-clean p w.state.floats body (footnotes w.state) s.3.1 s.3.2 k.0 (notes-of w.state.classes w.state.boxes s.1), ((s.0, emptied w.state.boxes, s.2, (s.3.0, tt, tt, s.3.3, s.3.4, s.3.5, tt), s.4), k.1.1, k.1.2))
+      (text-clean p w.state.floats body (standing_notes (footnotes w.state)) (enlarged_of w.state.shrink (footnotes w.state)) s.3.1 s.3.2 k.0 (standing-clean (footnotes w.state) (notes-of w.state.classes w.state.boxes s.1)), ((s.0, emptied w.state.boxes, s.2, (s.3.0, tt, tt, s.3.3, s.3.4, s.3.5, tt), s.4), k.1.1, k.1.2))
   page-clean (fills_text body w) k = (nodes-join body (made (skip filling_glue) ∷ []) k.0 (tt, tt), k.1)
+  page-clean (drops_notes body w none) k =
+      let s = k.1.0 in
+      (k.0, ((s.0, emptied w.state.boxes, s.2, s.3, s.4), k.1.1, k.1.2))
   page-clean (keeps_front body w) k = (tt, puts-more (cleared_front p body) w (nodes-take _ body k.0) k.1)
   page-clean (gathers w) k =
       let l = k.1.0.3 in
@@ -314,7 +317,7 @@ module _ (p : Params) where
   output-clean : (f : Fired) (w : Work) → CleanNodes f.body → CleanWork w → CleanWork (output_by p f w)
   output-clean f w h k =
       work-if (int_le eject_penalty f.penalty) (ordinary p f.body w) _ (pages-clean (ordinary-moves p f.body w) (h, k)).1
-      (work-if (is_int f.penalty clear_penalty) (clear p f.body w) _ (pages-clean (clear_by-moves p f.body w (footnotes w.state)) (h, k)).1
+      (work-if (is_int f.penalty clear_penalty) (clear p f.body w) _ (pages-clean (clear_by-moves p f.body w (standing_notes (footnotes w.state)) refl) (h, k)).1
       (work-if (is_int f.penalty par_penalty) (float_or_note p false f.body w) _ (text-float false f.body w h k)
       (work-if (is_int f.penalty vert_penalty) (float_or_note p true f.body w) (hold f.body w) (text-float true f.body w h k) ((k.0.0, k.0.1, h, k.0.3, k.0.4), k.1, k.2))))
 

@@ -13,16 +13,16 @@ use Rattle.tb_float.specs.Lists.{IsWaiting, with_floats_of, wide_part, wide_wait
 use Rattle.tb_float.proofs.WaitingLemmas.{wide-waits}
 use Rattle.tb_float.specs.Rooms.{column_height_of}
 use Rattle.tb_fpage.specs.Company.{Choice, company, chosen_floats, left_floats}
-use Rattle.tb_column.specs.Column.{Notes, single_floats_column}
+use Rattle.tb_column.specs.Column.{Notes, standing_notes, single_floats_column}
 use Rattle.tb_sheet.specs.Sheet.{one, pair_sheet}
 use Rattle.tb_told.specs.declared.Tale.TheVariants.{Back}
 use Rattle.tb_told.specs.Tales.{tales, column_tales, back_tales}
-use Rattle.tb_output.specs.State.{State, Work, output, puts, with_floats, has_floats}
+use Rattle.tb_output.specs.State.{State, Work, output, puts, with_floats, footnotes, has_floats}
 use Rattle.tb_output.specs.Pages.{with_deferred, left_or, without_double, all_wide_pages}
 use Rattle.tb_output.specs.Columns.{put_out_text, put_out_company, single_wanted, float_columns, float_columns_by, all_float_columns, fill_column, ordinary}
-use Rattle.tb_output.specs.Clear.{clear_again, cleared_front, deferred_again, double_again, clear_wide, clear_rest, clear_floats, clear_by}
+use Rattle.tb_output.specs.Clear.{clear_again, cleared_front, deferred_again, double_again, clear_wide, clear_rest, clear_floats, without_notes, clear_by}
 use Rattle.tb_output.proofs.StepLaws.RefusedSteps.{by-records, by-any-ship}
-use Rattle.tb_output.proofs.StepLaws.Moves.{Hand, nothing, of_text, of_column, ColumnMove, takes_company, records_column, ships_column, keeps_left, ships_pair, ends_column, ships_wide, places_double, fills_text, keeps_front, gathers, gathers_wide, Moves, holds-on}
+use Rattle.tb_output.proofs.StepLaws.Moves.{Hand, nothing, of_text, of_column, ColumnMove, takes_company, records_column, ships_column, keeps_left, ships_pair, ends_column, ships_wide, drops_notes, places_double, fills_text, keeps_front, gathers, gathers_wide, Moves, holds-on}
 use Rattle.tb_output.proofs.StepLaws.FiringTree.{put_out-moves, put_out_text-moves, all_columns-moves}
 use Rattle.tb_story.specs.Summary.{SummaryView, by_clear, after_tale}
 use Rattle.tb_why.specs.Firing.{spot_of, unless_over, all_wide_pieces, text_pieces, company_pieces, float_pieces_by, float_pieces, all_float_pieces, fill_pieces, start_pieces, ordinary_pieces, clear_wide_pieces, clear_columns_pieces, clear_floats_pieces, clear_pieces_by}
@@ -304,9 +304,11 @@ module _ (p : Params) (K : ℕ → Type 0) where
       (clear_wide-shown b (columns-once (all_columns-moves p true a) all) (bare-after (all_columns-moves p true a) (refl, refl)) k y)
       (λ o v. rest-shown c o v))))
 
-  pub clear-shown : (body : List PlainNode) (w : Work) (notes : List Notes) → Once (of_text body) w → (m : SummaryView) → Stand p K w m → Shows w (clear_by p body w notes) (clear_pieces_by p body w notes) m (Stand p K (clear_by p body w notes))
-  clear-shown body w [] once m h = clear_floats-shown body w once m h
-  clear-shown body w (n ∷ ns) once m h =
+  pub clear-shown : (body : List PlainNode) (w : Work) (notes : List Notes) → standing_notes (footnotes w.state) ≡ notes → Once (of_text body) w → (m : SummaryView) → Stand p K w m → Shows w (clear_by p body w notes) (clear_pieces_by p body w notes) m (Stand p K (clear_by p body w notes))
+  clear-shown body w [] e once m h =
+      let v = without_notes w in
+      shows-behind w v (clear_floats p body v) (clear_floats_pieces p body v) m (Stand p K (clear_floats p body v)) refl (clear_floats-shown body v (page-once {p = p} (drops_notes body w e) once) m h)
+  clear-shown body w (n ∷ ns) e once m h =
       let text = body ++ made (skip filling_glue) ∷ [] in
       let b = put_out_text p text w in
       shows-before w b (puts clear_again b) (text_pieces p text w) m (Stand p K b) (Stand p K (puts clear_again b)) refl (λ n x. x) (text-shown p K text w (page-once {p = p} (fills_text body w) once) m h)

@@ -26,6 +26,7 @@ use Rattle.tb_sheet.specs.Asked.{clear_penalty, par_penalty, vert_penalty, hold_
 use Rattle.tb_told.specs.declared.Piece.{Piece}
 use Rattle.tb_told.specs.declared.Tale.{Tale}
 use Rattle.tb_told.specs.Tales.{tales}
+use Rattle.tb_column.specs.Column.{standing_notes}
 use Rattle.tb_output.specs.State.{State, Work, placed, begun, sends, records_also, with_floats, footnotes}
 use Rattle.tb_output.specs.FloatMoves.{joined_to, is_placed, place_float}
 use Rattle.tb_output.specs.Columns.{ordinary}
@@ -218,7 +219,7 @@ firing-ends p Before K s f once known new m a = ended
         → Ended p K f.penalty (if t then ordinary p f.body (begun (after_page s f)) else (if c then clear p f.body (begun (after_page s f)) else (if x then float_or_note p false f.body (begun (after_page s f)) else (if y then float_or_note p true f.body (begun (after_page s f)) else hold f.body (begun (after_page s f))))))
         (if t then ordinary_pieces p f.body (begun (after_page s f)) else (if c then clear_pieces p f.body (begun (after_page s f)) else (if x then text_float_pieces p f.body (begun (after_page s f)) else (if y then text_float_pieces p f.body (begun (after_page s f)) else [])))) m
     by_penalty true c x y i = let w = begun (after_page s f) in ended-shows p K f.penalty w (ordinary p f.body w) (ordinary_pieces p f.body w) m refl (ordinary-shown p K f.body w once m stand)
-    by_penalty false true x y i = let w = begun (after_page s f) in ended-shows p K f.penalty w (clear p f.body w) (clear_pieces p f.body w) m refl (clear-shown p K f.body w (footnotes w.state) once m stand)
+    by_penalty false true x y i = let w = begun (after_page s f) in ended-shows p K f.penalty w (clear p f.body w) (clear_pieces p f.body w) m refl (clear-shown p K f.body w (standing_notes (footnotes w.state)) refl once m stand)
     by_penalty false false true y i = text-ends false (i refl refl refl)
     by_penalty false false false true i = text-ends true (i refl refl refl)
     by_penalty false false false false i = let w = begun (after_page s f) in ended-tells p K f.penalty w (hold f.body w) [] m refl (warns-none w (hold f.body w) refl) (record { order = tt; after = stand refl })

@@ -13,7 +13,7 @@ use Rattle.tb_float.specs.Lists.{FloatLists, IsWaiting, floats_of, with_floats_o
 use Rattle.tb_float.proofs.WaitingLemmas.{wide-waits}
 use Rattle.tb_fpage.specs.declared.Wanted.{Wanted}
 use Rattle.tb_fpage.specs.Company.{Choice, company, chosen_floats, left_floats}
-use Rattle.tb_column.specs.Column.{PlainColumn, text_column, wide_floats_column}
+use Rattle.tb_column.specs.Column.{PlainColumn, wide_floats_column}
 use Rattle.tb_sheet.specs.Sheet.{PlainSheet, shipped, one, wide, pair_sheet}
 use Rattle.tb_told.specs.declared.Piece.TheVariants.{Says}
 use Rattle.tb_told.specs.declared.Tale.TheVariants.{PutOut, Stands}
@@ -21,7 +21,7 @@ use Rattle.tb_told.specs.ColumnTold.{taken_floats}
 use Rattle.tb_told.specs.Tales.{tales, column_tales, here_lines, stands_tales}
 use Rattle.tb_output.specs.State.{State, Work, output, records_also, with_floats, footnotes}
 use Rattle.tb_output.specs.Pages.{ship, wide_wanted, ship_wide, wide_pages, wide_pages_by, all_wide_pages, keep_left, left_or, without_double, fill_double, ship_pair, put_out_by, put_out}
-use Rattle.tb_output.specs.Columns.{without_column_floats, put_out_text}
+use Rattle.tb_output.specs.Columns.{text_of, without_column_floats, put_out_text}
 use Rattle.tb_output.proofs.StepLaws.RefusedSteps.{by-records, by-any-ship}
 use Rattle.tb_output.proofs.StepLaws.Moves.{nothing, of_text, of_column, ships_column, ships_pair, ships_wide, records_column, takes_text}
 use Rattle.tb_output.proofs.StepLaws.FiringTree.{all_wide-moves, two-kept}
@@ -254,7 +254,7 @@ module _ (p : Params) (K : ℕ → Type 0) where
   -- a text column is put out
   pub text-shown : (body : List PlainNode) (w : Work) → Once (of_text body) w → (m : SummaryView) → Stand p K w m → Shows w (put_out_text p body w) (text_pieces p body w) m (Stand p K (put_out_text p body w))
   text-shown body w once m h =
-      let c = text_column p w.state.floats body (footnotes w.state) in
+      let c = text_of p w.state body in
       let v = without_column_floats w in
       shows-then w v (put_out_text p body w) (unless_over w (tales (stands_tales body))) (put_out_pieces p c v) m (Stand p K v) (Stand p K (put_out_text p body w))
       (shows-before w w v (unless_over w (tales (stands_tales body))) m (Stand p K w) (Stand p K v) refl (λ n x r. weaker K (Waits w.state) (IsInArea w.state) (Waits w.state) (Waits w.state) (IsInArea v.state) (Waits w.state) (λ k i. i) (λ k i. above k i) (λ k i. i) n.sheets n.stories (x r))

@@ -33,7 +33,7 @@ use Rattle.tb_why_laws.proofs.OnePlace.OnceLists.{among-parts}
 use Rattle.tb_why_laws.proofs.OnePlace.OnceStates.{Running, now, fires, fires-once, goes, starts}
 use Rattle.tb_why_laws.proofs.OnePlace.CallWeights.{called_later}
 use Rattle.tb_why_laws.proofs.OnePlace.ActedLists.{ActedLists}
-use Rattle.tb_why_laws.proofs.OnePlace.CalledLater.{acts-lists, still-uncalled, news-uncalled, news-apart, first-apart, first-once}
+use Rattle.tb_why_laws.proofs.OnePlace.CalledLater.{acts-lists, still-uncalled, news-uncalled, news-apart, first-apart, first-once, titles-uncalled}
 use Rattle.tb_why_laws.proofs.OnePlace.AfterCalls.{after-uncalled, after-first}
 use Rattle.tb_why_laws.proofs.InOrder.FitLemmas.{Fits, AllFit, begins}
 use Rattle.tb_why_laws.proofs.InOrder.PlacingLemmas.{either-list, in-first, in-second}
@@ -127,26 +127,44 @@ module _ (p : Params) (s : State) (o : Running p s) (e : (now p s o).fault ≡ N
   new-waits : (n : ℕ) → IsAmong n (float_lines lists.news) → Waits next n
   new-waits n j = among-back n (float_lines next.floats.deferred) (float_lines next.floats.second) (subst (λ fs. IsAmong n (float_lines fs)) (sym lists.second) (in-second n s.floats.second lists.news j))
 
-  none-above : (b : Bool) (n : ℕ) (fs : List Float) → fs ≡ [] → IsAmong n (if b then float_lines fs else []) → ⊥
-  none-above true n fs d i = subst (λ gs. IsAmong n (float_lines gs) → ⊥) (sym d) (λ j. j) i
-  none-above false n fs d i = i
-
-  in-areas : (n : ℕ) → IsInArea next n → IsInArea s n
+  -- above both columns are the floats that were there, and the titles that were taken
+  in-areas : (n : ℕ) → IsInArea next n → IsInArea s n ⊎ IsAmong n (float_lines lists.titles)
   in-areas n i = by_area (among-parts n (float_lines next.floats.top) (float_lines next.floats.bottom ++ (if next.two_columns && next.first_column then float_lines next.floats.double else [])) i)
     where
       above : List ℕ
       above = if s.two_columns && s.first_column then float_lines s.floats.double else []
 
-      by_columns : ((next.two_columns ≡ s.two_columns) × (next.first_column ≡ s.first_column)) ⊎ (next.floats.double ≡ []) → IsAmong n (if next.two_columns && next.first_column then float_lines next.floats.double else []) → IsAmong n (if s.two_columns && s.first_column then float_lines s.floats.double else [])
-      by_columns (inl c) j = subst (λ fs. IsAmong n (if s.two_columns && s.first_column then float_lines fs else [])) lists.double (subst (λ t. IsAmong n (if t && s.first_column then float_lines next.floats.double else [])) c.0 (subst (λ t. IsAmong n (if next.two_columns && t then float_lines next.floats.double else [])) c.1 j))
-      by_columns (inr d) j = absurd (none-above (next.two_columns && next.first_column) n next.floats.double d j)
+      in-above : IsAmong n (if s.two_columns && s.first_column then float_lines s.floats.double else []) → IsInArea s n
+      in-above j = among-back n (float_lines s.floats.top) (float_lines s.floats.bottom ++ above) (among-back n (float_lines s.floats.bottom) above j)
 
-      by_rest : IsAmong n (float_lines next.floats.bottom) ⊎ IsAmong n (if next.two_columns && next.first_column then float_lines next.floats.double else []) → IsInArea s n
-      by_rest (inl j) = among-back n (float_lines s.floats.top) (float_lines s.floats.bottom ++ above) (among-front n (float_lines s.floats.bottom) above (subst (λ fs. IsAmong n (float_lines fs)) lists.bottom j))
-      by_rest (inr j) = among-back n (float_lines s.floats.top) (float_lines s.floats.bottom ++ above) (among-back n (float_lines s.floats.bottom) above (by_columns lists.columns j))
+      by_test : (b : Bool) → IsAmong n (if b then float_lines (s.floats.double ++ lists.titles) else []) → IsAmong n (if b then float_lines s.floats.double else []) ⊎ IsAmong n (float_lines lists.titles)
+      by_test true j = either-list n s.floats.double lists.titles j
+      by_test false j = absurd j
 
-      by_area : IsAmong n (float_lines next.floats.top) ⊎ IsAmong n (float_lines next.floats.bottom ++ (if next.two_columns && next.first_column then float_lines next.floats.double else [])) → IsInArea s n
-      by_area (inl j) = among-front n (float_lines s.floats.top) (float_lines s.floats.bottom ++ above) (subst (λ fs. IsAmong n (float_lines fs)) lists.top j)
+      none-there : s.floats.double ≡ [] → (b : Bool) → IsAmong n (if b then float_lines s.floats.double else []) → ⊥
+      none-there d true j = subst (λ fs. IsAmong n (float_lines fs) → ⊥) (sym d) (λ k. k) j
+      none-there d false j = j
+
+      by_side : IsAmong n (if s.two_columns && s.first_column then float_lines s.floats.double else []) ⊎ IsAmong n (float_lines lists.titles) → IsInArea s n ⊎ IsAmong n (float_lines lists.titles)
+      by_side (inl j) = inl (in-above j)
+      by_side (inr j) = inr j
+
+      emptied : s.floats.double ≡ [] → (b : Bool) → IsAmong n (if b then float_lines s.floats.double else []) ⊎ IsAmong n (float_lines lists.titles) → IsInArea s n ⊎ IsAmong n (float_lines lists.titles)
+      emptied d b (inl j) = absurd (none-there d b j)
+      emptied d b (inr j) = inr j
+
+      by_columns : ((next.two_columns ≡ s.two_columns) × (next.first_column ≡ s.first_column)) ⊎ (s.floats.double ≡ []) → IsAmong n (if next.two_columns && next.first_column then float_lines next.floats.double else []) → IsInArea s n ⊎ IsAmong n (float_lines lists.titles)
+      by_columns (inl c) j =
+          by_side (by_test (s.two_columns && s.first_column)
+          (subst (λ fs. IsAmong n (if s.two_columns && s.first_column then float_lines fs else [])) lists.double (subst (λ t. IsAmong n (if t && s.first_column then float_lines next.floats.double else [])) c.0 (subst (λ t. IsAmong n (if next.two_columns && t then float_lines next.floats.double else [])) c.1 j))))
+      by_columns (inr d) j = emptied d (next.two_columns && next.first_column) (by_test (next.two_columns && next.first_column) (subst (λ fs. IsAmong n (if next.two_columns && next.first_column then float_lines fs else [])) lists.double j))
+
+      by_rest : IsAmong n (float_lines next.floats.bottom) ⊎ IsAmong n (if next.two_columns && next.first_column then float_lines next.floats.double else []) → IsInArea s n ⊎ IsAmong n (float_lines lists.titles)
+      by_rest (inl j) = inl (among-back n (float_lines s.floats.top) (float_lines s.floats.bottom ++ above) (among-front n (float_lines s.floats.bottom) above (subst (λ fs. IsAmong n (float_lines fs)) lists.bottom j)))
+      by_rest (inr j) = by_columns lists.columns j
+
+      by_area : IsAmong n (float_lines next.floats.top) ⊎ IsAmong n (float_lines next.floats.bottom ++ (if next.two_columns && next.first_column then float_lines next.floats.double else [])) → IsInArea s n ⊎ IsAmong n (float_lines lists.titles)
+      by_area (inl j) = inl (among-front n (float_lines s.floats.top) (float_lines s.floats.bottom ++ above) (subst (λ fs. IsAmong n (float_lines fs)) lists.top j))
       by_area (inr j) = by_rest (among-parts n (float_lines next.floats.bottom) (if next.two_columns && next.first_column then float_lines next.floats.double else []) j)
 
   -- the stories once the page is filled, before the floats that wait from now on
@@ -155,7 +173,7 @@ module _ (p : Params) (s : State) (o : Running p s) (e : (now p s o).fault ≡ N
       all-map (Fits (Waits s) (IsInArea s) (Waits s) (λ n. IsAmong n (uncalled s) → ⊥) m.sheets) (Fits (Waits next) (IsInArea next) (Waits next) (λ n. Later n → ⊥) m.sheets)
       (λ x f. record {
         back = λ c i. f.back c (old x.float.line f.known (waiting-now x.float.line i));
-        now = λ c i. f.now c (in-areas x.float.line i);
+        now = λ c i. f.now c (in-old x.float.line f.known (in-areas x.float.line i));
         waiting = λ i. waited-before x.float.line (f.waiting i);
         reason = f.reason;
         known = λ i. f.known (still-uncalled p s o e x.float.line i);
@@ -164,6 +182,11 @@ module _ (p : Params) (s : State) (o : Running p s) (e : (now p s o).fault ≡ N
       old : (n : ℕ) → (IsAmong n (uncalled s) → ⊥) → Waits s n ⊎ IsAmong n (float_lines lists.news) → Waits s n
       old n k (inl i) = i
       old n k (inr i) = absurd (k (news-uncalled p s o e n i))
+
+      -- a title has no story
+      in-old : (n : ℕ) → (IsAmong n (uncalled s) → ⊥) → IsInArea s n ⊎ IsAmong n (float_lines lists.titles) → IsInArea s n
+      in-old n k (inl i) = i
+      in-old n k (inr i) = absurd (k (titles-uncalled p s o e n i))
 
   news-are : drop (length s.floats.second) next.floats.second ≡ lists.news
   news-are = ap (drop (length s.floats.second)) lists.second ∙ drop-front s.floats.second lists.news

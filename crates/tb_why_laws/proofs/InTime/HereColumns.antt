@@ -14,6 +14,7 @@ use Rattle.tb_node.specs.PlainNodes.{Matter, hbox, Leaf, leaf_node, PlainKind, p
 use Rattle.tb_param.specs.declared.Params.{Params}
 use Rattle.tb_param.specs.declared.Rule.{Rule}
 use Rattle.tb_float.specs.Lists.{FloatLists}
+use Rattle.tb_column.specs.declared.Enlarged.{Enlarged}
 use Rattle.tb_column.specs.Column.{Notes, is_no_glue, glue_if_any, rule_if_any, kern_if_any, foot_kern, floats_with, floats_above, floats_below, feet_above, above_class, class_below, notes_below, notes_among, text_above_feet, text_nodes, closing_glue, text_column, floats_after, single_floats_column}
 use Rattle.tb_column.proofs.ColumnParts.{among-have}
 use Rattle.tb_column.proofs.ColumnParts as parts
@@ -155,9 +156,9 @@ below-has n place at sep across first (f ∷ fs) i = by_part (has-parts n place 
 -- ---- whole columns
 
 -- a text column
-pub text-has : (n : ℕ) (place : Where) (p : Params) (l : FloatLists) (body : List PlainNode) (notes : List Notes) → AllHere body → FloatlessNotes notes → HasFloat n place (text_column p l body notes).nodes
+pub text-has : (n : ℕ) (place : Where) (p : Params) (l : FloatLists) (body : List PlainNode) (notes : List Notes) (higher : Enlarged) → AllHere body → FloatlessNotes notes → HasFloat n place (text_column p l body notes higher).nodes
     → IsAmong n (here_lines body) ⊎ (IsAmong n (float_lines l.top) ⊎ IsAmong n (float_lines l.bottom))
-text-has n place p l body notes h g i =
+text-has n place p l body notes higher h g i =
     by_end (has-parts n place (text_nodes p l body notes ++ made (skip (closing_glue p (text_nodes p l body notes))) ∷ []) (glue_if_any p.textbottom) i)
   where
     by_floats : HasFloat n place (floats_above places.Top p.floatsep p.toprule p.textfloatsep l.top) ⊎ HasFloat n place body → IsAmong n (here_lines body) ⊎ (IsAmong n (float_lines l.top) ⊎ IsAmong n (float_lines l.bottom))

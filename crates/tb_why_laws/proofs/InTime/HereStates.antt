@@ -73,6 +73,8 @@ item-here p two n items.ClearPage = (tt, (tt, (tt, (tt, (tt, tt)))))
 item-here p two n items.OneColumn = (tt, (tt, (tt, (tt, (tt, (tt, tt))))))
 item-here p two n items.TwoColumn = (tt, (tt, (tt, (tt, (tt, (tt, tt))))))
 item-here p two n (items.Foot class ls) = (foot-leaves ls, tt)
+item-here p two n (items.Enlarge by true) = ((tt, (tt, tt)), tt)
+item-here p two n (items.Enlarge by false) = ((tt, tt), tt)
 item-here p two n (items.Float f vert) = by_taking (has_second p && two && f.wide)
   where
     by_taking : (t : Bool) → AllHere (on_line n (if t then act (acts.Take f) ∷ [] else with_firings (acts.Take f) vert))

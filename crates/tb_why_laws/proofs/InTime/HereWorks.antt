@@ -20,7 +20,7 @@ use Rattle.tb_float.specs.declared.Entry.TheVariants as entries
 use Rattle.tb_float.specs.Lists.{FloatLists, wide_waiting}
 use Rattle.tb_float.specs.Rooms.{column_room_of}
 use Rattle.tb_margin.specs.declared.Placed.{Placed}
-use Rattle.tb_column.specs.Column.{Notes, text_column}
+use Rattle.tb_column.specs.Column.{Notes, standing_notes}
 use Rattle.tb_sheet.specs.Asked.{clear_penalty, par_penalty, vert_penalty, hold_penalty}
 use Rattle.tb_sheet.specs.Sheet.{PlainSent, warned}
 use Rattle.tb_sheet.specs.declared.Warn.TheVariants as warnings
@@ -107,7 +107,7 @@ interline-here p nobreak w k = puts-here (Text.penalty_between p.interlinepenalt
 put_out_text-here : (p : Params) (body : List PlainNode) (w : Work) → Here w → Here (Columns.put_out_text p body w)
 put_out_text-here p body w k =
     let a = Columns.without_column_floats w in
-    follows a (Columns.put_out_text p body w) (follows-put_out (λ f. Unit {0}) p (text_column p w.state.floats body (footnotes w.state)) a) (record { boxes = emptied-boxes w.state.boxes; held = k.held; back = k.back })
+    follows a (Columns.put_out_text p body w) (follows-put_out (λ f. Unit {0}) p (Columns.text_of p w.state body) a) (record { boxes = emptied-boxes w.state.boxes; held = k.held; back = k.back })
 
 columns-here : (p : Params) (clearing : Bool) (w : Work) → Here w → Here (Columns.all_float_columns p clearing w)
 columns-here p clearing w k = follows w (Columns.all_float_columns p clearing w) (follows-float_columns (λ f. Unit {0}) p clearing (length w.state.floats.deferred) w) k
@@ -130,14 +130,17 @@ clear_wide-here p w k =
     either (not w.state.two_columns) w _ k
     (either w.state.first_column (Pages.all_wide_pages p true a) (puts (made blank_box ∷ Clear.clear_again) w) (wide-here p true a (lists-here (Clear.double_again p w.state.floats) w k)) (puts-here (made blank_box ∷ Clear.clear_again) w (tt, clear-nodes) k))
 
-clear-here : (p : Params) (body : List PlainNode) (w : Work) (o : List Notes) → AllHere body → Here w → Here (Clear.clear_by p body w o)
-clear-here p body w [] h k =
+clear_floats-here : (p : Params) (body : List PlainNode) (w : Work) → AllHere body → Here w → Here (Clear.clear_floats p body w)
+clear_floats-here p body w h k =
     let z = puts (Clear.cleared_front p body) w in
     let a = with_floats (Clear.deferred_again w.state.floats) z in
     let b = Columns.all_float_columns p true a in
     let c = Clear.clear_wide p b in
     let d = clear_wide-here p b (columns-here p true a (lists-here (Clear.deferred_again w.state.floats) z (puts-here (Clear.cleared_front p body) w (nodes-take (split_of (pos 0) p.splitmaxdepth (map node_shape body)).index body h) k))) in
     either (has_floats c.state.floats.deferred || has_floats c.state.floats.second) (puts Clear.clear_again c) c (puts-here Clear.clear_again c clear-nodes d) d
+
+clear-here : (p : Params) (body : List PlainNode) (w : Work) (o : List Notes) → AllHere body → Here w → Here (Clear.clear_by p body w o)
+clear-here p body w [] h k = clear_floats-here p body (Clear.without_notes w) h (record { boxes = emptied-boxes w.state.boxes; held = k.held; back = k.back })
 clear-here p body w (n ∷ ns) h k = puts-here Clear.clear_again (Columns.put_out_text p (body ++ made (skip filling_glue) ∷ []) w) clear-nodes (put_out_text-here p (body ++ made (skip filling_glue) ∷ []) w k)
 
 -- ---- floats and notes in the text
@@ -189,7 +192,7 @@ text-here p vert body w h k =
 output-here : (p : Params) (f : Fired) (w : Work) → AllHere f.body → Here w → Here (Output.output_by p f w)
 output-here p f w h k =
     either (int_le eject_penalty f.penalty) (Columns.ordinary p f.body w) _ (ordinary-here p f.body w k)
-    (either (Output.is_int f.penalty clear_penalty) (Clear.clear p f.body w) _ (clear-here p f.body w (footnotes w.state) h k)
+    (either (Output.is_int f.penalty clear_penalty) (Clear.clear p f.body w) _ (clear-here p f.body w (standing_notes (footnotes w.state)) h k)
     (either (Output.is_int f.penalty par_penalty) (Text.float_or_note p false f.body w) _ (text-here p false f.body w h k)
     (either (Output.is_int f.penalty vert_penalty) (Text.float_or_note p true f.body w) (Output.hold f.body w) (text-here p true f.body w h k) (record { boxes = k.boxes; held = h; back = k.back }))))
 

@@ -1,6 +1,6 @@
 -- Along the run of a galley without items `twocolumn` and `page` there is one column, and no page number is set.
 use Rattle.std.proofs.Common.{◌≡◌, refl, sym, ◌∙◌, subst, ℕ, pos, ◌+◌, Bool, true, false, List, [], ◌∷◌, None}
-use Rattle.std.specs.Prelude.{ℤ, int_lt, int_le, ◌&&◌, if◌then◌else◌}
+use Rattle.std.specs.Prelude.{ℤ, int_lt, int_le, ◌&&◌, if◌then◌else◌, not}
 use Rattle.std.specs.List.{AllByRecursion}
 use Rattle.tb_scaled.specs.Scaled.{awful_bad, min_ℤ}
 use Rattle.tb_break.proofs.EachLemmas.{all-front, all-back, all-join}
@@ -22,7 +22,7 @@ use Rattle.tb_float.specs.Lists.{live_count}
 use Rattle.tb_items.specs.Classes.{classes_of}
 use Rattle.tb_items.specs.RunEvents.{RunEvent}
 use Rattle.tb_output.specs.State.{State, Recorded, first_state}
-use Rattle.tb_output.specs.Act.{Acted, went, full, act_on}
+use Rattle.tb_output.specs.Act.{Acted, went, full, act_on, has_head_room}
 use Rattle.tb_steps.specs.Run.{Progress, progress_by, progress, goes_on, step, ask_for}
 use Rattle.tb_laws.proofs.ClassesRise.PageLines.{deeds, deeds-append, pruned-deeds}
 use Rattle.tb_laws.proofs.NothingLost.RunWeights.{page_of, cut}
@@ -40,6 +40,7 @@ IsSingleAct (acts.Take f) = Unit {0}
 IsSingleAct (acts.TakeMargin m) = Unit {0}
 IsSingleAct (acts.Suppress area) = Unit {0}
 IsSingleAct (acts.Page n) = ⊥
+IsSingleAct (acts.Head f) = Unit {0}
 IsSingleAct (acts.Columns two) = two ≡ false
 
 -- there is one column, and none of the acts that wait changes this or the page number
@@ -69,6 +70,7 @@ act-kept p s (acts.Take f) h = room-kept s (int_le p.pool (pos (live_count s.flo
 act-kept p s (acts.TakeMargin m) h = room-kept s (int_lt p.pool (pos (live_count s.floats + 2))) _ _ _ (record { page = refl; two = λ e. e })
 act-kept p s (acts.Suppress area) h = record { page = refl; two = λ e. e }
 act-kept p s (acts.Page n) h = absurd h
+act-kept p s (acts.Head f) h = room-kept s (not (has_head_room p s)) _ _ _ (record { page = refl; two = λ e. e })
 act-kept p s (acts.Columns two) h = record { page = refl; two = λ e. h }
 
 by_act-kept : (s : State) (later : State → Progress) → ((t : State) → Kept t (later t).state) → (x : Acted) → Acts s x → Kept s (progress_by later s x).state
@@ -126,6 +128,7 @@ item-single p two n items.OneColumn h = (refl, tt)
 item-single p two n (items.Margin m vert) h = (tt, tt)
 item-single p two n (items.Suppress area) h = (tt, tt)
 item-single p two n (items.Page k) h = absurd h
+item-single p two n (items.Head f) h = (tt, tt)
 item-single p two n k h = tt
 
 items-single : (p : Params) (two : Bool) (ns : List Item) → AllByRecursion (λ (n : Item). IsSingleItem n.kind) ns → AllByRecursion IsSingleAct (deeds (item_nodes p two ns))

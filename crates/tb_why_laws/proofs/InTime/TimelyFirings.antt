@@ -26,6 +26,7 @@ use Rattle.tb_told.specs.declared.Tale.{Tale}
 use Rattle.tb_told.specs.AreaTold.{told_call}
 use Rattle.tb_told.specs.Tales.{tales}
 use Rattle.tb_told.proofs.AreaLemmas.{call_decides}
+use Rattle.tb_column.specs.Column.{standing_notes}
 use Rattle.tb_output.specs.State.{State, Work, placed, begun, sends, records_also, with_floats, footnotes}
 use Rattle.tb_output.specs.FloatMoves.{is_placed, place_float}
 use Rattle.tb_output.specs.Columns.{ordinary}
@@ -250,7 +251,7 @@ firing-comes p s f body here two m e a = ended
     ended =
         let w = begun (after_page s f) in
         ended-if p f.penalty m (int_le eject_penalty f.penalty) (ordinary p f.body w) _ (ordinary_pieces p f.body w) _ (ended-times p f.penalty w (ordinary p f.body w) (ordinary_pieces p f.body w) m refl (ordinary-timely p f.body body w (notes-floatless s.classes f.boxes here.boxes) two m (λ r. (e, a))))
-        (ended-if p f.penalty m (is_int f.penalty clear_penalty) (clear p f.body w) _ (clear_pieces p f.body w) _ (ended-times p f.penalty w (clear p f.body w) (clear_pieces p f.body w) m refl (clear-timely p f.body body w (footnotes w.state) (notes-floatless s.classes f.boxes here.boxes) two m (λ r. (e, a))))
+        (ended-if p f.penalty m (is_int f.penalty clear_penalty) (clear p f.body w) _ (clear_pieces p f.body w) _ (ended-times p f.penalty w (clear p f.body w) (clear_pieces p f.body w) m refl (clear-timely p f.body body w (standing_notes (footnotes w.state)) (notes-floatless s.classes f.boxes here.boxes) two m (λ r. (e, a))))
         (ended-if p f.penalty m (is_int f.penalty par_penalty) (float_or_note p false f.body w) _ (text_float_pieces p f.body w) _ (text-ends false)
         (ended-if p f.penalty m (is_int f.penalty vert_penalty) (float_or_note p true f.body w) (hold f.body w) (text_float_pieces p f.body w) [] (text-ends true)
         (ended-times p f.penalty w (hold f.body w) [] m refl (times-none w (hold f.body w) m (Punctual (IsInColumn s.floats) (hold f.body w)) refl (λ r. (e, a)))))))

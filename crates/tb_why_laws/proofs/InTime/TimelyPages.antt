@@ -14,7 +14,7 @@ use Rattle.tb_float.specs.Lists.{FloatLists}
 use Rattle.tb_float.specs.Rooms.{column_height_of}
 use Rattle.tb_area.specs.Area.{AreaPlace, at_top, at_bottom, deferred, where_of, next_area_place}
 use Rattle.tb_fpage.specs.Company.{Choice, company, chosen_floats, left_floats}
-use Rattle.tb_column.specs.Column.{PlainColumn, Notes, text_column, single_floats_column}
+use Rattle.tb_column.specs.Column.{PlainColumn, Notes, standing_notes, enlarged_of, single_floats_column}
 use Rattle.tb_sheet.specs.Sheet.{PlainSheet, one}
 use Rattle.tb_told.specs.declared.Piece.{Piece}
 use Rattle.tb_told.specs.declared.Piece.TheVariants.{Says}
@@ -28,21 +28,22 @@ use Rattle.tb_told.proofs.AreaLemmas.{next_decides}
 use Rattle.tb_output.specs.State.{State, Work, Recorded, placed, output, puts, records_also, with_floats, footnotes, has_floats}
 use Rattle.tb_output.specs.FloatMoves.{joined_to, still_deferred, place_waiting, place_next}
 use Rattle.tb_output.specs.Pages.{ship, with_deferred, after_column, keep_left, ship_pair, put_out}
-use Rattle.tb_output.specs.Columns.{without_column_floats, put_out_text, put_out_company, single_wanted, float_columns, float_columns_by, all_float_columns, fill_column, ordinary}
-use Rattle.tb_output.specs.Clear.{clear_again, cleared_front, deferred_again, clear_wide, clear_rest, clear_by}
+use Rattle.tb_output.specs.Columns.{text_of, without_column_floats, put_out_text, put_out_company, single_wanted, float_columns, float_columns_by, all_float_columns, fill_column, ordinary}
+use Rattle.tb_output.specs.Clear.{clear_again, cleared_front, deferred_again, clear_wide, clear_rest, clear_floats, without_notes, clear_by}
 use Rattle.tb_output.proofs.StepLaws.RefusedSteps.{by-records, by-ship, by-any-ship}
 use Rattle.tb_output.proofs.StepLaws.FollowLemmas.{records-state}
 use Rattle.tb_output.proofs.StepLaws.ColumnSteps.{no_law, put_out-step, stays}
 use Rattle.tb_story.specs.Story.{StoryView, is_deferred}
 use Rattle.tb_story.specs.Summary.{SummaryView, after_page}
-use Rattle.tb_why.specs.Firing.{spot_of, unless_over, ship_pieces, pair_pieces, put_out_pieces_by, put_out_pieces, text_pieces, company_pieces, float_pieces_by, float_pieces, all_float_pieces, next_pieces, fill_pieces, start_pieces, ordinary_pieces, clear_wide_pieces, clear_columns_pieces, clear_pieces_by}
+use Rattle.tb_why.specs.Firing.{spot_of, unless_over, ship_pieces, pair_pieces, put_out_pieces_by, put_out_pieces, text_pieces, company_pieces, float_pieces_by, float_pieces, all_float_pieces, next_pieces, fill_pieces, start_pieces, clear_floats_pieces, ordinary_pieces, clear_wide_pieces, clear_columns_pieces, clear_pieces_by}
 use Rattle.tb_why.specs.SummaryLaws.{HasFloat}
 use Rattle.tb_laws.specs.Laws.{float_lines}
 use Rattle.tb_laws.proofs.ClassesRise.RisingLists.{IsAmong}
 use Rattle.tb_laws.proofs.Closed.SparedLists.{all_columns-spares}
 use Rattle.tb_why_laws.proofs.InOrder.FitLemmas.{NoLine}
 use Rattle.tb_why_laws.proofs.InOrder.PlacingLemmas.{either-list}
-use Rattle.tb_why_laws.proofs.InTime.HereNodes.{AllHere, nodes-join}
+use Rattle.tb_why_laws.proofs.InTime.HereNodes.{FloatlessLeaves, AllHere, nodes-join}
+use Rattle.tb_laws.proofs.StepLaws.StandingNotes.{standing-have}
 use Rattle.tb_why_laws.proofs.InTime.HereWorks.{FloatlessNotes}
 use Rattle.tb_why_laws.proofs.InTime.HereColumns.{text-has, floats-has}
 use Rattle.tb_why_laws.proofs.InTime.DueStories.{IsDue, DueIn, AllDue, fewer-due, none-due, TellsTimely, decision-timely, company-timely, back-timely, timely-none, stands-timely}
@@ -118,10 +119,10 @@ module _ (p : Params) where
   text-timely body here w notes two m h =
       times-then w w (put_out_text p body w) (unless_over w (tales (stands_tales body))) (put_out_pieces p c (without_column_floats w)) m (Punctual M w) (Punctual NoLine (put_out_text p body w))
       (times-tales w (stands_tales body) m (IsInColumn w.state.floats) M h (λ r a. stands-timely (IsInColumn w.state.floats) M (here_lines body) (λ n i. i) m a))
-      (λ k x. times-behind w (without_column_floats w) (put_out_text p body w) (put_out_pieces p c (without_column_floats w)) k (Punctual NoLine (put_out_text p body w)) refl (put-timely M c (λ n place i. other n (text-has n place p w.state.floats body (footnotes w.state) here notes i)) (without_column_floats w) two k x))
+      (λ k x. times-behind w (without_column_floats w) (put_out_text p body w) (put_out_pieces p c (without_column_floats w)) k (Punctual NoLine (put_out_text p body w)) refl (put-timely M c (λ n place i. other n (text-has n place p w.state.floats body (standing_notes (footnotes w.state)) (enlarged_of w.state.shrink (footnotes w.state)) here (standing-have (λ (c : Notes). FloatlessLeaves c.inner) (footnotes w.state) notes) i)) (without_column_floats w) two k x))
     where
       c : PlainColumn
-      c = text_column p w.state.floats body (footnotes w.state)
+      c = text_of p w.state body
 
       M : ℕ → Type 0
       M n = IsInColumn w.state.floats n ⊎ IsAmong n (here_lines body)
@@ -131,7 +132,7 @@ module _ (p : Params) where
       other n (inr i) = inl i
 
   pub text-bare : (body : List PlainNode) (w : Work) → w.state.two_columns ≡ false → Bare (put_out_text p body w).state.floats
-  text-bare body w two = subst Bare (sym (put-floats (text_column p w.state.floats body (footnotes w.state)) (without_column_floats w) two)) (refl, refl)
+  text-bare body w two = subst Bare (sym (put-floats (text_of p w.state body) (without_column_floats w) two)) (refl, refl)
 
   -- ---- columns of floats
 
@@ -237,7 +238,7 @@ module _ (p : Params) where
   ordinary-timely body here w notes two m h =
       let a = put_out_text p body w in
       let b = all_float_columns p false a in
-      let a_two = put-two (text_column p w.state.floats body (footnotes w.state)) (without_column_floats w) ∙ two in
+      let a_two = put-two (text_of p w.state body) (without_column_floats w) ∙ two in
       let bare = columns-bare false a (text-bare body w two) in
       times-then w a (ordinary p body w) (text_pieces p body w) (start_pieces p a) m (Punctual NoLine a) (Punctual (IsInColumn (ordinary p body w).state.floats) (ordinary p body w)) (text-timely body here w notes two m h)
       (λ k x. times-then a b (ordinary p body w) (all_float_pieces p false a) (fill_pieces p b) k (Punctual NoLine b) (Punctual (IsInColumn (ordinary p body w).state.floats) (ordinary p body w)) (columns-timely false a a_two k x)
@@ -261,9 +262,8 @@ module _ (p : Params) where
       by_two true e c ps = cc
       by_two false e c ps = rest-timely b bare m h
 
-  pub clear-timely : (body : List PlainNode) → AllHere body → (w : Work) (o : List Notes) → FloatlessNotes (footnotes w.state) → w.state.two_columns ≡ false → (m : SummaryView) → Punctual (IsInColumn w.state.floats) w m
-      → Times w (clear_by p body w o) (clear_pieces_by p body w o) m (Punctual (IsInColumn (clear_by p body w o).state.floats) (clear_by p body w o))
-  clear-timely body here w [] notes two m h =
+  floats-timely : (body : List PlainNode) (w : Work) → w.state.two_columns ≡ false → (m : SummaryView) → Punctual (IsInColumn w.state.floats) w m → Times w (clear_floats p body w) (clear_floats_pieces p body w) m (Punctual (IsInColumn (clear_floats p body w).state.floats) (clear_floats p body w))
+  floats-timely body w two m h =
       let l = w.state.floats in
       let a = with_floats (deferred_again l) (puts (cleared_front p body) w) in
       let b = all_float_columns p true a in
@@ -279,6 +279,12 @@ module _ (p : Params) where
 
       taken_back : (l : FloatLists) (n : SummaryView) → DueIn NoLine n → TellsTimely (back_tales places.Top l.top ++ back_tales places.Bottom l.bottom) n NoLine
       taken_back l n y = back-timely NoLine places.Top l.top (back_tales places.Bottom l.bottom) n y (λ k e z. bottom_back l k z)
+
+  pub clear-timely : (body : List PlainNode) → AllHere body → (w : Work) (o : List Notes) → FloatlessNotes (footnotes w.state) → w.state.two_columns ≡ false → (m : SummaryView) → Punctual (IsInColumn w.state.floats) w m
+      → Times w (clear_by p body w o) (clear_pieces_by p body w o) m (Punctual (IsInColumn (clear_by p body w o).state.floats) (clear_by p body w o))
+  clear-timely body here w [] notes two m h =
+      let v = without_notes w in
+      times-behind w v (clear_floats p body v) (clear_floats_pieces p body v) m (Punctual (IsInColumn (clear_floats p body v).state.floats) (clear_floats p body v)) refl (floats-timely body v two m h)
   clear-timely body here w (n ∷ ns) notes two m h =
       let text = body ++ made (skip filling_glue) ∷ [] in
       let u = put_out_text p text w in

@@ -1,6 +1,6 @@
 -- The float lists after the acts of a page: the current list and the second one grow by what the acts take.
 use Rattle.std.proofs.Common.{◌≡◌, refl, sym, ◌∙◌, ap, ℕ, pos, ◌+◌, ◌⊎◌, inl, inr, Bool, true, false, List, [], ◌∷◌, ◌++◌, append_assoc, append-nil, None, arith}
-use Rattle.std.specs.Prelude.{ℤ, int_lt, int_le, ◌&&◌, if◌then◌else◌}
+use Rattle.std.specs.Prelude.{ℤ, int_lt, int_le, ◌&&◌, if◌then◌else◌, not}
 use Rattle.std.specs.List.{AllByRecursion}
 use Rattle.std.proofs.lemmas.Option.{none-some}
 use Rattle.tb_scaled.specs.Scaled.{min_ℤ}
@@ -17,26 +17,31 @@ use Rattle.tb_float.specs.declared.Entry.{Entry}
 use Rattle.tb_float.specs.declared.Entry.TheVariants as entries
 use Rattle.tb_float.specs.Lists.{FloatLists, live_count}
 use Rattle.tb_output.specs.State.{State}
-use Rattle.tb_output.specs.Act.{Acted, went, full, act_on, taken_float}
+use Rattle.tb_output.specs.Act.{Acted, went, full, act_on, taken_float, has_head_room, taken_head}
 use Rattle.tb_steps.specs.Run.{Progress, progress_by, progress}
 use Rattle.tb_laws.specs.Laws.{IsEmptied}
 use Rattle.tb_laws.proofs.NothingLost.StateWeights.{floats_weight, floats-append, entries_weight}
 use Rattle.tb_why_laws.proofs.OnePlace.CallWeights.{deeds_weight}
 
--- the lists after acts, with the wide floats that were taken into the second one; the columns changed only with all lists empty
+-- the lists after acts, with the titles that were taken, and the wide floats that were taken into the second list; the columns changed only with all lists empty
 pub record ActedLists (ds : List Act) (s t : State) : Type 0 where
   pub here : t.floats.here ≡ s.floats.here
   pub top : t.floats.top ≡ s.floats.top
   pub bottom : t.floats.bottom ≡ s.floats.bottom
   pub deferred : t.floats.deferred ≡ s.floats.deferred
-  pub double : t.floats.double ≡ s.floats.double
+  pub titles : List Float
+  pub double : t.floats.double ≡ s.floats.double ++ titles
   pub news : List Float
   pub second : t.floats.second ≡ s.floats.second ++ news
-  pub columns : ((t.two_columns ≡ s.two_columns) × (t.first_column ≡ s.first_column)) ⊎ (t.floats.double ≡ [])
-  pub taken : (v : Weight) → entries_weight v t.floats.current + floats_weight v news ≡ entries_weight v s.floats.current + deeds_weight v ds
+  pub columns : ((t.two_columns ≡ s.two_columns) × (t.first_column ≡ s.first_column)) ⊎ (s.floats.double ≡ [])
+  pub taken : (v : Weight) → entries_weight v t.floats.current + floats_weight v news + floats_weight v titles ≡ entries_weight v s.floats.current + deeds_weight v ds
 
 nothing-done : (s : State) → ActedLists [] s s
-nothing-done s = record { here = refl; top = refl; bottom = refl; deferred = refl; double = refl; news = []; second = sym (append-nil s.floats.second); columns = inl (refl, refl); taken = λ v. refl }
+nothing-done s = record { here = refl; top = refl; bottom = refl; deferred = refl; titles = []; double = sym (append-nil s.floats.double); news = []; second = sym (append-nil s.floats.second); columns = inl (refl, refl); taken = λ v. omega arith }
+
+none-front : (xs ys : List Float) → xs ++ ys ≡ [] → xs ≡ []
+none-front [] ys e = refl
+none-front (x ∷ xs) ys e = cc
 
 -- one act, and those after it
 both-done : (a : Act) (ds : List Act) (s t u : State) → ActedLists (a ∷ []) s t → ActedLists ds t u → ActedLists (a ∷ ds) s u
@@ -45,21 +50,24 @@ both-done a ds s t u x y = record {
   top = y.top ∙ x.top;
   bottom = y.bottom ∙ x.bottom;
   deferred = y.deferred ∙ x.deferred;
-  double = y.double ∙ x.double;
+  titles = x.titles ++ y.titles;
+  double = y.double ∙ ap (λ l. l ++ y.titles) x.double ∙ append_assoc s.floats.double x.titles y.titles;
   news = x.news ++ y.news;
   second = y.second ∙ ap (λ l. l ++ y.news) x.second ∙ append_assoc s.floats.second x.news y.news;
   columns = by_columns x.columns y.columns;
-  taken = λ v. sums v (floats-append v x.news y.news) (x.taken v) (y.taken v);
+  taken = λ v. sums v (floats-append v x.news y.news) (floats-append v x.titles y.titles) (x.taken v) (y.taken v);
 }
   where
-    by_columns : ((t.two_columns ≡ s.two_columns) × (t.first_column ≡ s.first_column)) ⊎ (t.floats.double ≡ []) → ((u.two_columns ≡ t.two_columns) × (u.first_column ≡ t.first_column)) ⊎ (u.floats.double ≡ []) → ((u.two_columns ≡ s.two_columns) × (u.first_column ≡ s.first_column)) ⊎ (u.floats.double ≡ [])
+    by_columns : ((t.two_columns ≡ s.two_columns) × (t.first_column ≡ s.first_column)) ⊎ (s.floats.double ≡ []) → ((u.two_columns ≡ t.two_columns) × (u.first_column ≡ t.first_column)) ⊎ (t.floats.double ≡ []) → ((u.two_columns ≡ s.two_columns) × (u.first_column ≡ s.first_column)) ⊎ (s.floats.double ≡ [])
     by_columns (inl a) (inl b) = inl (b.0 ∙ a.0, b.1 ∙ a.1)
-    by_columns (inr a) b = inr (y.double ∙ a)
-    by_columns (inl a) (inr b) = inr b
+    by_columns (inr a) b = inr a
+    by_columns (inl a) (inr b) = inr (none-front s.floats.double x.titles (sym x.double ∙ b))
 
-    sums : (v : Weight) → floats_weight v (x.news ++ y.news) ≡ floats_weight v x.news + floats_weight v y.news → entries_weight v t.floats.current + floats_weight v x.news ≡ entries_weight v s.floats.current + (act_weight v a + 0) → entries_weight v u.floats.current + floats_weight v y.news ≡ entries_weight v t.floats.current + deeds_weight v ds
-        → entries_weight v u.floats.current + floats_weight v (x.news ++ y.news) ≡ entries_weight v s.floats.current + (act_weight v a + deeds_weight v ds)
-    sums v e g h = omega arith
+    sums : (v : Weight) → floats_weight v (x.news ++ y.news) ≡ floats_weight v x.news + floats_weight v y.news → floats_weight v (x.titles ++ y.titles) ≡ floats_weight v x.titles + floats_weight v y.titles
+        → entries_weight v t.floats.current + floats_weight v x.news + floats_weight v x.titles ≡ entries_weight v s.floats.current + (act_weight v a + 0)
+        → entries_weight v u.floats.current + floats_weight v y.news + floats_weight v y.titles ≡ entries_weight v t.floats.current + deeds_weight v ds
+        → entries_weight v u.floats.current + floats_weight v (x.news ++ y.news) + floats_weight v (x.titles ++ y.titles) ≡ entries_weight v s.floats.current + (act_weight v a + deeds_weight v ds)
+    sums v e f g h = omega arith
 
 -- ---- an act
 
@@ -85,14 +93,15 @@ joins a s es h = record {
   top = refl;
   bottom = refl;
   deferred = refl;
-  double = refl;
+  titles = [];
+  double = sym (append-nil s.floats.double);
   news = [];
   second = sym (append-nil s.floats.second);
   columns = inl (refl, refl);
   taken = λ v. sums (entries_weight v (s.floats.current ++ es)) (entries_weight v s.floats.current) (entries_weight v es) (act_weight v a) (entries-append v s.floats.current es) (h v);
 }
   where
-    sums : (x y z w : ℕ) → x ≡ y + z → z ≡ w → x + 0 ≡ y + (w + 0)
+    sums : (x y z w : ℕ) → x ≡ y + z → z ≡ w → x + 0 + 0 ≡ y + (w + 0)
     sums x y z w e g = omega arith
 
 act-done : (p : Params) (s : State) (a : Act) → Done s a (act_on p s a)
@@ -100,12 +109,13 @@ unfolding Done
 act-done p s (acts.Take f) = room-done s (acts.Take f) (int_le p.pool (pos (live_count s.floats))) _ _ _ (λ e. by_list (has_second p && (f.wide && s.two_columns)))
   where
     by_list : (t : Bool) → ActedLists (acts.Take f ∷ []) s (record s { floats = if t then record s.floats { second = s.floats.second ++ taken_float p s f ∷ [] } else record s.floats { current = s.floats.current ++ entries.Float (taken_float p s f) ∷ [] } })
-    by_list true = record { here = refl; top = refl; bottom = refl; deferred = refl; double = refl; news = taken_float p s f ∷ []; second = refl; columns = inl (refl, refl); taken = λ v. refl }
+    by_list true = record { here = refl; top = refl; bottom = refl; deferred = refl; titles = []; double = sym (append-nil s.floats.double); news = taken_float p s f ∷ []; second = refl; columns = inl (refl, refl); taken = λ v. omega arith }
     by_list false = joins (acts.Take f) s (entries.Float (taken_float p s f) ∷ []) (λ v. omega arith)
 act-done p s (acts.TakeMargin m) = room-done s (acts.TakeMargin m) (int_lt p.pool (pos (live_count s.floats + 2))) _ _ _ (λ e. joins (acts.TakeMargin m) s (entries.Left m ∷ entries.Right m ∷ []) (λ v. omega arith))
-act-done p s (acts.Suppress area) = λ e. record { here = refl; top = refl; bottom = refl; deferred = refl; double = refl; news = []; second = sym (append-nil s.floats.second); columns = inl (refl, refl); taken = λ v. refl }
-act-done p s (acts.Page n) = λ e. record { here = refl; top = refl; bottom = refl; deferred = refl; double = refl; news = []; second = sym (append-nil s.floats.second); columns = inl (refl, refl); taken = λ v. refl }
-act-done p s (acts.Columns two) = λ e. record { here = refl; top = refl; bottom = refl; deferred = refl; double = refl; news = []; second = sym (append-nil s.floats.second); columns = inr (ap (λ (l : FloatLists). l.double) e.0); taken = λ v. refl }
+act-done p s (acts.Suppress area) = λ e. record { here = refl; top = refl; bottom = refl; deferred = refl; titles = []; double = sym (append-nil s.floats.double); news = []; second = sym (append-nil s.floats.second); columns = inl (refl, refl); taken = λ v. omega arith }
+act-done p s (acts.Page n) = λ e. record { here = refl; top = refl; bottom = refl; deferred = refl; titles = []; double = sym (append-nil s.floats.double); news = []; second = sym (append-nil s.floats.second); columns = inl (refl, refl); taken = λ v. omega arith }
+act-done p s (acts.Head f) = room-done s (acts.Head f) (not (has_head_room p s)) _ _ _ (λ e. record { here = refl; top = refl; bottom = refl; deferred = refl; titles = taken_head p f ∷ []; double = refl; news = []; second = sym (append-nil s.floats.second); columns = inl (refl, refl); taken = λ v. omega arith })
+act-done p s (acts.Columns two) = λ e. record { here = refl; top = refl; bottom = refl; deferred = refl; titles = []; double = sym (append-nil s.floats.double); news = []; second = sym (append-nil s.floats.second); columns = inr (ap (λ (l : FloatLists). l.double) e.0); taken = λ v. omega arith }
 
 -- ---- all acts of a page
 

@@ -62,6 +62,7 @@ deeds-among n (a ∷ ds) i = by_part a (λ j. deeds-among n ds j) (among-parts n
   where
     by_act : (a : Act) → IsAmong n (taken_line a) → 1 ≤ act_weight (of_line n) a + deeds_weight (of_line n) ds
     by_act (acts.Take f) i = taken-float n f (deeds_weight (of_line n) ds) i
+    by_act (acts.Head f) i = taken-float n f (deeds_weight (of_line n) ds) i
     by_act (acts.TakeMargin m) i = absurd i
     by_act a i = absurd i
 
@@ -75,6 +76,11 @@ same x h = omega arith
 among-deeds : (n : ℕ) (ds : List Act) → 1 ≤ deeds_weight (of_line n) ds → IsAmong n (act_takes ds)
 among-deeds n [] l = let no : ⊥ = omega arith in absurd no
 among-deeds n (acts.Take f ∷ ds) l = by_line (λ h. among-deeds n ds h) (one-of ((of_line n).float f.line + 0) (deeds_weight (of_line n) ds) (omega (arith, l)))
+  where
+    by_line : (1 ≤ deeds_weight (of_line n) ds → IsAmong n (act_takes ds)) → (1 ≤ (of_line n).float f.line + 0) ⊎ (1 ≤ deeds_weight (of_line n) ds) → IsAmong n (f.line ∷ act_takes ds)
+    by_line again (inl h) = among-front n (f.line ∷ []) (act_takes ds) (weight-among n (f ∷ []) h)
+    by_line again (inr h) = inr (again h)
+among-deeds n (acts.Head f ∷ ds) l = by_line (λ h. among-deeds n ds h) (one-of ((of_line n).float f.line + 0) (deeds_weight (of_line n) ds) (omega (arith, l)))
   where
     by_line : (1 ≤ deeds_weight (of_line n) ds → IsAmong n (act_takes ds)) → (1 ≤ (of_line n).float f.line + 0) ⊎ (1 ≤ deeds_weight (of_line n) ds) → IsAmong n (f.line ∷ act_takes ds)
     by_line again (inl h) = among-front n (f.line ∷ []) (act_takes ds) (weight-among n (f ∷ []) h)

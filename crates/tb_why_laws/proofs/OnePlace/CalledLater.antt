@@ -78,10 +78,10 @@ module _ (p : Params) (s : State) (o : Running p s) (e : (now p s o).fault ≡ N
       omega arith
 
   -- what was taken and what is still to be called was to be called before
-  grows : (n : ℕ) → later_weight (of_line n) next.floats.current (deeds page.rest) + floats_weight (of_line n) acts-lists.news ≡ later_weight (of_line n) s.floats.current (deeds s.waiting)
+  grows : (n : ℕ) → later_weight (of_line n) next.floats.current (deeds page.rest) + floats_weight (of_line n) acts-lists.news + floats_weight (of_line n) acts-lists.titles ≡ later_weight (of_line n) s.floats.current (deeds s.waiting)
   grows n =
       let v = of_line n in
-      let a : entries_weight v next.floats.current + floats_weight v acts-lists.news ≡ entries_weight v s.floats.current + deeds_weight v (acted_of (page_of p s).reached) = acts-lists.taken v in
+      let a : entries_weight v next.floats.current + floats_weight v acts-lists.news + floats_weight v acts-lists.titles ≡ entries_weight v s.floats.current + deeds_weight v (acted_of (page_of p s).reached) = acts-lists.taken v in
       let b : deeds_weight v (deeds s.waiting) ≡ deeds_weight v (acted_of (page_of p s).reached) + deeds_weight v (deeds page.rest) = ap (deeds_weight v) does ∙ deeds_weight-append v (acted_of (page_of p s).reached) (deeds page.rest) in
       omega arith
 
@@ -91,19 +91,28 @@ module _ (p : Params) (s : State) (o : Running p s) (e : (now p s o).fault ≡ N
   pub still-uncalled : (n : ℕ) → IsAmong n (called_later next.floats.current (deeds page.rest)) → IsAmong n (uncalled s)
   still-uncalled n i =
       let a : 1 ≤ later_weight (of_line n) next.floats.current (deeds page.rest) = later-weighs n next.floats.current (deeds page.rest) i in
-      weighs-later n s.floats.current (deeds s.waiting) (more (later_weight (of_line n) next.floats.current (deeds page.rest)) (floats_weight (of_line n) acts-lists.news) (later_weight (of_line n) s.floats.current (deeds s.waiting)) (grows n) a)
+      weighs-later n s.floats.current (deeds s.waiting) (more (later_weight (of_line n) next.floats.current (deeds page.rest)) (floats_weight (of_line n) acts-lists.news) (floats_weight (of_line n) acts-lists.titles) (later_weight (of_line n) s.floats.current (deeds s.waiting)) (grows n) a)
     where
-      more : (a b c : ℕ) → a + b ≡ c → 1 ≤ a → 1 ≤ c
-      more a b c e l = omega arith
+      more : (a b t c : ℕ) → a + b + t ≡ c → 1 ≤ a → 1 ≤ c
+      more a b t c e l = omega arith
 
   -- and so were the wide floats that wait from now on
   pub news-uncalled : (n : ℕ) → IsAmong n (float_lines acts-lists.news) → IsAmong n (uncalled s)
   news-uncalled n i =
       let a : 1 ≤ floats_weight (of_line n) acts-lists.news = among-weight n acts-lists.news i in
-      weighs-later n s.floats.current (deeds s.waiting) (more (later_weight (of_line n) next.floats.current (deeds page.rest)) (floats_weight (of_line n) acts-lists.news) (later_weight (of_line n) s.floats.current (deeds s.waiting)) (grows n) a)
+      weighs-later n s.floats.current (deeds s.waiting) (more (later_weight (of_line n) next.floats.current (deeds page.rest)) (floats_weight (of_line n) acts-lists.news) (floats_weight (of_line n) acts-lists.titles) (later_weight (of_line n) s.floats.current (deeds s.waiting)) (grows n) a)
     where
-      more : (a b c : ℕ) → a + b ≡ c → 1 ≤ b → 1 ≤ c
-      more a b c e l = omega arith
+      more : (a b t c : ℕ) → a + b + t ≡ c → 1 ≤ b → 1 ≤ c
+      more a b t c e l = omega arith
+
+  -- as were the titles that were taken
+  pub titles-uncalled : (n : ℕ) → IsAmong n (float_lines acts-lists.titles) → IsAmong n (uncalled s)
+  titles-uncalled n i =
+      let a : 1 ≤ floats_weight (of_line n) acts-lists.titles = among-weight n acts-lists.titles i in
+      weighs-later n s.floats.current (deeds s.waiting) (more (later_weight (of_line n) next.floats.current (deeds page.rest)) (floats_weight (of_line n) acts-lists.news) (floats_weight (of_line n) acts-lists.titles) (later_weight (of_line n) s.floats.current (deeds s.waiting)) (grows n) a)
+    where
+      more : (a b t c : ℕ) → a + b + t ≡ c → 1 ≤ t → 1 ≤ c
+      more a b t c e l = omega arith
 
   -- which are not to be called any more
   pub news-apart : (n : ℕ) → IsAmong n (called_later next.floats.current (deeds page.rest)) → IsAmong n (float_lines acts-lists.news) → ⊥

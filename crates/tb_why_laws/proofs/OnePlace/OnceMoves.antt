@@ -9,14 +9,13 @@ use Rattle.tb_float.specs.declared.Part.{Part}
 use Rattle.tb_float.specs.declared.Part.TheVariants as parts
 use Rattle.tb_float.specs.Lists.{FloatLists, floats_of, IsWaiting, wide_part, wide_waiting}
 use Rattle.tb_float.proofs.WaitingLemmas.{wide-waits}
-use Rattle.tb_column.specs.Column.{text_column}
 use Rattle.tb_output.specs.State.{Work, with_floats, puts, footnotes}
 use Rattle.tb_output.specs.Clear
 use Rattle.tb_output.specs.Columns
-use Rattle.tb_output.proofs.StepLaws.Moves.{Hand, nothing, of_text, ColumnMove, takes_company, records_column, ships_column, keeps_left, ships_pair, ends_column, ships_wide, places_double, places_next, PageMove, by_column, by_fill, takes_text, fills_text, keeps_front, gathers, gathers_wide, leaves_second, clears_again, Moves, goes-on}
+use Rattle.tb_output.proofs.StepLaws.Moves.{Hand, nothing, of_text, ColumnMove, takes_company, records_column, ships_column, keeps_left, ships_pair, ends_column, ships_wide, places_double, places_next, PageMove, by_column, by_fill, takes_text, drops_notes, fills_text, keeps_front, gathers, gathers_wide, leaves_second, clears_again, Moves, goes-on}
 use Rattle.tb_laws.proofs.NothingLost.StateWeights.{floats_weight, lists_weight, floats-append, work_weight, hand_weight, Light, Sound, Adds, puts-adds, unchanged}
 use Rattle.tb_laws.proofs.NothingLost.FloatWeights.{lists-adds, lists-with, paired-with, next-adds}
-use Rattle.tb_laws.proofs.NothingLost.PutOutWeights.{column-weighs, text-taken}
+use Rattle.tb_laws.proofs.NothingLost.PutOutWeights.{column-weighs, text-taken, notes-dropped}
 use Rattle.tb_laws.proofs.NothingLost.TextWeights.{puts-nothing}
 use Rattle.tb_why_laws.proofs.OnePlace.Once.{of_line, Once}
 
@@ -115,10 +114,14 @@ front-weight v k body = let e : nodes_weight v (take k body) + nodes_weight v (d
 pub page-lessens : {p : Params} {h : Hand} {a : Work} {i : Hand} {b : Work} → PageMove p h a i b → Lessens h a i b
 page-lessens {p} (by_column m) = column-lessens m
 page-lessens {p} (by_fill (places_next a f before rest w c e i)) = keeps nothing w _ (λ v. next-adds v p a f before rest w e)
-page-lessens {p} (takes_text body w) = record { goes = λ r. r; by = λ r s v. let d = text-taken v p body w s in (d.0, same (work_weight v (Columns.without_column_floats w) + nodes_weight v (text_column p w.state.floats body (footnotes w.state)).nodes) (work_weight v w + nodes_weight v body) d.1) }
+page-lessens {p} (takes_text body w) = record { goes = λ r. r; by = λ r s v. let d = text-taken v p body w s in (d.0, same (work_weight v (Columns.without_column_floats w) + nodes_weight v (Columns.text_of p w.state body).nodes) (work_weight v w + nodes_weight v body) d.1) }
   where
     same : (x y : ℕ) → x ≡ y → x ≤ y
     same x y e = omega arith
+page-lessens {p} (drops_notes body w e) = record { goes = λ r. r; by = λ r s v. let d = notes-dropped v w e s in (d.0, same (work_weight v (Clear.without_notes w)) (work_weight v w) (nodes_weight v body) d.1) }
+  where
+    same : (x y n : ℕ) → x ≡ y → x + n ≤ y + n
+    same x y n e = omega arith
 page-lessens {p} (fills_text body w) = lessened (of_text body) (of_text (body ++ made (skip filling_glue) ∷ [])) w w (λ v. 0) (λ v. unchanged v w) (λ v. let e : nodes_weight v (body ++ made (skip filling_glue) ∷ []) ≡ nodes_weight v body + 0 = weight-append v body (made (skip filling_glue) ∷ []) in omega arith)
 page-lessens {p} (keeps_front body w) = lessened (of_text body) nothing w (puts (Clear.cleared_front p body) w) (λ v. nodes_weight v (Clear.cleared_front p body)) (λ v. puts-adds v (Clear.cleared_front p body) w) (λ v. front-weight v (split_of (pos 0) p.splitmaxdepth (map node_shape body)).index body)
 page-lessens {p} (gathers w) = keeps nothing w _ (λ v. gathered-adds v w)

@@ -12,7 +12,7 @@ use Rattle.tb_galley.specs.declared.ItemKind.{ItemKind}
 use Rattle.tb_galley.specs.declared.ItemKind.TheVariants as items
 use Rattle.tb_galley.specs.declared.Galley.{Galley}
 use Rattle.tb_galley.specs.GalleyNodes.{expanded}
-use Rattle.tb_galley.specs.Valid.{IsValid, is_item, is_float, lines_of_item, named_lines, rise_from}
+use Rattle.tb_galley.specs.Valid.{IsValid, is_item, is_float, lines_of_item, named_lines, rise_from, is_head}
 use Rattle.tb_items.specs.Classes.{classes_of}
 use Rattle.tb_output.specs.State.{first_state}
 use Rattle.tb_laws.proofs.ClassesRise.NamedLines.{AllAbove, rise-first, rise-above, rise-behind}
@@ -59,6 +59,7 @@ later m k l (n ∷ ns) a v =
 
     by_kind : (n : ℕ) (x : ItemKind) → AllAbove k (lines_of_item n x) → IsTrue (is_item n x) → items_weight (of_line m) ns ≡ 0 → item_weight (of_line m) n x + items_weight (of_line m) ns ≡ 0
     by_kind n (items.Float f vert) a v h = let e : (of_line m).float f.line ≡ 0 = other f.line n a.0 (and_parts (f.line == n) (is_float f) v).0 in omega arith
+    by_kind n (items.Head f) a v h = let e : (of_line m).float f.line ≡ 0 = other f.line n a.0 (and_parts (f.line == n) (is_head f) v).0 in omega arith
     by_kind n (items.Foot class ls) a v h = let e : foot_weight (of_line m) ls ≡ 0 = no-foot m ls in omega arith
     by_kind n x a v h = nothing (items_weight (of_line m) ns) h
 
@@ -87,6 +88,9 @@ once m k (n ∷ ns) last r v =
     by_kind : (n : ℕ) (x : ItemKind) → IsTrue (rise_from k (lines_of_item n x ++ (named_lines ns ++ last))) → IsTrue (is_item n x) → Valid ns → items_weight (of_line m) ns ≤ 1 → item_weight (of_line m) n x + items_weight (of_line m) ns ≤ 1
     by_kind n (items.Float f vert) q v w h =
         by_line f.line n (and_parts (f.line == n) (is_float f) v).0 (items_weight (of_line m) ns) h
+        (λ l. later m n l ns (all-front (λ x. n < x) (named_lines ns) last (rise-above n (named_lines ns ++ last) (rise-first k n (named_lines ns ++ last) q).1)) w)
+    by_kind n (items.Head f) q v w h =
+        by_line f.line n (and_parts (f.line == n) (is_head f) v).0 (items_weight (of_line m) ns) h
         (λ l. later m n l ns (all-front (λ x. n < x) (named_lines ns) last (rise-above n (named_lines ns ++ last) (rise-first k n (named_lines ns ++ last) q).1)) w)
     by_kind n (items.Foot class ls) q v w h = let e : foot_weight (of_line m) ls ≡ 0 = no-foot m ls in omega arith
     by_kind n x q v w h = nothing-more (items_weight (of_line m) ns) h

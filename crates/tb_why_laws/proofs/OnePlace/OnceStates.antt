@@ -1,5 +1,5 @@
 -- Along the run of a valid galley each float is in one place at most: at its start, between its firings, and where a firing begins.
-use Rattle.std.proofs.Common.{◌≡◌, sym, ◌∙◌, ap, subst, ℕ, ◌+◌, ◌≤◌, false, List, take, None, arith}
+use Rattle.std.proofs.Common.{[], ◌≡◌, sym, ◌∙◌, ap, subst, ℕ, ◌+◌, ◌≤◌, false, List, take, None, arith}
 use Rattle.std.specs.Prelude.{int_le}
 use Rattle.tb_scaled.specs.Scaled.{awful_bad, eject_penalty}
 use Rattle.tb_node.specs.PlainNodes.{PlainNode}
@@ -18,8 +18,9 @@ use Rattle.tb_items.specs.Classes.{classes_of}
 use Rattle.tb_items.specs.RunEvents.{RunEvent}
 use Rattle.tb_output.specs.State.{Recorded}
 use Rattle.tb_steps.specs.Run.{Progress, progress, goes_on, step, ask_for}
+use Rattle.tb_laws.proofs.Closed.BareFeet.{BoxesBare, labelled-bare, boxes-bare}
 use Rattle.tb_laws.proofs.NothingLost.StateWeights.{state_weight, lists_weight, left_weight, class_numbers, BoxesFit}
-use Rattle.tb_laws.proofs.NothingLost.RunWeights.{Kept, StepWeighs, After, Progressed, page_of, cut_feet, reached, step-weighs, progress-adds, box-fired, fit-numbers, events_weight}
+use Rattle.tb_laws.proofs.NothingLost.RunWeights.{Kept, StepWeighs, After, Progressed, page_of, cut_feet, cut_bare, reached, step-weighs, progress-adds, box-fired, fit-numbers, events_weight}
 use Rattle.tb_laws.proofs.NothingLost.ClosingRuns.{StepCloses, changes-fit, step-closes}
 use Rattle.tb_laws.proofs.NothingLost.StartLemmas.{start-kept}
 use Rattle.tb_laws.proofs.NothingLost.ClosingStarts.{start-closing}
@@ -98,9 +99,15 @@ module _ (p : Params) (s : State) (o : Running p s) where
         sums : (F Ht Lt Ct Bt P Y A W Bs Hs Ls Cs : ℕ) → F ≡ Bt + (P + Y) → Lt + Ct ≡ Ls + Cs + A → P + A + Y ≡ W → Bt ≡ Bs → Ht ≡ Hs → W + Bs + Hs + Ls + Cs ≤ 1 → F + (Ht + Lt + Ct) ≤ 1
         sums F Ht Lt Ct Bt P Y A W Bs Hs Ls Cs i k j l m x = omega arith
 
+    -- what makes a page higher holds nothing that weighs
+    boxed : BoxesBare fires.boxes
+    boxed =
+        let z = frozen_for (ask_for p s) now.state.classes now.state.boxes in
+        boxes-bare (labelled z before) now.state.boxes (labelled-bare z [] [] before tt (cut_bare (of_line 0) p calm s o.kept).0) (after (of_line 0)).sound.bare
+
     -- where the firing begins, with the page in hand
     pub fires-once : Once (of_text fires.body) (begun (after_page now.state fires))
-    fires-once r = (record { box = box-fired (labelled (frozen_for (ask_for p s) now.state.classes now.state.boxes) before) now.state.classes now.state.boxes fit; columns = (after (of_line 0)).sound.columns; entries = (after (of_line 0)).sound.entries }, λ n. all n)
+    fires-once r = (record { box = box-fired (labelled (frozen_for (ask_for p s) now.state.classes now.state.boxes) before) now.state.classes now.state.boxes fit; bare = boxed; columns = (after (of_line 0)).sound.columns; entries = (after (of_line 0)).sound.entries }, λ n. all n)
       where
         sums : (F B H R Ht Lt Ct : ℕ) → B + F + H + R + (Ht + Lt + Ct) ≤ 1 → B + (0 + F + Ht + Lt + Ct + 0 + 0) ≤ 1
         sums F B H R Ht Lt Ct x = omega arith

@@ -21,7 +21,7 @@ use Rattle.tb_float.specs.Rooms.{column_room_of}
 use Rattle.tb_float.proofs.WaitingLemmas.{wide-waits}
 use Rattle.tb_area.specs.Area.{current_place}
 use Rattle.tb_margin.specs.declared.Placed.{Placed}
-use Rattle.tb_column.specs.Column.{Notes, text_column}
+use Rattle.tb_column.specs.Column.{Notes, standing_notes}
 use Rattle.tb_sheet.specs.Asked.{clear_penalty, par_penalty, vert_penalty, hold_penalty}
 use Rattle.tb_sheet.specs.Sheet.{PlainSent, warned}
 use Rattle.tb_sheet.specs.declared.Warn.TheVariants as warnings
@@ -114,7 +114,7 @@ follows a b x = same a b x.back x.current
 
 put_out_text-brings : (p : Params) (body : List PlainNode) (w : Work) → Brings w (Columns.put_out_text p body w)
 put_out_text-brings p body w =
-    let c = text_column p w.state.floats body (footnotes w.state) in
+    let c = Columns.text_of p w.state body in
     let a = Columns.without_column_floats w in
     brings-then w a (Columns.put_out_text p body w) (same w a refl refl) (follows a (Columns.put_out_text p body w) (follows-put_out (λ f. Unit {0}) p c a))
 
@@ -144,14 +144,17 @@ clear_wide-brings p w =
 clear_rest-brings : (w : Work) → Brings w (Clear.clear_rest w)
 clear_rest-brings w = either w (has_floats w.state.floats.deferred || has_floats w.state.floats.second) (puts Clear.clear_again w) w (puts-brings Clear.clear_again w refl) (same w w refl refl)
 
-clear-brings : (p : Params) (body : List PlainNode) (w : Work) (o : List Notes) → deeds body ≡ [] → Brings w (Clear.clear_by p body w o)
-clear-brings p body w [] e =
+clear_floats-brings : (p : Params) (body : List PlainNode) (w : Work) → deeds body ≡ [] → Brings w (Clear.clear_floats p body w)
+clear_floats-brings p body w e =
     let z = puts (Clear.cleared_front p body) w in
     let a = with_floats (Clear.deferred_again w.state.floats) z in
     let b = Columns.all_float_columns p true a in
     let c = Clear.clear_wide p b in
     brings-then w z _ (puts-brings (Clear.cleared_front p body) w (take-deeds (split_of (pos 0) p.splitmaxdepth (map node_shape body)).index body e))
     (brings-then z a _ (same z a refl refl) (brings-then a b _ (columns-brings p true a) (brings-then b c _ (clear_wide-brings p b) (clear_rest-brings c))))
+
+clear-brings : (p : Params) (body : List PlainNode) (w : Work) (o : List Notes) → deeds body ≡ [] → Brings w (Clear.clear_by p body w o)
+clear-brings p body w [] e = brings-then w (Clear.without_notes w) _ (same w (Clear.without_notes w) refl refl) (clear_floats-brings p body (Clear.without_notes w) e)
 clear-brings p body w (n ∷ ns) e = then-puts w (Columns.put_out_text p (body ++ made (skip filling_glue) ∷ []) w) Clear.clear_again refl (put_out_text-brings p (body ++ made (skip filling_glue) ∷ []) w)
 
 -- ---- a float or a note
@@ -241,7 +244,7 @@ is_text n = not (int_le eject_penalty n) && (not (Output.is_int n clear_penalty)
 output-brings : (p : Params) (f : Fired) (w : Work) → deeds w.state.held_page ≡ [] → deeds f.body ≡ [] → Brings w (Output.output_by p f w)
 output-brings p f w h e =
     either w (int_le eject_penalty f.penalty) (Columns.ordinary p f.body w) _ (ordinary-brings p f.body w)
-    (either w (Output.is_int f.penalty clear_penalty) (Clear.clear p f.body w) _ (clear-brings p f.body w (footnotes w.state) e)
+    (either w (Output.is_int f.penalty clear_penalty) (Clear.clear p f.body w) _ (clear-brings p f.body w (standing_notes (footnotes w.state)) e)
     (either w (Output.is_int f.penalty par_penalty) (Text.float_or_note p false f.body w) _ (text-brings p false f.body w h e)
     (either w (Output.is_int f.penalty vert_penalty) (Text.float_or_note p true f.body w) (Output.hold f.body w) (text-brings p true f.body w h e) (same w (Output.hold f.body w) refl refl))))
 

@@ -1,7 +1,9 @@
-use Rattle.std.proofs.Common.{◌≡◌, ◌∙◌, None, Some, refl, sym, ap, [], FitsSigned, w64, to_z, of_z, rules, length}
+use Rattle.std.proofs.Common.{◌≡◌, ◌∙◌, None, Some, refl, sym, ap, subst, [], FitsSigned, w64, to_z, of_z, rules, length}
 use Rattle.std.proofs.lemmas.Int.{to_z-of_z}
 use Rattle.std.specs.FinMap.{get, insert}
 use Rattle.tb_pool.specs.Lists.{list_at, with_list}
+use Rattle.tb_node.specs.declared.Sums.{Sums}
+use Rattle.tb_node.specs.SmallAmounts.{IsAmount}
 use Rattle.tb_builder.specs.declared.Builder.{Builder}
 use Rattle.tb_builder.proofs.FiredPages.FireLemmas.{opened_own, index_within, cut_live, cut_apart, cut_empty, cut_held, cut_fits, cut_marked, fires_of}
 use Rattle.tb_builder.proofs.Builder.fire.Goals.{In_ok-body}
@@ -65,6 +67,8 @@ returns c =
     let penalty_fits : FitsSigned w64 c.cut_page-at.result.penalty = search rules in
     let cost_fits : FitsSigned w64 c.in-Some.best.cost = search rules in
     let size_fits : FitsSigned w64 c.clear.new.self.course.best_goal = search rules in
+    let shrink_fits : FitsSigned w64 c.sums-shrink.result.shrink = search rules in
+    let shrink_is : to_z w64 (of_z w64 c.sums-shrink.result.shrink) ≡ c.sums-shrink.result.shrink = to_z-of_z w64 c.sums-shrink.result.shrink shrink_fits in
     record {
       fires = fires_of _ _ _ _ _ _ c.requires.sound c.requires.stopped (best_is w) (body_fresh w) (body_opened w) c.cut_page-at.ensures.cuts c.clear.new.self c.sort_page.new.self c.sort_page.new.store
           (record {
@@ -72,12 +76,15 @@ returns c =
             penalty = to_z w64 (of_z w64 c.cut_page-at.result.penalty);
             cost = to_z w64 (of_z w64 c.in-Some.best.cost);
             size = to_z w64 (of_z w64 c.clear.new.self.course.best_goal);
+            shrink = to_z w64 (of_z w64 c.sums-shrink.result.shrink);
             line = c.cut_page-at.result.line;
             held = c.len.result;
           })
           c.sort_page.ensures.sorts c.sort_page.ensures.sorted c.sort_page.ensures.empty c.clear.ensures refl
           (to_z-of_z w64 c.in-Some.best.cost cost_fits)
           (to_z-of_z w64 c.clear.new.self.course.best_goal size_fits ∙ ap (λ (x : Builder). x.course.best_goal) c.clear.ensures ∙ ap (λ (x : Builder). x.course.best_goal) c.sort_page.ensures.sorts.builder)
+          (shrink_is ∙ ap (λ (s : Sums). s.shrink) c.sums-shrink.ensures.value)
+          (subst IsAmount (sym shrink_is) c.sums-shrink.ensures.small.shrink)
           c.cut_page-at.ensures.line
           (to_z-of_z w64 c.cut_page-at.result.penalty penalty_fits ∙ c.cut_page-at.ensures.penalty)
           (c.len.ensures ∙ ap (λ (x : Builder). length (list_at c.sort_page.new.store x.held)) c.clear.ensures);

@@ -70,7 +70,7 @@ join-requires-clause-most c =
     let f = first_is (list_at c.args.store.now c.args.self.now.waiting) c.in-Some.n.now (sym c.in-Some.ensures) in
     let before = contents_of c.args.self.now c.args.store.now in
     let u = course_is at.After-freeze in
-    subst (λ k. k < 255) (number_is c.args.store.now (ids_of c.args.self.now).boxes c.in-Insertion.i.class c.class_list-own.result own) (class_is (ids_of c.args.self.now) c.args.store.now before c.args.ask.now c.freeze.new.self.course c.in-Some.n.now f.0 c.in-Insertion.i c.class_list-own.result c.requires.sound.own refl refl refl refl c.requires.fits f.1 (sym c.in-Insertion.ensures.insertion) own u).0
+    subst (λ k. k < 256) (number_is c.args.store.now (ids_of c.args.self.now).boxes c.in-Insertion.i.class c.class_list-own.result own) (class_is (ids_of c.args.self.now) c.args.store.now before c.args.ask.now c.freeze.new.self.course c.in-Some.n.now f.0 c.in-Insertion.i c.class_list-own.result c.requires.sound.own refl refl refl refl c.requires.fits f.1 (sym c.in-Insertion.ensures.insertion) own u).0
 
 pub join-requires-clause-fits : goal.join-requires-clause-fits
 join-requires-clause-fits c =

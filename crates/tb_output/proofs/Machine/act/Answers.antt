@@ -1,9 +1,16 @@
-use Rattle.std.proofs.Common.{sym, subst, ap, ◌∙◌, append-nil}
+use Rattle.std.proofs.Common.{◌≡◌, sym, subst, ap, ◌∙◌, List, append-nil}
+use Rattle.std.specs.Prelude.{OnOk, IfErr}
+use Rattle.tb_pool.specs.Lists.{Lists}
+use Rattle.tb_node.specs.declared.Node.{Node}
+use Rattle.tb_node.specs.PlainNodes.{PlainNode}
+use Rattle.tb_builder.specs.FiredPages.{Boxed}
 use Rattle.tb_sheet.specs.ApartLists.{AreNoneOf}
 use Rattle.tb_sheet.specs.Asked.{IsSizedAct}
 use Rattle.tb_output.specs.Machine.{MachineView, IsMachine, machine_lists, state_shown}
-use Rattle.tb_output.specs.ActCalls.{IsActed, acted_in, dropped_lists}
-use Rattle.tb_output.proofs.Acts.ActingLemmas.{float-stands, float-takes, columns-drop, machine-numbered}
+use Rattle.tb_output.specs.Act.{full}
+use Rattle.tb_output.specs.ActCalls.{IsActed, acted_in, line_of, dropped_lists}
+use Rattle.tb_output.proofs.Acts.ActingLemmas.{float-stands, float-takes, columns-drop, machine-numbered, title-stands, title-takes, title-acted, title-full}
+use Rattle.tb_output.proofs.FiringWork.ResultLemmas.{ok-map, err-map}
 use Rattle.tb_output.proofs.Machine.act.Goals as goal
 
 pub returns-in-Take-clause-machine : goal.returns-in-Take-clause-machine
@@ -34,3 +41,19 @@ returns-in-Page-clause-acted c = λ store boxes waiting.
 pub returns-in-Page-clause-machine : goal.returns-in-Page-clause-machine
 returns-in-Page-clause-machine c = λ store is.
     subst (λ m. IsMachine m store) (sym c.set_number.ensures) (machine-numbered c.in-Page.number c.args.self.now store is (subst IsSizedAct c.in-Page.is c.requires.act))
+
+pub returns-in-Head-clause-machine : goal.returns-in-Head-clause-machine
+returns-in-Head-clause-machine c = title-stands c.args.self.now c.take_title.new.self c.in-Head.f c.take_title.result c.take_title.ensures.ok c.take_title.ensures.err
+
+pub returns-in-Head-clause-lists : goal.returns-in-Head-clause-lists
+returns-in-Head-clause-lists c = title-takes c.args.self.now c.take_title.new.self c.in-Head.f c.take_title.result c.take_title.ensures.ok c.take_title.ensures.err
+
+pub returns-in-Head-clause-acted : goal.returns-in-Head-clause-acted
+returns-in-Head-clause-acted c =
+    subst (λ a. OnOk c.take_title.result ((store : Lists Node) (boxes : List Boxed) (waiting : List PlainNode) → IsActed store boxes waiting c.args.self.now c.take_title.new.self (acted_in store boxes waiting c.args.self.now a))) (sym c.in-Head.is)
+    (ok-map c.take_title.result _ _ (λ h store boxes waiting. title-acted c.args.self.now c.take_title.new.self c.in-Head.f c.requires.pool store boxes waiting h) c.take_title.ensures.ok)
+
+pub returns-in-Head-clause-full : goal.returns-in-Head-clause-full
+returns-in-Head-clause-full c =
+    subst (λ a. IfErr c.take_title.result (λ e. (store : Lists Node) (boxes : List Boxed) (waiting : List PlainNode) → acted_in store boxes waiting c.args.self.now a ≡ full (line_of a) e.live)) (sym c.in-Head.is)
+    (err-map c.take_title.result _ _ (λ e h store boxes waiting. title-full c.args.self.now c.take_title.new.self c.in-Head.f c.requires.pool store boxes waiting e.live h) c.take_title.ensures.err)

@@ -11,6 +11,6 @@ returns c =
     let high : FitsSigned w64 c.column_height-height.result = search rules in
     let tall : FitsSigned w64 c.self.inside.params.textheight = search rules in
     let below = simp to_z-of_z at c.place_below.ensures in
-    let rule = c.rule_under-rule.ensures.room ∙ ap (λ n. if n == 0 then pos 0 else rule_room c.self.inside.params.dblrule) c.len.ensures.value in
+    let rule = c.rule_under-rule.ensures.room ∙ (λ i. if c.len.ensures.value i == 0 then pos 0 else rule_room (c.pair_rule.ensures.value i)) in
     let inside = below ∙ (λ i. ((c.self.inside.params.textheight -ℤ c.column_height-height.ensures.value i) +ℤ rule i) +ℤ pos (c.deep_doubles-deep.ensures.value i)) in
     simp to_z-of_z (inside ∙ ap (λ (m : MachineView). pair_top m.params m.pool.lists) c.self.view_is)

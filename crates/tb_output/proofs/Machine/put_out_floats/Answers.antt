@@ -2,6 +2,7 @@ use Rattle.std.proofs.Common.{refl, sym, subst, ◌∙◌, ap, [], FitsSigned, w
 use Rattle.std.proofs.lemmas.Int.{to_z-of_z}
 use Rattle.tb_float.specs.Rooms.{column_height_of}
 use Rattle.tb_float.specs.declared.Part.TheVariants as parts
+use Rattle.tb_column.proofs.ClosingLemmas.{height_amount}
 use Rattle.tb_output.specs.Columns.{single_wanted}
 use Rattle.tb_output.specs.Machine.{MachineView, AreOutputParams}
 use Rattle.tb_output.specs.MachineFrame.{KeepsMachine}
@@ -14,6 +15,11 @@ use Rattle.tb_output.proofs.FiringWork.KeepLemmas.{keeps-same}
 use Rattle.tb_output.proofs.FiringWork.ResultLemmas.{memory-err, same-err}
 use Rattle.tb_output.proofs.Machine.put_out_floats.Goals.{In_ok-column}
 use Rattle.tb_output.proofs.Machine.put_out_floats.Goals as goal
+
+pub take_floats-requires-clause-height : goal.take_floats-requires-clause-height
+take_floats-requires-clause-height c =
+    let height : FitsSigned w64 c.column_height-height.result = search rules in
+    simp to_z-of_z (height_amount c.column_height-height.result c.column_height-height.ensures.within)
 
 -- no floats make a column
 pub returns-then-not-choose_column-clause-ok : goal.returns-then-not-choose_column-clause-ok

@@ -7,6 +7,7 @@ use Rattle.tb_builder.specs.Contents.{contents_of}
 use Rattle.tb_output.specs.State.{notes_in}
 use Rattle.tb_output.specs.Text.{notes_height}
 use Rattle.tb_output.specs.Machine.{MachineView}
+use Rattle.tb_column.specs.Column.{standing_notes}
 use Rattle.tb_output.specs.Reading.{any_notes}
 use Rattle.tb_output.proofs.ColumnPages.SizeLemmas.{amount-cast, within-amount}
 use Rattle.tb_output.proofs.Firings.ReadingLemmas.{text, fits-amount, short, text-taken, page-amount, reading-is}
@@ -52,4 +53,4 @@ returns c =
     (notes_in c.args.self.now.classes bs) _ b (c.boxes_height-notes.ensures.value ∙ ap (λ cs. notes_height (notes_in cs bs)) classes) c.boxes_height-notes.ensures.within
     (amount-cast c.difference.result (subst IsAmount (sym height) t.height) ∙ height)
     (amount-cast c.sum.result (subst IsAmount (sym page) amount) ∙ page)
-    (c.any_boxes.ensures c.args.store.now ∙ ap (λ cs. any_notes (notes_in cs bs)) classes)
+    (c.any_boxes.ensures c.args.store.now ∙ ap (λ cs. any_notes (standing_notes (notes_in cs bs))) classes)

@@ -6,7 +6,7 @@ use Rattle.tb_output.proofs.Machine.shows_same.Goals as goal
 
 pub returns-then-not-numbers_same : goal.returns-then-not-numbers_same
 returns-then-not-numbers_same c =
-    (λ never. cc, λ same. c.if-not-numbers_same.ensures.1 (same.page, same.number, same.dead_cycles, same.goal, same.note_bottom))
+    (λ never. cc, λ same. c.if-not-numbers_same.ensures.1 (same.page, same.number, same.dead_cycles, same.goal, same.note_bottom, same.shrink))
 
 pub returns-then-not-flags_same : goal.returns-then-not-flags_same
 returns-then-not-flags_same c =
@@ -34,6 +34,7 @@ returns-then-holds_same c =
         number = numbers.1;
         dead_cycles = numbers.2;
         note_bottom = numbers.4;
+        shrink = numbers.5;
         suppress = flags.2;
       },
       λ same. c.same_lists.ensures.1

@@ -7,7 +7,7 @@ pub returns-then-not-waits-clause-taken : goal.returns-then-not-waits-clause-tak
 returns-then-not-waits-clause-taken c = taken-current c.args.p.now c.args.f c.args.pool.now c.take.new.self c.in_ok-take.ensures.taken (sym c.waits_for_page-waits.ensures ∙ c.if-not-waits.true)
 
 pub move_to-requires-clause-float : goal.move_to-requires-clause-float
-move_to-requires-clause-float c = float-there c.args.p.now c.args.f c.args.pool.now c.take.new.self c.in_ok-take.ensures.taken _ (ap (λ n. n - 1) c.len-last.ensures.value)
+move_to-requires-clause-float c = float-there c.args.f c.args.pool.now c.take.new.self c.in_ok-take.ensures.taken _ (ap (λ n. n - 1) c.len-last.ensures.value)
 
 pub returns-clause-taken : goal.returns-clause-taken
 returns-clause-taken c = taken-second c.args.p.now c.args.f c.args.pool.now c.take.new.self c.in_ok-take.ensures.taken _ (ap (λ n. n - 1) c.len-last.ensures.value) (sym c.waits_for_page-waits.ensures ∙ c.if-not-waits.false) c.move_to.new.self c.move_to.ensures.moved

@@ -5,19 +5,17 @@ use Rattle.tb_pool.specs.Lists.{list_at}
 use Rattle.tb_column.specs.declared.NoteBox.{NoteBox}
 use Rattle.tb_column.specs.Notes.{IsNote}
 use Rattle.tb_column.proofs.NoteLemmas.{rising-at}
-use Rattle.tb_output.proofs.ColumnPages.SizeLemmas.{IsHeightSoFar, height-begun, class-height, height-next, height-all, within-amount, amount-passed}
+use Rattle.tb_output.proofs.ColumnPages.SizeLemmas.{IsHeightSoFar, height-begun, height-next, height-all, room-amount, amount-passed}
 use Rattle.tb_output.proofs.texts.notes_height.Goals as goal
 
 pub loop-note-init : goal.loop-note-init
 loop-note-init c = height-begun c.args.store.now c.args.notes.now c.requires.few
 
-pub sum_of-requires-clause-first : goal.sum_of-requires-clause-first
-sum_of-requires-clause-first c =
-    let store = c.args.store.now in
+pub note_room-requires : goal.note_room-requires
+note_room-requires c =
     let n = c.note-item.result in
     let lt : c.loop-note.note-index < length c.args.notes.now = omega arith in
-    let note = subst (IsNote store) (sym c.note-item.is) (All-from_recursion (IsNote store) c.args.notes.now c.requires.notes c.loop-note.note-index n lt) in
-    amount-passed c.list_height.result (within-amount (2147483646 * length (list_at store n.list)) c.list_height.result (omega (arith, note.list.few)) c.list_height.ensures.within)
+    subst (IsNote c.args.store.now) (sym c.note-item.is) (All-from_recursion (IsNote c.args.store.now) c.args.notes.now c.requires.notes c.loop-note.note-index n lt)
 
 pub sum_of-height-requires-clause-second : goal.sum_of-height-requires-clause-second
 sum_of-height-requires-clause-second c =
@@ -25,7 +23,7 @@ sum_of-height-requires-clause-second c =
     let n = c.note-item.result in
     let lt : c.loop-note.note-index < length c.args.notes.now = omega arith in
     let note = subst (IsNote store) (sym c.note-item.is) (All-from_recursion (IsNote store) c.args.notes.now c.requires.notes c.loop-note.note-index n lt) in
-    amount-passed c.sum_of.result (class-height store n c.list_height.result c.sum_of.result note c.list_height.ensures.within c.sum_of.ensures).1
+    amount-passed c.note_room.result (room-amount store n c.note_room.result note c.note_room.ensures.within)
 
 pub loop-note-preserved : goal.loop-note-preserved
 loop-note-preserved c =
@@ -40,7 +38,7 @@ loop-note-preserved c =
     let so : IsHeightSoFar store ns (n ∷ drop (k + 1) ns) k height = subst (λ xs. IsHeightSoFar store ns xs k height) left c.loop-note.invariant in
     let rising : 0 + k ≤ n.class = rw (← c.note-item.is) at (rising-at 0 ns c.requires.rising k n lt) in
     let classes : k + 1 ≤ 256 = omega (arith, rising) in
-    height-next store ns (drop (k + 1) ns) k n height c.list_height.result c.sum_of.result c.sum_of-height.result classes note c.list_height.ensures.value c.list_height.ensures.within so c.sum_of.ensures c.sum_of-height.ensures
+    height-next store ns (drop (k + 1) ns) k n height c.note_room.result c.sum_of-height.result classes note c.note_room.ensures.value c.note_room.ensures.within so c.sum_of-height.ensures
 
 pub returns-clause-value : goal.returns-clause-value
 returns-clause-value c =

@@ -1,7 +1,9 @@
 use Rattle.tb_top.proofs.WorkedTexts.WorkedRows.{worked_rows}
 use Rattle.tb_top.proofs.WorkedTexts.FloatRowLemmas.{float_rows}
+use Rattle.tb_top.proofs.WorkedTexts.EnlargeRowLemmas.{enlarge_rows}
 use Rattle.tb_top.proofs.WorkedTexts.ColumnRowLemmas.{column_rows}
 use Rattle.tb_top.proofs.WorkedTexts.ColumnEndRowLemmas.{column_end_rows}
+use Rattle.tb_top.proofs.WorkedTexts.TitleRowLemmas.{title_rows}
 use Rattle.tb_top.proofs.WorkedTexts.VersionRowLemmas.{version_rows}
 use Rattle.tb_top.proofs.WorkedTexts.RateRowLemmas.{rate_rows}
 use Rattle.tb_top.proofs.WorkedTexts.BestRowLemmas.{best_rows}
@@ -17,11 +19,17 @@ returns-clause-text c = worked_rows
 pub returns-clause-floats : goal.returns-clause-floats
 returns-clause-floats c = float_rows
 
+pub returns-clause-enlarged : goal.returns-clause-enlarged
+returns-clause-enlarged c = enlarge_rows
+
 pub returns-clause-columns : goal.returns-clause-columns
 returns-clause-columns c = column_rows
 
 pub returns-clause-column_ends : goal.returns-clause-column_ends
 returns-clause-column_ends c = column_end_rows
+
+pub returns-clause-titles : goal.returns-clause-titles
+returns-clause-titles c = title_rows
 
 pub returns-clause-versions : goal.returns-clause-versions
 returns-clause-versions c = version_rows

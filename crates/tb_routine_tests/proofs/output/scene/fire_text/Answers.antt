@@ -32,4 +32,4 @@ fire_over-requires-clause-page c =
     (subst (λ (q : ℕ). IsPageList c.text_list.new.store q) body c.in_ok-body.ensures.page)
     (subst (λ (q : ℕ). length (list_at c.text_list.new.store q) ≤ 201) body c.in_ok-body.ensures.few)
     (subst (λ (q : ℕ). get c.args.store.now.lists q ≡ None) body c.in_ok-body.ensures.fresh)
-    c.in_ok-builder.ensures.fresh
+    c.in_ok-builder.ensures.fresh c.page_of.ensures.shrink
