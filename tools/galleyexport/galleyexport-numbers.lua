@@ -9,18 +9,22 @@ local M = {}
 
 M.MOST = 1000000       -- the greatest number that a galley can set
 local now = 1          -- the number of the page that is being made, as the records tell it
+local unsaid           -- the document's number of this page, if no record can tell it
 
--- A page with this number is shipped.
-function M.shipped(number) now = number + 1 end
+-- A page is shipped.
+function M.shipped()
+  now, unsaid = now + 1, nil
+end
 
 -- Looks at the page's number.
 function M.watch()
   local number = tex.count["c@page"]
-  if number == now then return end
-  now = number
+  if number == now or number == unsaid then return end
   if number >= 0 and number <= M.MOST then
+    now, unsaid = number, nil
     nodes.add { kind = "page", number = number }
   else
+    unsaid = number
     log.lost(string.format("the page number %d", number))
   end
 end

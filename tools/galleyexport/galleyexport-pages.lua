@@ -242,7 +242,7 @@ function M.page(box, two_columns, text_height, number)
   local v = tex.box[box]
   if not v or node.get_attribute(v, DONE) == 2 then return end
   node.set_attribute(v, DONE, 2)
-  numbers.shipped(number)
+  numbers.shipped()
   local page = { number = number, columns = waiting, clears = parameters.current(), kind = "one" }
   waiting = {}
   if #page.columns == 2 then

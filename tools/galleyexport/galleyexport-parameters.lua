@@ -94,6 +94,16 @@ function M.watch(by_routine)
   end
 end
 
+local kernel_routine = tex.output      -- LaTeX's output routine, as it was when this package was read
+local is_other = false
+
+-- Notes where the document begins to make pages by another output routine, as within multicols.
+function M.watch_routine()
+  local other = tex.output ~= kernel_routine
+  if other and not is_other then log.lost("another output routine (\\output), whose rules are not the program's") end
+  is_other = other
+end
+
 -- ---- Votes
 
 local function add_vote(name, value)

@@ -50,6 +50,7 @@ local function before_page_builder(info)
     else
       M.floats.suppressed(true)
       M.parameters.watch(false)
+      M.parameters.watch_routine()
       M.parameters.enter(M.nodes.clears)
       M.floats.titles()
       M.numbers.watch()

@@ -233,10 +233,12 @@ def _columns(pages, own):
 
 
 def _page_of(number, shipped, pages, columns):
-    """The place of the page on which a rated column stands, by its number: it is the last that was shipped, or of the first
-    of two columns the one that is being made."""
-    last = pages[shipped - 1] if shipped else None
-    return shipped if last and last.number == number and columns[shipped - 1] else shipped + 1
+    """The place of the page on which a rated column stands, by its number. It is the last page with text that was shipped,
+    since pages of floats may have followed at once; or of the first of two columns the page that is being made."""
+    place = shipped
+    while place and all(column.kind != 'text' for column in pages[place - 1].columns):
+        place -= 1
+    return place if place and pages[place - 1].number == number and columns[place - 1] else shipped + 1
 
 
 def side(program, galley, breaks):

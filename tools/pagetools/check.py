@@ -83,8 +83,9 @@ def weighed(log):
     return [line for line in text.splitlines() if line.startswith('% t=')]
 
 
-def is_untouched(source, out, code, scratch, seconds):
-    """Whether LaTeX weighs the same places without the exporter. The auxiliary files are those of the run with it."""
+def change_by_export(source, out, code, scratch, seconds):
+    """What the exporter changes in the places that LaTeX weighs, '' for nothing. The auxiliary files of the run without it
+    are those of the run with it."""
     name = os.path.splitext(os.path.basename(source))[0]
     folder = tempfile.mkdtemp(dir=scratch)
     for file in os.listdir(out):
@@ -94,9 +95,13 @@ def is_untouched(source, out, code, scratch, seconds):
         wrapper.write('%s\\AddToHook{begindocument/end}{\\tracingpages1 \\tracingonline0 \\wlog{%s}}\\input{%s}\n' % (
             code, tries.BEGIN, os.path.abspath(source)))
     paths = {'TEXINPUTS': '.:%s:' % os.path.dirname(os.path.abspath(source)), 'max_print_line': '100000'}
-    output(['lualatex', '-interaction=nonstopmode', '-jobname=' + name, 'plain.tex'], seconds, cwd=folder,
-           env=dict(os.environ, **paths))
-    return weighed(os.path.join(folder, name + '.log')) == weighed(os.path.join(out, name + '.log'))
+    said = output(['lualatex', '-interaction=nonstopmode', '-jobname=' + name, 'plain.tex'], seconds, cwd=folder,
+                  env=dict(os.environ, **paths))
+    log = os.path.join(folder, name + '.log')
+    if not os.path.exists(log):
+        return 'LaTeX wrote no log without the exporter:\n' + said
+    same = weighed(log) == weighed(os.path.join(out, name + '.log'))
+    return '' if same else 'LaTeX weighs other places without the exporter'
 
 
 def stored_difference(program):
@@ -137,8 +142,10 @@ class Table:
             show(cells)
         if not cells or (not document and not self.form.is_whole(cells)):
             self.failed.append((name, said))
-        elif not self.options.best and not is_untouched(source, own, code, self.scratch, self.options.seconds):
-            self.failed.append((name, 'LaTeX weighs other places without the exporter'))
+        elif not self.options.best:
+            changed = change_by_export(source, own, code, self.scratch, self.options.seconds)
+            if changed:
+                self.failed.append((name, changed))
 
     def finish(self):
         """The sums, and what failed. Gives the exit status."""

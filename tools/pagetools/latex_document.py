@@ -92,6 +92,8 @@ class Document:
             self.run_latex()
             if not os.path.exists(aux) or os.path.exists(last) and filecmp.cmp(aux, last, shallow=False):
                 break
+        else:
+            say('LaTeX: the auxiliary file has changed again, so the next call may give other pages')
         if os.path.exists(last):
             os.remove(last)
 

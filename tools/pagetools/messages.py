@@ -5,6 +5,7 @@ import re
 
 POOL_MOST = 4096
 DEFAULTS = {'maxnodes': 4194304, 'maxpages': 1000000}       # they are also the most that may be
+CYCLING = ('float', 'head', 'margin', 'enlarge', 'clearpage', 'onecolumn', 'twocolumn')     # may fire without a page
 WIDTH = 100             # of a line that is shown
 
 # What a line of each word is, in a galley and in a text of paragraphs.
@@ -73,7 +74,8 @@ OTHERS = {
     'Words': 'an option was refused. `--count` takes 1 to 40000',
     'PoolFull': 'as many boxes of floats and marginal notes wait as `pool` allows ({now}). {advice}',
     'DeadCycles': 'the output routine fired {now} times in a row without a page. `set maxdeadcycles {enough}` is always '
-                  'enough here: 16, and 4 for each float, marginal note, clear and change of columns',
+                  'enough here: 16, and 4 for each float, title, marginal note, page that is made higher, clear and '
+                  'change of columns',
     'PageLimit': 'as many pages were shipped as `maxpages` allows ({now}). {advice}',
     'ReadFault': 'the input could not be read. It is closed, or a folder, or its device failed',
     'WriteFault': 'the output could not be written. The device is full, or the reader of a pipe has stopped',
@@ -179,7 +181,7 @@ def _place(status, values, source):
         return line, 2, {'name': name}
     if status in PARAMETERS:
         name = PARAMETERS[status]
-        enough = 16 + 4 * source.count(('float', 'margin', 'clearpage', 'onecolumn', 'twocolumn'))
+        enough = 16 + 4 * source.count(CYCLING)
         line = source.setting(name)
         return line or 0, 3, {'enough': enough, 'advice': _limit_advice(name, line)}
     return 0, 0, {}

@@ -111,9 +111,11 @@ def paginate_best(doc, options):
     reports = [part.file('.chosen.report') for part in parts]
     every = ['--every-page'] if options.every_page else []
     same = compare.main([doc.path('.pages')] + reports + ['--log', doc.path('.log')] + every) == 0
+    traces = [part.file('.chosen.trace') for part in parts]
+    same = tries.main([doc.path('.log')] + traces + ['--quiet']) == 0 and same
     if not options.no_pictures:
-        chosen = [[part.file('.chosen.' + ending) for part in parts] for ending in ('galley', 'trace', 'why')]
-        picture.main(reports + ['--galley'] + chosen[0] + ['--trace'] + chosen[1] + ['--why'] + chosen[2] + [
+        chosen, told_of = ([part.file('.chosen.' + ending) for part in parts] for ending in ('galley', 'why'))
+        picture.main(reports + ['--galley'] + chosen + ['--trace'] + traces + ['--why'] + told_of + [
             '--before'] + [part.file('.report') for part in parts] + [
             '--told', best_document.write(doc.path('.changes'), told + '\n'), '--galleylog', doc.path('.galleylog'),
             '--out', os.path.join(doc.out, 'pictures')])

@@ -37,6 +37,12 @@ def run(main, *arguments):
     return status, out.getvalue()
 
 
+def is_installed(file):
+    """Whether TeX finds the file; False where there is no TeX."""
+    return bool(shutil.which('kpsewhich')) and subprocess.run(
+        ['kpsewhich', file], stdout=subprocess.DEVNULL, check=False).returncode == 0
+
+
 class Folder:
     """A copy of some inputs, with the program that GALLEY_PAGES names and the command on the path."""
 

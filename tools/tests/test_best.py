@@ -114,6 +114,16 @@ class Columns(unittest.TestCase):
             self.assertEqual(sum(it.demerits for it in after.endings) + 1000 * len(breaks), sums[1], name)
             self.assertEqual([it.line for it in after.endings if it.chosen], breaks, name)
 
+    def test_pages_of_floats_that_follow_a_column_at_once(self):
+        # two floats that fill a page wait for the end of page 1
+        lines = ['box b.%d 7pt 2pt\nglue 3pt\n' % k for k in range(30)]
+        lines[5:5] = ['float F%d 1 single p 110pt vert\n' % k for k in range(2)]
+        text = 'galley 1\nset textheight 120pt\n%snewpage\nend\n' % ''.join(lines)
+        told = best.side(PROGRAM, text, [])
+        kinds = [page.columns[0].kind for page in told.report.pages]
+        self.assertEqual(kinds[:3], ['text', 'floats', 'floats'])
+        self.assertEqual([it.page for it in told.endings], [k for k, kind in enumerate(kinds, 1) if kind == 'text'])
+
     def test_the_penalty_of_a_break_that_is_put_in(self):
         text = galley('widow.galley')
         line = text.splitlines().index('box b.4 7pt 2pt') + 2

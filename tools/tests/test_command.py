@@ -161,6 +161,7 @@ class Refusals(unittest.TestCase):
         self.assertIn('a.galley:2:3: DeadCycles: ', told[0])
         self.assertIn('`set maxdeadcycles 28` is always enough', told[0])
         self.assertEqual(told[1:], [' 2 | set maxdeadcycles 3', '   |                   ^'])
+        self.assertIn('`set maxdeadcycles 36` is', self.told('dead cycles 3', text + b'head b\nenlarge 1pt\n')[0])
         self.assertIn('`set pool 4096` is the most', self.told('line 1: float pool full at 18', b'float a\n' * 4097)[0])
         self.assertIn('the default, 1000000, is the most', self.told('page limit 1', b'set maxpages 1')[0])
         self.assertIn('split the galley', self.told('node limit at 4194305', b'galley 1')[0])

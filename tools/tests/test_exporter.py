@@ -1,10 +1,9 @@
 """Tests of the exporter on small documents, where LuaLaTeX is installed; else they are left out. Run by tools/test."""
 import re
 import shutil
-import subprocess
 import unittest
 
-from support import Latex
+from support import Latex, is_installed
 
 FLOAT = r'\begin{figure}[%s]\vbox to 3cm{}\caption{A}\end{figure} '
 PAGE = r'Words.\vspace*{10cm} Words.\marginpar{note} \newpage '
@@ -56,9 +55,16 @@ class Exporter(Latex):
         self.assertRegex(self.read('test.galleylog'),
                          r"can't say: topskip, which the output routine changes from 1310720 to 655360: 1 times")
 
+    @unittest.skipUnless(is_installed('multicol.sty'), 'no multicol')
+    def test_another_output_routine(self):
+        told, columns = "can't say: another output routine", r'\begin{multicols}{2}Words. Words.\end{multicols}'
+        self.export(PAGE * 2, preamble=r'\usepackage{multicol}')
+        self.assertNotIn(told, self.read('test.galleylog'))
+        self.export(PAGE + columns + PAGE + columns, preamble=r'\usepackage{multicol}')
+        self.assertRegex(self.read('test.galleylog'), told + r'.*: 2 times \(page 2, .*; page 3, ')
+
+    @unittest.skipUnless(is_installed('footmisc.sty'), 'no footmisc')
     def test_areas_of_floats_with_footmisc(self):
-        if subprocess.run(['kpsewhich', 'footmisc.sty'], stdout=subprocess.DEVNULL, check=False).returncode:
-            self.skipTest('footmisc is not installed')
         self.export(FLOAT % 't' + FLOAT % 'b' + r'Words.\footnote{A note.}', preamble=r'\usepackage[bottom]{footmisc}')
         self.assertEqual(re.findall(r'^float figure\.\d 1 (\w+)', self.read('test.pages'), re.M), ['top', 'bottom'])
 

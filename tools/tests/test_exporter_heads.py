@@ -46,6 +46,12 @@ class Heads(Latex):
         self.assertTrue(self.lines('test.2.galley')[3].startswith('head '))
         self.assert_pages('test.galley', 'test.2.galley')
 
+    def test_a_height_that_is_changed_before_a_clear(self):
+        self.export(LINES * 3 + r'\textheight 300pt\clearpage ' + LINES * 30)
+        heights = [re.search(r'^set textheight (\d+)', self.read(name), re.M)[1] for name in ('test.galley', 'test.2.galley')]
+        self.assertEqual(heights, [str(550 * PT), str(300 * PT)])
+        self.assert_pages('test.galley', 'test.2.galley')
+
     def test_a_head_that_leaves_no_room(self):
         # LaTeX ships two empty columns below it, which the galley has as boxes
         self.export(LINES + r'\twocolumn[\vbox to 530pt{\vss}]' + LINES * 3)
@@ -106,6 +112,12 @@ class Enlarged(Latex):
         self.assertEqual(self.heights()[1:], [0] * len(self.heights()[1:]))
         self.assert_all('enlarge %d' % (20 * PT))
 
+    def test_a_class_without_enlarged_pages(self):
+        # as under revtex; the kernel's own column maker gets the insertion back
+        log = self.export(LINES, preamble=r'\let\kept\@kludgeins \let\@kludgeins\undefined '
+                          r'\AddToHook{begindocument/end}[test]{\global\let\@kludgeins\kept}')
+        self.assertEqual([line for line in log.splitlines() if line.startswith('!')], [])
+
     def test_a_size_that_stretches(self):
         self.export(LINES + r'\enlargethispage{20pt plus 5pt}' + LINES)
         self.assertIn('enlarge %d' % (20 * PT), self.lines())
@@ -151,10 +163,12 @@ class Numbers(Latex):
         self.assertEqual(self.lines('test.2.galley')[:2], ['galley 3', 'page 4'])
         self.assert_pages('test.galley', 'test.2.galley')
 
-    def test_a_number_below_0(self):
-        self.export(LINES + r'\clearpage\setcounter{page}{-3}' + LINES)
-        self.assertEqual((self.words(), self.numbers()), ([], [1, -3]))
-        self.assertIn("can't say: the page number -3", self.read('test.galleylog'))
+    def test_numbers_below_0(self):
+        self.export(LINES + r'\clearpage\setcounter{page}{-2}' + LINES + r'\clearpage ' + LINES + r'\clearpage ' + LINES)
+        # the page after them has a number that a galley can say
+        self.assertEqual((self.words(), self.numbers()), (['page 0'], [1, -2, -1, 0]))
+        for number in (-2, -1):
+            self.assertIn("can't say: the page number %d: 1 times" % number, self.read('test.galleylog'))
 
 
 if __name__ == '__main__':

@@ -2,10 +2,9 @@
 footnotes stand. With a program, its pages are to be LaTeX's in every place. Left out where no LuaLaTeX is installed."""
 import re
 import shutil
-import subprocess
 import unittest
 
-from support import Latex
+from support import Latex, is_installed
 
 FLOAT = r'\begin{%s}[%s]\vbox to 3cm{}\caption{A}\end{%s} '
 LINES = 'Words that fill some lines of the page, so that it has text. ' * 6 + '\n\n'
@@ -24,10 +23,6 @@ def document(notes=True):
     """A text of some pages, with floats at the top, at the bottom and between lines, and with footnotes or without."""
     note = NOTE if notes else ''
     return (LINES * 3 + note + figure('t') + LINES * 4 + figure('b') + LINES * 3 + note + figure('h') + LINES * 8) * 2
-
-
-def is_installed(*files):
-    return all(subprocess.run(['kpsewhich', file], stdout=subprocess.DEVNULL, check=False).returncode == 0 for file in files)
 
 
 @unittest.skipUnless(shutil.which('lualatex'), 'no lualatex')

@@ -19,7 +19,7 @@ for ending in ('galley', 'galleylog', 'pages', 'log'):
     shutil.copy(os.path.join(%r, 'notes.' + ending), name + '.' + ending)
 if os.path.exists(name + '.best'):
     with open(name + '.log', 'a') as log: log.write(os.environ.get('PUT', 'galleybreaks: 1 of 1 page breaks were put in') + '\\n')
-open(name + '.aux', 'w').close()
+with open('runs') as runs, open(name + '.aux', 'w') as aux: aux.write(runs.read() * ('CHANGES' in os.environ))
 '''
 
 # Stands for galley_pages: the stored report, trace and ratings of notes.tex, and a choice with the breaks that BREAKS has. It has no float, so nothing is told besides the trace.
@@ -72,6 +72,13 @@ class Documents(Stand):
         with open(self.path('out of it/runs'), encoding='utf-8') as runs:
             self.assertEqual(runs.read().count('run'), 3)
 
+    def test_an_auxiliary_file_that_changes_each_time(self):
+        told = 'the auxiliary file has changed again'
+        self.assertNotIn(told, self.paginate(self.path('my notes.tex'))[1])
+        with mock.patch.dict(os.environ, CHANGES='1'):
+            said = self.paginate(self.path('my notes.tex'))[1]
+        self.assertIn('LaTeX, run 3 of at most 3\nLaTeX: ' + told, said)
+
     def test_why_no_galley_was_written(self):
         with mock.patch.dict(os.environ, FAILS='yes'):
             status, said = self.paginate(self.path('my notes.tex'))
@@ -120,6 +127,7 @@ class Best(Stand):
         self.assertEqual(status, 0, said)
         self.assertIn('\n1 page break is put in:\n  line 60, after b: ', said)
         self.assertIn('\ndemerits: 9 before, 8 now\n', said)
+        self.assertRegex(said, r'\nTeX weighed (\d+) places, \1 were found the same; ')
         self.assertEqual(said.count('LaTeX, run'), 3)
         for name in ('chosen.galley', 'chosen.report', 'changes', 'report'):
             self.assertTrue(os.path.exists(self.path('out of it/my notes.' + name)), name)

@@ -2,7 +2,9 @@
 stored/notes.tex and of the paper in examples/document. They need Python alone. Run by tools/test."""
 import os
 import subprocess
+import tempfile
 import unittest
+import unittest.mock
 
 from support import HERE, Scratch, document, run, stored
 
@@ -205,6 +207,27 @@ class Tables(Scratch):
         listed = list(check.documents(os.path.join(HERE, os.pardir, 'documents')))
         self.assertGreaterEqual(len(listed), 10)
         self.assertEqual(len({one.name for one in listed}), len(listed))
+
+    def change_by_export(self, exported, plain):
+        """What is told of the logs with the exporter and without it; None for a run that writes none."""
+        out, scratch = tempfile.mkdtemp(dir=self.folder), tempfile.mkdtemp(dir=self.folder)
+
+        def write(folder, places):
+            with open(os.path.join(folder, 'test.log'), 'w', encoding='utf-8') as log:
+                log.write('%s\n%s\n' % (tries.BEGIN, places))
+
+        def latex(_command, _seconds, cwd, **_options):
+            if plain:
+                write(cwd, plain)
+            return "I can't find the format file"
+        write(out, exported)
+        with unittest.mock.patch.object(check, 'output', latex):
+            return check.change_by_export('test.tex', out, '', scratch, 9)
+
+    def test_what_the_exporter_changes(self):
+        self.assertEqual(self.change_by_export('% t=61.0', '% t=61.0'), '')
+        self.assertIn('other places', self.change_by_export('% t=61.0', '% t=62.0'))
+        self.assertIn("no log without the exporter:\nI can't find", self.change_by_export('% t=61.0', None))
 
 
 if __name__ == '__main__':
