@@ -9,6 +9,10 @@ pub mod ColumnOutcomes
 pub mod ServeOutcomes
 pub mod ClearOutcomes
 pub mod ClearCases
+pub mod RaiseCounts
+pub mod RaiseSplits
+pub mod RaisePages
+pub mod RaiseFirings
 pub mod CycleStates
 pub mod CycleBreaks
 pub mod CycleVoids
@@ -18,9 +22,9 @@ pub mod CycleFirings
 pub mod HighStates
 pub mod HighFirings
 pub mod ValidPenalties
-pub mod OtherFeet
 pub mod CyclePages
 pub mod CycleStarts
+pub mod RaiseBounds
 pub mod LowGoing
 pub mod HighPages
 pub mod HighGoing

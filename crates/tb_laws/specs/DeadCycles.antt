@@ -1,6 +1,5 @@
 -- The bound on firings without a page: a galley whose limit has room for what its items can bring never meets that limit.
-use Rattle.std.specs.Prelude.{ℕ, pos, ◌+◌, ◌*◌, ◌≤ℤ◌, Bool, true, false, not, IsTrue, List, [], ◌∷◌}
-use Rattle.std.specs.List.{list_all}
+use Rattle.std.specs.Prelude.{ℕ, pos, ◌+◌, ◌*◌, ◌≤ℤ◌, List, [], ◌∷◌}
 use Rattle.tb_galley.specs.declared.Item.{Item}
 use Rattle.tb_galley.specs.declared.ItemKind.{ItemKind}
 use Rattle.tb_galley.specs.declared.ItemKind.TheVariants as items
@@ -8,11 +7,12 @@ use Rattle.tb_galley.specs.declared.Galley.{Galley}
 use Rattle.tb_galley.specs.Valid.{IsValid}
 use Rattle.tb_steps.specs.Run.{End, done, pool_full, dead_cycles, page_limit, node_limit, run_of}
 
--- 1 for an item that can bring firings without a page: a float, a title among them, a marginal note, a clear, a change of columns
+-- 1 for an item that can bring firings without a page: a float, a title among them, a marginal note, a page that is made higher, a clear, a change of columns
 abbrev pub cycling_count : ItemKind → ℕ
 cycling_count (items.Float f vert) = 1
 cycling_count (items.Head f) = 1
 cycling_count (items.Margin m vert) = 1
+cycling_count (items.Enlarge by star) = 1
 cycling_count items.ClearPage = 1
 cycling_count items.OneColumn = 1
 cycling_count items.TwoColumn = 1
@@ -23,14 +23,9 @@ abbrev pub cycling_items : List Item → ℕ
 cycling_items [] = 0
 cycling_items (n ∷ ns) = cycling_count n.kind + cycling_items ns
 
--- the item makes a page higher
-abbrev pub makes_higher : ItemKind → Bool
-makes_higher (items.Enlarge by star) = true
-makes_higher _ = false
-
--- the limit on dead cycles has room for the galley: no page is made higher, and it allows four firings without a page for each such item, and sixteen besides
+-- the limit on dead cycles has room for the galley: it allows four firings without a page for each such item, and sixteen besides
 abbrev pub HasRoomForCycles : Galley → Type 0
-HasRoomForCycles g = IsTrue (list_all (λ n. not (makes_higher n.kind)) g.items) × (pos (4 * cycling_items g.items + 16) ≤ℤ g.params.maxdeadcycles)
+HasRoomForCycles g = pos (4 * cycling_items g.items + 16) ≤ℤ g.params.maxdeadcycles
 
 -- a run did not end for its dead cycles
 abbrev pub EndsWithinCycles : End → Type 0

@@ -51,8 +51,8 @@ pub fn classes_keep_their_order()
     ensures { ClassesKeepOrder }
 {}
 
-/// Dead cycles are few: a run of a valid galley that makes no page higher does not end for its dead cycles if their limit
-/// allows four for each float, title, marginal note, clear and change of columns, and sixteen besides.
+/// Dead cycles are few: a run of a valid galley does not end for its dead cycles if their limit allows four for each float,
+/// title, marginal note, page that is made higher, clear and change of columns, and sixteen besides.
 pub fn dead_cycles_are_few()
     ensures { DeadCyclesAreFew }
 {}

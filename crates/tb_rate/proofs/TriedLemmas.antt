@@ -1,8 +1,8 @@
 -- Each place that is tried in a step has a badness of at least 0 and a penalty below 10000.
 use Rattle.std.proofs.Common.{◌≡◌, refl, ℕ, ◌≤ℤ◌, ℤ, pos, Bool, true, false, List, [], ◌∷◌, ◌++◌, map, Option, Some, None, arith}
-use Rattle.std.specs.Prelude.{negsuc, ◌<ℤ◌, ◌-ℤ◌, ◌*ℤ◌, ◌+ℤ◌, pred, int_lt, int_le, int_div, IfSome, if◌then◌else◌}
+use Rattle.std.specs.Prelude.{negsuc, ◌<ℤ◌, ◌-ℤ◌, ◌*ℤ◌, ◌+ℤ◌, int_lt, int_le, int_div, IfSome, if◌then◌else◌}
 use Rattle.std.proofs.lemmas.Int.{ints}
-use Rattle.tb_scaled.specs.Scaled.{awful_bad, inf_bad, inf_penalty, min_ℤ, badness_ratio, cubed_ratio, badness_of}
+use Rattle.tb_scaled.specs.Scaled.{awful_bad, inf_bad, inf_penalty, badness_ratio, cubed_ratio, badness_of}
 use Rattle.tb_node.specs.Shape.{Shape, box, glue, kern, penalty, other}
 use Rattle.tb_node.specs.declared.Sums.{Sums}
 use Rattle.tb_node.specs.PlainNodes.{PlainKind, plain, ins, act, PlainNode, node_shape, without_acts}
@@ -14,15 +14,14 @@ use Rattle.tb_insert.specs.Terms.{Terms}
 use Rattle.tb_insert.specs.Account.{terms_after}
 use Rattle.tb_sheet.specs.Sheet.{PlainSent, warned}
 use Rattle.tb_sheet.specs.declared.Warn.{Warn}
-use Rattle.tb_builder.specs.declared.Ask.{Ask}
 use Rattle.tb_builder.specs.declared.Try.{Try}
 use Rattle.tb_builder.specs.Reach.{Reached, acted, tried, Reach, also_reached, page_place, reach_at, reach_node, reach_from, stopped_at, laid_out}
-use Rattle.tb_builder.specs.FiredPages.{reach_of, fired_of, frozen_for}
-use Rattle.tb_output.specs.State.{State, Recorded, emptied}
-use Rattle.tb_output.specs.Act.{Acted, went, full, act_on}
-use Rattle.tb_output.specs.Output.{out}
+use Rattle.tb_builder.specs.FiredPages.{frozen_for}
+use Rattle.tb_output.specs.State.{State}
 use Rattle.tb_items.specs.RunEvents.{RunEvent, offered, sent}
-use Rattle.tb_steps.specs.Run.{End, done, dead_cycles, page_limit, node_limit, Progress, progress_by, progress, Step, ends, goes_on, step_events, held_count, after_firing, fire, after_progress, step, ask_for}
+use Rattle.tb_steps.specs.Run.{Step, ends, goes_on, step_events, step, ask_for}
+use Rattle.tb_steps.proofs.RunTree.{served_at, step-is}
+use Rattle.tb_steps.proofs.RunFolds.{RunLaw, StepHolds, step-holds}
 use Rattle.tb_rate.specs.Rating.{IsTried}
 use Rattle.tb_rate.specs.Tries.{later_champion, champion_or, last_champion}
 
@@ -131,56 +130,38 @@ AreTried [] = Unit {0}
 AreTried (offered t ∷ es) = IsTried t × AreTried es
 AreTried (sent e ∷ es) = AreTried es
 
-sends-tried : (xs : List RunEvent) (es : List PlainSent) → AreTried xs → AreTried (xs ++ map sent es)
-sends-tried [] [] h = tt
-sends-tried [] (e ∷ es) h = sends-tried [] es tt
-sends-tried (offered t ∷ xs) es h = (h.0, sends-tried xs es h.1)
-sends-tried (sent e ∷ xs) es h = sends-tried xs es h
+both-tried : (xs ys : List RunEvent) → AreTried xs → AreTried ys → AreTried (xs ++ ys)
+both-tried [] ys h k = k
+both-tried (offered t ∷ xs) ys h k = (h.0, both-tried xs ys h.1 k)
+both-tried (sent e ∷ xs) ys h k = both-tried xs ys h k
 
-warned-tried : (ws : List Warn) (es : List RunEvent) → AreTried es → AreTried (map (λ w. sent (warned w)) ws ++ es)
-warned-tried [] es h = h
-warned-tried (w ∷ ws) es h = warned-tried ws es h
+sent-tried : (es : List PlainSent) → AreTried (map sent es)
+sent-tried [] = tt
+sent-tried (e ∷ es) = sent-tried es
 
-act-tried : (later : State → Progress) (s : State) → ((t : State) → AreTried (later t).events) → (a : Acted) → AreTried (progress_by later s a).events
-act-tried later s h (went t ws rs) = warned-tried ws (later t).events (h t)
-act-tried later s h (full line live) = tt
+warned-tried : (ws : List Warn) → AreTried (map (λ w. sent (warned w)) ws)
+warned-tried [] = tt
+warned-tried (w ∷ ws) = warned-tried ws
 
-progress-tried : (p : Params) (rs : List Reached) → ArePlaces rs → (least : ℤ) (s : State) → AreTried (progress p rs least s).events
-progress-tried p [] h least s = tt
-progress-tried p (acted a ∷ rs) h least s = act-tried (λ t. progress p rs least t) s (λ t. progress-tried p rs h.1 least t) (act_on p s a)
-progress-tried p (tried line b ∷ rs) h least s = (record { badness = h.0.0; penalty = h.0.1 }, progress-tried p rs h.1 (min_ℤ least b.cost) s)
-
-module _ (es : List RunEvent) (rs qs : List Recorded) (h : AreTried es) where
-  firing-by : (xs : List PlainSent) (refused over : Bool) (e f : End) (s : State)
-      → AreTried (step_events (if refused then ends (es ++ map sent xs) rs e else (if over then ends (es ++ map sent xs) rs f else goes_on (es ++ map sent xs) rs s)))
-  firing-by xs true over e f s = sends-tried es xs h
-  firing-by xs false true e f s = sends-tried es xs h
-  firing-by xs false false e f s = sends-tried es xs h
-
-  either-tried : (t : Bool) (fired : Step) (e : End) → AreTried (step_events fired) → AreTried (step_events (if t then fired else ends es qs e))
-  either-tried true fired e k = k
-  either-tried false fired e k = h
-
-fire-tried : (p : Params) (a : Ask) (w : Reach) (q : Progress) → AreTried q.events → AreTried (step_events (fire p a w q))
-fire-tried p a w q h =
-    let s = q.state in
-    let x = out p s (fired_of a s.classes s.boxes w) in
-    either-tried q.events q.records q.records h (int_lt (pos s.dead_cycles) p.maxdeadcycles) (after_firing p q.events q.records x) (dead_cycles s.dead_cycles)
-    (firing-by q.events (q.records ++ x.records) [] h x.sent x.refused (int_lt p.maxnodes (pos (held_count x.state))) (page_limit (pred x.state.page)) (node_limit (held_count x.state)) x.state)
-
-fault-tried : (p : Params) (a : Ask) (w : Reach) (q : Progress) → AreTried q.events → (o : Option (ℕ × ℕ)) → AreTried (step_events (after_progress p a w q o))
-fault-tried p a w q h None = either-tried q.events q.records (q.records ++ emptied q.state.floats ∷ []) h w.fires (fire p a w q) (done w.passed) (fire-tried p a w q h)
-fault-tried p a w q h (Some f) = h
+abbrev trying : (p : Params) → RunLaw p
+trying p = record {
+  shows = record { holds = λ es rs. AreTried es; none = tt; both = λ es fs rs qs h k. both-tried es fs h k };
+  between = λ s. Unit {0};
+  within = λ o rs s. ArePlaces rs;
+  begins = λ s h. reached-places (ask_for p s).max_depth (terms_after (frozen_for (ask_for p s) s.classes s.boxes)) [] (laid_out (ask_for p s).top_skip [] s.waiting);
+  tries = λ o line b least rs s h. ((record { badness = h.0.0; penalty = h.0.1 }, tt), h.1);
+  acts = λ o s t a ws records rs m h. (warned-tried ws, h.1);
+  fires = λ o s h. (sent-tried (served_at p o s).sent, tt);
+  stops = λ o s h. tt;
+}
 
 -- each place that is tried in a step
 pub step-tried : (p : Params) (s : State) → AreTried (step_events (step p s))
-unfolding step
-step-tried p s =
-    let ask = ask_for p s in
-    let w = reach_of ask s.classes s.boxes [] s.waiting in
-    let q = progress p w.reached awful_bad s in
-    let places = reached-places ask.max_depth (terms_after (frozen_for ask s.classes s.boxes)) [] (laid_out ask.top_skip [] s.waiting) in
-    fault-tried p ask w q (progress-tried p w.reached places awful_bad s) q.fault
+step-tried p s = by_step (step p s) (step-holds (trying p) (step-is p s) tt)
+  where
+    by_step : (x : Step) → StepHolds (trying p) x → AreTried (step_events x)
+    by_step (ends es rs e) h = h
+    by_step (goes_on es rs t) h = h.0
 
 -- ---- the break
 

@@ -1,1 +1,3 @@
 pub mod LedLemmas
+pub mod RunTree
+pub mod RunFolds

@@ -53,9 +53,9 @@ impl From<SinkFault> for PageFault {
 /// shipped each box, rule, float and note of the galley once, the boxes and rules of the text in their order, and the floats
 /// of each class (in release 2014 of each class and width) in theirs, but for those that a break carried; the totals show it,
 /// and its DVI file, if in range and of at most 8388608 bytes, lists its placements. Whatever the end, no float without `!`
-/// was placed past the limits of its list. `DeadCycles` is not returned if the galley has no `enlarge` and `maxdeadcycles` is
-/// at least 16 plus 4 for each float, head, marginal note, clearpage, onecolumn and twocolumn. After `WriteFault`, which comes
-/// only if `out` failed and never at a silent view, and after `Memory` a prefix of the run's text is written.
+/// was placed past the limits of its list. `DeadCycles` is not returned if `maxdeadcycles` is at least 16 plus 4 for each
+/// float, head, marginal note, enlarge, clearpage, onecolumn and twocolumn. After `WriteFault`, which comes only if `out`
+/// failed and never at a silent view, and after `Memory` a prefix of the run's text is written.
 pub fn paginate<K: Sink>(
     alloc: Global,
     galley: &Galley,

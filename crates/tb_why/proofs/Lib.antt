@@ -1,3 +1,4 @@
+pub mod ShownTree
 pub mod RunLemmas
 pub mod PlacementLemmas
 pub mod SeenLemmas

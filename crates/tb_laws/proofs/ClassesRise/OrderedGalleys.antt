@@ -1,6 +1,6 @@
 -- The floats of a valid galley keep the order of their class, but for those that a break carried.
-use Rattle.std.proofs.Common.{◌≡◌, refl, sym, ◌∙◌, ap, subst, ℕ, suc, pos, ◌<◌, ◌≢◌, ◌==◌, ◌⊎◌, inl, inr, ◌||◌, Bool, true, false, List, [], ◌∷◌, ◌++◌, append_assoc, arith}
-use Rattle.std.specs.Prelude.{int_lt, int_le, IsTrue, not, map, if◌then◌else◌}
+use Rattle.std.proofs.Common.{◌≡◌, refl, sym, ◌∙◌, ap, subst, ℕ, ◌<◌, ◌≢◌, ◌==◌, ◌⊎◌, inl, inr, ◌||◌, Bool, true, false, List, [], ◌∷◌, ◌++◌, append_assoc, arith}
+use Rattle.std.specs.Prelude.{int_le, IsTrue, not, map, if◌then◌else◌}
 use Rattle.std.specs.Bool.{beq}
 use Rattle.std.specs.List.{AllByRecursion}
 use Rattle.std.proofs.lemmas.Bool.{and_parts, eqb-true, or_left, or_right}
@@ -16,14 +16,14 @@ use Rattle.tb_galley.specs.GalleyNodes.{two_after, expanded}
 use Rattle.tb_galley.specs.Valid.{IsValid}
 use Rattle.tb_column.specs.Column.{PlainColumn}
 use Rattle.tb_sheet.specs.Sheet.{PlainSheet, one, wide, two, warned, shipped}
-use Rattle.tb_output.specs.State.{State, Recorded, placed, output, emptied, first_state}
+use Rattle.tb_output.specs.State.{Recorded, placed, output, emptied}
 use Rattle.tb_laws.proofs.ClassesRise.RisingLists.{among-back, all-among, all-at, IsAmong, IsMissing, rises-known}
 use Rattle.tb_laws.proofs.ClassesRise.ClassLines.{FloatKind, Side, alike, narrow, wider, is_new, is_of, line_if, IsReleased, class_lines, float_lines, sheet_lines, lines-append}
 use Rattle.tb_laws.proofs.ClassesRise.RecordLines.{record_lines, records-append, IsCarried}
 use Rattle.tb_report.specs.RunTotals.{sheet_nodes}
-use Rattle.tb_steps.specs.Run.{Run, node_limit, held_count, run_from, firings_left, run_of}
+use Rattle.tb_steps.specs.Run.{Run, run_of}
+use Rattle.tb_steps.proofs.RunTree.{galley-is}
 use Rattle.tb_items.specs.RunEvents.{RunEvent, offered, sent}
-use Rattle.tb_items.specs.Classes.{classes_of}
 use Rattle.tb_laws.specs.Laws.{is_in, float_of, as_taken, taken_floats, same_kind, galley_floats, float_lines as all_lines, shipped_nodes, float_lines_of, node_lines, shipped_floats, holds_float, is_past, is_carried_from, is_carried, comes_before, IsFirstOf, KeepsClassOrder, IsEmptied, EndsDone}
 use Rattle.tb_laws.proofs.NothingLost.StartLemmas.{start-kept}
 use Rattle.tb_laws.proofs.ClassesRise.PageLines.{deeds}
@@ -222,19 +222,8 @@ module _ (g : Galley) (r : Run) (IsIn : Float → Type 0) (pair : (f h : Float) 
 
 -- a run that is done and records empty lists alone has shipped each class in order
 galley-order : (g : Galley) → IsValid g → int_le g.params.interlinepenalty eject_penalty ≡ false → (k : FloatKind) → IsReleased k g.params → Suits k false (deeds (expanded g)) → EndsDone (run_of g).end → AllByRecursion IsEmptied (run_of g).records → RunOrder k (IsOfClass g k) (events_lines k (run_of g).events) (run_of g).records
-unfolding run_of
-galley-order g valid calm k released suits = by_nodes (int_lt g.params.maxnodes (pos (held_count s)))
-  where
-    s : State
-    s = first_state g.params (classes_of g) (expanded g)
-
-    by_nodes : (t : Bool) → EndsDone (if t then record { events = []; records = []; end = node_limit (held_count (first_state g.params (classes_of g) (expanded g))) } else run_from g.params (suc (firings_left g.params (first_state g.params (classes_of g) (expanded g)))) (first_state g.params (classes_of g) (expanded g))).end
-        → AllByRecursion IsEmptied (if t then record { events = []; records = []; end = node_limit (held_count (first_state g.params (classes_of g) (expanded g))) } else run_from g.params (suc (firings_left g.params (first_state g.params (classes_of g) (expanded g)))) (first_state g.params (classes_of g) (expanded g))).records
-        → RunOrder k (IsOfClass g k) (events_lines k (if t then record { events = []; records = []; end = node_limit (held_count (first_state g.params (classes_of g) (expanded g))) } else run_from g.params (suc (firings_left g.params (first_state g.params (classes_of g) (expanded g)))) (first_state g.params (classes_of g) (expanded g))).events)
-        (if t then record { events = []; records = []; end = node_limit (held_count (first_state g.params (classes_of g) (expanded g))) } else run_from g.params (suc (firings_left g.params (first_state g.params (classes_of g) (expanded g)))) (first_state g.params (classes_of g) (expanded g))).records
-    by_nodes true d e = absurd d
-    by_nodes false d e =
-        run-order k (IsOfClass g k) g.params released calm (suc (firings_left g.params (first_state g.params (classes_of g) (expanded g)))) [] [] (first_state g.params (classes_of g) (expanded g)) (start-kept g (valid-differ g valid) (valid-fit g valid)) (start-closing g (valid-fit g valid)) (start-order g k valid suits) d e
+galley-order g valid calm k released suits =
+    run-order k (IsOfClass g k) g.params released calm [] [] (galley-is g) (start-kept g (valid-differ g valid) (valid-fit g valid)) (start-closing g (valid-fit g valid)) (start-order g k valid suits)
 
 -- the kind of a class and a width of a galley
 abbrev galley_kind : Galley → Bool → ℕ → FloatKind

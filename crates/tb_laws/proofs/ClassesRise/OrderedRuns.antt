@@ -1,32 +1,28 @@
 -- A run keeps the order of a class: from firing to firing, if the lists are empty at each change of columns.
-use Rattle.std.proofs.Common.{◌≡◌, refl, sym, ◌∙◌, ap, subst, ℕ, zero, suc, pos, ◌+◌, ◌<◌, ◌⊎◌, inl, inr, Bool, true, false, List, [], ◌∷◌, ◌++◌, map, take, Option, Some, None, append_assoc, append-nil}
-use Rattle.std.specs.Prelude.{ℤ, pred, int_lt, int_le, ◌&&◌, if◌then◌else◌, not}
+use Rattle.std.proofs.Common.{◌≡◌, refl, sym, ◌∙◌, ap, subst, ℕ, ◌+◌, ◌<◌, ◌⊎◌, inl, inr, Bool, true, false, List, [], ◌∷◌, ◌++◌, map, take, Option, None, append_assoc, append-nil}
+use Rattle.std.specs.Prelude.{ℤ, int_le, ◌&&◌, if◌then◌else◌}
 use Rattle.std.specs.List.{AllByRecursion}
 use Rattle.std.proofs.lemmas.Bool.{and_parts, true≢false}
-use Rattle.std.proofs.lemmas.Option.{none-some}
 use Rattle.tb_break.proofs.EachLemmas.{all-front, all-back, all-join, all-map}
-use Rattle.tb_scaled.specs.Scaled.{awful_bad, min_ℤ, eject_penalty}
+use Rattle.tb_scaled.specs.Scaled.{eject_penalty}
 use Rattle.tb_node.specs.declared.Act.{Act}
-use Rattle.tb_node.specs.declared.Act.TheVariants as acts
 use Rattle.tb_node.specs.PlainNodes.{PlainNode}
 use Rattle.tb_param.specs.declared.Params.{Params}
 use Rattle.tb_param.specs.Release.{has_second}
 use Rattle.tb_break.specs.PageTop.{pruned_nodes}
 use Rattle.tb_insert.specs.Account.{Frozen, labelled}
-use Rattle.tb_builder.specs.Reach.{Reached, acted, tried}
-use Rattle.tb_builder.specs.FiredPages.{Fired, page_break, from_break, penalty_at, fired_by, fired_of, frozen_for, held_insertions}
+use Rattle.tb_builder.specs.Reach.{Reached}
+use Rattle.tb_builder.specs.FiredPages.{Fired, page_break, from_break, penalty_at, fired_by, frozen_for, held_insertions}
 use Rattle.tb_builder.proofs.FiredPages.PageWeights.{acted_weight, labelled-class}
 use Rattle.tb_builder.proofs.Cutting.CutLemmas.{acted_of, CutAt, AllIns, held-ins}
 use Rattle.tb_float.specs.declared.Entry.{Entry}
 use Rattle.tb_float.specs.declared.Entry.TheVariants as entries
-use Rattle.tb_float.specs.Lists.{FloatLists, floats_among, live_count, no_floats}
+use Rattle.tb_float.specs.Lists.{FloatLists, floats_among, no_floats}
 use Rattle.tb_column.specs.Column.{PlainColumn}
-use Rattle.tb_sheet.specs.Sheet.{warned}
 use Rattle.tb_output.specs.State.{State, Work, Recorded, emptied}
-use Rattle.tb_output.specs.Act.{Acted, went, full, act_on, lists_with_taken, taken_float, has_head_room, taken_head, lists_with_head, with_head}
+use Rattle.tb_output.specs.Act.{lists_with_taken, taken_float, taken_head, lists_with_head, with_head}
 use Rattle.tb_output.specs.Output
 use Rattle.tb_sheet.specs.Asked
-use Rattle.tb_output.specs.Output.{out}
 use Rattle.tb_laws.proofs.NothingLost.StateWeights.{ColumnsFit, class_numbers, first-left}
 use Rattle.tb_laws.proofs.NothingLost.WorkWeights.{Careful}
 use Rattle.tb_laws.proofs.StepLaws.BreakSorts.{at-clear}
@@ -44,13 +40,16 @@ use Rattle.tb_laws.proofs.ClassesRise.TakenOrder.{first-of}
 use Rattle.tb_laws.proofs.ClassesRise.FiringOrder.{AreLight}
 use Rattle.tb_laws.proofs.Closed.ClosingStates.{Closing}
 use Rattle.tb_laws.proofs.DeadCycles.CycleBreaks.{true-false}
-use Rattle.tb_laws.proofs.NothingLost.ClosingRuns.{progressed, acts-after, fired_closes, StepCloses, step-closes}
+use Rattle.tb_laws.proofs.NothingLost.ClosingRuns.{page-after, closed-page, fired_closes, steps-close}
 use Rattle.tb_node.specs.declared.Float.{Float}
 use Rattle.tb_laws.proofs.ClassesRise.OutOrder.{IsOnSide, Suits, InOrder, FiresInOrder, out-order}
-use Rattle.tb_steps.specs.Run.{Run, done, dead_cycles, page_limit, node_limit, Progress, progress_by, progress, Step, ends, goes_on, held_count, after_firing, fire, after_progress, step, run_by, run_from, ask_for}
-use Rattle.tb_items.specs.RunEvents.{sent}
+use Rattle.tb_steps.specs.Run.{Run, Step, ends, goes_on, ask_for}
+use Rattle.tb_steps.proofs.RunTree.{ActMove, PageMoves, fired_at, served_at, WholePage, StepIs, RunIs, takes_float, takes_note, sets_flag, changes_columns, sets_number, takes_title, shows_try, does_act, rests, moves, fires_on, is_done, runs_out, starts_too_full, ends_so, goes_on_so}
+use Rattle.tb_steps.proofs.RunFolds.{PageLaw, page-holds}
+use Rattle.tb_sheet.specs.declared.Warn.{Warn}
+use Rattle.tb_items.specs.RunEvents.{RunEvent, sent}
 use Rattle.tb_laws.specs.Laws.{IsEmptied, EndsDone}
-use Rattle.tb_laws.proofs.NothingLost.RunWeights.{After, progress-adds, Kept, page_of, cut, cut_feet, cut_stands, StepWeighs, step-weighs}
+use Rattle.tb_laws.proofs.NothingLost.RunWeights.{After, whole-adds, weighs, Kept, page_of, cut, cut_feet, cut_stands}
 use Rattle.tb_float.proofs.SlotLemmas.{floats_among-append}
 use Rattle.tb_laws.proofs.ClassesRise.FloatlessNodes.{events_lines, events-lines-append, sent-events-lines, warnings-lines, nothing_weighs, floats_count, nothing-fits, no-floats}
 use Rattle.tb_output.proofs.Acts.HeadLemmas.{IsForHead, head-room}
@@ -178,15 +177,6 @@ module _ (k : FloatKind) (Known : ℕ → Type 0) (p : Params) (r : IsReleased k
   abbrev StateOrder : List ℕ → List Recorded → State → Type 0
   StateOrder takes rs s = Order k Known text takes past rs s.floats s.two_columns s.first_column s.left_column
 
-  ActOrder : List ℕ → List Act → List Recorded → Acted → Type 0
-  ActOrder takes ds rs (went t ws more) = AllByRecursion IsEmptied more → StateOrder takes (rs ++ more) t × Suits k t.two_columns ds
-  ActOrder takes ds rs (full line live) = Unit {0}
-
-  room-order : (takes : List ℕ) (ds : List Act) (rs : List Recorded) (t : Bool) (line live : ℕ) (a : Acted) → ActOrder takes ds rs a → ActOrder takes ds rs (if t then full line live else a)
-  unfolding ActOrder
-  room-order takes ds rs true line live a h = tt
-  room-order takes ds rs false line live a h = h
-
   -- a wide float goes to the second list
   module _ (takes : List ℕ) (rs : List Recorded) (l : FloatLists) (two first : Bool) (column : Option PlainColumn) (f g : Float) (class : g.class ≡ f.class) (line : g.line ≡ f.line) (h : Order k Known text (line_if (is_of k f.class f.line) f.line ++ takes) past rs l two first column) (side : is_of k f.class f.line ≡ true → k.side ≡ wider) (new : has_second p ≡ true) where
     abbrev this : List ℕ
@@ -291,14 +281,10 @@ module _ (k : FloatKind) (Known : ℕ → Type 0) (p : Params) (r : IsReleased k
       (subst (λ t. Order k Known text (line_if (is_of k f.class f.line) f.line ++ takes) past rs no_floats t s.first_column s.left_column) is.two
       (subst (λ l. Order k Known text (line_if (is_of k f.class f.line) f.line ++ takes) past rs l s.two_columns s.first_column s.left_column) is.floats h))))))))
 
-  act-order : (takes : List ℕ) (ds : List Act) (rs : List Recorded) (s : State) (a : Act) → StateOrder (act_lines k a ++ takes) rs s → Suits k s.two_columns (a ∷ ds) → ActOrder takes ds rs (act_on p s a)
-  unfolding ActOrder
-  act-order takes ds rs s (acts.Take f) h u =
-      room-order takes ds rs (int_le p.pool (pos (live_count s.floats))) _ _ _ (λ m. (subst (λ x. StateOrder takes x (record s { floats = lists_with_taken p (taken_float p s f) s.floats })) (sym (append-nil rs)) (by_list (has_second p && (f.wide && s.two_columns)) refl), u.1))
+  act-order : (takes : List ℕ) (ds : List Act) (rs : List Recorded) {s t : State} {a : Act} {ws : List Warn} {more : List Recorded} → ActMove p s a t ws more → StateOrder (act_lines k a ++ takes) rs s → Suits k s.two_columns (a ∷ ds) → AllByRecursion IsEmptied more → StateOrder takes (rs ++ more) t × Suits k t.two_columns ds
+  act-order takes ds rs (takes_float {s = s} f room) h u m =
+      (subst (λ x. StateOrder takes x (record s { floats = lists_with_taken p (taken_float p s f) s.floats })) (sym (append-nil rs)) (by_list (has_second p && (f.wide && s.two_columns)) refl), u.1)
     where
-      e : Entry
-      e = entries.Float (taken_float p s f)
-
       more : float_lines k (floats_among (s.floats.current ++ entries.Float (taken_float p s f) ∷ [])) ≡ float_lines k (floats_among s.floats.current) ++ line_if (is_of k f.class f.line) f.line
       more = ap (float_lines k) (floats_among-append s.floats.current (entries.Float (taken_float p s f) ∷ [])) ∙ floats-append k (floats_among s.floats.current) (taken_float p s f ∷ []) ∙ ap (λ l. float_lines k (floats_among s.floats.current) ++ l) (append-nil (line_if (is_of k f.class f.line) f.line))
 
@@ -309,60 +295,43 @@ module _ (k : FloatKind) (Known : ℕ → Type 0) (p : Params) (r : IsReleased k
           (sym (append_assoc (float_lines k (floats_among s.floats.current)) (line_if (is_of k f.class f.line) f.line) takes) ∙ ap (λ l. l ++ takes) (sym more))
           (parted-more k s.floats (s.floats.current ++ entries.Float (taken_float p s f) ∷ []) k.side
           (λ w. more ∙ ap (λ y. float_lines k (floats_among s.floats.current) ++ y) (no-line (is_of k f.class f.line) f.line (λ z. stays-first (has_second p) (f.wide && s.two_columns) k.side r q (u.0 z) w)) ∙ append-nil (float_lines k (floats_among s.floats.current))) h.parted) h
-  act-order takes ds rs s (acts.TakeMargin m) h u =
-      room-order takes ds rs (int_lt p.pool (pos (live_count s.floats + 2))) _ _ _ (λ none. (
-        subst (λ x. StateOrder takes x (record s { floats = record s.floats { current = s.floats.current ++ entries.Left m ∷ entries.Right m ∷ [] } })) (sym (append-nil rs))
-            (taken k Known text past takes takes rs s.floats s.two_columns s.first_column s.left_column (s.floats.current ++ entries.Left m ∷ entries.Right m ∷ [])
-            (ap (λ l. float_lines k l ++ takes) (sym (floats_among-append s.floats.current (entries.Left m ∷ entries.Right m ∷ []) ∙ append-nil (floats_among s.floats.current))))
-            (parted-more k s.floats (s.floats.current ++ entries.Left m ∷ entries.Right m ∷ []) k.side (λ w. ap (float_lines k) (floats_among-append s.floats.current (entries.Left m ∷ entries.Right m ∷ []) ∙ append-nil (floats_among s.floats.current))) h.parted) h),
-        u,
-      ))
-  act-order takes ds rs s (acts.Suppress area) h u = λ m. (subst (λ x. StateOrder takes x s) (sym (append-nil rs)) h, u)
-  act-order takes ds rs s (acts.Page n) h u = λ m. (subst (λ x. StateOrder takes x s) (sym (append-nil rs)) h, u)
-  act-order takes ds rs s (acts.Head f) h u = by_room (has_head_room p s) refl
-    where
-      by_room : (t : Bool) → has_head_room p s ≡ t → ActOrder takes ds rs (if not t then full f.line (live_count s.floats) else went (with_head p s (taken_head p f)) [] [])
-      by_room false e = tt
-      by_room true e = λ none. (subst (λ x. StateOrder takes x (with_head p s (taken_head p f))) (sym (append-nil rs)) (titled takes rs s (taken_head p f) (head-room p s e) u.0 h), u.1)
-  act-order takes ds rs s (acts.Columns two) h u =
-      λ m. (
-        order-quietly k Known text past takes rs (emptied s.floats ∷ []) s.floats two true None (tt, tt)
-            (changed k Known text past takes rs s.floats s.two_columns s.first_column two s.left_column (ap (λ (l : FloatLists). l.double) m.0) h),
-        u,
-      )
+  act-order takes ds rs (takes_note {s = s} m room) h u e = (
+    subst (λ x. StateOrder takes x (record s { floats = record s.floats { current = s.floats.current ++ entries.Left m ∷ entries.Right m ∷ [] } })) (sym (append-nil rs))
+        (taken k Known text past takes takes rs s.floats s.two_columns s.first_column s.left_column (s.floats.current ++ entries.Left m ∷ entries.Right m ∷ [])
+        (ap (λ l. float_lines k l ++ takes) (sym (floats_among-append s.floats.current (entries.Left m ∷ entries.Right m ∷ []) ∙ append-nil (floats_among s.floats.current))))
+        (parted-more k s.floats (s.floats.current ++ entries.Left m ∷ entries.Right m ∷ []) k.side (λ w. ap (float_lines k) (floats_among-append s.floats.current (entries.Left m ∷ entries.Right m ∷ []) ∙ append-nil (floats_among s.floats.current))) h.parted) h),
+    u,
+  )
+  act-order takes ds rs (sets_flag {s = s} area) h u m = (subst (λ x. StateOrder takes x s) (sym (append-nil rs)) h, u)
+  act-order takes ds rs (sets_number {s = s} n) h u m = (subst (λ x. StateOrder takes x s) (sym (append-nil rs)) h, u)
+  act-order takes ds rs (takes_title {s = s} f room) h u m = (subst (λ x. StateOrder takes x (with_head p s (taken_head p f))) (sym (append-nil rs)) (titled takes rs s (taken_head p f) (head-room p s room) u.0 h), u.1)
+  act-order takes ds rs (changes_columns {s = s} two) h u m = (
+    order-quietly k Known text past takes rs (emptied s.floats ∷ []) s.floats two true None (tt, tt)
+        (changed k Known text past takes rs s.floats s.two_columns s.first_column two s.left_column (ap (λ (l : FloatLists). l.double) m.0) h),
+    u,
+  )
 
   -- the acts that are reached take the floats that were to be taken
-  progress_by-order : (takes now : List ℕ) (all ds : List Act) (rs : List Recorded) (s : State) (later : State → Progress)
-      → ((t : State) (also : List Recorded) → AllByRecursion IsEmptied (later t).records → (later t).fault ≡ None → StateOrder now also t → Suits k t.two_columns ds → StateOrder takes (also ++ (later t).records) (later t).state × Suits k (later t).state.two_columns all)
-      → (x : Acted) → ActOrder now ds rs x → AllByRecursion IsEmptied (progress_by later s x).records → (progress_by later s x).fault ≡ None → StateOrder takes (rs ++ (progress_by later s x).records) (progress_by later s x).state × Suits k (progress_by later s x).state.two_columns all
-  unfolding ActOrder
-  progress_by-order takes now all ds rs s later h (went t ws more) a e f =
-      let y = a (all-front IsEmptied more (later t).records e) in
-      let z = h t (rs ++ more) (all-back IsEmptied more (later t).records e) f y.0 y.1 in
-      (subst (λ x. StateOrder takes x (later t).state) (append_assoc rs more (later t).records) z.0, z.1)
-  progress_by-order takes now all ds rs s later h (full line live) a e f = absurd (none-some (line, live) (sym f))
-    where
-      IsSome : Option (ℕ × ℕ) → Type 0
-      IsSome None = ⊥
-      IsSome (Some y) = Unit {0}
-
-  progress-order : (takes : List ℕ) (all : List Act) (reached : List Reached) (least : ℤ) (rs : List Recorded) (s : State) → AllByRecursion IsEmptied (progress p reached least s).records → (progress p reached least s).fault ≡ None
-      → StateOrder (acts_lines k (acted_of reached) ++ takes) rs s → Suits k s.two_columns (acted_of reached ++ all) → StateOrder takes (rs ++ (progress p reached least s).records) (progress p reached least s).state × Suits k (progress p reached least s).state.two_columns all
-  progress-order takes all [] least rs s e f h u = (subst (λ x. StateOrder takes x s) (sym (append-nil rs)) h, u)
-  progress-order takes all (acted a ∷ reached) least rs s e f h u =
-      progress_by-order takes (acts_lines k (acted_of reached) ++ takes) all (acted_of reached ++ all) rs s (λ t. progress p reached least t) (λ t also x y z w. progress-order takes all reached least also t x y z w) (act_on p s a)
-      (act-order (acts_lines k (acted_of reached) ++ takes) (acted_of reached ++ all) rs s a (subst (λ y. StateOrder y rs s) (append_assoc (act_lines k a) (acts_lines k (acted_of reached)) takes) h) u) e f
-  progress-order takes all (tried line b ∷ reached) least rs s e f h u = progress-order takes all reached (min_ℤ least b.cost) rs s e f h u
+  page-order : (takes : List ℕ) (all : List Act) (rs : List Recorded) {reached qs : List Reached} {s t : State} {es : List RunEvent} {more : List Recorded} → PageMoves p reached s es more qs t → AllByRecursion IsEmptied more
+      → StateOrder (acts_lines k (acted_of reached) ++ takes) rs s → Suits k s.two_columns (acted_of reached ++ all) → StateOrder (acts_lines k (acted_of qs) ++ takes) (rs ++ more) t × Suits k t.two_columns (acted_of qs ++ all)
+  page-order takes all rs (rests {rs = qs} {s = s}) e h u = (subst (λ x. StateOrder (acts_lines k (acted_of qs) ++ takes) x s) (sym (append-nil rs)) h, u)
+  page-order takes all rs (moves (shows_try line b least qs) x) e h u = page-order takes all rs x e h u
+  page-order takes all rs (moves {ls = ls} {u = t} {more = later} (does_act {s = s} {records = more} a qs m) x) e h u =
+      let y = act-order (acts_lines k (acted_of qs) ++ takes) (acted_of qs ++ all) rs m (subst (λ y. StateOrder y rs s) (append_assoc (act_lines k a) (acts_lines k (acted_of qs)) takes) h) u (all-front IsEmptied more later e) in
+      let z = page-order takes all (rs ++ more) x (all-back IsEmptied more later e) y.0 y.1 in
+      (subst (λ l. StateOrder (acts_lines k (acted_of ls) ++ takes) l t) (append_assoc rs more later) z.0, z.1)
 
 -- what is reached ships nothing
-progress_by-lines : (k : FloatKind) (s : State) (later : State → Progress) → ((t : State) → events_lines k (later t).events ≡ []) → (x : Acted) → events_lines k (progress_by later s x).events ≡ []
-progress_by-lines k s later h (went t ws more) = events-lines-append k (map (λ w. sent (warned w)) ws) (later t).events ∙ ap (λ l. l ++ events_lines k (later t).events) (warnings-lines k ws) ∙ h t
-progress_by-lines k s later h (full line live) = refl
+abbrev lineless : FloatKind → (p : Params) → PageLaw p
+lineless k p = record {
+  shows = record { holds = λ es rs. events_lines k es ≡ []; none = refl; both = λ es fs rs qs a b. events-lines-append k es fs ∙ (λ i. a i ++ b i) };
+  holds = λ rs s. Unit {0};
+  tries = λ line b least rs s h. (refl, tt);
+  acts = λ s t a ws records rs m h. (warnings-lines k ws, tt);
+}
 
-progress-lines : (k : FloatKind) (p : Params) (reached : List Reached) (least : ℤ) (s : State) → events_lines k (progress p reached least s).events ≡ []
-progress-lines k p [] least s = refl
-progress-lines k p (acted a ∷ reached) least s = progress_by-lines k s (λ t. progress p reached least t) (λ t. progress-lines k p reached least t) (act_on p s a)
-progress-lines k p (tried line b ∷ reached) least s = progress-lines k p reached (min_ℤ least b.cost) s
+page-lines : (k : FloatKind) {p : Params} {rs qs : List Reached} {s t : State} {es : List RunEvent} {records : List Recorded} → PageMoves p rs s es records qs t → events_lines k es ≡ []
+page-lines k {p = p} x = (page-holds (lineless k p) x tt).0
 
 -- ---- a page and its firing
 
@@ -423,110 +392,53 @@ module _ (k : FloatKind) (Known : ℕ → Type 0) (p : Params) (released : IsRel
           suits = suits;
         }
 
-  fire-order : (q : Progress) → events_lines k q.events ≡ [] → After nothing_weighs (acted_weight nothing_weighs (page_of p s).reached) s q.state
-      → (AllByRecursion IsEmptied q.records → (takes : List ℕ) (all : List Act) → take_lines k s.waiting ≡ acts_lines k (acted_of (page_of p s).reached) ++ takes → deeds s.waiting ≡ acted_of (page_of p s).reached ++ all → Order k Known (class_lines k s.held_page ++ class_lines k s.waiting) takes past (old ++ q.records) q.state.floats q.state.two_columns q.state.first_column q.state.left_column × Suits k q.state.two_columns all)
-      → (out p q.state (fired_of (ask_for p s) q.state.classes q.state.boxes (page_of p s))).state.two_columns ≡ q.state.two_columns → StepOrder k Known past old (fire p (ask_for p s) (page_of p s) q)
-  fire-order q none after order columns = by_cycles (int_lt (pos q.state.dead_cycles) p.maxdeadcycles)
-    where
-      z : Frozen
-      z = frozen_for (ask_for p s) (q.state.classes) q.state.boxes
+  module _ {t : State} {es : List RunEvent} {rs : List Recorded} (x : WholePage p s es rs t) where
+    after_acts : After nothing_weighs (acted_weight nothing_weighs (page_of p s).reached) s t
+    after_acts = whole-adds nothing_weighs p calm s kept (nothing-fits s.left_column (acted_of (page_of p s).reached)) x
 
-      f : Fired
-      f = fired_of (ask_for p s) (q.state.classes) q.state.boxes (page_of p s)
+    ordered : AllByRecursion IsEmptied rs → (takes : List ℕ) (all : List Act) → take_lines k s.waiting ≡ acts_lines k (acted_of (page_of p s).reached) ++ takes → deeds s.waiting ≡ acted_of (page_of p s).reached ++ all
+        → Order k Known (class_lines k s.held_page ++ class_lines k s.waiting) takes past (old ++ rs) t.floats t.two_columns t.first_column t.left_column × Suits k t.two_columns all
+    ordered e takes all same deeds_same =
+        page-order k Known p released (class_lines k s.held_page ++ class_lines k s.waiting) past takes all old x e
+        (subst (λ x. Order k Known (class_lines k s.held_page ++ class_lines k s.waiting) x past old s.floats s.two_columns s.first_column s.left_column) same h.ordered) (subst (Suits k s.two_columns) deeds_same h.suits)
 
-      o : Work
-      o = out p q.state (fired_of (ask_for p s) (q.state.classes) q.state.boxes (page_of p s))
+    in_order : (served_at p s t).refused ≡ false → AllByRecursion IsEmptied rs → InOrder k Known (past ++ sent_lines k (served_at p s t).sent) ((old ++ rs) ++ (served_at p s t).records) (served_at p s t).state
+    in_order r e =
+        let z = frozen_for (ask_for p s) t.classes t.boxes in
+        out-order k Known past (old ++ rs) p released calm t (fired_at p s t)
+        (let y = ordered e _ _ (lines t after_acts z).takes (lines t after_acts z).does in fires-in-order t after_acts z (old ++ rs) y.0 y.1) r
+        (fired_closes p calm s kept closing t (page-after p calm s kept closing x) (closed-page p calm s kept closing x) z).1
 
-      all : Work → Type 0
-      all c = AllByRecursion IsEmptied (q.records ++ c.records) → InOrder k Known (past ++ events_lines k (q.events ++ map sent c.sent)) (old ++ (q.records ++ c.records)) c.state
+    goes : (c : Work) → (AllByRecursion IsEmptied rs → InOrder k Known (past ++ sent_lines k c.sent) ((old ++ rs) ++ c.records) c.state) → AllByRecursion IsEmptied (rs ++ c.records) → InOrder k Known (past ++ events_lines k (es ++ map sent c.sent)) (old ++ (rs ++ c.records)) c.state
+    goes c i e =
+        subst (λ x. InOrder k Known (past ++ x) (old ++ (rs ++ c.records)) c.state) (sym (events-lines-append k es (map sent c.sent) ∙ ap (λ l. l ++ events_lines k (map sent c.sent)) (page-lines k x) ∙ sent-events-lines k c.sent))
+        (subst (λ x. InOrder k Known (past ++ sent_lines k c.sent) x c.state) (append_assoc old rs c.records) (i (all-front IsEmptied rs c.records e)))
 
-      goes : (c : Work) → (AllByRecursion IsEmptied q.records → InOrder k Known (past ++ sent_lines k c.sent) ((old ++ q.records) ++ c.records) c.state) → AllByRecursion IsEmptied (q.records ++ c.records) → InOrder k Known (past ++ events_lines k (q.events ++ map sent c.sent)) (old ++ (q.records ++ c.records)) c.state
-      goes c i e =
-          subst (λ x. InOrder k Known (past ++ x) (old ++ (q.records ++ c.records)) c.state) (sym (events-lines-append k q.events (map sent c.sent) ∙ ap (λ l. l ++ events_lines k (map sent c.sent)) none ∙ sent-events-lines k c.sent))
-          (subst (λ x. InOrder k Known (past ++ sent_lines k c.sent) x c.state) (append_assoc old q.records c.records) (i (all-front IsEmptied q.records c.records e)))
-
-      in_order : (out p q.state (fired_of (ask_for p s) (q.state.classes) q.state.boxes (page_of p s))).refused ≡ false → AllByRecursion IsEmptied q.records
-          → InOrder k Known (past ++ sent_lines k (out p q.state (fired_of (ask_for p s) (q.state.classes) q.state.boxes (page_of p s))).sent) ((old ++ q.records) ++ (out p q.state (fired_of (ask_for p s) (q.state.classes) q.state.boxes (page_of p s))).records) (out p q.state (fired_of (ask_for p s) (q.state.classes) q.state.boxes (page_of p s))).state
-      in_order r e =
-          let zz = frozen_for (ask_for p s) (q.state.classes) q.state.boxes in
-          out-order k Known past (old ++ q.records) p released calm q.state (fired_of (ask_for p s) (q.state.classes) q.state.boxes (page_of p s))
-          (let x = order e _ _ (lines q.state after zz).takes (lines q.state after zz).does in fires-in-order q.state after zz (old ++ q.records) x.0 x.1) r columns
-
-      by_nodes : (c : Work) (u : Bool) → (AllByRecursion IsEmptied q.records → InOrder k Known (past ++ sent_lines k c.sent) ((old ++ q.records) ++ c.records) c.state)
-          → StepOrder k Known past old (if u then ends (q.events ++ map sent c.sent) (q.records ++ c.records) (node_limit (held_count c.state)) else goes_on (q.events ++ map sent c.sent) (q.records ++ c.records) c.state)
-      by_nodes c true i = λ d e. absurd d
-      by_nodes c false i = goes c i
-
-      by_refused : (c : Work) (u : Bool) → c.refused ≡ u → (c.refused ≡ false → AllByRecursion IsEmptied q.records → InOrder k Known (past ++ sent_lines k c.sent) ((old ++ q.records) ++ c.records) c.state)
-          → StepOrder k Known past old (if u then ends (q.events ++ map sent c.sent) (q.records ++ c.records) (page_limit (pred c.state.page)) else (if int_lt p.maxnodes (pos (held_count c.state)) then ends (q.events ++ map sent c.sent) (q.records ++ c.records) (node_limit (held_count c.state)) else goes_on (q.events ++ map sent c.sent) (q.records ++ c.records) c.state))
-      by_refused c true r i = λ d e. absurd d
-      by_refused c false r i = by_nodes c (int_lt p.maxnodes (pos (held_count c.state))) (i r)
-
-      by_cycles : (u : Bool) → StepOrder k Known past old (if u then after_firing p q.events q.records (out p q.state (fired_of (ask_for p s) (q.state.classes) q.state.boxes (page_of p s))) else ends q.events q.records (dead_cycles q.state.dead_cycles))
-      by_cycles true = by_refused (out p q.state (fired_of (ask_for p s) (q.state.classes) q.state.boxes (page_of p s))) (out p q.state (fired_of (ask_for p s) (q.state.classes) q.state.boxes (page_of p s))).refused refl in_order
-      by_cycles false = λ d e. absurd d
+    done_order : (page_of p s).fires ≡ false → AllByRecursion IsEmptied (rs ++ emptied t.floats ∷ []) → RunOrder k Known (past ++ events_lines k es) (old ++ (rs ++ emptied t.floats ∷ []))
+    done_order u e =
+        let y = ordered (all-front IsEmptied rs (emptied t.floats ∷ []) e) [] (deeds (page_of p s).beyond) (all-taken k p.topskip s.waiting (page_of p s) page_cut h.early h.feet (page_cut.ended u)) (all-done k p.topskip s.waiting (page_of p s) page_cut h.early h.feet) in
+        let o = order-quietly k Known (class_lines k s.held_page ++ class_lines k s.waiting) past [] (old ++ rs) (emptied t.floats ∷ []) t.floats t.two_columns t.first_column t.left_column (tt, tt) y.0 in
+        subst (λ x. RunOrder k Known (past ++ events_lines k es) x) (append_assoc old rs (emptied t.floats ∷ []))
+        (subst (λ x. RunOrder k Known x ((old ++ rs) ++ emptied t.floats ∷ [])) (sym (append-nil past) ∙ ap (λ l. past ++ l) (sym (page-lines k x))) (record { order = rises-front Known _ past _ o.order; known = o.known }))
 
   -- a step keeps the class in order, and at the end all is in order that has shipped
-  pub step-order : StepOrder k Known past old (step p s)
-  unfolding step
-  step-order = by_fault (progress p (page_of p s).reached awful_bad s).fault refl
-    where
-      q : Progress
-      q = progress p (page_of p s).reached awful_bad s
-
-      ordered : (progress p (page_of p s).reached awful_bad s).fault ≡ None → AllByRecursion IsEmptied (progress p (page_of p s).reached awful_bad s).records → (takes : List ℕ) (all : List Act) → take_lines k s.waiting ≡ acts_lines k (acted_of (page_of p s).reached) ++ takes → deeds s.waiting ≡ acted_of (page_of p s).reached ++ all
-          → Order k Known (class_lines k s.held_page ++ class_lines k s.waiting) takes past (old ++ (progress p (page_of p s).reached awful_bad s).records) (progress p (page_of p s).reached awful_bad s).state.floats (progress p (page_of p s).reached awful_bad s).state.two_columns (progress p (page_of p s).reached awful_bad s).state.first_column (progress p (page_of p s).reached awful_bad s).state.left_column × Suits k (progress p (page_of p s).reached awful_bad s).state.two_columns all
-      ordered f e takes all same deeds_same =
-          progress-order k Known p released (class_lines k s.held_page ++ class_lines k s.waiting) past takes all (page_of p s).reached awful_bad old s e f
-          (subst (λ x. Order k Known (class_lines k s.held_page ++ class_lines k s.waiting) x past old s.floats s.two_columns s.first_column s.left_column) same h.ordered) (subst (Suits k s.two_columns) deeds_same h.suits)
-
-      columns : (progress p (page_of p s).reached awful_bad s).fault ≡ None → (out p (progress p (page_of p s).reached awful_bad s).state (fired_of (ask_for p s) (progress p (page_of p s).reached awful_bad s).state.classes (progress p (page_of p s).reached awful_bad s).state.boxes (page_of p s))).state.two_columns ≡ (progress p (page_of p s).reached awful_bad s).state.two_columns
-      columns f = (fired_closes p calm s kept closing (progress p (page_of p s).reached awful_bad s).state (acts-after p calm s kept closing f) ((progressed p calm s kept closing).after f) (frozen_for (ask_for p s) (progress p (page_of p s).reached awful_bad s).state.classes (progress p (page_of p s).reached awful_bad s).state.boxes)).1
-
-      after : (progress p (page_of p s).reached awful_bad s).fault ≡ None → After nothing_weighs (acted_weight nothing_weighs (page_of p s).reached) s (progress p (page_of p s).reached awful_bad s).state
-      after f = (progress-adds nothing_weighs p (page_of p s).reached awful_bad s kept.sound (nothing-fits s.left_column (acted_of (page_of p s).reached))).after f
-
-      done_order : (r : Progress) → events_lines k r.events ≡ [] → (AllByRecursion IsEmptied r.records → (takes : List ℕ) → take_lines k s.waiting ≡ acts_lines k (acted_of (page_of p s).reached) ++ takes → Order k Known (class_lines k s.held_page ++ class_lines k s.waiting) takes past (old ++ r.records) r.state.floats r.state.two_columns r.state.first_column r.state.left_column)
-          → take_lines k s.waiting ≡ acts_lines k (acted_of (page_of p s).reached) ++ [] → AllByRecursion IsEmptied (r.records ++ emptied r.state.floats ∷ []) → RunOrder k Known (past ++ events_lines k r.events) (old ++ (r.records ++ emptied r.state.floats ∷ []))
-      done_order r none order same e =
-          let o = order-quietly k Known (class_lines k s.held_page ++ class_lines k s.waiting) past [] (old ++ r.records) (emptied r.state.floats ∷ []) r.state.floats r.state.two_columns r.state.first_column r.state.left_column (tt, tt) (order (all-front IsEmptied r.records (emptied r.state.floats ∷ []) e) [] same) in
-          subst (λ x. RunOrder k Known (past ++ events_lines k r.events) x) (append_assoc old r.records (emptied r.state.floats ∷ []))
-          (subst (λ x. RunOrder k Known x ((old ++ r.records) ++ emptied r.state.floats ∷ [])) (sym (append-nil past) ∙ ap (λ l. past ++ l) (sym none)) (record { order = rises-front Known _ past _ o.order; known = o.known }))
-
-      by_firing : (u : Bool) → (page_of p s).fires ≡ u → (progress p (page_of p s).reached awful_bad s).fault ≡ None
-          → StepOrder k Known past old (if u then fire p (ask_for p s) (page_of p s) (progress p (page_of p s).reached awful_bad s) else ends (progress p (page_of p s).reached awful_bad s).events ((progress p (page_of p s).reached awful_bad s).records ++ emptied (progress p (page_of p s).reached awful_bad s).state.floats ∷ []) (done (page_of p s).passed))
-      by_firing true u f = fire-order (progress p (page_of p s).reached awful_bad s) (progress-lines k p (page_of p s).reached awful_bad s) (after f) (ordered f) (columns f)
-      by_firing false u f = λ d e. done_order (progress p (page_of p s).reached awful_bad s) (progress-lines k p (page_of p s).reached awful_bad s) (λ m takes same. (ordered f m takes (deeds (page_of p s).beyond) same (all-done k p.topskip s.waiting (page_of p s) page_cut h.early h.feet)).0) (all-taken k p.topskip s.waiting (page_of p s) page_cut h.early h.feet (page_cut.ended u)) e
-
-      by_fault : (o : Option (ℕ × ℕ)) → (progress p (page_of p s).reached awful_bad s).fault ≡ o → StepOrder k Known past old (after_progress p (ask_for p s) (page_of p s) (progress p (page_of p s).reached awful_bad s) o)
-      by_fault None f = by_firing (page_of p s).fires refl f
-      by_fault (Some y) f = λ d e. absurd d
+  step-order : {x : Step} → StepIs p s x → StepOrder k Known past old x
+  step-order (fires_on {t = t} x f r) = goes x (served_at p s t) (in_order x r)
+  step-order (is_done x u) = λ d e. done_order x u e
+  step-order x = λ d e. absurd d
 
 -- ---- a run
 
--- a step goes on to a state of which this holds
-abbrev StepHolds : (State → Type 0) → Step → Type 0
-StepHolds Holds (ends es rs e) = Unit {0}
-StepHolds Holds (goes_on es rs t) = Holds t
-
-by-order : (k : FloatKind) (Known : ℕ → Type 0) (past : List ℕ) (old : List Recorded) (later : State → Run) (Holds : State → Type 0)
-    → ((t : State) (before : List ℕ) (rs : List Recorded) → Holds t → InOrder k Known before rs t → EndsDone (later t).end → AllByRecursion IsEmptied (later t).records → RunOrder k Known (before ++ events_lines k (later t).events) (rs ++ (later t).records))
-    → (x : Step) → StepHolds Holds x → StepOrder k Known past old x → EndsDone (run_by later x).end → AllByRecursion IsEmptied (run_by later x).records → RunOrder k Known (past ++ events_lines k (run_by later x).events) (old ++ (run_by later x).records)
-by-order k Known past old later Holds h (ends es rs e) i o d m = o d m
-by-order k Known past old later Holds h (goes_on es rs t) i o d m =
-    subst (λ x. RunOrder k Known (past ++ events_lines k (es ++ (later t).events)) x) (append_assoc old rs (later t).records)
-    (subst (λ x. RunOrder k Known x ((old ++ rs) ++ (later t).records)) (append_assoc past (events_lines k es) (events_lines k (later t).events) ∙ ap (λ l. past ++ l) (sym (events-lines-append k es (later t).events)))
-    (h t (past ++ events_lines k es) (old ++ rs) i (o (all-front IsEmptied rs (later t).records m)) d (all-back IsEmptied rs (later t).records m)))
-
-step-kept : (p : Params) (s : State) (x : Step) → StepWeighs nothing_weighs s x → StepCloses p s x → StepHolds (λ t. Kept t × Closing p t) x
-step-kept p s (ends es rs e) w c = tt
-step-kept p s (goes_on es rs t) w c = (w.0, c.1)
-
 -- a run that is done and records empty lists alone has shipped the class in order
-pub run-order : (k : FloatKind) (Known : ℕ → Type 0) (p : Params) → IsReleased k p → int_le p.interlinepenalty eject_penalty ≡ false → (fuel : ℕ) (past : List ℕ) (old : List Recorded) (s : State) → Kept s → Closing p s → InOrder k Known past old s
-    → EndsDone (run_from p fuel s).end → AllByRecursion IsEmptied (run_from p fuel s).records → RunOrder k Known (past ++ events_lines k (run_from p fuel s).events) (old ++ (run_from p fuel s).records)
-unfolding run_from
-run-order k Known p r calm zero past old s kept closing h d m = absurd d
-run-order k Known p r calm (suc fuel) past old s kept closing h d m =
-    by-order k Known past old (λ t. run_from p fuel t) (λ t. Kept t × Closing p t) (λ t before rs x y e n. run-order k Known p r calm fuel before rs t x.0 x.1 y e n) (step p s)
-    (step-kept p s (step p s) (step-weighs nothing_weighs p calm s kept (nothing-fits s.left_column (acted_of (page_of p s).reached))) (step-closes p calm s kept closing)) (step-order k Known p r calm past old s kept closing h) d m
+pub run-order : (k : FloatKind) (Known : ℕ → Type 0) (p : Params) → IsReleased k p → int_le p.interlinepenalty eject_penalty ≡ false → (past : List ℕ) (old : List Recorded) {s : State} {r : Run} → RunIs p s r → Kept s → Closing p s → InOrder k Known past old s
+    → EndsDone r.end → AllByRecursion IsEmptied r.records → RunOrder k Known (past ++ events_lines k r.events) (old ++ r.records)
+run-order k Known p released calm past old (runs_out s) kept closing h d m = absurd d
+run-order k Known p released calm past old (starts_too_full s) kept closing h d m = absurd d
+run-order k Known p released calm past old (ends_so {s = s} x) kept closing h d m = step-order k Known p released calm past old s kept closing h x d m
+run-order k Known p released calm past old (goes_on_so {s = s} {t = t} {es = es} {rs = rs} {r = r} x y) kept closing h d m =
+    let w = weighs nothing_weighs p calm s kept (nothing-fits s.left_column (acted_of (page_of p s).reached)) x in
+    let c = steps-close p calm s kept closing x in
+    let o = step-order k Known p released calm past old s kept closing h x in
+    subst (λ l. RunOrder k Known (past ++ events_lines k (es ++ r.events)) l) (append_assoc old rs r.records)
+    (subst (λ l. RunOrder k Known l ((old ++ rs) ++ r.records)) (append_assoc past (events_lines k es) (events_lines k r.events) ∙ ap (λ l. past ++ l) (sym (events-lines-append k es r.events)))
+    (run-order k Known p released calm (past ++ events_lines k es) (old ++ rs) y w.0 c.1 (o (all-front IsEmptied rs r.records m)) d (all-back IsEmptied rs r.records m)))

@@ -1,5 +1,5 @@
 -- A run of a valid galley does not end for its dead cycles, if the limit has room for what its items can bring.
-use Rattle.std.proofs.Common.{◌≡◌, refl, ap, ℕ, pos, ◌+◌, Bool, true, false, List, [], ◌∷◌, arith, ℤ, ◌≤◌}
+use Rattle.std.proofs.Common.{◌≡◌, refl, ap, ℕ, pos, ◌+◌, ◌*◌, Bool, true, false, List, [], ◌∷◌, arith, ℤ, ◌≤◌}
 use Rattle.std.specs.Prelude.{◌≤ℤ◌, IsTrue, int_le, int_lt, if◌then◌else◌, ◌<ℤ◌, not}
 use Rattle.std.proofs.lemmas.Int.{ints}
 use Rattle.tb_float.proofs.ParamLemmas.{all-at, dim-extent}
@@ -17,9 +17,8 @@ use Rattle.tb_builder.proofs.Cutting.CutLemmas.{acted_of}
 use Rattle.tb_output.specs.State.{State, Recorded}
 use Rattle.tb_output.specs.Act.{went, full, has_head_room}
 use Rattle.tb_scaled.specs.Scaled.{eject_penalty}
-use Rattle.tb_items.specs.Classes.{classes_of}
-use Rattle.tb_laws.proofs.NothingLost.StateWeights.{class_numbers}
-use Rattle.tb_laws.proofs.DeadCycles.OtherFeet.{NoneHigher, start-other}
+use Rattle.tb_laws.proofs.DeadCycles.RaiseCounts.{state_raises}
+use Rattle.tb_laws.proofs.DeadCycles.RaiseBounds.{Spends}
 use Rattle.tb_laws.proofs.DeadCycles.ServeOutcomes.{way_floats}
 use Rattle.tb_laws.proofs.DeadCycles.CycleStates.{Bounded}
 use Rattle.tb_laws.proofs.DeadCycles.HighStates.{BoundedHigh}
@@ -105,13 +104,16 @@ module _ (g : Galley) (valid : IsValid g) where
   empties s c k = closing-changes g.params k.done s (acted_of (page_of g.params s).reached) (empty g.params calm s c k) (page_closes g.params calm s c k).acts_close
 
   low-bound : g.params.topskip ≤ℤ g.params.textheight → HasRoomForCycles g → EndsWithinCycles (run_of g).end
-  low-bound room c = not-cycles g calm (valid-differ g valid) (valid-fit g valid) (λ s. Bounded g.params m s × NoneHigher s) (λ s b. more s.dead_cycles (low-few g.params m calm low room deep s b.0)) (low-goes g.params m calm low room deep) (low-start g calm (valid-differ g valid) (valid-fit g valid), start-other (class_numbers (classes_of g)) g (valid-fit g valid) c.0) (Closing g.params) empties stays (start-closing g (valid-fit g valid)) c
+  low-bound room c = not-cycles g calm (valid-differ g valid) (valid-fit g valid) (Spends (Bounded g.params) m) (λ s x. more s.dead_cycles x.most (state_raises s) (low-few g.params x.most calm low room deep s x.bounded) x.room) (low-goes g.params m calm low room deep) (low-start g calm (valid-differ g valid) (valid-fit g valid)) (Closing g.params) empties stays (start-closing g (valid-fit g valid)) c
     where
-      more : (d : ℕ) → d ≤ m + 2 → d ≤ m + 3
-      more d h = omega arith
+      more : (d n r : ℕ) → d ≤ n + 2 → n + 4 * r ≤ m → d ≤ m + 3
+      more d n r h i = omega arith
 
   high-bound : g.params.textheight <ℤ g.params.topskip → HasRoomForCycles g → EndsWithinCycles (run_of g).end
-  high-bound high c = not-cycles g calm (valid-differ g valid) (valid-fit g valid) (λ s. BoundedHigh g.params m s × NoneHigher s) (λ s b. high-few g.params m calm deep (textheight-low g.params valid.params) high s b.0) (high-goes g.params m calm deep (textheight-low g.params valid.params) high) (high-start g calm (valid-differ g valid) (valid-fit g valid), start-other (class_numbers (classes_of g)) g (valid-fit g valid) c.0) (Closing g.params) empties stays (start-closing g (valid-fit g valid)) c
+  high-bound high c = not-cycles g calm (valid-differ g valid) (valid-fit g valid) (Spends (BoundedHigh g.params) m) (λ s x. more s.dead_cycles x.most (state_raises s) (high-few g.params x.most calm deep (textheight-low g.params valid.params) high s x.bounded) x.room) (high-goes g.params m calm deep (textheight-low g.params valid.params) high) (high-start g calm (valid-differ g valid) (valid-fit g valid)) (Closing g.params) empties stays (start-closing g (valid-fit g valid)) c
+    where
+      more : (d n r : ℕ) → d ≤ n + 3 → n + 4 * r ≤ m → d ≤ m + 3
+      more d n r h i = omega arith
 
 -- the dead-cycle bound
 pub dead-cycle-bound : DeadCyclesAreFew

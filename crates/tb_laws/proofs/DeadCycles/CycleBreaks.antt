@@ -23,6 +23,7 @@ use Rattle.tb_output.specs.Output
 use Rattle.tb_sheet.specs.Asked
 use Rattle.tb_laws.proofs.Closed.Sorts.{Sort, hold, serve, clear, odd, pen_sort, kind_sort, sorts}
 use Rattle.tb_laws.proofs.Closed.SortLemmas.{sorts-append}
+use Rattle.tb_laws.proofs.DeadCycles.RaiseCounts.{box_raises}
 use Rattle.tb_laws.proofs.DeadCycles.AgainLemmas.{Again, Idle, BreakAgain, again-idle}
 use Rattle.tb_laws.proofs.DeadCycles.WaitCosts.{sort_cost, wait_cost, cost-append, IsInserted, AllInserted, ins-free}
 use Rattle.tb_output.proofs.StepLaws.FollowLemmas.{waiting_floats, AllWait}
@@ -80,8 +81,8 @@ pub record FiresWell (p : Params) (s : State) (total : ℕ) (n : ℕ) (kind : Ki
   pub once : kind ≡ once → (int_le eject_penalty f.penalty ≡ true) × (f.held ≡ []) × ((rest : List PlainNode) × Fitted Asked.clear_penalty rest f.rest)
   -- a clear without footnotes comes next
   pub ready : kind ≡ ready → (Output.is_int f.penalty Asked.clear_penalty ≡ true) × (standing_notes (footnotes (record s { boxes = f.boxes })) ≡ [])
-  -- the page of a clear without footnotes has no insertions, and is light but for its blank box, so a blank column and a clear may come after its front
-  pub blank : Output.is_int f.penalty Asked.clear_penalty ≡ true → standing_notes (footnotes (record s { boxes = f.boxes })) ≡ [] → (f.held ≡ []) × ((rest : List PlainNode) → Fitted eject_penalty (made whatsit ∷ made blank_box ∷ made (pen Asked.clear_penalty) ∷ rest) (Clear.cleared_front p f.body ++ (made blank_box ∷ Clear.clear_again ++ rest)) × Paused (Clear.cleared_front p f.body ++ (made blank_box ∷ Clear.clear_again ++ rest))) × AllByRecursion Idle (sorts (Clear.cleared_front p f.body)) × (wait_cost (Clear.cleared_front p f.body) ≡ 0)
+  -- the page of a clear without footnotes has no insertions unless they raise it, and is light but for its blank box, so a blank column and a clear may come after its front
+  pub blank : Output.is_int f.penalty Asked.clear_penalty ≡ true → standing_notes (footnotes (record s { boxes = f.boxes })) ≡ [] → (box_raises f.boxes ≡ 0 → f.held ≡ []) × ((rest : List PlainNode) → Fitted eject_penalty (made whatsit ∷ made blank_box ∷ made (pen Asked.clear_penalty) ∷ rest) (Clear.cleared_front p f.body ++ (made blank_box ∷ Clear.clear_again ++ rest)) × Paused (Clear.cleared_front p f.body ++ (made blank_box ∷ Clear.clear_again ++ rest))) × AllByRecursion Idle (sorts (Clear.cleared_front p f.body)) × (wait_cost (Clear.cleared_front p f.body) ≡ 0)
 
 -- ---- the state after the goal is set
 

@@ -10,7 +10,7 @@ use Rattle.tb_param.specs.declared.Params.{Params}
 use Rattle.tb_insert.specs.Account.{terms_after, Frozen, labelled}
 use Rattle.tb_builder.specs.Reach.{Reach}
 use Rattle.tb_builder.specs.FiredPages.{Fired, page_break, fired_by, fired_of, frozen_for, penalty_at, with_spent_break, held_insertions}
-use Rattle.tb_builder.proofs.FiredPages.PageWeights.{AllOfClass, labelled-class}
+use Rattle.tb_builder.proofs.FiredPages.PageWeights.{AllOfClass, LabelsOfClass, labelled-class}
 use Rattle.tb_builder.proofs.Cutting.CutLemmas.{acted_of, CutAt, reach-cut, cut-class, class-pruned, held-ins}
 use Rattle.tb_laws.proofs.Closed.BareFeet.{placed-class}
 use Rattle.tb_laws.proofs.PageBreaks.FittingFired.{Topmost, AllTopmost, Fitted, FiresAt, fitted-fires, flat_box, break_at}
@@ -34,8 +34,9 @@ use Rattle.tb_laws.proofs.Closed.ClearPages.{OneFlat, one-flat, clear-ended, Fro
 use Rattle.tb_laws.proofs.DeadCycles.CycleStates.{Kind, any, once, ready, halted, closed, Holds, Phase, starting, second, ending, PhaseHolds}
 use Rattle.tb_laws.proofs.DeadCycles.CycleBreaks.{clear-sort, FiresWell}
 use Rattle.tb_laws.proofs.NothingLost.RunWeights.{Kept, page_of}
-use Rattle.tb_laws.proofs.NothingLost.LastLabels.{GivesLast, void-last, clear-last}
-use Rattle.tb_laws.proofs.DeadCycles.OtherFeet.{NoneHigher, no-last, page-labels}
+use Rattle.tb_laws.proofs.NothingLost.LastLabels.{LabelsLast, GivesLast, void-last, clear-last, from-given}
+use Rattle.tb_laws.proofs.DeadCycles.RaiseCounts.{box_raises}
+use Rattle.tb_laws.proofs.DeadCycles.RaisePages.{none-given}
 
 take-free : (k : ℕ) (ns : List PlainNode) → wait_cost ns ≡ 0 → wait_cost (take k ns) ≡ 0
 take-free zero ns h = refl
@@ -67,7 +68,7 @@ fitted-led p q tail ns s h = ap (λ xs. led_through p xs s) (h.whole ∙ append_
 is-special : (q : ℤ) → Output.is_int q Asked.clear_penalty ≡ true → int_le eject_penalty q ≡ false
 is-special q h = grind (arith, ints, h)
 
-module _ (p : Params) (s : State) (kept : Kept s) (ended : Ended false s.waiting) (other : NoneHigher s) where
+module _ (p : Params) (s : State) (kept : Kept s) (ended : Ended false s.waiting) where
   abbrev pub w : Reach
   w = page_of p s
 
@@ -152,12 +153,14 @@ module _ (p : Params) (s : State) (kept : Kept s) (ended : Ended false s.waiting
         sums : (x y v : ℕ) → x ≡ y + v → y ≡ 0 → v ≡ 0 → x ≡ 0
         sums x y v a b c = omega arith
 
-    -- a clear without footnotes has no insertions on its page, and its front is light
-    pub none-there : standing_notes (footnotes (record t { boxes = page.boxes })) ≡ [] → labelled z (take k w.passed) ≡ []
-    none-there h =
+    -- a clear without footnotes has no insertions on its page unless they raise it, and its front is light
+    pub none-there : standing_notes (footnotes (record t { boxes = page.boxes })) ≡ [] → box_raises page.boxes ≡ 0 → labelled z (take k w.passed) ≡ []
+    none-there h free =
         let ks = class_numbers s.classes in
         let ls = labelled z (take k w.passed) in
-        no-last ls (clear-last ks z (take k w.passed) (labelled-class ks z [] [] (take k w.passed) tt feet.0) (subst (λ cs. GivesLast (class_numbers cs) ls) same_classes (void-last ls t.classes t.boxes fit h))) (page-labels p.topskip s.waiting w cut other.waiting z)
+        let among : LabelsOfClass ks ls = labelled-class ks z [] [] (take k w.passed) tt feet.0 in
+        let last : LabelsLast ls = clear-last ks z (take k w.passed) among (subst (λ cs. GivesLast (class_numbers cs) ls) same_classes (void-last ls t.classes t.boxes fit h)) in
+        none-given t.classes t.boxes fit ls ls (subst (λ cs. LabelsOfClass (class_numbers cs) ls) (sym same_classes) among) last (from-given z [] [] (take k w.passed) tt) free
 
     pub flat : Output.is_int page.penalty Asked.clear_penalty ≡ true → OneFlat page.body
     flat h =
@@ -179,7 +182,7 @@ module _ (p : Params) (s : State) (kept : Kept s) (ended : Ended false s.waiting
       halted = λ i. absurd (not_halted i);
       once = λ i. absurd (not_once i);
       ready = λ i. absurd (not_ready i);
-      blank = λ h i. let x = front h in (ap held_insertions (none-there i), x.fits, x.idle, x.cost);
+      blank = λ h i. let x = front h in ((λ n. ap held_insertions (none-there i n)), x.fits, x.idle, x.cost);
     }
 
     -- if no clear of the routine is to come
@@ -226,7 +229,7 @@ module _ (p : Params) (s : State) (kept : Kept s) (ended : Ended false s.waiting
       halted = by_halted kind holds;
       once = by_once kind holds;
       ready = by_ready kind holds;
-      blank = λ h i. let x = front s refl refl refl z h in (ap held_insertions (none-there s refl refl refl z i), x.fits, x.idle, x.cost);
+      blank = λ h i. let x = front s refl refl refl z h in ((λ n. ap held_insertions (none-there s refl refl refl z i n)), x.fits, x.idle, x.cost);
     }
       where
         z : Frozen

@@ -1,5 +1,5 @@
 -- A clear without footnotes lowers what is left of the firings without a page, or ships a page.
-use Rattle.std.proofs.Common.{◌≡◌, refl, sym, ◌∙◌, ap, subst, ℕ, suc, ◌+◌, ◌*◌, ◌≤◌, inl, inr, ◌⊎◌, Bool, true, false, List, [], ◌∷◌, ◌++◌, length, arith, append_assoc}
+use Rattle.std.proofs.Common.{◌≡◌, refl, sym, ◌∙◌, ap, subst, ℕ, zero, suc, ◌+◌, ◌*◌, ◌≤◌, inl, inr, ◌⊎◌, Bool, true, false, List, [], ◌∷◌, ◌++◌, length, arith, append_assoc}
 use Rattle.std.specs.Prelude.{int_le, if◌then◌else◌}
 use Rattle.std.specs.List.{AllByRecursion}
 use Rattle.std.proofs.lemmas.List.{append_assoc, append-nil}
@@ -31,6 +31,8 @@ use Rattle.tb_laws.proofs.DeadCycles.ServeOutcomes.{AllCurrent, current_floats, 
 use Rattle.tb_laws.proofs.DeadCycles.CycleStates.{Kind, any, doubled, once, topped, ready, halted, clean, single, closed, credit, IsSecond, Holds, Phase, starting, second, ending, phase_cost, PhaseHolds, FloatsFit, Bounded, GoalOut, goal-out}
 use Rattle.tb_laws.proofs.DeadCycles.CycleFirings.{at-ordinary, at-serve, at-hold}
 use Rattle.tb_laws.proofs.DeadCycles.CycleBreaks.{FiresWell, after, waits, finish, finish-shipped, none-count, none-left, true-false, clear-no-hold, some-or-none, output-cases}
+use Rattle.tb_laws.proofs.DeadCycles.RaiseCounts.{box_raises}
+use Rattle.tb_laws.proofs.DeadCycles.RaiseFirings.{Drops}
 use Rattle.tb_laws.proofs.DeadCycles.CycleClears.{left-of, region, cost, at-most-one, not-once, not-halted, with-notes}
 
 -- ---- what is put back after the front
@@ -38,6 +40,10 @@ use Rattle.tb_laws.proofs.DeadCycles.CycleClears.{left-of, region, cost, at-most
 abbrev pub bit : Bool → ℕ
 bit true = 1
 bit false = 0
+
+bit-most : (t : Bool) → bit t ≤ 1
+bit-most true = omega arith
+bit-most false = omega arith
 
 abbrev pub half_nodes : Bool → List PlainNode
 half_nodes t = if t then made blank_box ∷ Clear.clear_again else []
@@ -207,22 +213,22 @@ module _ (p : Params) (m : ℕ) (s : State) (total a : ℕ) (kind : Kind) (phase
   most : a ≤ d + 1
   most = at-most-one p m s total a kind phase f calm holds at floats weight bound well special clears
 
+  -- a clear does not end the second column
+  not-ending : 1 ≤ phase_cost phase
+  not-ending = by_phase phase well.ending
+    where
+      by_phase : (x : Phase) → (x ≡ ending → int_le eject_penalty f.penalty ≡ true) → 1 ≤ phase_cost x
+      by_phase ending e = true-false (int_le eject_penalty f.penalty) (e refl) special
+      by_phase x e = omega arith
+
   -- a page and a float are out
   out-sums : (h r : Bool) → waiting_floats v.state.floats + 1 ≤ waiting_floats s.floats → (h ≡ true → waiting_floats v.state.floats + 2 ≤ waiting_floats s.floats) → 2 * way_floats v.state.floats + 2 + 2 * a + (3 * bit h + 3 * bit r) ≤ 2 * way_floats s.floats + credit kind + 2 * (d + bit h + bit r) + 3
-  out-sums true r n o = sums (way_floats v.state.floats) (way_floats s.floats) (credit kind) (bit r) (v-way 2 0 (plus-zero 2 (waiting_floats v.state.floats) (waiting_floats s.floats) (o refl))) most (at-most r)
+  out-sums true r n o = sums (way_floats v.state.floats) (way_floats s.floats) (credit kind) (bit r) (v-way 2 0 (plus-zero 2 (waiting_floats v.state.floats) (waiting_floats s.floats) (o refl))) most (bit-most r)
     where
-      at-most : (t : Bool) → bit t ≤ 1
-      at-most true = omega arith
-      at-most false = omega arith
-
       sums : (x y k t : ℕ) → x + 2 ≤ y + 0 → a ≤ d + 1 → t ≤ 1 → 2 * x + 2 + 2 * a + (3 * 1 + 3 * t) ≤ 2 * y + k + 2 * (d + 1 + t) + 3
       sums x y k t h i j = omega arith
-  out-sums false r n o = sums (way_floats v.state.floats) (way_floats s.floats) (credit kind) (bit r) (v-way 1 0 (plus-zero 1 (waiting_floats v.state.floats) (waiting_floats s.floats) n)) most (at-most r)
+  out-sums false r n o = sums (way_floats v.state.floats) (way_floats s.floats) (credit kind) (bit r) (v-way 1 0 (plus-zero 1 (waiting_floats v.state.floats) (waiting_floats s.floats) n)) most (bit-most r)
     where
-      at-most : (t : Bool) → bit t ≤ 1
-      at-most true = omega arith
-      at-most false = omega arith
-
       sums : (x y k t : ℕ) → x + 1 ≤ y + 0 → a ≤ d + 1 → t ≤ 1 → 2 * x + 2 + 2 * a + (3 * 0 + 3 * t) ≤ 2 * y + k + 2 * (d + 0 + t) + 3
       sums x y k t h i j = omega arith
 
@@ -266,7 +272,7 @@ module _ (p : Params) (m : ℕ) (s : State) (total a : ℕ) (kind : Kind) (phase
 
   -- ---- a second column is left blank
 
-  module _ (half : c.half ≡ true) (two : s.two_columns ≡ true) (first : v.state.first_column ≡ false) (top : v.state.floats.top ≡ []) (bottom : v.state.floats.bottom ≡ []) (double : v.state.floats.double ≡ s.floats.double) (fewer : s.first_column ≡ true → waiting_floats v.state.floats + 1 ≤ waiting_floats s.floats) where
+  module _ (none : box_raises f.boxes ≡ 0) (half : c.half ≡ true) (two : s.two_columns ≡ true) (first : v.state.first_column ≡ false) (top : v.state.floats.top ≡ []) (bottom : v.state.floats.bottom ≡ []) (double : v.state.floats.double ≡ s.floats.double) (fewer : s.first_column ≡ true → waiting_floats v.state.floats + 1 ≤ waiting_floats s.floats) where
     -- what comes after the blank column and its clear
     abbrev tail : List PlainNode
     tail = (rest_nodes c.rest ++ v-goal.blanks) ++ f.rest
@@ -274,7 +280,7 @@ module _ (p : Params) (m : ℕ) (s : State) (total a : ℕ) (kind : Kind) (phase
     waiting : v-done.waiting ≡ front ++ (made blank_box ∷ Clear.clear_again ++ tail)
     waiting =
         waits p m f well.held v
-        ∙ ap (λ ns. ns ++ ((v.put_back ++ v-goal.blanks) ++ f.rest)) (well.blank clears void).0
+        ∙ ap (λ ns. ns ++ ((v.put_back ++ v-goal.blanks) ++ f.rest)) ((well.blank clears void).0 none)
         ∙ ap (λ ns. (ns ++ v-goal.blanks) ++ f.rest) (v-back ∙ ap (λ t. front ++ (half_nodes t ++ rest_nodes c.rest)) half)
         ∙ ap (λ ns. ns ++ f.rest) (append_assoc front (half_nodes true ++ rest_nodes c.rest) v-goal.blanks)
         ∙ append_assoc front ((half_nodes true ++ rest_nodes c.rest) ++ v-goal.blanks) f.rest
@@ -321,10 +327,6 @@ module _ (p : Params) (m : ℕ) (s : State) (total a : ℕ) (kind : Kind) (phase
         by_double (inl h) t r = above h
         by_double (inr e) true r = deferred e r
         by_double (inr e) false r = nothing e r
-
-    bit-most : (t : Bool) → bit t ≤ 1
-    bit-most true = omega arith
-    bit-most false = omega arith
 
     left-most : (l : Left) → credit (kind_left l) + bit c.rest ≤ 2
     left-most (above h) = let k : bit c.rest ≤ 1 = bit-most c.rest in omega arith
@@ -385,14 +387,6 @@ module _ (p : Params) (m : ℕ) (s : State) (total a : ℕ) (kind : Kind) (phase
         at-again : (x y k j t h q : ℕ) → h ≡ 1 → x ≤ y → a ≡ d + 1 → k + t ≤ j → 1 ≤ q → (2 * x + k + 2 * a + (3 * h + 3 * t) ≤ 2 * y + j + 2 * (d + h + t) + 3) × (2 * x + k + 2 * a + (3 * h + 3 * t) + 0 + 1 ≤ 2 * y + j + 2 * (d + h + t) + 3 + q)
         at-again x y k j t h q h1 h2 h3 h4 h5 = (omega arith, omega arith)
 
-        not-ending : 1 ≤ phase_cost phase
-        not-ending = by_phase phase well.ending
-          where
-            by_phase : (x : Phase) → (x ≡ ending → int_le eject_penalty f.penalty ≡ true) → 1 ≤ phase_cost x
-            by_phase starting e = omega arith
-            by_phase second e = omega arith
-            by_phase ending e = true-false (int_le eject_penalty f.penalty) (e refl) special
-
         by_column : (g : Bool) → s.first_column ≡ g → (a ≡ 0) ⊎ (a ≡ d + 1) → Sums (credit (kind_left l)) × (2 * way_floats v.state.floats + credit (kind_left l) + 2 * a + (3 * bit c.half + 3 * bit c.rest) + 0 + 1 ≤ 2 * way_floats s.floats + credit kind + 2 * later + 3 + phase_cost phase)
         by_column true g z = at-first (way_floats v.state.floats) (way_floats s.floats) (credit (kind_left l)) (credit kind) (bit c.rest) (bit c.half) (phase_cost phase) one (v-way 1 0 (plus-zero 1 (waiting_floats v.state.floats) (waiting_floats s.floats) (fewer g))) most (left-most l) (ap phase_cost (is-starting (inr g)))
         by_column false g (inl z) = at-item (way_floats v.state.floats) (way_floats s.floats) (credit (kind_left l)) (credit kind) (bit c.rest) (bit c.half) (phase_cost phase) one v-least z (left-most l) not-ending
@@ -408,14 +402,43 @@ module _ (p : Params) (m : ℕ) (s : State) (total a : ℕ) (kind : Kind) (phase
         by_cycles (inl x) = v-quiet ending (is_second, paused) (λ e. some-later (d) (bit c.half) (bit c.rest) (ap bit half)) x (kind_left is-left) (left-holds is-left) (left-sums is-left).0 (left-sums is-left).1
         by_cycles (inr x) = v-shipped x (kind_left is-left) (left-holds is-left) (left-sums is-left).0
 
-  -- a clear without footnotes
-  pub at-void : v.refused ≡ false → Bounded p m (Output.waiting_again f (Output.next_goal p f.penalty (Clear.clear_floats p f.body w0))).state
-  at-void r = by_how c.how
+  -- a clear without footnotes whose page is not raised
+  pub at-void : box_raises f.boxes ≡ 0 → v.refused ≡ false → Bounded p m (Output.waiting_again f (Output.next_goal p f.penalty (Clear.clear_floats p f.body w0))).state
+  at-void none r = by_how c.how
     where
       by_how : How (Fits p) p w0 v c.half c.rest → Bounded p m v-done
       by_how (inl h) = emptied r h.0 h.1 h.2 h.3
-      by_how (inr (inl h)) = blanked h.0 h.1 h.2 h.3 h.4 h.5 h.6 r
+      by_how (inr (inl h)) = blanked none h.0 h.1 h.2 h.3 h.4 h.5 h.6 r
       by_how (inr (inr h)) = v-shipped (h.0 r) any tt (out-sums c.half c.rest h.1 h.2)
+
+  -- with four firings more nothing need be known of it
+  pub at-dropped : v.refused ≡ false → Bounded p (m + 4) (Output.waiting_again f (Output.next_goal p f.penalty (Clear.clear_floats p f.body w0))).state
+  at-dropped r = by_how c.how
+    where
+      paid : wait_cost v.put_back + wait_cost f.rest + 2 * way_floats v.state.floats + 2 ≤ m + 4 + 2 * later
+      paid = sums (wait_cost v.put_back) (wait_cost f.rest) (way_floats v.state.floats) (way_floats s.floats) (credit kind) (bit c.half) (bit c.rest) v-cost (cost p m s total a kind phase f calm holds at floats weight bound well special clears) v-least most weight (bit-most c.half) (bit-most c.rest)
+        where
+          sums : (b r y y' k h t : ℕ) → b ≡ 3 * h + 3 * t → r + 3 ≤ total → y ≤ y' → a ≤ d + 1 → total + 2 * y' + k ≤ m + 2 * a → h ≤ 1 → t ≤ 1 → b + r + 2 * y + 2 ≤ m + 4 + 2 * (d + h + t)
+          sums b r y y' k h t i1 i2 i3 i4 i5 i6 i7 = omega arith
+
+      shipped : v.state.dead_cycles ≡ 0 → Bounded p (m + 4) v-done
+      shipped e = finish-shipped p (m + 4) f well.held v later any v-region tt v-fits e paid
+
+      -- in this phase
+      quiet : (j : Phase) → PhaseHolds v-done j → (j ≡ ending → 1 ≤ later) → bit c.half + phase_cost j ≤ 2 → v.state.dead_cycles ≡ s.dead_cycles + 1 → Bounded p (m + 4) v-done
+      quiet j g y l e = finish p (m + 4) f well.held v later any j v-region tt g y v-fits paid (sums (wait_cost v.put_back) (wait_cost f.rest) (way_floats v.state.floats) (way_floats s.floats) (credit kind) (bit c.half) (bit c.rest) v.state.dead_cycles s.dead_cycles (phase_cost j) (phase_cost phase) v-cost (cost p m s total a kind phase f calm holds at floats weight bound well special clears) v-least most bound not-ending l (bit-most c.rest) e)
+        where
+          sums : (b r y y' k h t x x' q q' : ℕ) → b ≡ 3 * h + 3 * t → r + 3 ≤ total → y ≤ y' → a ≤ d + 1 → x' + total + 2 * y' + k + q' ≤ m + 2 + 2 * a → 1 ≤ q' → h + q ≤ 2 → t ≤ 1 → x ≡ x' + 1 → x + (b + r) + 2 * y + 2 + q ≤ m + 4 + 2 + 2 * (d + h + t)
+          sums b r y y' k h t x x' q q' i1 i2 i3 i4 i5 i6 i7 i8 i9 = omega arith
+
+      by_cycles : (j : Phase) → PhaseHolds v-done j → (j ≡ ending → 1 ≤ later) → bit c.half + phase_cost j ≤ 2 → (v.state.dead_cycles ≡ s.dead_cycles + 1) ⊎ (v.state.dead_cycles ≡ 0) → Bounded p (m + 4) v-done
+      by_cycles j g y l (inl e) = quiet j g y l e
+      by_cycles j g y l (inr e) = shipped e
+
+      by_how : How (Fits p) p w0 v c.half c.rest → Bounded p (m + 4) v-done
+      by_how (inl h) = let z : bit c.half ≡ 0 = ap bit h.0 in by_cycles starting tt (λ e. cc) (omega arith) (v-cycles r)
+      by_how (inr (inl h)) = let z : bit c.half ≡ 1 = ap bit h.0 in by_cycles second (record { columns = v-goal.columns ∙ v-columns ∙ h.1; first = v-goal.first ∙ h.2 }) (λ e. cc) (omega arith) (v-cycles r)
+      by_how (inr (inr h)) = shipped (h.0 r)
 
 -- ---- every firing
 
@@ -427,25 +450,33 @@ module _ (p : Params) (m : ℕ) (s : State) (total a : ℕ) (kind : Kind) (phase
   abbrev started : Work
   started = begun (Output.after_page s f)
 
+  -- the bound is kept, or the page drops what raises it, and it is kept with four more
+  abbrev pub Keeps : Work → Type 0
+  Keeps w = Bounded p m w.state ⊎ (Drops s f × Bounded p (m + 4) w.state)
+
   abbrev Result : Work → Type 0
-  Result w = w.refused ≡ false → Bounded p m (Output.waiting_again f (Output.next_goal p f.penalty w)).state
+  Result w = w.refused ≡ false → Keeps (Output.waiting_again f (Output.next_goal p f.penalty w))
 
   at-clear : int_le eject_penalty f.penalty ≡ false → Output.is_int f.penalty Asked.clear_penalty ≡ true → Result (Clear.clear p f.body started)
   at-clear h k = by_notes (standing_notes (footnotes (record s { boxes = f.boxes }))) refl
     where
       by_notes : (o : List Notes) → standing_notes (footnotes (record s { boxes = f.boxes })) ≡ o → Result (Clear.clear_by p f.body started o)
-      by_notes [] e r = at-void p m s total a kind phase f calm holds at floats weight bound well h k e r
-      by_notes (head ∷ notes) e r = with-notes p m s total a kind phase f calm holds at floats weight bound well h k head notes e r
+      by_notes [] e r = by_raise (box_raises f.boxes) refl
+        where
+          by_raise : (n : ℕ) → box_raises f.boxes ≡ n → Keeps (Output.waiting_again f (Output.next_goal p f.penalty (Clear.clear_floats p f.body (Clear.without_notes started))))
+          by_raise zero z = inl (at-void p m s total a kind phase f calm holds at floats weight bound well h k e z r)
+          by_raise (suc n) z = inr ((h, k, e, omega (arith, z)), at-dropped p m s total a kind phase f calm holds at floats weight bound well h k e r)
+      by_notes (head ∷ notes) e r = inl (with-notes p m s total a kind phase f calm holds at floats weight bound well h k head notes e r)
 
   outputs : Result (Output.output_by p f started)
   outputs =
       output-cases p f started Result well.regular
-      (λ e. at-ordinary p m s total a kind phase f calm holds at floats weight bound well e)
+      (λ e r. inl (at-ordinary p m s total a kind phase f calm holds at floats weight bound well e r))
       (λ e k. at-clear e k)
-      (λ vert e x. at-serve p m s total a kind phase f calm holds at floats weight bound well vert e x)
-      (λ e x. at-hold p m s total a kind phase f calm holds at floats weight bound well e x)
+      (λ vert e x r. inl (at-serve p m s total a kind phase f calm holds at floats weight bound well vert e x r))
+      (λ e x r. inl (at-hold p m s total a kind phase f calm holds at floats weight bound well e x r))
 
   -- a firing keeps the bound
-  pub out-bounded : (Output.out p s f).refused ≡ false → Bounded p m (Output.out p s f).state
+  pub out-bounded : (Output.out p s f).refused ≡ false → Keeps (Output.out p s f)
   unfolding Output.out
   out-bounded r = outputs (sym (goal-out p f.penalty (Output.output_by p f started)).refused ∙ r)

@@ -1,5 +1,5 @@
 -- Each firing lowers what is left of the firings without a page, or ships a page, if the top skip is higher than a page.
-use Rattle.std.proofs.Common.{◌≡◌, refl, sym, ◌∙◌, ap, subst, ℕ, suc, ◌+◌, ◌*◌, ◌≤◌, inl, inr, ◌⊎◌, Bool, true, false, List, [], ◌∷◌, ◌++◌, length, arith}
+use Rattle.std.proofs.Common.{◌≡◌, refl, sym, ◌∙◌, ap, subst, ℕ, zero, suc, ◌+◌, ◌*◌, ◌≤◌, inl, inr, ◌⊎◌, Bool, true, false, List, [], ◌∷◌, ◌++◌, length, arith}
 use Rattle.std.specs.Prelude.{int_le}
 use Rattle.std.specs.List.{AllByRecursion}
 use Rattle.tb_scaled.specs.Scaled.{eject_penalty}
@@ -27,16 +27,18 @@ use Rattle.tb_laws.proofs.DeadCycles.CycleFirings.{none-again, cost-of, hold-qui
 use Rattle.tb_laws.proofs.DeadCycles.CycleBreaks.{FiresWell, QuietOut, after, true-false, clear-no-hold, output-cases, ordinary-again}
 use Rattle.tb_laws.proofs.DeadCycles.CycleClears.{left-of, cost, q-out, n-region, n-cost, n-fits, q-least}
 use Rattle.tb_laws.proofs.DeadCycles.CycleVoids.{bit, half_nodes, rest_nodes, c, v-back, v-cost, v-region, v-fits, v-cycles, v-least, is_second, paused}
+use Rattle.tb_laws.proofs.DeadCycles.RaiseCounts.{box_raises}
+use Rattle.tb_laws.proofs.DeadCycles.RaiseFirings.{Drops}
 use Rattle.tb_laws.proofs.DeadCycles.EndedLemmas.{Ended}
 use Rattle.tb_laws.proofs.DeadCycles.CycleEnds.{out-ended}
 use Rattle.tb_laws.proofs.DeadCycles.HighStates.{Stage, loose, guarded, cleared, right, last, stage_cost, Guarded, StageHolds, phase_of, phase-holds, BoundedHigh, spaced-free, spaced-back, finish-high, shipped-high}
 
--- what is known of the page that fires: all that is known of any, how the clears after it are spaced, and that a page that is guarded does not break at a clear without footnotes
+-- what is known of the page that fires: all that is known of any, how the clears after it are spaced, and that a page that is guarded breaks at a clear without footnotes only if it is raised
 pub record FiresHigh (p : Params) (s : State) (total n : ℕ) (stage : Stage) (f : Fired) : Type 0 where
   pub well : FiresWell p s total n any (phase_of stage) f
   pub spaced : Spaced true f.rest
   pub behind : Output.is_int f.penalty Asked.clear_penalty ≡ true → Spaced false f.rest
-  pub guard : stage ≡ guarded → Output.is_int f.penalty Asked.clear_penalty ≡ true → standing_notes (footnotes (record s { boxes = f.boxes })) ≡ [] → ⊥
+  pub guard : stage ≡ guarded → Output.is_int f.penalty Asked.clear_penalty ≡ true → standing_notes (footnotes (record s { boxes = f.boxes })) ≡ [] → box_raises f.boxes ≡ 0 → ⊥
 
 again-spaced : (b : Bool) → Spaced b Clear.clear_again
 again-spaced b = (tt, (λ h. cc, (tt, (tt, (λ h. refl, tt)))))
@@ -70,6 +72,13 @@ module _ (p : Params) (m : ℕ) (s : State) (total a : ℕ) (stage : Stage) (f :
 
   abbrev Result : Work → Type 0
   Result w = w.refused ≡ false → BoundedHigh p m (Output.waiting_again f (Output.next_goal p f.penalty w)).state
+
+  -- the bound is kept, or the page drops what raises it, and it is kept with four more
+  abbrev pub Keeps : Work → Type 0
+  Keeps w = BoundedHigh p m w.state ⊎ (Drops s f × BoundedHigh p (m + 4) w.state)
+
+  abbrev Lowered : Work → Type 0
+  Lowered w = w.refused ≡ false → Keeps (Output.waiting_again f (Output.next_goal p f.penalty w))
 
   -- ---- what holds of the work of any firing, with a bound that is met in any case
 
@@ -324,8 +333,8 @@ module _ (p : Params) (m : ℕ) (s : State) (total a : ℕ) (stage : Stage) (f :
       is-guarded : NoneWait v.state.floats → Guarded p v-done
       is-guarded n = record { goal = (v-goal.quiet (clear-no-hold f.penalty clears) n.top n.bottom n.double).1; spaced = spaced }
 
-      emptied : v.refused ≡ false → k.half ≡ false → k.rest ≡ false → NoneWait v.state.floats → IsFirst s → BoundedHigh p m v-done
-      emptied r i j n o = by_cycles (cycles r)
+      emptied : box_raises f.boxes ≡ 0 → v.refused ≡ false → k.half ≡ false → k.rest ≡ false → NoneWait v.state.floats → IsFirst s → BoundedHigh p m v-done
+      emptied none r i j n o = by_cycles (cycles r)
         where
           none-later : a ≡ 0 → again ≡ 0
           none-later z = sums (bit k.half) (bit k.rest) (ap bit i) (ap bit j) (ap (λ x. left_after x clear) z)
@@ -335,7 +344,7 @@ module _ (p : Params) (m : ℕ) (s : State) (total a : ℕ) (stage : Stage) (f :
 
           by_stage : v.state.dead_cycles ≡ s.dead_cycles + 1 → a ≡ d + 1 → (t : Stage) → t ≡ stage → StageHolds p s a t → BoundedHigh p m v-done
           by_stage e l loose g h = lowered guarded (is-guarded n) (λ x. cc) e (subst (λ (t : Stage). 3 ≤ stage_cost t) g (omega arith))
-          by_stage e l guarded g h = absurd (fires.guard (sym g) clears void)
+          by_stage e l guarded g h = absurd (fires.guard (sym g) clears void none)
           by_stage e l cleared g h = absurd (never a d h l)
             where
               never : (x y : ℕ) → x ≡ 0 → x ≡ y + 1 → ⊥
@@ -358,7 +367,7 @@ module _ (p : Params) (m : ℕ) (s : State) (total a : ℕ) (stage : Stage) (f :
           by_cycles (inr e) = shipped e
 
       -- a second column is left blank, and ends with the next firing
-      module _ (half : k.half ≡ true) (two : s.two_columns ≡ true) (first : v.state.first_column ≡ false) (top : v.state.floats.top ≡ []) (bottom : v.state.floats.bottom ≡ []) (double : v.state.floats.double ≡ s.floats.double) (fewer : s.first_column ≡ true → waiting_floats v.state.floats + 1 ≤ waiting_floats s.floats) where
+      module _ (none : box_raises f.boxes ≡ 0) (half : k.half ≡ true) (two : s.two_columns ≡ true) (first : v.state.first_column ≡ false) (top : v.state.floats.top ≡ []) (bottom : v.state.floats.bottom ≡ []) (double : v.state.floats.double ≡ s.floats.double) (fewer : s.first_column ≡ true → waiting_floats v.state.floats + 1 ≤ waiting_floats s.floats) where
         some-later : 1 ≤ again
         some-later = sums (bit k.half) (bit k.rest) (ap bit half)
           where
@@ -366,7 +375,7 @@ module _ (p : Params) (m : ℕ) (s : State) (total a : ℕ) (stage : Stage) (f :
             sums h t i = omega arith
 
         is-last : StageHolds p v-done again last
-        is-last = (is_second p big s total a any (phase_of stage) f calm tt at floats big-weight big-bound well special clears void half two first top bottom double fewer, paused p big s total a any (phase_of stage) f calm tt at floats big-weight big-bound well special clears void half two first top bottom double fewer)
+        is-last = (is_second p big s total a any (phase_of stage) f calm tt at floats big-weight big-bound well special clears void none half two first top bottom double fewer, paused p big s total a any (phase_of stage) f calm tt at floats big-weight big-bound well special clears void none half two first top bottom double fewer)
 
         stage-paid : 1 ≤ stage_cost stage
         stage-paid = by_stage stage refl
@@ -382,28 +391,48 @@ module _ (p : Params) (m : ℕ) (s : State) (total a : ℕ) (stage : Stage) (f :
             by_cycles (inl e) = lowered last is-last (λ x. some-later) e stage-paid
             by_cycles (inr e) = shipped e
 
-      at-void : Result (Clear.clear_floats p f.body (Clear.without_notes w0))
-      at-void r = by_how k.how
+      at-void : box_raises f.boxes ≡ 0 → Result (Clear.clear_floats p f.body (Clear.without_notes w0))
+      at-void none r = by_how k.how
         where
           by_how : How (Fits p) p (Clear.without_notes w0) v k.half k.rest → BoundedHigh p m v-done
-          by_how (inl h) = emptied r h.0 h.1 h.2 h.3
-          by_how (inr (inl h)) = blanked h.0 h.1 h.2 h.3 h.4 h.5 h.6 r
+          by_how (inl h) = emptied none r h.0 h.1 h.2 h.3
+          by_how (inr (inl h)) = blanked none h.0 h.1 h.2 h.3 h.4 h.5 h.6 r
           by_how (inr (inr h)) = shipped (h.0 r)
 
-    at-clear : Result (Clear.clear p f.body w0)
+      -- with four firings more nothing need be known of it
+      at-dropped : v.refused ≡ false → BoundedHigh p (m + 4) (Output.waiting_again f (Output.next_goal p f.penalty v)).state
+      at-dropped r = finish-high p (m + 4) f well.held v again loose region tt (λ e. cc) fits (spaced-true false v-done.waiting spaced)
+          (more (wait_cost v.put_back + wait_cost f.rest + 2 * way_floats v.state.floats) again (by-weight v again region fits (spaced-true false v-done.waiting spaced) paid))
+          (sums (wait_cost v.put_back + wait_cost f.rest) (way_floats v.state.floats) (way_floats s.floats) again v.state.dead_cycles s.dead_cycles (stage_cost stage) paid (one-more v.state.dead_cycles s.dead_cycles (cycles r)) bound)
+        where
+          more : (x g : ℕ) → x ≤ m + 3 * g → x ≤ m + 4 + 3 * g
+          more x g h = omega arith
+
+          one-more : (x y : ℕ) → (x ≡ y + 1) ⊎ (x ≡ 0) → x ≤ y + 1
+          one-more x y (inl e) = omega arith
+          one-more x y (inr e) = omega arith
+
+          sums : (b y y' g d1 d0 u : ℕ) → b + 2 * y + 3 * a ≤ total + 2 * y' + 3 * g → d1 ≤ d0 + 1 → d0 + total + 2 * y' + u ≤ m + 3 + 3 * a → d1 + b + 2 * y + 3 ≤ m + 4 + 3 + 3 * g
+          sums b y y' g d1 d0 u h i j = omega arith
+
+    at-clear : Lowered (Clear.clear p f.body w0)
     at-clear = by_notes (standing_notes (footnotes (record s { boxes = f.boxes }))) refl
       where
-        by_notes : (x : List Notes) → standing_notes (footnotes (record s { boxes = f.boxes })) ≡ x → Result (Clear.clear_by p f.body w0 x)
-        by_notes [] e r = at-void e r
-        by_notes (head ∷ notes) e r = with-notes head notes e r
+        by_notes : (x : List Notes) → standing_notes (footnotes (record s { boxes = f.boxes })) ≡ x → Lowered (Clear.clear_by p f.body w0 x)
+        by_notes [] e r = by_raise (box_raises f.boxes) refl
+          where
+            by_raise : (n : ℕ) → box_raises f.boxes ≡ n → Keeps (Output.waiting_again f (Output.next_goal p f.penalty (Clear.clear_floats p f.body (Clear.without_notes w0))))
+            by_raise zero z = inl (at-void e z r)
+            by_raise (suc n) z = inr ((special, clears, e, omega (arith, z)), at-dropped e r)
+        by_notes (head ∷ notes) e r = inl (with-notes head notes e r)
 
   -- ---- every firing
 
-  outputs : Result (Output.output_by p f w0)
-  outputs = output-cases p f w0 Result well.regular (λ e. at-ordinary e) (λ e k. at-clear e k) (λ vert e x. at-serve vert e x) (λ e x. at-hold e x)
+  outputs : Lowered (Output.output_by p f w0)
+  outputs = output-cases p f w0 Lowered well.regular (λ e r. inl (at-ordinary e r)) (λ e k. at-clear e k) (λ vert e x r. inl (at-serve vert e x r)) (λ e x r. inl (at-hold e x r))
 
   -- a firing keeps the bound
-  pub out-high : (Output.out p s f).refused ≡ false → BoundedHigh p m (Output.out p s f).state
+  pub out-high : (Output.out p s f).refused ≡ false → Keeps (Output.out p s f)
   unfolding Output.out
   out-high r = outputs (sym (goal-out p f.penalty (Output.output_by p f w0)).refused ∙ r)
 

@@ -25,7 +25,7 @@ use Rattle.tb_laws.proofs.DeadCycles.EndedLemmas.{Ended}
 use Rattle.tb_laws.proofs.DeadCycles.SpacedLemmas.{Spaced, spaced-pruned, spaced-acts, spaced-behind, spaced-spent, spaced-clear}
 use Rattle.tb_laws.proofs.Closed.ClearPages.{OneFlat}
 use Rattle.tb_laws.proofs.NothingLost.RunWeights.{Kept}
-use Rattle.tb_laws.proofs.DeadCycles.OtherFeet.{NoneHigher}
+use Rattle.tb_laws.proofs.DeadCycles.RaiseCounts.{box_raises}
 use Rattle.tb_laws.proofs.DeadCycles.CyclePages.{w, k, cut, none-reached, limit-deep, page, none-there, flat, same-led}
 
 -- ---- lists without acts and insertions
@@ -83,50 +83,50 @@ take-most (suc i) (x ∷ xs) = let h : length (take i xs) ≤ i = take-most i xs
 
 -- ---- the page
 
-module _ (p : Params) (s : State) (kept : Kept s) (ended : Ended false s.waiting) (other : NoneHigher s) where
+module _ (p : Params) (s : State) (kept : Kept s) (ended : Ended false s.waiting) where
   -- how the clears behind the page are spaced
-  laid-spaced : (b : Bool) → Spaced b s.waiting → Spaced b (take (k p s kept ended other) (w p s kept ended other).passed ++ (drop (k p s kept ended other) (w p s kept ended other).passed ++ (w p s kept ended other).beyond))
+  laid-spaced : (b : Bool) → Spaced b s.waiting → Spaced b (take (k p s kept ended) (w p s kept ended).passed ++ (drop (k p s kept ended) (w p s kept ended).passed ++ (w p s kept ended).beyond))
   laid-spaced b h =
-      let x = cut p s kept ended other in
-      subst (Spaced b) (ap (λ ns. ns ++ (w p s kept ended other).beyond) (sym x.passed) ∙ take-drop (k p s kept ended other) (w p s kept ended other).passed (w p s kept ended other).beyond)
-      (spaced-acts b x.front (w p s kept ended other).beyond (subst (Spaced b) x.whole (spaced-pruned p.topskip b s.waiting h)))
+      let x = cut p s kept ended in
+      subst (Spaced b) (ap (λ ns. ns ++ (w p s kept ended).beyond) (sym x.passed) ∙ take-drop (k p s kept ended) (w p s kept ended).passed (w p s kept ended).beyond)
+      (spaced-acts b x.front (w p s kept ended).beyond (subst (Spaced b) x.whole (spaced-pruned p.topskip b s.waiting h)))
 
-  pub rest-spaced : Spaced true s.waiting → Spaced true (with_spent_break (drop (k p s kept ended other) (w p s kept ended other).passed ++ (w p s kept ended other).beyond))
-  rest-spaced h = spaced-spent true (drop (k p s kept ended other) (w p s kept ended other).passed ++ (w p s kept ended other).beyond) (spaced-behind true (take (k p s kept ended other) (w p s kept ended other).passed) (drop (k p s kept ended other) (w p s kept ended other).passed ++ (w p s kept ended other).beyond) (laid-spaced true h))
+  pub rest-spaced : Spaced true s.waiting → Spaced true (with_spent_break (drop (k p s kept ended) (w p s kept ended).passed ++ (w p s kept ended).beyond))
+  rest-spaced h = spaced-spent true (drop (k p s kept ended) (w p s kept ended).passed ++ (w p s kept ended).beyond) (spaced-behind true (take (k p s kept ended) (w p s kept ended).passed) (drop (k p s kept ended) (w p s kept ended).passed ++ (w p s kept ended).beyond) (laid-spaced true h))
 
-  pub behind-spaced : Spaced true s.waiting → Output.is_int (penalty_at (drop (k p s kept ended other) (w p s kept ended other).passed ++ (w p s kept ended other).beyond)) Asked.clear_penalty ≡ true → Spaced false (with_spent_break (drop (k p s kept ended other) (w p s kept ended other).passed ++ (w p s kept ended other).beyond))
-  behind-spaced h c = spaced-clear true (drop (k p s kept ended other) (w p s kept ended other).passed ++ (w p s kept ended other).beyond) c (spaced-behind true (take (k p s kept ended other) (w p s kept ended other).passed) (drop (k p s kept ended other) (w p s kept ended other).passed ++ (w p s kept ended other).beyond) (laid-spaced true h))
+  pub behind-spaced : Spaced true s.waiting → Output.is_int (penalty_at (drop (k p s kept ended) (w p s kept ended).passed ++ (w p s kept ended).beyond)) Asked.clear_penalty ≡ true → Spaced false (with_spent_break (drop (k p s kept ended) (w p s kept ended).passed ++ (w p s kept ended).beyond))
+  behind-spaced h c = spaced-clear true (drop (k p s kept ended) (w p s kept ended).passed ++ (w p s kept ended).beyond) c (spaced-behind true (take (k p s kept ended) (w p s kept ended).passed) (drop (k p s kept ended) (w p s kept ended).passed ++ (w p s kept ended).beyond) (laid-spaced true h))
 
-  -- a page whose first clear has a lasting node before it does not break there without footnotes
+  -- a page whose first clear has a lasting node before it does not break there without footnotes, unless it is raised
   module _ (deep : pos 0 ≤ℤ p.maxdepth) (base : pos 0 ≤ℤ p.textheight) (high : p.textheight <ℤ p.topskip) (n : ℕ) (again : Again (suc n) (sorts s.waiting)) (goal : s.goal ≡ p.textheight) (spaced : Spaced false s.waiting)
-      (z : Frozen) (clears : Output.is_int (page p s kept ended other s refl refl refl z).penalty Asked.clear_penalty ≡ true) (void : standing_notes (footnotes (record s { boxes = (page p s kept ended other s refl refl refl z).boxes })) ≡ []) where
+      (z : Frozen) (clears : Output.is_int (page p s kept ended s refl refl refl z).penalty Asked.clear_penalty ≡ true) (void : standing_notes (footnotes (record s { boxes = (page p s kept ended s refl refl refl z).boxes })) ≡ []) (none : box_raises (page p s kept ended s refl refl refl z).boxes ≡ 0) where
     abbrev r : Reach
-    r = w p s kept ended other
+    r = w p s kept ended
 
     abbrev i : ℕ
-    i = k p s kept ended other
+    i = k p s kept ended
 
     abbrev before : List PlainNode
-    before = take (k p s kept ended other) (w p s kept ended other).passed
+    before = take (k p s kept ended) (w p s kept ended).passed
 
     abbrev behind : List PlainNode
-    behind = drop (k p s kept ended other) (w p s kept ended other).passed ++ (w p s kept ended other).beyond
+    behind = drop (k p s kept ended) (w p s kept ended).passed ++ (w p s kept ended).beyond
 
     -- no act and no insertion comes before the clear, so what was laid out is the page and the rest
     laid : pruned_nodes p.topskip s.waiting ≡ before ++ behind
     laid =
-        let x = cut p s kept ended other in
-        let e : without_acts x.front ≡ x.front = actless x.front (sym x.acts ∙ none-reached p s kept ended other n again) in
+        let x = cut p s kept ended in
+        let e : without_acts x.front ≡ x.front = actless x.front (sym x.acts ∙ none-reached p s kept ended n again) in
         x.whole ∙ ap (λ ns. ns ++ r.beyond) (sym e ∙ sym x.passed) ∙ take-drop i r.passed r.beyond
 
     one : OneFlat (without_insertions before)
-    one = flat p s kept ended other s refl refl refl z clears
+    one = flat p s kept ended s refl refl refl z clears
 
     at : AtClear behind
     at = at-clear behind clears
 
     body : before ≡ one.front ++ flat_box one.line what.Blank ∷ []
-    body = sym (insertless z [] [] before (none-there p s kept ended other s refl refl refl z void)) ∙ one.whole
+    body = sym (insertless z [] [] before (none-there p s kept ended s refl refl refl z void none)) ∙ one.whole
 
     whole : pruned_nodes p.topskip s.waiting ≡ one.front ++ flat_box one.line what.Blank ∷ break_at at.line Asked.clear_penalty ∷ at.tail
     whole = laid ∙ ap (λ ns. before ++ ns) at.whole ∙ ap (λ ns. ns ++ break_at at.line Asked.clear_penalty ∷ at.tail) body ∙ append_assoc one.front (flat_box one.line what.Blank ∷ []) (break_at at.line Asked.clear_penalty ∷ at.tail)
@@ -150,11 +150,11 @@ module _ (p : Params) (s : State) (kept : Kept s) (ended : Ended false s.waiting
 
     -- no act is reached, so the page is made for the goal of the state
     asked-goal : (ask_for p s).goal ≡ p.textheight
-    asked-goal = ap (λ (t : State). t.goal) (same-led p s kept ended other (none-reached p s kept ended other n again)) ∙ goal
+    asked-goal = ap (λ (t : State). t.goal) (same-led p s kept ended (none-reached p s kept ended n again)) ∙ goal
 
     -- so the page breaks before its top glue, and the clear is behind that
     place : i ≡ length top.lasting
-    place = high-breaks (ask_for p s).goal (ask_for p s).max_depth p.topskip Asked.clear_penalty _ (limit-deep p s kept ended other deep) refl (subst (λ (x : ℤ). pos 0 ≤ℤ x) (sym asked-goal) base) (subst (λ (x : ℤ). x <ℤ p.topskip) (sym asked-goal) high) s.waiting top.lasting top.line one.line what.Blank at.line at.tail top.all has-first shaped
+    place = high-breaks (ask_for p s).goal (ask_for p s).max_depth p.topskip Asked.clear_penalty _ (limit-deep p s kept ended deep) refl (subst (λ (x : ℤ). pos 0 ≤ℤ x) (sym asked-goal) base) (subst (λ (x : ℤ). x <ℤ p.topskip) (sym asked-goal) high) s.waiting top.lasting top.line one.line what.Blank at.line at.tail top.all has-first shaped
 
     longer : length before ≡ length top.lasting + 2
     longer = ap length (body ∙ ap (λ ns. ns ++ flat_box one.line what.Blank ∷ []) top.whole ∙ append_assoc top.lasting (record { line = top.line; kind = plain (skip (top_glue p.topskip (pos 0))) } ∷ []) (flat_box one.line what.Blank ∷ [])) ∙ length-append top.lasting (record { line = top.line; kind = plain (skip (top_glue p.topskip (pos 0))) } ∷ flat_box one.line what.Blank ∷ [])

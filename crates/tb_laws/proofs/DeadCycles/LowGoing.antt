@@ -18,8 +18,9 @@ use Rattle.tb_laws.proofs.DeadCycles.CycleVoids.{out-bounded}
 use Rattle.tb_laws.proofs.DeadCycles.CycleEnds.{out-ended}
 use Rattle.tb_laws.proofs.DeadCycles.ActCosts.{Acts, again-cost}
 use Rattle.tb_laws.proofs.NothingLost.RunWeights.{Kept, page_of}
-use Rattle.tb_laws.proofs.DeadCycles.OtherFeet.{NoneHigher, out-other}
-use Rattle.tb_laws.proofs.DeadCycles.CyclePages.{cut, rest-ended, none-reached, reached-cost, closed-well, open-well}
+use Rattle.tb_laws.proofs.DeadCycles.RaiseFirings.{Drops}
+use Rattle.tb_laws.proofs.DeadCycles.RaiseBounds.{Spends, spends}
+use Rattle.tb_laws.proofs.DeadCycles.CyclePages.{rest-ended, none-reached, reached-cost, closed-well, open-well}
 use Rattle.tb_laws.proofs.DeadCycles.CycleRuns.{page_fired, Goes}
 
 module _ (p : Params) (m : ℕ) (calm : int_le p.interlinepenalty eject_penalty ≡ false) (low : pos 0 ≤ℤ p.topskip) (room : p.topskip ≤ℤ p.textheight) (deep : pos 0 ≤ℤ p.maxdepth) where
@@ -33,12 +34,12 @@ module _ (p : Params) (m : ℕ) (calm : int_le p.interlinepenalty eject_penalty 
       sums d w y c q a h k = omega arith
 
   -- the firing of the page after its acts
-  module _ (s : State) (kept : Kept s) (ended : Ended false s.waiting) (other : NoneHigher s) (b : Bounded p m s) (t : State) (a : Acts p (acts_cost (acted_of (page_of p s).reached)) s t) (same : acted_of (page_of p s).reached ≡ [] → t ≡ s) where
+  module _ (s : State) (kept : Kept s) (ended : Ended false s.waiting) (b : Bounded p m s) (t : State) (a : Acts p (acts_cost (acted_of (page_of p s).reached)) s t) (same : acted_of (page_of p s).reached ≡ [] → t ≡ s) where
     abbrev page : State → Fired
     page x = page_fired p s x
 
     abbrev Going : State → Type 0
-    Going x = (out p x (page x)).refused ≡ false → Bounded p m (out p x (page x)).state × Ended false (out p x (page x)).state.waiting
+    Going x = (out p x (page x)).refused ≡ false → (Bounded p m (out p x (page x)).state ⊎ (Drops x (page x) × Bounded p (m + 4) (out p x (page x)).state)) × Ended false (out p x (page x)).state.waiting
 
     abbrev total : State → ℕ
     total x = wait_cost (page x).rest + sort_cost (pen_sort (page x).penalty)
@@ -46,9 +47,9 @@ module _ (p : Params) (m : ℕ) (calm : int_le p.interlinepenalty eject_penalty 
     -- if no clear of the routine is to come
     closed-goes : b.again ≡ 0 → (phase : Phase) → PhaseHolds t phase → (phase ≡ ending → ⊥) → t.dead_cycles + total t + 2 * way_floats t.floats + 0 + phase_cost phase ≤ m + 2 + 2 * 0 → Going t
     closed-goes z phase at going bound r =
-        let well = closed-well p s kept ended other t a.classes a.boxes a.held (frozen_for (ask_for p s) t.classes t.boxes) 0 phase refl going tt in
-        let weight : total t + 2 * way_floats t.floats + 0 ≤ m + 2 * 0 = sums (total t) (way_floats t.floats) (way_floats s.floats) (wait_cost s.waiting) (acts_cost (acted_of (page_of p s).reached)) (credit b.kind) b.again (reached-cost p s kept ended other) a.way b.weight z in
-        (out-bounded p m t (total t) 0 closed phase (page t) calm refl at (a.floats b.floats) weight bound well r, out-ended p m t (total t) 0 closed phase (page t) calm refl at (a.floats b.floats) weight bound well (rest-ended p s kept ended other))
+        let well = closed-well p s kept ended t a.classes a.boxes a.held (frozen_for (ask_for p s) t.classes t.boxes) 0 phase refl going tt in
+        let weight : total t + 2 * way_floats t.floats + 0 ≤ m + 2 * 0 = sums (total t) (way_floats t.floats) (way_floats s.floats) (wait_cost s.waiting) (acts_cost (acted_of (page_of p s).reached)) (credit b.kind) b.again (reached-cost p s kept ended) a.way b.weight z in
+        (out-bounded p m t (total t) 0 closed phase (page t) calm refl at (a.floats b.floats) weight bound well r, out-ended p m t (total t) 0 closed phase (page t) calm refl at (a.floats b.floats) weight bound well (rest-ended p s kept ended))
       where
         sums : (x y y' w n k g : ℕ) → x + n ≤ w → 2 * y ≤ 2 * y' + n → w + 2 * y' + k ≤ m + 2 * g → g ≡ 0 → x + 2 * y + 0 ≤ m + 2 * 0
         sums x y y' w n k g h i j l = omega arith
@@ -66,21 +67,21 @@ module _ (p : Params) (m : ℕ) (calm : int_le p.interlinepenalty eject_penalty 
         no-end x h k = omega arith
 
         by_phase : (x : Phase) → b.phase ≡ x → PhaseHolds s x → Going t
-        by_phase starting e h = closed-goes z starting tt (λ i. cc) (first t.dead_cycles s.dead_cycles (total t) (way_floats t.floats) (way_floats s.floats) (wait_cost s.waiting) (acts_cost (acted_of (page_of p s).reached)) (credit b.kind) b.again 2 a.cycles (reached-cost p s kept ended other) a.way (subst (λ (y : Phase). s.dead_cycles + wait_cost s.waiting + 2 * way_floats s.floats + credit b.kind + phase_cost y ≤ m + 2 + 2 * b.again) e b.bound) z)
+        by_phase starting e h = closed-goes z starting tt (λ i. cc) (first t.dead_cycles s.dead_cycles (total t) (way_floats t.floats) (way_floats s.floats) (wait_cost s.waiting) (acts_cost (acted_of (page_of p s).reached)) (credit b.kind) b.again 2 a.cycles (reached-cost p s kept ended) a.way (subst (λ (y : Phase). s.dead_cycles + wait_cost s.waiting + 2 * way_floats s.floats + credit b.kind + phase_cost y ≤ m + 2 + 2 * b.again) e b.bound) z)
         by_phase second e h = by_second (a.second h)
           where
             by_second : IsSecond t ⊎ (2 * way_floats t.floats + 1 ≤ 2 * way_floats s.floats + acts_cost (acted_of (page_of p s).reached)) → Going t
-            by_second (inl i) = closed-goes z second i (λ i. cc) (first t.dead_cycles s.dead_cycles (total t) (way_floats t.floats) (way_floats s.floats) (wait_cost s.waiting) (acts_cost (acted_of (page_of p s).reached)) (credit b.kind) b.again 1 a.cycles (reached-cost p s kept ended other) a.way (subst (λ (y : Phase). s.dead_cycles + wait_cost s.waiting + 2 * way_floats s.floats + credit b.kind + phase_cost y ≤ m + 2 + 2 * b.again) e b.bound) z)
-            by_second (inr i) = closed-goes z starting tt (λ i. cc) (later t.dead_cycles s.dead_cycles (total t) (way_floats t.floats) (way_floats s.floats) (wait_cost s.waiting) (acts_cost (acted_of (page_of p s).reached)) (credit b.kind) b.again a.cycles (reached-cost p s kept ended other) i (subst (λ (y : Phase). s.dead_cycles + wait_cost s.waiting + 2 * way_floats s.floats + credit b.kind + phase_cost y ≤ m + 2 + 2 * b.again) e b.bound) z)
+            by_second (inl i) = closed-goes z second i (λ i. cc) (first t.dead_cycles s.dead_cycles (total t) (way_floats t.floats) (way_floats s.floats) (wait_cost s.waiting) (acts_cost (acted_of (page_of p s).reached)) (credit b.kind) b.again 1 a.cycles (reached-cost p s kept ended) a.way (subst (λ (y : Phase). s.dead_cycles + wait_cost s.waiting + 2 * way_floats s.floats + credit b.kind + phase_cost y ≤ m + 2 + 2 * b.again) e b.bound) z)
+            by_second (inr i) = closed-goes z starting tt (λ i. cc) (later t.dead_cycles s.dead_cycles (total t) (way_floats t.floats) (way_floats s.floats) (wait_cost s.waiting) (acts_cost (acted_of (page_of p s).reached)) (credit b.kind) b.again a.cycles (reached-cost p s kept ended) i (subst (λ (y : Phase). s.dead_cycles + wait_cost s.waiting + 2 * way_floats s.floats + credit b.kind + phase_cost y ≤ m + 2 + 2 * b.again) e b.bound) z)
         by_phase ending e h = absurd (no-end b.again z (b.coming e))
 
     -- if clears of the routine are to come, no act was reached
     open-goes : Going s
     open-goes r =
-        let well = open-well p s kept ended other low room deep b.again b.kind b.phase b.region b.holds b.at in
-        let weight : total s + 2 * way_floats s.floats + credit b.kind ≤ m + 2 * b.again = sums (total s) (way_floats s.floats) (wait_cost s.waiting) (acts_cost (acted_of (page_of p s).reached)) (credit b.kind) b.again (reached-cost p s kept ended other) b.weight in
-        let bound : s.dead_cycles + total s + 2 * way_floats s.floats + credit b.kind + phase_cost b.phase ≤ m + 2 + 2 * b.again = sums-with s.dead_cycles (total s) (way_floats s.floats) (wait_cost s.waiting) (acts_cost (acted_of (page_of p s).reached)) (credit b.kind) b.again (phase_cost b.phase) (reached-cost p s kept ended other) b.bound in
-        (out-bounded p m s (total s) b.again b.kind b.phase (page s) calm b.holds b.at b.floats weight bound well r, out-ended p m s (total s) b.again b.kind b.phase (page s) calm b.holds b.at b.floats weight bound well (rest-ended p s kept ended other))
+        let well = open-well p s kept ended low room deep b.again b.kind b.phase b.region b.holds b.at in
+        let weight : total s + 2 * way_floats s.floats + credit b.kind ≤ m + 2 * b.again = sums (total s) (way_floats s.floats) (wait_cost s.waiting) (acts_cost (acted_of (page_of p s).reached)) (credit b.kind) b.again (reached-cost p s kept ended) b.weight in
+        let bound : s.dead_cycles + total s + 2 * way_floats s.floats + credit b.kind + phase_cost b.phase ≤ m + 2 + 2 * b.again = sums-with s.dead_cycles (total s) (way_floats s.floats) (wait_cost s.waiting) (acts_cost (acted_of (page_of p s).reached)) (credit b.kind) b.again (phase_cost b.phase) (reached-cost p s kept ended) b.bound in
+        (out-bounded p m s (total s) b.again b.kind b.phase (page s) calm b.holds b.at b.floats weight bound well r, out-ended p m s (total s) b.again b.kind b.phase (page s) calm b.holds b.at b.floats weight bound well (rest-ended p s kept ended))
       where
         sums : (x y w n k g : ℕ) → x + n ≤ w → w + 2 * y + k ≤ m + 2 * g → x + 2 * y + k ≤ m + 2 * g
         sums x y w n k g h i = omega arith
@@ -88,14 +89,15 @@ module _ (p : Params) (m : ℕ) (calm : int_le p.interlinepenalty eject_penalty 
         sums-with : (d x y w n k g q : ℕ) → x + n ≤ w → d + w + 2 * y + k + q ≤ m + 2 + 2 * g → d + x + 2 * y + k + q ≤ m + 2 + 2 * g
         sums-with d x y w n k g q h i = omega arith
 
-    low-firing : Going t
+    pub low-firing : Going t
     low-firing = by_again b.again refl
       where
         by_again : (n : ℕ) → b.again ≡ n → Going t
         by_again zero e = none-goes e
-        by_again (suc n) e = subst Going (sym (same (none-reached p s kept ended other n (subst (λ (x : ℕ). Again x (sorts s.waiting)) e b.region)))) open-goes
+        by_again (suc n) e = subst Going (sym (same (none-reached p s kept ended n (subst (λ (x : ℕ). Again x (sorts s.waiting)) e b.region)))) open-goes
 
-  pub low-goes : Goes p (λ s. Bounded p m s × NoneHigher s)
-  low-goes s kept ended b t a same r =
-      let x = low-firing s kept ended b.1 b.0 t a same r in
-      ((x.0, out-other p s t (page_of p s) (frozen_for (ask_for p s) t.classes t.boxes) (cut p s kept ended b.1) b.1 a.boxes a.held), x.1)
+-- a firing keeps the bound with what raises pages
+pub low-goes : (p : Params) (top : ℕ) → int_le p.interlinepenalty eject_penalty ≡ false → pos 0 ≤ℤ p.topskip → p.topskip ≤ℤ p.textheight → pos 0 ≤ℤ p.maxdepth → Goes p (Spends (Bounded p) top)
+low-goes p top calm low room deep s kept ended x t a same r =
+    let g = low-firing p x.most calm low room deep s kept ended x.bounded t a same r in
+    (spends p (Bounded p) top s kept t a.classes a.boxes a.held x g.0, g.1)

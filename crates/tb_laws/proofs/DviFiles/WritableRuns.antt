@@ -1,6 +1,6 @@
 -- Each page that a run of a valid galley ships has bytes in a DVI file.
-use Rattle.std.proofs.Common.{◌≡◌, refl, ℕ, zero, suc, ℤ, pos, negsuc, ◌+ℤ◌, ◌≤◌, ◌<◌, Bool, true, false, List, [], ◌∷◌, ◌++◌, map, length, Option, Some, None, FitsSigned, arith}
-use Rattle.std.specs.Prelude.{pred, ◌&&◌, ◌||◌, ◌==◌, nat_le, int_lt, int_le, IsTrue, codes, decimal, if◌then◌else◌, not}
+use Rattle.std.proofs.Common.{◌≡◌, refl, ℕ, suc, ℤ, pos, negsuc, ◌+ℤ◌, ◌≤◌, ◌<◌, Bool, true, false, List, [], ◌∷◌, ◌++◌, map, length, FitsSigned, arith}
+use Rattle.std.specs.Prelude.{◌&&◌, ◌||◌, ◌==◌, nat_le, int_le, IsTrue, codes, decimal, if◌then◌else◌, not}
 use Rattle.std.specs.Int.{w32}
 use Rattle.std.specs.List.{AllByRecursion, list_all}
 use Rattle.std.proofs.lemmas.Int.{ints}
@@ -9,7 +9,7 @@ use Rattle.std.proofs.lemmas.Bool.Decides.{nat_tests}
 use Rattle.std.proofs.lemmas.Fmt.{length-decimal-le}
 use Rattle.std.proofs.lemmas.List.{length-append}
 use Rattle.tb_break.proofs.EachLemmas.{all-join}
-use Rattle.tb_scaled.specs.Scaled.{awful_bad, min_ℤ}
+use Rattle.tb_scaled.specs.Scaled.{min_ℤ}
 use Rattle.tb_node.specs.declared.Act.{Act}
 use Rattle.tb_node.specs.declared.Act.TheVariants as acts
 use Rattle.tb_node.specs.declared.Float.{Float}
@@ -35,9 +35,7 @@ use Rattle.tb_galley.specs.Valid.{is_size, is_leaf, is_float, is_margin, is_item
 use Rattle.tb_insert.specs.declared.Class.{Class}
 use Rattle.tb_insert.specs.Account.{terms_after}
 use Rattle.tb_break.specs.PageTop.{pruned_nodes}
-use Rattle.tb_builder.specs.declared.Ask.{Ask}
-use Rattle.tb_builder.specs.Reach.{Reached, acted, tried, Reach}
-use Rattle.tb_builder.specs.FiredPages.{frozen_for, reach_of, fired_of}
+use Rattle.tb_builder.specs.FiredPages.{frozen_for}
 use Rattle.tb_float.specs.declared.Entry.TheVariants as entries
 use Rattle.tb_float.specs.Lists.{FloatLists}
 use Rattle.tb_margin.specs.Margin.{note_height, note_depth}
@@ -47,15 +45,16 @@ use Rattle.tb_sheet.specs.declared.Warn.{Warn}
 use Rattle.tb_sheet.specs.Sheet.{PlainSent, warned}
 use Rattle.tb_column.specs.Ranges.{AreColumnParams}
 use Rattle.tb_column.proofs.RangeLemmas.{column-params}
-use Rattle.tb_output.specs.State.{State, Work, Recorded, emptied, first_state, void_boxes}
-use Rattle.tb_output.specs.Act.{Acted, went, full, act_on, taken_float, lists_with_taken, has_head_room, taken_head}
-use Rattle.tb_output.specs.Output.{out}
-use Rattle.tb_steps.specs.Run.{Run, done, dead_cycles, page_limit, node_limit, Progress, progress_by, progress, Step, ends, goes_on, held_count, after_firing, fire, after_progress, step, run_by, run_from, firings_left, run_of, ask_for}
+use Rattle.tb_output.specs.State.{State, Recorded, first_state, void_boxes}
+use Rattle.tb_output.specs.Act.{taken_float, lists_with_taken, taken_head}
+use Rattle.tb_steps.specs.Run.{run_of, ask_for}
+use Rattle.tb_steps.proofs.RunTree.{ActMove, page_of, fired_at, served_at, galley-is, takes_float, takes_note, sets_flag, changes_columns, sets_number, takes_title}
+use Rattle.tb_steps.proofs.RunFolds.{each_event, RunLaw, run-holds}
 use Rattle.tb_items.specs.RunEvents.{RunEvent, offered, sent}
 use Rattle.tb_items.specs.Classes.{classes_of, foot_class, enlarging_class, class_of}
 use Rattle.tb_laws.proofs.DviFiles.WritableNodes.{WritableLeaves, WritableFloat, WritableNote, WritableAct, WritableNodes, nodes-join, nodes-pruned, WritableReached, WritableReach, reached-writable, WritableBoxes, fired-writable}
 use Rattle.tb_items.proofs.GalleyClasses.{standing-rule}
-use Rattle.tb_laws.proofs.DviFiles.WritableWorks.{WritableLists, WritableState, WritableSent, WritableWork, out-writable, WritableClasses}
+use Rattle.tb_laws.proofs.DviFiles.WritableWorks.{WritableLists, WritableState, WritableSent, out-writable, WritableClasses}
 
 -- ---- acts
 
@@ -66,10 +65,6 @@ min-fits a b f g = by_order (int_le a b)
     by_order true = f
     by_order false = g
 
-abbrev WritableActed : Acted → Type 0
-WritableActed (went s ws rs) = WritableState s
-WritableActed (full line live) = Unit {0}
-
 module _ (p : Params) (height : FitsSigned w32 p.textheight) where
   taken : (f : Float) (l : FloatLists) → WritableFloat f → WritableLists l → WritableLists (lists_with_taken p f l)
   taken f l h k = by_list (has_second p && f.wide)
@@ -78,17 +73,13 @@ module _ (p : Params) (height : FitsSigned w32 p.textheight) where
       by_list true = (k.0, k.1, k.2, k.3, k.4, all-join WritableFloat l.second (f ∷ []) k.5 (h, tt))
       by_list false = (all-join _ l.current (entries.Float f ∷ []) k.0 (h, tt), k.1, k.2, k.3, k.4, k.5)
 
-  acted-if : (t : Bool) (line live : ℕ) (s : State) (ws : List Warn) (rs : List Recorded) → WritableState s → WritableActed (if t then full line live else went s ws rs)
-  acted-if true line live s ws rs h = tt
-  acted-if false line live s ws rs h = h
-
-  acts-on : (s : State) (a : Act) → WritableState s → WritableAct a → WritableActed (act_on p s a)
-  acts-on s (acts.Take f) h g = acted-if _ _ _ _ _ _ (h.0, h.1, h.2, taken (taken_float p s f) s.floats (g.0, min-fits f.height p.textheight g.1 height) h.3, h.4, h.5, h.6)
-  acts-on s (acts.TakeMargin m) h g = acted-if _ _ _ _ _ _ (h.0, h.1, h.2, (all-join _ s.floats.current (entries.Left m ∷ entries.Right m ∷ []) h.3.0 (g, (tt, tt)), h.3.1, h.3.2, h.3.3, h.3.4, h.3.5), h.4, h.5, h.6)
-  acts-on s (acts.Suppress area) h g = h
-  acts-on s (acts.Page n) h g = let fits : n ≤ 1000000 = g in (h.0, h.1, h.2, h.3, h.4, omega (arith, fits), h.6)
-  acts-on s (acts.Head f) h g = acted-if (not (has_head_room p s)) _ _ _ _ _ (h.0, h.1, h.2, (h.3.0, h.3.1, h.3.2, h.3.3, all-join WritableFloat s.floats.double (taken_head p f ∷ []) h.3.4 ((g.0, min-fits f.height p.textheight g.1 height), tt), h.3.5), h.4, h.5, h.6)
-  acts-on s (acts.Columns pair) h g = (h.0, h.1, h.2, h.3, tt, h.5, h.6)
+  acts-on : {s u : State} {a : Act} {ws : List Warn} {rs : List Recorded} → ActMove p s a u ws rs → WritableState s → WritableAct a → WritableState u
+  acts-on (takes_float {s = s} f r) h g = (h.0, h.1, h.2, taken (taken_float p s f) s.floats (g.0, min-fits f.height p.textheight g.1 height) h.3, h.4, h.5, h.6)
+  acts-on (takes_note {s = s} m r) h g = (h.0, h.1, h.2, (all-join _ s.floats.current (entries.Left m ∷ entries.Right m ∷ []) h.3.0 (g, (tt, tt)), h.3.1, h.3.2, h.3.3, h.3.4, h.3.5), h.4, h.5, h.6)
+  acts-on (sets_flag area) h g = h
+  acts-on (sets_number n) h g = let fits : n ≤ 1000000 = g in (h.0, h.1, h.2, h.3, h.4, omega (arith, fits), h.6)
+  acts-on (takes_title {s = s} f r) h g = (h.0, h.1, h.2, (h.3.0, h.3.1, h.3.2, h.3.3, all-join WritableFloat s.floats.double (taken_head p f ∷ []) h.3.4 ((g.0, min-fits f.height p.textheight g.1 height), tt), h.3.5), h.4, h.5, h.6)
+  acts-on (changes_columns two) h g = (h.0, h.1, h.2, h.3, tt, h.5, h.6)
 
   -- ---- events
 
@@ -107,80 +98,22 @@ module _ (p : Params) (height : FitsSigned w32 p.textheight) where
   sent-events [] h = tt
   sent-events (e ∷ es) h = (h.0, sent-events es h.1)
 
-  -- ---- one page and the firing after it
+  -- ---- a run
 
-  abbrev WritableProgress : Progress → Type 0
-  WritableProgress q = WritableState q.state × WritableEvents q.events
-
-  progresses-by : (later : State → Progress) → ((s : State) → WritableState s → WritableProgress (later s)) → (s : State) (x : Acted) → WritableState s → WritableActed x → WritableProgress (progress_by later s x)
-  progresses-by later f s (went t ws rs) h g = let k = f t g in (k.0, all-join WritableEvent (map (λ w. sent (warned w)) ws) (later t).events (warnings ws) k.1)
-  progresses-by later f s (full line live) h g = (h, tt)
-
-  progresses : (rs : List Reached) (least : ℤ) (s : State) → AllByRecursion WritableReached rs → WritableState s → WritableProgress (progress p rs least s)
-  progresses [] least s g h = (h, tt)
-  progresses (acted a ∷ rs) least s g h = progresses-by (λ t. progress p rs least t) (λ t k. progresses rs least t g.1 k) s (act_on p s a) h (acts-on s a h g.0)
-  progresses (tried line b ∷ rs) least s g h = let k = progresses rs (min_ℤ least b.cost) s g.1 h in (k.0, (tt, k.1))
-
-  abbrev WritableStep : Step → Type 0
-  WritableStep (ends es rs e) = WritableEvents es
-  WritableStep (goes_on es rs s) = WritableEvents es × WritableState s
-
-  abbrev page_of : State → Reach
-  page_of s = reach_of (ask_for p s) s.classes s.boxes [] s.waiting
-
-  page-reached : (s : State) → WritableState s → WritableReach (page_of s)
+  page-reached : (s : State) → WritableState s → WritableReach (page_of p s)
   page-reached s h = reached-writable (ask_for p s).max_depth (terms_after (frozen_for (ask_for p s) s.classes s.boxes)) [] (pruned_nodes p.topskip s.waiting) tt (nodes-pruned p.topskip s.waiting h.0)
 
-  after-firing : (es : List RunEvent) (rs : List Recorded) (w : Work) → WritableEvents es → WritableWork p w → WritableStep (after_firing p es rs w)
-  after-firing es rs w g k = by_refused w.refused
-    where
-      events : WritableEvents (es ++ map sent w.sent)
-      events = all-join WritableEvent es (map sent w.sent) g (sent-events w.sent k.2)
-
-      by_nodes : (t : Bool) → WritableStep (if t then ends (es ++ map sent w.sent) (rs ++ w.records) (node_limit (held_count w.state)) else goes_on (es ++ map sent w.sent) (rs ++ w.records) w.state)
-      by_nodes true = events
-      by_nodes false = (events, k.0)
-
-      by_refused : (t : Bool) → WritableStep (if t then ends (es ++ map sent w.sent) (rs ++ w.records) (page_limit (pred w.state.page)) else (if int_lt p.maxnodes (pos (held_count w.state)) then ends (es ++ map sent w.sent) (rs ++ w.records) (node_limit (held_count w.state)) else goes_on (es ++ map sent w.sent) (rs ++ w.records) w.state))
-      by_refused true = events
-      by_refused false = by_nodes (int_lt p.maxnodes (pos (held_count w.state)))
-
-  module _ (ranges : AreColumnParams p) where
-    fires : (a : Ask) (w : Reach) (q : Progress) → WritableReach w → WritableProgress q → WritableStep (fire p a w q)
-    fires a w q h k = by_cycles (int_lt (pos q.state.dead_cycles) p.maxdeadcycles)
-      where
-        by_cycles : (t : Bool) → WritableStep (if t then after_firing p q.events q.records (out p q.state (fired_of a q.state.classes q.state.boxes w)) else ends q.events q.records (dead_cycles q.state.dead_cycles))
-        by_cycles true = after-firing q.events q.records (out p q.state (fired_of a q.state.classes q.state.boxes w)) k.1 (out-writable p ranges q.state (fired_of a q.state.classes q.state.boxes w) k.0 (fired-writable (frozen_for a q.state.classes q.state.boxes) q.state.boxes w k.0.1 h))
-        by_cycles false = k.1
-
-    steps : (s : State) → WritableState s → WritableStep (step p s)
-    unfolding step
-    steps s h = by_fault q.fault
-      where
-        q : Progress
-        q = progress p (page_of s).reached awful_bad s
-
-        k : WritableProgress q
-        k = progresses (page_of s).reached awful_bad s (page-reached s h).reached h
-
-        by_firing : (t : Bool) → WritableStep (if t then fire p (ask_for p s) (page_of s) q else ends q.events (q.records ++ emptied q.state.floats ∷ []) (done (page_of s).passed))
-        by_firing true = fires (ask_for p s) (page_of s) q (page-reached s h) k
-        by_firing false = k.1
-
-        by_fault : (o : Option (ℕ × ℕ)) → WritableStep (after_progress p (ask_for p s) (page_of s) q o)
-        by_fault None = by_firing (page_of s).fires
-        by_fault (Some f) = k.1
-
-    -- ---- a run
-
-    runs-by : (later : State → Run) → ((s : State) → WritableState s → WritableEvents (later s).events) → (x : Step) → WritableStep x → WritableEvents (run_by later x).events
-    runs-by later f (ends es rs e) h = h
-    runs-by later f (goes_on es rs s) h = all-join WritableEvent es (later s).events h.0 (f s h.1)
-
-    runs : (fuel : ℕ) (s : State) → WritableState s → WritableEvents (run_from p fuel s).events
-    unfolding run_from
-    runs zero s h = tt
-    runs (suc fuel) s h = runs-by (λ t. run_from p fuel t) (runs fuel) (step p s) (steps s h)
+  abbrev writing : AreColumnParams p → RunLaw p
+  writing ranges = record {
+    shows = each_event WritableEvent;
+    between = WritableState;
+    within = λ o rs s. AllByRecursion WritableReached rs × WritableState s × WritableReach (page_of p o);
+    begins = λ s h. let x = page-reached s h in (x.reached, h, x);
+    tries = λ o line b least rs s h. ((tt, tt), (h.0.1, h.1, h.2));
+    acts = λ o s t a ws records rs m h. (warnings ws, (h.0.1, acts-on m h.1 h.0.0, h.2));
+    fires = λ o s h. let x = out-writable p ranges s (fired_at p o s) h.1 (fired-writable (frozen_for (ask_for p o) s.classes s.boxes) s.boxes (page_of p o) h.1.1 h.2) in (sent-events (served_at p o s).sent x.2, x.0);
+    stops = λ o s h. tt;
+  }
 
 -- ---- the nodes of a valid galley
 
@@ -345,15 +278,6 @@ classes-writable g v = lines-writable g.version g.params g.classes v.standing
 
 -- each page of the run of a valid galley has bytes
 pub run-writable : (g : Galley) → IsValid g → (height : FitsSigned w32 g.params.textheight) → WritableEvents g.params height (run_of g).events
-unfolding run_of
-run-writable g v height = by_nodes (int_lt g.params.maxnodes (pos (held_count s)))
-  where
-    s : State
-    s = first_state g.params (classes_of g) (expanded g)
-
-    start : WritableState s
-    start = (expanded-writable g v, void (classes_of g), tt, (tt, tt, tt, tt, tt, tt), tt, omega arith, classes-writable g v)
-
-    by_nodes : (t : Bool) → WritableEvents g.params height (if t then record { events = []; records = []; end = node_limit (held_count s) } else run_from g.params (suc (firings_left g.params s)) s).events
-    by_nodes true = tt
-    by_nodes false = runs g.params height (column-params g.params v.params) (suc (firings_left g.params s)) s start
+run-writable g v height =
+    let start : WritableState (first_state g.params (classes_of g) (expanded g)) = (expanded-writable g v, void (classes_of g), tt, (tt, tt, tt, tt, tt, tt), tt, omega arith, classes-writable g v) in
+    run-holds (writing g.params height (column-params g.params v.params)) (galley-is g) start

@@ -1,7 +1,7 @@
 -- Each float that a firing places keeps the limits of its list.
-use Rattle.std.proofs.Common.{◌≡◌, refl, sym, ap, subst, ℕ, false, List, ◌++◌}
+use Rattle.std.proofs.Common.{◌≡◌, refl, sym, ap, subst, ℕ, false, List}
 use Rattle.std.specs.List.{AllByRecursion}
-use Rattle.tb_break.proofs.EachLemmas.{all-join, all-push}
+use Rattle.tb_break.proofs.EachLemmas.{all-push}
 use Rattle.tb_param.specs.declared.Params.{Params}
 use Rattle.tb_builder.specs.FiredPages.{Fired}
 use Rattle.tb_float.specs.Rooms.{column_height_of}
@@ -23,9 +23,6 @@ IsLimited p (emptied l) = Unit {0}
 
 abbrev pub AreLimited : Params → List Recorded → Type 0
 AreLimited p rs = AllByRecursion (IsLimited p) rs
-
-pub limited-append : (p : Params) (rs qs : List Recorded) → AreLimited p rs → AreLimited p qs → AreLimited p (rs ++ qs)
-limited-append p rs qs a b = all-join (IsLimited p) rs qs a b
 
 -- ---- what a firing records
 

@@ -1,9 +1,7 @@
 -- The acts of a page, if what waits closes: a change of columns meets empty lists, and what is taken is owed a firing.
-use Rattle.std.proofs.Common.{◌≡◌, refl, sym, ◌∙◌, ap, subst, ℕ, suc, pos, ◌+◌, ◌≤◌, Bool, true, false, List, [], ◌∷◌, ◌++◌, Option, None, arith}
-use Rattle.std.specs.Prelude.{ℤ, int_lt, int_le, ◌&&◌, if◌then◌else◌, not}
+use Rattle.std.proofs.Common.{◌≡◌, refl, sym, ◌∙◌, ap, subst, ℕ, suc, ◌+◌, ◌≤◌, Bool, true, false, List, [], ◌∷◌, ◌++◌, Option, None, arith}
+use Rattle.std.specs.Prelude.{ℤ, ◌&&◌, if◌then◌else◌}
 use Rattle.std.specs.List.{AllByRecursion}
-use Rattle.std.proofs.lemmas.Option.{none-some}
-use Rattle.tb_scaled.specs.Scaled.{min_ℤ}
 use Rattle.tb_node.specs.declared.Act.{Act}
 use Rattle.tb_node.specs.declared.Act.TheVariants as acts
 use Rattle.tb_node.proofs.Weights.{Weight}
@@ -14,11 +12,11 @@ use Rattle.tb_builder.proofs.Cutting.CutLemmas.{acted_of}
 use Rattle.tb_builder.proofs.FiredPages.PageWeights.{acted_weight}
 use Rattle.tb_float.specs.declared.Entry.{Entry}
 use Rattle.tb_float.specs.declared.Entry.TheVariants as entries
-use Rattle.tb_float.specs.Lists.{FloatLists, no_floats, live_count}
+use Rattle.tb_float.specs.Lists.{FloatLists, no_floats}
 use Rattle.tb_sheet.specs.declared.Warn.{Warn}
 use Rattle.tb_column.specs.Column.{PlainColumn}
 use Rattle.tb_output.specs.State.{State, Recorded}
-use Rattle.tb_output.specs.Act.{Acted, went, full, act_on, taken_float, has_head_room, taken_head, with_head}
+use Rattle.tb_output.specs.Act.{taken_float}
 use Rattle.tb_laws.proofs.NothingLost.StateWeights.{left_weight}
 use Rattle.tb_column.proofs.PrintedLines.{left_prints, LeftPlain}
 use Rattle.tb_laws.proofs.Closed.Closings.{owed_after, never, Still, act_token}
@@ -27,7 +25,10 @@ use Rattle.tb_laws.proofs.Closed.ClosingStates.{ways_of}
 use Rattle.tb_laws.proofs.Closed.SparedLists.{Single}
 use Rattle.tb_laws.proofs.Closed.ServedLists.{entry_items}
 use Rattle.tb_laws.proofs.NothingLost.RunWeights.{ActFits, ActsFit}
-use Rattle.tb_steps.specs.Run.{Progress, progress_by, progress}
+use Rattle.tb_items.specs.RunEvents.{RunEvent}
+use Rattle.tb_steps.specs.Run.{Progress, progress}
+use Rattle.tb_steps.proofs.RunTree.{ActMove, PageMoves, page-is, takes_float, takes_note, sets_flag, changes_columns, sets_number, takes_title}
+use Rattle.tb_steps.proofs.RunFolds.{each_record, PageLaw, page-holds, progress-holds, whole-holds}
 use Rattle.tb_laws.specs.Laws.{IsEmptied}
 use Rattle.tb_output.proofs.Acts.HeadLemmas.{head-room}
 
@@ -72,19 +73,9 @@ record Went (p : Params) (n : ℕ) (s : State) (a : Act) (ds : List Act) (t : St
   left : left_prints t.left_column ≡ left_prints s.left_column
   left_plain : LeftPlain s.left_column → LeftPlain t.left_column
 
-ActWent : Params → ℕ → State → Act → List Act → Acted → Type 0
-ActWent p n s a ds (went t ws rs) = Went p n s a ds t rs
-ActWent p n s a ds (full line live) = Unit {0}
-
-room-went : (p : Params) (n : ℕ) (s : State) (a : Act) (ds : List Act) (u : Bool) (line live : ℕ) (t : State) (ws : List Warn) (rs : List Recorded) → Went p n s a ds t rs → ActWent p n s a ds (if u then full line live else went t ws rs)
-unfolding ActWent
-room-went p n s a ds true line live t ws rs h = tt
-room-went p n s a ds false line live t ws rs h = h
-
-act-went : (p : Params) (n : ℕ) (o : Bool) (s : State) (a : Act) (ds : List Act) → (o ≡ true → s.floats ≡ no_floats) → (o ≡ true → left_prints s.left_column ≡ []) → entry_items s.floats.current ≤ n → Single s → ActsClose o (a ∷ ds) → ActWent p n s a ds (act_on p s a)
-unfolding ActWent
-act-went p n o s (acts.Take f) ds e b i g c =
-    room-went p n s (acts.Take f) ds (int_le p.pool (pos (live_count s.floats))) _ _ _ _ _ (record { records = tt; owed = owed_after (ways_of p s) f.wide n; done = false; empty = λ z. never z; items = taken-items f.wide (has_second p) s.two_columns; single = taken-single f.wide (has_second p) s.two_columns; close = c; same_owed = refl; same_ways = refl; here = taken-here (has_second p && (f.wide && s.two_columns)); still = λ z. absurd z; bare = λ z. never z; left = refl; left_plain = λ z. z })
+act-went : (p : Params) (n : ℕ) (o : Bool) {s t : State} {a : Act} {ws : List Warn} {rs : List Recorded} (ds : List Act) → ActMove p s a t ws rs → (o ≡ true → s.floats ≡ no_floats) → (o ≡ true → left_prints s.left_column ≡ []) → entry_items s.floats.current ≤ n → Single s → ActsClose o (a ∷ ds) → Went p n s a ds t rs
+act-went p n o ds (takes_float {s = s} f r) e b i g c =
+    record { records = tt; owed = owed_after (ways_of p s) f.wide n; done = false; empty = λ z. never z; items = taken-items f.wide (has_second p) s.two_columns; single = taken-single f.wide (has_second p) s.two_columns; close = c; same_owed = refl; same_ways = refl; here = taken-here (has_second p && (f.wide && s.two_columns)); still = λ z. absurd z; bare = λ z. never z; left = refl; left_plain = λ z. z }
   where
     lists : Bool → FloatLists
     lists t = if t then record s.floats { second = s.floats.second ++ taken_float p s f ∷ [] } else record s.floats { current = s.floats.current ++ entries.Float (taken_float p s f) ∷ [] }
@@ -109,35 +100,14 @@ act-went p n o s (acts.Take f) ds e b i g c =
     taken-here : (u : Bool) → (lists u).here ≡ s.floats.here
     taken-here true = refl
     taken-here false = refl
-act-went p n o s (acts.TakeMargin m) ds e b i g c =
+act-went p n o ds (takes_note {s = s} m r) e b i g c =
     let k : entry_items (s.floats.current ++ entries.Left m ∷ entries.Right m ∷ []) ≡ entry_items s.floats.current + 1 = items-append s.floats.current (entries.Left m ∷ entries.Right m ∷ []) in
-    room-went p n s (acts.TakeMargin m) ds (int_lt p.pool (pos (live_count s.floats + 2))) _ _ _ _ _ (record { records = tt; owed = suc n; done = false; empty = λ z. never z; items = omega arith; single = g; close = c; same_owed = refl; same_ways = refl; here = refl; still = λ z. absurd z; bare = λ z. never z; left = refl; left_plain = λ z. z })
-act-went p n o s (acts.Suppress area) ds e b i g c = record { records = tt; owed = n; done = o; empty = e; items = i; single = g; close = c; same_owed = refl; same_ways = refl; here = refl; still = λ z. refl; bare = b; left = refl; left_plain = λ z. z }
-act-went p n o s (acts.Page number) ds e b i g c = record { records = tt; owed = n; done = o; empty = e; items = i; single = g; close = c; same_owed = refl; same_ways = refl; here = refl; still = λ z. refl; bare = b; left = refl; left_plain = λ z. z }
-act-went p n o s (acts.Head f) ds e b i g c = by_room (has_head_room p s) refl
-  where
-    apart : s.two_columns ≡ true → s.two_columns ≡ false → ⊥
-    apart x y = never (sym y ∙ x)
-
-    by_room : (t : Bool) → has_head_room p s ≡ t → ActWent p n s (acts.Head f) ds (if not t then full f.line (live_count s.floats) else went (with_head p s (taken_head p f)) [] [])
-    by_room false x = tt
-    by_room true x = record {
-      records = tt;
-      owed = n;
-      done = false;
-      empty = λ z. never z;
-      items = i;
-      single = λ z. absurd (apart (head-room p s x).two z);
-      close = c;
-      same_owed = refl;
-      same_ways = refl;
-      here = refl;
-      still = λ z. absurd z;
-      bare = λ z. never z;
-      left = refl;
-      left_plain = λ z. z;
-    }
-act-went p n o s (acts.Columns two) ds e b i g c = record { records = (e c.0, tt); owed = n; done = o; empty = e; items = i; single = λ z. ap (λ l. l.double) (e c.0); close = c.1; same_owed = refl; same_ways = refl; here = refl; still = λ z. refl; bare = λ z. refl; left = sym (b c.0); left_plain = λ z. tt }
+    record { records = tt; owed = suc n; done = false; empty = λ z. never z; items = omega arith; single = g; close = c; same_owed = refl; same_ways = refl; here = refl; still = λ z. absurd z; bare = λ z. never z; left = refl; left_plain = λ z. z }
+act-went p n o ds (takes_title {s = s} f r) e b i g c =
+    record { records = tt; owed = n; done = false; empty = λ z. never z; items = i; single = λ z. never (sym z ∙ (head-room p s r).two); close = c; same_owed = refl; same_ways = refl; here = refl; still = λ z. absurd z; bare = λ z. never z; left = refl; left_plain = λ z. z }
+act-went p n o ds (changes_columns two) e b i g c = record { records = (e c.0, tt); owed = n; done = o; empty = e; items = i; single = λ z. ap (λ l. l.double) (e c.0); close = c.1; same_owed = refl; same_ways = refl; here = refl; still = λ z. refl; bare = λ z. refl; left = sym (b c.0); left_plain = λ z. tt }
+act-went p n o ds (sets_flag area) e b i g c = record { records = tt; owed = n; done = o; empty = e; items = i; single = g; close = c; same_owed = refl; same_ways = refl; here = refl; still = λ z. refl; bare = b; left = refl; left_plain = λ z. z }
+act-went p n o ds (sets_number k) e b i g c = record { records = tt; owed = n; done = o; empty = e; items = i; single = g; close = c; same_owed = refl; same_ways = refl; here = refl; still = λ z. refl; bare = b; left = refl; left_plain = λ z. z }
 
 -- ---- all acts of a page
 
@@ -155,25 +125,64 @@ pub record ProgressClosed (p : Params) (n : ℕ) (ds : List Act) (s : State) (q 
   pub records : AllByRecursion IsEmptied q.records
   pub after : q.fault ≡ None → ActsClosed p n ds s q.state
 
-pub emptied-append : (rs qs : List Recorded) → AllByRecursion IsEmptied rs → AllByRecursion IsEmptied qs → AllByRecursion IsEmptied (rs ++ qs)
-emptied-append [] qs a b = b
-emptied-append (r ∷ rs) qs a b = (a.0, emptied-append rs qs a.1 b)
+-- while a page is gone through: what all its acts owe is what those that are left owe, and they close
+record Acting (p : Params) (n : ℕ) (all : List Act) (o : State) (rs : List Reached) (s : State) : Type 0 where
+  owed : ℕ
+  done : Bool
+  empty : done ≡ true → s.floats ≡ no_floats
+  items : entry_items s.floats.current ≤ owed
+  single : Single s
+  close : ActsClose done (acted_of rs)
+  same_owed : owed_acts (ways_of p o) n all ≡ owed_acts (ways_of p s) owed (acted_of rs)
+  same_ways : ways_acts (ways_of p o) all ≡ ways_acts (ways_of p s) (acted_of rs)
+  here : s.floats.here ≡ o.floats.here
+  still : AllStill all → AllStill (acted_of rs) × (s.floats ≡ o.floats)
+  bare : done ≡ true → left_prints s.left_column ≡ []
+  left : left_prints s.left_column ≡ left_prints o.left_column
+  left_plain : LeftPlain o.left_column → LeftPlain s.left_column
 
-by_act-closed : (p : Params) (n : ℕ) (s : State) (a : Act) (ds : List Act) (later : State → Progress) → ((m : ℕ) (o : Bool) (t : State) → (o ≡ true → t.floats ≡ no_floats) → (o ≡ true → left_prints t.left_column ≡ []) → entry_items t.floats.current ≤ m → Single t → ActsClose o ds → ProgressClosed p m ds t (later t)) → (x : Acted) → ActWent p n s a ds x → ProgressClosed p n (a ∷ ds) s (progress_by later s x)
-unfolding ActWent
-by_act-closed p n s a ds later h (went t ws rs) k =
-    let q : ProgressClosed p k.owed ds t (later t) = h k.owed k.done t k.empty k.bare k.items k.single k.close in
-    record {
-      records = emptied-append rs (later t).records k.records q.records;
-      after = λ f. let x = q.after f in record { ways = x.ways ∙ sym k.same_ways; items = subst (λ m. entry_items (later t).state.floats.current ≤ m) (sym k.same_owed) x.items; single = x.single; here = x.here ∙ k.here; still = λ z. x.still z.1 ∙ k.still z.0; left = x.left ∙ k.left; left_plain = λ z. x.left_plain (k.left_plain z) };
-    }
-by_act-closed p n s a ds later h (full line live) k = record { records = tt; after = λ f. absurd (none-some (line, live) (sym f)) }
+abbrev acting : (p : Params) → ℕ → List Act → State → PageLaw p
+acting p n all o = record {
+  shows = each_record IsEmptied;
+  holds = Acting p n all o;
+  tries = λ line b least rs s h. (tt, record { owed = h.owed; done = h.done; empty = h.empty; items = h.items; single = h.single; close = h.close; same_owed = h.same_owed; same_ways = h.same_ways; here = h.here; still = h.still; bare = h.bare; left = h.left; left_plain = h.left_plain });
+  acts = λ s t a ws records rs x h.
+      let k = act-went p h.owed h.done (acted_of rs) x h.empty h.bare h.items h.single h.close in (
+        k.records,
+        record {
+          owed = k.owed;
+          done = k.done;
+          empty = k.empty;
+          items = k.items;
+          single = k.single;
+          close = k.close;
+          same_owed = h.same_owed ∙ k.same_owed;
+          same_ways = h.same_ways ∙ k.same_ways;
+          here = k.here ∙ h.here;
+          still = λ z. ((h.still z).0.1, k.still (h.still z).0.0 ∙ (h.still z).1);
+          bare = k.bare;
+          left = k.left ∙ h.left;
+          left_plain = λ z. k.left_plain (h.left_plain z);
+        },
+      );
+}
 
-pub progress-closed : (p : Params) (rs : List Reached) (least : ℤ) (n : ℕ) (o : Bool) (s : State) → (o ≡ true → s.floats ≡ no_floats) → (o ≡ true → left_prints s.left_column ≡ []) → entry_items s.floats.current ≤ n → Single s → ActsClose o (acted_of rs) → ProgressClosed p n (acted_of rs) s (progress p rs least s)
-progress-closed p [] least n o s e b i g c = record { records = tt; after = λ f. record { ways = refl; items = i; single = g; here = refl; still = λ z. refl; left = refl; left_plain = λ z. z } }
-progress-closed p (acted a ∷ rs) least n o s e b i g c =
-    by_act-closed p n s a (acted_of rs) (λ t. progress p rs least t) (λ m o t x b y z w. progress-closed p rs least m o t x b y z w) (act_on p s a) (act-went p n o s a (acted_of rs) e b i g c)
-progress-closed p (tried line x ∷ rs) least n o s e b i g c = let r = progress-closed p rs (min_ℤ least x.cost) n o s e b i g c in record { records = r.records; after = r.after }
+module _ (p : Params) (rs : List Reached) (n : ℕ) (o : Bool) (s : State) (e : o ≡ true → s.floats ≡ no_floats) (b : o ≡ true → left_prints s.left_column ≡ []) (i : entry_items s.floats.current ≤ n) (g : Single s) (c : ActsClose o (acted_of rs)) where
+  start : Acting p n (acted_of rs) s rs s
+  start = record { owed = n; done = o; empty = e; items = i; single = g; close = c; same_owed = refl; same_ways = refl; here = refl; still = λ z. (z, refl); bare = b; left = refl; left_plain = λ z. z }
+
+  acts-closed : {t : State} → Acting p n (acted_of rs) s [] t → ActsClosed p n (acted_of rs) s t
+  acts-closed {t = t} h = record { ways = sym h.same_ways; items = subst (λ m. entry_items t.floats.current ≤ m) (sym h.same_owed) h.items; single = h.single; here = h.here; still = λ z. (h.still z).1; left = h.left; left_plain = h.left_plain }
+
+  -- the acts and tries so far record empty lists alone
+  pub page-emptied : {qs : List Reached} {t : State} {es : List RunEvent} {records : List Recorded} → PageMoves p rs s es records qs t → AllByRecursion IsEmptied records
+  page-emptied x = (page-holds (acting p n (acted_of rs) s) x start).0
+
+  pub page-closed : {t : State} {es : List RunEvent} {records : List Recorded} → PageMoves p rs s es records [] t → ActsClosed p n (acted_of rs) s t
+  page-closed x = acts-closed (page-holds (acting p n (acted_of rs) s) x start).1
+
+  pub progress-closed : (least : ℤ) → ProgressClosed p n (acted_of rs) s (progress p rs least s)
+  progress-closed least = record { records = (progress-holds (acting p n (acted_of rs) s) (page-is p rs least s) start).0; after = λ f. acts-closed (whole-holds (acting p n (acted_of rs) s) (page-is p rs least s) start f) }
 
 -- acts that take nothing bring nothing
 pub still-weight : (v : Weight) (rs : List Reached) → AllStill (acted_of rs) → acted_weight v rs ≡ 0

@@ -1,7 +1,7 @@
 -- Each step of a run keeps that what waits closes; so all lists are empty at each change of columns and at the end, and
 -- at the end nothing is left that has to ship.
-use Rattle.std.proofs.Common.{◌≡◌, refl, sym, ◌∙◌, ap, subst, ℕ, suc, pos, ◌+◌, ◌⊎◌, inl, inr, Bool, true, false, List, [], ◌∷◌, ◌++◌, map, take, drop, Option, Some, None, arith}
-use Rattle.std.specs.Prelude.{ℤ, pred, ◌==◌, int_lt, int_le, if◌then◌else◌}
+use Rattle.std.proofs.Common.{◌≡◌, refl, sym, ◌∙◌, ap, subst, ℕ, suc, ◌+◌, ◌⊎◌, inl, inr, Bool, true, false, List, [], ◌∷◌, ◌++◌, map, take, drop, Option, Some, None, arith}
+use Rattle.std.specs.Prelude.{ℤ, ◌==◌, int_le, if◌then◌else◌}
 use Rattle.std.specs.List.{AllByRecursion}
 use Rattle.tb_scaled.specs.Scaled.{awful_bad, eject_penalty}
 use Rattle.tb_node.specs.declared.RuleOf.TheVariants.{Item}
@@ -13,7 +13,7 @@ use Rattle.tb_node.proofs.Weights.{Weight, nodes_weight, kind_weight, weight-app
 use Rattle.tb_param.specs.declared.Params.{Params}
 use Rattle.tb_insert.specs.Account.{Frozen, Labelled, labelled}
 use Rattle.tb_break.specs.PageTop.{pruned_nodes}
-use Rattle.tb_builder.specs.FiredPages.{Boxed, Fired, page_break, from_break, penalty_at, box_after, box_content, content_of, given_to, is_given, fired_by, fired_of, frozen_for, held_insertions}
+use Rattle.tb_builder.specs.FiredPages.{Boxed, page_break, from_break, penalty_at, box_after, box_content, content_of, given_to, is_given, fired_by, frozen_for, held_insertions}
 use Rattle.tb_builder.proofs.Cutting.CutLemmas.{acted_of, CutAt, held-ins}
 use Rattle.tb_builder.proofs.FiredPages.HeldLemmas.{GivesNone}
 use Rattle.tb_builder.proofs.FiredPages.PageWeights.{hits, IsOnce, AllOfClass, acted_weight, boxes_weight, fired-weight, labelled-class, LabelsOfClass}
@@ -21,7 +21,7 @@ use Rattle.tb_float.specs.declared.Entry.{Entry}
 use Rattle.tb_float.specs.declared.Entry.TheVariants as entries
 use Rattle.tb_float.specs.Lists.{FloatLists, no_floats}
 use Rattle.tb_node.specs.declared.Float.{Float}
-use Rattle.tb_output.specs.State.{State, emptied, Work, with_notes, notes_in}
+use Rattle.tb_output.specs.State.{State, Recorded, emptied, with_notes, notes_in}
 use Rattle.tb_insert.specs.declared.Class.{Class}
 use Rattle.tb_column.specs.Column.{Notes, PlainColumn}
 use Rattle.tb_param.specs.Release.{has_second}
@@ -37,12 +37,15 @@ use Rattle.tb_laws.proofs.Closed.ClosingPages.{owed_acts, ways_acts, pruned-clos
 use Rattle.tb_laws.proofs.DeadCycles.BoxesFirst.{RealFirst, HasReal, BreakReal, pruned-first, acts-first, break-real}
 use Rattle.tb_laws.proofs.Closed.ClosingStates.{ways_of, Clean, HereKept, Closing, OutClosed, out-closed}
 use Rattle.tb_laws.proofs.Limits.LimitLemmas.{out-records}
-use Rattle.tb_laws.proofs.NothingLost.ClosingActs.{acts-fit, ActsClosed, ProgressClosed, emptied-append, progress-closed, still-weight}
-use Rattle.tb_laws.proofs.NothingLost.RunWeights.{ActsFit, After, progress-adds, box-fired, fit-numbers, box_after-number, Kept, page_of, cut, passed_bare, cut_bare, cut_feet, cut_stands, reached, fired-keeps}
+use Rattle.tb_laws.proofs.NothingLost.ClosingActs.{acts-fit, ActsClosed, ProgressClosed, progress-closed, page-emptied, page-closed, still-weight}
+use Rattle.tb_laws.proofs.NothingLost.RunWeights.{ActsFit, After, whole-adds, box-fired, fit-numbers, box_after-number, Kept, page_of, cut, passed_bare, cut_bare, cut_feet, cut_stands, reached, fired-keeps}
 use Rattle.tb_laws.proofs.NothingLost.LastLabels.{LabelsLast, GivesLast, quiet-last, same-boxes, held-quiet, void-last, clear-last}
 use Rattle.tb_laws.proofs.Closed.BareFeet.{HoldsBare, HoldBare, LabelsBare, bare-weight, body-bare, labelled-bare, held-bare}
-use Rattle.tb_items.specs.RunEvents.{sent}
-use Rattle.tb_steps.specs.Run.{done, pool_full, dead_cycles, page_limit, node_limit, Progress, progress, Step, ends, goes_on, held_count, after_firing, fire, after_progress, step, ask_for}
+use Rattle.tb_items.specs.RunEvents.{RunEvent}
+use Rattle.tb_break.proofs.EachLemmas.{all-join}
+use Rattle.tb_builder.specs.Reach.{Reached}
+use Rattle.tb_steps.specs.Run.{done, pool_full, dead_cycles, page_limit, node_limit, progress, Step, ends, goes_on, step, ask_for}
+use Rattle.tb_steps.proofs.RunTree.{PageMoves, fired_at, served_at, WholePage, StepIs, step-is, fires_on, meets_page_limit, meets_node_limit, meets_cycle_limit, is_done, meets_full_pool}
 use Rattle.tb_laws.specs.Laws.{IsEmptied}
 
 -- ---- lists that weigh nothing
@@ -196,7 +199,17 @@ module _ (p : Params) (calm : int_le p.interlinepenalty eject_penalty ≡ false)
   changes-fit v = acts-fit v s.left_column closing.done (acted_of (page_of p s).reached) (left_fits v) page_closes.acts_close
 
   pub progressed : ProgressClosed p closing.owed (acted_of (page_of p s).reached) s (progress p (page_of p s).reached awful_bad s)
-  progressed = progress-closed p (page_of p s).reached awful_bad closing.owed closing.done s empty bare closing.items closing.single page_closes.acts_close
+  progressed = progress-closed p (page_of p s).reached closing.owed closing.done s empty bare closing.items closing.single page_closes.acts_close awful_bad
+
+  pub emptied-page : {qs : List Reached} {t : State} {es : List RunEvent} {rs : List Recorded} → PageMoves p (page_of p s).reached s es rs qs t → AllByRecursion IsEmptied rs
+  emptied-page = page-emptied p (page_of p s).reached closing.owed closing.done s empty bare closing.items closing.single page_closes.acts_close
+
+  -- the state after the acts of the page
+  pub closed-page : {t : State} {es : List RunEvent} {rs : List Recorded} → WholePage p s es rs t → ActsClosed p closing.owed (acted_of (page_of p s).reached) s t
+  closed-page = page-closed p (page_of p s).reached closing.owed closing.done s empty bare closing.items closing.single page_closes.acts_close
+
+  pub page-after : {t : State} {es : List RunEvent} {rs : List Recorded} → WholePage p s es rs t → (v : Weight) → After v (acted_weight v (page_of p s).reached) s t
+  page-after x v = whole-adds v p calm s kept (changes-fit v) x
 
   -- a box before the next forced break is on the page that breaks there
   first_break : RealFirst (sorts s.waiting) → BreakReal (sorts (take (page_break (page_of p s)).place (page_of p s).passed)) (pen_sort (penalty_at (from_break (page_of p s))))
@@ -284,34 +297,6 @@ module _ (p : Params) (calm : int_le p.interlinepenalty eject_penalty ≡ false)
         by_clean h (inl y) = record { weightless = h y.0; here = y.1 }
         by_clean h (inr y) = y
 
-  fire-closes : (q : Progress) → AllByRecursion IsEmptied q.records → ((v : Weight) → After v (acted_weight v (page_of p s).reached) s q.state) → ActsClosed p closing.owed (acted_of (page_of p s).reached) s q.state → StepCloses p s (fire p (ask_for p s) (page_of p s) q)
-  fire-closes q e a d = by_cycles (int_lt (pos q.state.dead_cycles) p.maxdeadcycles)
-    where
-      f : Fired
-      f = fired_of (ask_for p s) (q.state.classes) q.state.boxes (page_of p s)
-
-      o : Work
-      o = out p q.state f
-
-      records : AllByRecursion IsEmptied (q.records ++ o.records)
-      records = emptied-append q.records o.records e (out-records p (record { holds = IsEmptied; at_place = λ g place l k. tt; at_output = λ c. tt }) q.state f)
-
-      by_nodes : (u : Bool) → o.refused ≡ false → StepCloses p s (if u then ends (q.events ++ map sent o.sent) (q.records ++ o.records) (node_limit (held_count o.state)) else goes_on (q.events ++ map sent o.sent) (q.records ++ o.records) o.state)
-      by_nodes true r = records
-      by_nodes false r = (records, fired_closing q.state a d (frozen_for (ask_for p s) (q.state.classes) q.state.boxes) r)
-
-      by_refused : (u : Bool) → o.refused ≡ u → StepCloses p s (if u then ends (q.events ++ map sent o.sent) (q.records ++ o.records) (page_limit (pred o.state.page)) else (if int_lt p.maxnodes (pos (held_count o.state)) then ends (q.events ++ map sent o.sent) (q.records ++ o.records) (node_limit (held_count o.state)) else goes_on (q.events ++ map sent o.sent) (q.records ++ o.records) o.state))
-      by_refused true r = records
-      by_refused false r = by_nodes (int_lt p.maxnodes (pos (held_count o.state))) r
-
-      by_cycles : (u : Bool) → StepCloses p s (if u then after_firing p q.events q.records o else ends q.events q.records (dead_cycles q.state.dead_cycles))
-      by_cycles true = by_refused o.refused refl
-      by_cycles false = e
-
-  -- the state after the acts of the page
-  pub acts-after : (progress p (page_of p s).reached awful_bad s).fault ≡ None → (v : Weight) → After v (acted_weight v (page_of p s).reached) s (progress p (page_of p s).reached awful_bad s).state
-  acts-after f v = (progress-adds v p (page_of p s).reached awful_bad s kept.sound (changes-fit v)).after f
-
   -- at the end nothing is left that has to ship
   end-empty : (t : State) → ActsClosed p closing.owed (acted_of (page_of p s).reached) s t → (page_of p s).fires ≡ false → (t.floats ≡ no_floats) × ((v : Weight) → state_weight v s ≡ 0)
   end-empty t d u =
@@ -323,17 +308,16 @@ module _ (p : Params) (calm : int_le p.interlinepenalty eject_penalty ≡ false)
       sums : (W B H L K P A Y : ℕ) → B + H + L + K ≡ 0 → P ≡ 0 → A ≡ 0 → Y ≡ 0 → P + A + Y ≡ W → W + B + H + L + K ≡ 0
       sums W B H L K P A Y b c d e f = omega arith
 
+  firing-emptied : {t : State} {es : List RunEvent} {rs : List Recorded} → WholePage p s es rs t → AllByRecursion IsEmptied (rs ++ (served_at p s t).records)
+  firing-emptied {t = t} {rs = rs} x = all-join IsEmptied rs (served_at p s t).records (emptied-page x) (out-records p (record { holds = IsEmptied; at_place = λ g place l k. tt; at_output = λ c. tt }) t (fired_at p s t))
+
+  pub steps-close : {x : Step} → StepIs p s x → StepCloses p s x
+  steps-close (fires_on {t = t} x f r) = (firing-emptied x, fired_closing t (page-after x) (closed-page x) (frozen_for (ask_for p s) t.classes t.boxes) r)
+  steps-close (meets_page_limit x f r) = firing-emptied x
+  steps-close (meets_node_limit x f r n) = firing-emptied x
+  steps-close (meets_cycle_limit x e c) = emptied-page x
+  steps-close (is_done {rs = rs} {t = t} x u) = let k = end-empty t (closed-page x) u in (all-join IsEmptied rs (emptied t.floats ∷ []) (emptied-page x) (k.0, tt), k.1)
+  steps-close (meets_full_pool x e) = emptied-page x
+
   pub step-closes : StepCloses p s (step p s)
-  unfolding step
-  step-closes = by_fault (progress p (page_of p s).reached awful_bad s).fault refl
-    where
-      q : Progress
-      q = progress p (page_of p s).reached awful_bad s
-
-      by_firing : (u : Bool) → (page_of p s).fires ≡ u → q.fault ≡ None → StepCloses p s (if u then fire p (ask_for p s) (page_of p s) q else ends q.events (q.records ++ emptied q.state.floats ∷ []) (done (page_of p s).passed))
-      by_firing true u f = fire-closes q progressed.records (acts-after f) (progressed.after f)
-      by_firing false u f = let x = end-empty q.state (progressed.after f) u in (emptied-append q.records (emptied q.state.floats ∷ []) progressed.records (x.0, tt), x.1)
-
-      by_fault : (o : Option (ℕ × ℕ)) → q.fault ≡ o → StepCloses p s (after_progress p (ask_for p s) (page_of p s) q o)
-      by_fault None f = by_firing (page_of p s).fires refl f
-      by_fault (Some y) f = progressed.records
+  step-closes = steps-close (step-is p s)

@@ -152,7 +152,7 @@ with-given z ls before line (ins i) h =
     by_split false e = given-last i.class ls (record { index = length before; line = line; inserted = i; label = label_of z ls before i }) (eq-eqb i.class i.class refl) (label-gives z ls before i e)
 with-given z ls before line (act a) h = h
 
-from-given : (z : Frozen) (ls : List Labelled) (before ns : List PlainNode) → GivenAll ls ls → GivenAll (labelled_from z ls before ns) (labelled_from z ls before ns)
+pub from-given : (z : Frozen) (ls : List Labelled) (before ns : List PlainNode) → GivenAll ls ls → GivenAll (labelled_from z ls before ns) (labelled_from z ls before ns)
 from-given z ls before [] h = h
 from-given z ls before (n ∷ ns) h = from-given z (labelled_with z ls before n.line n.kind) (before ++ n ∷ []) ns (with-given z ls before n.line n.kind h)
 

@@ -1,8 +1,8 @@
 -- A run loses nothing: what is sent and what is on the way weighs as much as the galley.
-use Rattle.std.proofs.Common.{◌≡◌, refl, sym, ◌∙◌, ap, subst, ℕ, suc, pos, ◌+◌, Bool, true, false, List, [], ◌∷◌, ◌++◌, map, take, drop, Option, Some, None, arith}
-use Rattle.std.specs.Prelude.{ℤ, pred, ◌==◌, int_lt, int_le, ◌&&◌, if◌then◌else◌, not}
+use Rattle.std.proofs.Common.{◌≡◌, refl, sym, ◌∙◌, ap, subst, ℕ, suc, ◌+◌, Bool, true, false, List, [], ◌∷◌, ◌++◌, map, take, drop, Option, Some, None, arith}
+use Rattle.std.specs.Prelude.{ℤ, ◌==◌, int_le, ◌&&◌, if◌then◌else◌}
 use Rattle.std.specs.List.{AllByRecursion}
-use Rattle.tb_scaled.specs.Scaled.{awful_bad, min_ℤ, eject_penalty}
+use Rattle.tb_scaled.specs.Scaled.{eject_penalty}
 use Rattle.tb_node.specs.declared.Act.{Act}
 use Rattle.tb_node.specs.declared.Act.TheVariants as acts
 use Rattle.tb_node.specs.declared.Float.{Float}
@@ -10,22 +10,21 @@ use Rattle.tb_node.proofs.Weights.{Weight, act_weight, nodes_weight}
 use Rattle.tb_param.specs.declared.Params.{Params}
 use Rattle.tb_param.specs.Release.{has_second}
 use Rattle.std.proofs.lemmas.Bool.{eq-eqb, eqb-true, ne_eqb, true≢false}
-use Rattle.std.proofs.lemmas.Option.{none-some}
 use Rattle.tb_insert.specs.declared.Class.{Class}
 use Rattle.tb_insert.specs.Account.{terms_after, Frozen, Labelled, labelled}
 use Rattle.tb_break.specs.PageTop.{pruned_nodes}
-use Rattle.tb_builder.specs.Reach.{Reached, acted, tried, Reach}
-use Rattle.tb_builder.specs.FiredPages.{with_spent_break, Boxed, Fired, page_break, box_after, is_given, fired_by, fired_of, frozen_for, reach_of, content_of, given_to}
+use Rattle.tb_builder.specs.Reach.{Reached}
+use Rattle.tb_builder.specs.FiredPages.{with_spent_break, Boxed, page_break, box_after, is_given, fired_by, frozen_for, content_of, given_to}
 use Rattle.tb_builder.proofs.FiredPages.PageWeights.{labelled-class, reach-weight, pruned_nodes-weight, acted_weight, boxes_weight, numbers, hits, IsOnce, fired_weight, fired-weight, AllOfClass}
 use Rattle.tb_builder.proofs.Cutting.CutLemmas.{acted_of, CutAt, reach-cut, cut-class, class-pruned, held-ins}
 use Rattle.tb_float.specs.declared.Entry.{Entry}
 use Rattle.tb_float.specs.declared.Entry.TheVariants as entries
-use Rattle.tb_float.specs.Lists.{FloatLists, live_count}
+use Rattle.tb_float.specs.Lists.{FloatLists}
 use Rattle.tb_sheet.specs.declared.Warn.{Warn}
 use Rattle.tb_column.specs.Column.{PlainColumn}
 use Rattle.tb_sheet.specs.Sheet.{PlainSent, warned, shipped}
-use Rattle.tb_output.specs.State.{State, Recorded, emptied, Work}
-use Rattle.tb_output.specs.Act.{Acted, went, full, act_on, taken_float, lists_with_taken, has_head_room, taken_head}
+use Rattle.tb_output.specs.State.{State, Recorded}
+use Rattle.tb_output.specs.Act.{taken_float, lists_with_taken, taken_head}
 use Rattle.tb_output.specs.Output.{out}
 use Rattle.tb_laws.proofs.Closed.BareFeet.{HoldBare, LabelsBare, BoxesBare, AllPlaced, all-placed, placed-class, placed-bare, labelled-bare, boxes-bare, held-bare, pruned-bare, spent-bare, bare-passed, bare-take, bare-drop, bare-join}
 use Rattle.tb_laws.proofs.NothingLost.StateWeights.{floats_weight, floats-append}
@@ -34,7 +33,10 @@ use Rattle.tb_laws.proofs.Closed.SortLemmas.{PageStands, cut-stands, pruned-stan
 use Rattle.tb_laws.proofs.Closed.PutLemmas.{AreAmong}
 use Rattle.tb_laws.proofs.Closed.PlaceLemmas.{AllSteady, WellPlaced, body-steady, body-class, out-placed}
 use Rattle.tb_items.specs.RunEvents.{RunEvent, offered, sent}
-use Rattle.tb_steps.specs.Run.{done, pool_full, dead_cycles, page_limit, node_limit, Progress, progress_by, progress, Step, ends, goes_on, held_count, after_firing, fire, after_progress, step, ask_for}
+pub use Rattle.tb_steps.proofs.RunTree.{page_of}
+use Rattle.tb_steps.specs.Run.{done, pool_full, dead_cycles, page_limit, node_limit, Progress, progress, Step, ends, goes_on, step, ask_for}
+use Rattle.tb_steps.proofs.RunTree.{ActMove, PageMoves, page-is, served_at, WholePage, StepIs, step-is, takes_float, takes_note, changes_columns, takes_title, fires_on, is_done}
+use Rattle.tb_steps.proofs.RunFolds.{Shows, PageLaw, page-holds, progress-holds, whole-holds}
 
 abbrev pub events_weight : Weight → List RunEvent → ℕ
 events_weight v [] = 0
@@ -103,15 +105,6 @@ pub record After (v : Weight) (n : ℕ) (s t : State) : Type 0 where
   pub classes : t.classes ≡ s.classes
   pub weight : lists_weight v t.floats + left_weight v t.left_column ≡ lists_weight v s.floats + left_weight v s.left_column + n
 
-ActAdds : Weight → State → Act → List Act → Acted → Type 0
-ActAdds v s a ds (went t ws rs) = After v (act_weight v a) s t × ActsFit v t.left_column ds
-ActAdds v s a ds (full line live) = Unit {0}
-
-room-adds : (v : Weight) (s : State) (a : Act) (ds : List Act) (u : Bool) (line live : ℕ) (t : State) (ws : List Warn) (rs : List Recorded) → After v (act_weight v a) s t × ActsFit v t.left_column ds → ActAdds v s a ds (if u then full line live else went t ws rs)
-unfolding ActAdds
-room-adds v s a ds true line live t ws rs h = tt
-room-adds v s a ds false line live t ws rs h = h
-
 -- a float is taken into the current list or into the second
 taken-weight : (v : Weight) (p : Params) (f : Float) (l : FloatLists) → lists_weight v (lists_with_taken p f l) ≡ lists_weight v l + v.float f.line
 taken-weight v p f l = by_list (has_second p && f.wide)
@@ -127,49 +120,70 @@ taken-paired p f l h = by_list (has_second p && f.wide)
     by_list true = h
     by_list false = paired-append l.current (entries.Float f ∷ []) h tt
 
-act-adds : (v : Weight) (p : Params) (s : State) (a : Act) (ds : List Act) → Sound s → ActsFit v s.left_column (a ∷ ds) → ActAdds v s a ds (act_on p s a)
-unfolding ActAdds
-act-adds v p s (acts.Take f) ds d h =
+act-adds : (v : Weight) (p : Params) {s t : State} {a : Act} {ws : List Warn} {rs : List Recorded} (ds : List Act) → ActMove p s a t ws rs → Sound s → ActsFit v s.left_column (a ∷ ds) → After v (act_weight v a) s t × ActsFit v t.left_column ds
+act-adds v p ds (takes_float {s = s} f r) d h =
     let e : lists_weight v (lists_with_taken p (taken_float p s f) s.floats) ≡ lists_weight v s.floats + v.float f.line = taken-weight v p (taken_float p s f) s.floats in
-    room-adds v s (acts.Take f) ds (int_le p.pool (pos (live_count s.floats))) _ _ _ _ _ (record { sound = record { box = d.box; bare = d.bare; columns = d.columns; entries = taken-paired p (taken_float p s f) s.floats d.entries }; waiting = refl; held = refl; boxes = refl; classes = refl; weight = omega (arith, e) }, h.1)
-act-adds v p s (acts.TakeMargin m) ds d h =
+    (record { sound = record { box = d.box; bare = d.bare; columns = d.columns; entries = taken-paired p (taken_float p s f) s.floats d.entries }; waiting = refl; held = refl; boxes = refl; classes = refl; weight = omega (arith, e) }, h.1)
+act-adds v p ds (takes_note {s = s} m r) d h =
     let e : entries_weight v (s.floats.current ++ entries.Left m ∷ entries.Right m ∷ []) ≡ entries_weight v s.floats.current + (v.margin m.line + 0) = entries-append v s.floats.current (entries.Left m ∷ entries.Right m ∷ []) in
-    room-adds v s (acts.TakeMargin m) ds (int_lt p.pool (pos (live_count s.floats + 2))) _ _ _ _ _ (record { sound = record { box = d.box; bare = d.bare; columns = d.columns; entries = paired-append s.floats.current (entries.Left m ∷ entries.Right m ∷ []) d.entries tt }; waiting = refl; held = refl; boxes = refl; classes = refl; weight = omega arith }, h.1)
-act-adds v p s (acts.Suppress area) ds d h = (record { sound = record { box = d.box; bare = d.bare; columns = d.columns; entries = d.entries }; waiting = refl; held = refl; boxes = refl; classes = refl; weight = omega arith }, h.1)
-act-adds v p s (acts.Page n) ds d h = (record { sound = record { box = d.box; bare = d.bare; columns = d.columns; entries = d.entries }; waiting = refl; held = refl; boxes = refl; classes = refl; weight = omega arith }, h.1)
-act-adds v p s (acts.Head f) ds d h =
+    (record { sound = record { box = d.box; bare = d.bare; columns = d.columns; entries = paired-append s.floats.current (entries.Left m ∷ entries.Right m ∷ []) d.entries tt }; waiting = refl; held = refl; boxes = refl; classes = refl; weight = omega arith }, h.1)
+act-adds v p ds (takes_title {s = s} f r) d h =
     let e : floats_weight v (s.floats.double ++ taken_head p f ∷ []) ≡ floats_weight v s.floats.double + (v.float f.line + 0) = floats-append v s.floats.double (taken_head p f ∷ []) in
-    room-adds v s (acts.Head f) ds (not (has_head_room p s)) _ _ _ _ _ (record { sound = record { box = d.box; bare = d.bare; columns = d.columns; entries = d.entries }; waiting = refl; held = refl; boxes = refl; classes = refl; weight = omega arith }, h.1)
-act-adds v p s (acts.Columns two) ds d h =
+    (record { sound = record { box = d.box; bare = d.bare; columns = d.columns; entries = d.entries }; waiting = refl; held = refl; boxes = refl; classes = refl; weight = omega arith }, h.1)
+act-adds v p ds (changes_columns {s = s} two) d h =
     let e : left_weight v s.left_column ≡ 0 = h.0 in
     (record { sound = record { box = d.box; bare = d.bare; columns = tt; entries = d.entries }; waiting = refl; held = refl; boxes = refl; classes = refl; weight = omega arith }, fits-none v ds)
+act-adds v p ds m d h = (record { sound = record { box = d.box; bare = d.bare; columns = d.columns; entries = d.entries }; waiting = refl; held = refl; boxes = refl; classes = refl; weight = omega arith }, h.1)
+
+after-both : (v : Weight) (n m : ℕ) (o s t : State) → After v n o s → After v m s t → After v (n + m) o t
+after-both v n m o s t x y =
+    let i : lists_weight v s.floats + left_weight v s.left_column ≡ lists_weight v o.floats + left_weight v o.left_column + n = x.weight in
+    let j : lists_weight v t.floats + left_weight v t.left_column ≡ lists_weight v s.floats + left_weight v s.left_column + m = y.weight in
+    record { sound = y.sound; waiting = y.waiting ∙ x.waiting; held = y.held ∙ x.held; boxes = y.boxes ∙ x.boxes; classes = y.classes ∙ x.classes; weight = omega arith }
+
+-- ---- the acts of a page
+
+-- while a page is gone through: what was taken and what its acts still bring make up what all of them bring
+record Taking (v : Weight) (m : ℕ) (o : State) (rs : List Reached) (s : State) : Type 0 where
+  taken : ℕ
+  after : After v taken o s
+  all : taken + acted_weight v rs ≡ m
+  fits : ActsFit v s.left_column (acted_of rs)
+
+-- what is shown weighs nothing
+abbrev weightless : Weight → Shows
+weightless v = record {
+  holds = λ es rs. events_weight v es ≡ 0;
+  none = refl;
+  both = λ es fs rs qs a b. events-append v es fs ∙ (λ i. a i + b i);
+}
+
+abbrev taking : (v : Weight) (p : Params) → ℕ → State → PageLaw p
+taking v p m o = record {
+  shows = weightless v;
+  holds = Taking v m o;
+  tries = λ line b least rs s h. (refl, record { taken = h.taken; after = h.after; all = h.all; fits = h.fits });
+  acts = λ s t a ws records rs x h.
+      let y = act-adds v p (acted_of rs) x h.after.sound h.fits in
+      let e : h.taken + (act_weight v a + acted_weight v rs) ≡ m = h.all in
+      (warnings-weight v ws, record { taken = h.taken + act_weight v a; after = after-both v h.taken (act_weight v a) o s t h.after y.0; all = omega (arith, e); fits = y.1 });
+}
+
+nothing-taken : (v : Weight) (rs : List Reached) (s : State) → Sound s → ActsFit v s.left_column (acted_of rs) → Taking v (acted_weight v rs) s rs s
+nothing-taken v rs s d h = record { taken = 0; after = record { sound = d; waiting = refl; held = refl; boxes = refl; classes = refl; weight = omega arith }; all = omega arith; fits = h }
+
+all-taken : {v : Weight} {m : ℕ} {o s : State} → Taking v m o [] s → After v m o s
+all-taken {v = v} {o = o} {s = s} h = subst (λ n. After v n o s) (omega (arith, h.all)) h.after
 
 -- what is reached weighs nothing, and its acts bring what they take
 pub record Progressed (v : Weight) (n : ℕ) (s : State) (q : Progress) : Type 0 where
   pub events : events_weight v q.events ≡ 0
   pub after : q.fault ≡ None → After v n s q.state
 
-progress_by-adds : (v : Weight) (n : ℕ) (a : Act) (ds : List Act) (s : State) (later : State → Progress) → ((t : State) → Sound t → ActsFit v t.left_column ds → Progressed v n t (later t)) → (x : Acted) → ActAdds v s a ds x → Progressed v (act_weight v a + n) s (progress_by later s x)
-unfolding ActAdds
-progress_by-adds v n a ds s later h (went t ws rs) k =
-    let r : Progressed v n t (later t) = h t k.0.sound k.1 in
-    let e : events_weight v (map (λ w. sent (warned w)) ws ++ (later t).events) ≡ events_weight v (map (λ w. sent (warned w)) ws) + events_weight v (later t).events = events-append v (map (λ w. sent (warned w)) ws) (later t).events in
-    let d : events_weight v (map (λ w. sent (warned w)) ws) ≡ 0 = warnings-weight v ws in
-    let g : events_weight v (later t).events ≡ 0 = r.events in
-    record { events = omega arith; after = λ f. both (r.after f) }
-  where
-    both : After v n t (later t).state → After v (act_weight v a + n) s (later t).state
-    both x =
-        let i : lists_weight v t.floats + left_weight v t.left_column ≡ lists_weight v s.floats + left_weight v s.left_column + act_weight v a = k.0.weight in
-        let j : lists_weight v (later t).state.floats + left_weight v (later t).state.left_column ≡ lists_weight v t.floats + left_weight v t.left_column + n = x.weight in
-        record { sound = x.sound; waiting = x.waiting ∙ k.0.waiting; held = x.held ∙ k.0.held; boxes = x.boxes ∙ k.0.boxes; classes = x.classes ∙ k.0.classes; weight = omega arith }
-progress_by-adds v n a ds s later h (full line live) k = record { events = refl; after = λ f. absurd (none-some (line, live) (sym f)) }
-
 pub progress-adds : (v : Weight) (p : Params) (rs : List Reached) (least : ℤ) (s : State) → Sound s → ActsFit v s.left_column (acted_of rs) → Progressed v (acted_weight v rs) s (progress p rs least s)
-progress-adds v p [] least s d h = record { events = refl; after = λ f. record { sound = d; waiting = refl; held = refl; boxes = refl; classes = refl; weight = omega arith } }
-progress-adds v p (acted a ∷ rs) least s d h =
-    progress_by-adds v (acted_weight v rs) a (acted_of rs) s (λ t. progress p rs least t) (λ t x y. progress-adds v p rs least t x y) (act_on p s a) (act-adds v p s a (acted_of rs) d h)
-progress-adds v p (tried line b ∷ rs) least s d h = let r = progress-adds v p rs (min_ℤ least b.cost) s d h in record { events = r.events; after = r.after }
+progress-adds v p rs least s d h =
+    let start = nothing-taken v rs s d h in
+    record { events = (progress-holds (taking v p (acted_weight v rs) s) (page-is p rs least s) start).0; after = λ f. all-taken (whole-holds (taking v p (acted_weight v rs) s) (page-is p rs least s) start f) }
 
 -- ---- a page and its firing
 
@@ -227,10 +241,6 @@ StepWeighs v s (ends es rs (dead_cycles n)) = Unit {0}
 StepWeighs v s (ends es rs (page_limit n)) = Unit {0}
 StepWeighs v s (ends es rs (node_limit n)) = Unit {0}
 
--- the page of a state
-abbrev pub page_of : Params → State → Reach
-page_of p s = reach_of (ask_for p s) s.classes s.boxes [] s.waiting
-
 module _ (v : Weight) (p : Params) (calm : int_le p.interlinepenalty eject_penalty ≡ false) (s : State) (kept : Kept s) where
   limit : ℤ
   limit = (ask_for p s).max_depth
@@ -286,53 +296,28 @@ module _ (v : Weight) (p : Params) (calm : int_le p.interlinepenalty eject_penal
       sums : (G F Ht Lt Ct Bt P Y A W Bs Hs Ls Cs : ℕ) → G ≡ F + (Ht + Lt + Ct) → F ≡ Bt + (P + Y) → P + A + Y ≡ W → Lt + Ct ≡ Ls + Cs + A → Bt ≡ Bs → Ht ≡ Hs → G ≡ W + Bs + Hs + Ls + Cs
       sums G F Ht Lt Ct Bt P Y A W Bs Hs Ls Cs g i j k l m = omega arith
 
-  fire-weighs : (q : Progress) → events_weight v q.events ≡ 0 → After v (acted_weight v (page_of p s).reached) s q.state → StepWeighs v s (fire p (ask_for p s) (page_of p s) q)
-  fire-weighs q e a = by_cycles (int_lt (pos q.state.dead_cycles) p.maxdeadcycles)
-    where
-      f : Fired
-      f = fired_of (ask_for p s) q.state.classes q.state.boxes (page_of p s)
+  module _ (h : ActsFit v s.left_column (acted_of (page_of p s).reached)) where
+    page-adds : {qs : List Reached} {t : State} {es : List RunEvent} {rs : List Recorded} → PageMoves p (page_of p s).reached s es rs qs t → (events_weight v es ≡ 0) × Taking v (acted_weight v (page_of p s).reached) s qs t
+    page-adds x = page-holds (taking v p (acted_weight v (page_of p s).reached) s) x (nothing-taken v (page_of p s).reached s kept.sound h)
 
-      o : Work
-      o = out p q.state f
+    -- the state after the acts of the page
+    pub whole-adds : {t : State} {es : List RunEvent} {rs : List Recorded} → WholePage p s es rs t → After v (acted_weight v (page_of p s).reached) s t
+    whole-adds x = all-taken (page-adds x).1
 
-      goes : o.refused ≡ false → Kept o.state × (events_weight v (q.events ++ map sent o.sent) + state_weight v o.state ≡ state_weight v s)
-      goes r =
-          let x = fired-keeps q.state a (frozen_for (ask_for p s) q.state.classes q.state.boxes) r in
-          (x.0, sums (state_weight v o.state) (sent_weight v o.sent) (events_weight v q.events) (events_weight v (map sent o.sent)) (events_weight v (q.events ++ map sent o.sent)) (state_weight v s) e (events-append v q.events (map sent o.sent)) (sent-events v o.sent) x.1)
-        where
-          sums : (S T Q M E U : ℕ) → Q ≡ 0 → E ≡ Q + M → M ≡ T → S + T ≡ U → E + S ≡ U
-          sums S T Q M E U d a b c = omega arith
+    -- a step keeps what there is, if a change of columns drops nothing that weighs
+    pub weighs : {x : Step} → StepIs p s x → StepWeighs v s x
+    weighs (fires_on {es = es} {t = t} x f r) =
+        let o = served_at p s t in
+        let k = fired-keeps t (whole-adds x) (frozen_for (ask_for p s) t.classes t.boxes) r in
+        (k.0, sums (state_weight v o.state) (sent_weight v o.sent) (events_weight v es) (events_weight v (map sent o.sent)) (events_weight v (es ++ map sent o.sent)) (state_weight v s) (page-adds x).0 (events-append v es (map sent o.sent)) (sent-events v o.sent) k.1)
+      where
+        sums : (S T Q M E U : ℕ) → Q ≡ 0 → E ≡ Q + M → M ≡ T → S + T ≡ U → E + S ≡ U
+        sums S T Q M E U d a b c = omega arith
+    weighs (is_done x u) =
+        let i : nodes_weight v (page_of p s).passed + acted_weight v (page_of p s).reached + nodes_weight v (page_of p s).beyond ≡ nodes_weight v s.waiting = reached in
+        let j : nodes_weight v (page_of p s).beyond ≡ 0 = ap (nodes_weight v) (cut.ended u) in
+        ((page-adds x).0, (acted_weight v (page_of p s).reached, omega arith))
+    weighs x = tt
 
-      by_nodes : (u : Bool) → o.refused ≡ false → StepWeighs v s (if u then ends (q.events ++ map sent o.sent) (q.records ++ o.records) (node_limit (held_count o.state)) else goes_on (q.events ++ map sent o.sent) (q.records ++ o.records) o.state)
-      by_nodes true r = tt
-      by_nodes false r = goes r
-
-      by_refused : (u : Bool) → o.refused ≡ u → StepWeighs v s (if u then ends (q.events ++ map sent o.sent) (q.records ++ o.records) (page_limit (pred o.state.page)) else (if int_lt p.maxnodes (pos (held_count o.state)) then ends (q.events ++ map sent o.sent) (q.records ++ o.records) (node_limit (held_count o.state)) else goes_on (q.events ++ map sent o.sent) (q.records ++ o.records) o.state))
-      by_refused true r = tt
-      by_refused false r = by_nodes (int_lt p.maxnodes (pos (held_count o.state))) r
-
-      by_cycles : (u : Bool) → StepWeighs v s (if u then after_firing p q.events q.records o else ends q.events q.records (dead_cycles q.state.dead_cycles))
-      by_cycles true = by_refused o.refused refl
-      by_cycles false = tt
-
-  -- a step keeps what there is, if a change of columns drops nothing that weighs
-  pub step-weighs : ActsFit v s.left_column (acted_of (page_of p s).reached) → StepWeighs v s (step p s)
-  unfolding step
-  step-weighs h = by_fault (progress p (page_of p s).reached awful_bad s).fault refl
-    where
-      q : Progress
-      q = progress p (page_of p s).reached awful_bad s
-
-      x : Progressed v (acted_weight v (page_of p s).reached) s q
-      x = progress-adds v p (page_of p s).reached awful_bad s kept.sound h
-
-      by_firing : (u : Bool) → (page_of p s).fires ≡ u → q.fault ≡ None → StepWeighs v s (if u then fire p (ask_for p s) (page_of p s) q else ends q.events (q.records ++ emptied q.state.floats ∷ []) (done (page_of p s).passed))
-      by_firing true u f = fire-weighs q x.events (x.after f)
-      by_firing false u f =
-          let a : nodes_weight v (page_of p s).passed + acted_weight v (page_of p s).reached + nodes_weight v (page_of p s).beyond ≡ nodes_weight v s.waiting = reached in
-          let b : nodes_weight v (page_of p s).beyond ≡ 0 = ap (nodes_weight v) (cut.ended u) in
-          (x.events, (acted_weight v (page_of p s).reached, omega arith))
-
-      by_fault : (o : Option (ℕ × ℕ)) → q.fault ≡ o → StepWeighs v s (after_progress p (ask_for p s) (page_of p s) q o)
-      by_fault None f = by_firing (page_of p s).fires refl f
-      by_fault (Some y) f = tt
+    pub step-weighs : StepWeighs v s (step p s)
+    step-weighs = weighs (step-is p s)

@@ -1,6 +1,6 @@
 -- A run that is done ships what its galley weighs, and empties the float lists at each change of columns and at its end.
-use Rattle.std.proofs.Common.{◌≡◌, sym, ◌∙◌, ℕ, zero, suc, pos, ◌+◌, Bool, true, false, List, [], ◌++◌, arith}
-use Rattle.std.specs.Prelude.{int_lt, int_le, if◌then◌else◌}
+use Rattle.std.proofs.Common.{◌≡◌, sym, ◌∙◌, ℕ, ◌+◌, false, List, [], ◌++◌, arith}
+use Rattle.std.specs.Prelude.{int_le}
 use Rattle.std.specs.List.{AllByRecursion}
 use Rattle.tb_scaled.specs.Scaled.{eject_penalty}
 use Rattle.tb_node.proofs.Weights.{Weight}
@@ -9,16 +9,18 @@ use Rattle.tb_galley.specs.declared.Galley.{Galley}
 use Rattle.tb_galley.specs.Valid.{IsValid}
 use Rattle.tb_galley.specs.GalleyNodes.{expanded}
 use Rattle.tb_output.specs.State.{State, Recorded, first_state}
-use Rattle.tb_laws.proofs.NothingLost.StateWeights.{state_weight, class_numbers}
-use Rattle.tb_steps.specs.Run.{Run, End, done, pool_full, dead_cycles, page_limit, node_limit, Step, ends, goes_on, step, run_by, run_from, held_count, firings_left, run_of}
+use Rattle.tb_laws.proofs.NothingLost.StateWeights.{state_weight}
+use Rattle.tb_break.proofs.EachLemmas.{all-join}
+use Rattle.tb_steps.specs.Run.{Run, End, dead_cycles, node_limit, goes_on, held_count, run_of}
+use Rattle.tb_steps.proofs.RunTree.{RunIs, galley-is, is_done, runs_out, starts_too_full, ends_so, goes_on_so}
 use Rattle.tb_items.specs.RunEvents.{RunEvent}
 use Rattle.tb_items.specs.Classes.{classes_of}
 use Rattle.tb_laws.specs.Laws.{IsEmptied, EndsDone}
-use Rattle.tb_laws.proofs.NothingLost.RunWeights.{events_weight, events-append, Kept, StepWeighs, step-weighs}
-use Rattle.tb_laws.proofs.NothingLost.StartLemmas.{ItemsFit, NumbersDiffer, start-kept, items_weight, start-weight}
+use Rattle.tb_laws.proofs.NothingLost.RunWeights.{weighs, events_weight, events-append, Kept, StepWeighs}
+use Rattle.tb_laws.proofs.NothingLost.StartLemmas.{start-kept, items_weight, start-weight}
 use Rattle.tb_laws.proofs.Closed.ClosingStates.{Closing}
-use Rattle.tb_laws.proofs.NothingLost.ClosingActs.{emptied-append}
-use Rattle.tb_laws.proofs.NothingLost.ClosingRuns.{StepCloses, changes-fit, step-closes}
+use Rattle.tb_laws.proofs.NothingLost.ClosingRuns.{steps-close}
+use Rattle.tb_laws.proofs.NothingLost.ClosingRuns.{ones, StepCloses, changes-fit}
 use Rattle.tb_laws.proofs.DeadCycles.ValidPenalties.{interline-calm}
 use Rattle.tb_laws.proofs.NothingLost.ClassLemmas.{valid-differ, valid-fit}
 use Rattle.tb_laws.proofs.NothingLost.ClosingStarts.{start-closing}
@@ -31,41 +33,27 @@ pub record Ships (s : State) (r : Run) : Type 0 where
 never-done : (s : State) (es : List RunEvent) (rs : List Recorded) (e : End) → AllByRecursion IsEmptied rs → (EndsDone e → ⊥) → Ships s (record { events = es; records = rs; end = e })
 never-done s es rs e k n = record { empty = k; ships = λ d v. absurd (n d) }
 
-by-ships : (p : Params) (s : State) (later : State → Run) → ((t : State) → Kept t → Closing p t → Ships t (later t)) → (x : Step) → ((v : Weight) → StepWeighs v s x) → StepCloses p s x → Ships s (run_by later x)
-by-ships p s later h (goes_on es rs t) w c =
-    let r = h t (w some).0 c.1 in
-    record { empty = emptied-append rs (later t).records c.0 r.empty; ships = λ d v. sums (events_weight v (es ++ (later t).events)) (events_weight v es) (events_weight v (later t).events) (state_weight v t) (state_weight v s) (events-append v es (later t).events) (r.ships d v) (w v).1 }
+run-ships : (p : Params) → int_le p.interlinepenalty eject_penalty ≡ false → {s : State} {r : Run} → RunIs p s r → Kept s → Closing p s → Ships s r
+run-ships p calm (runs_out s) k c = never-done s [] [] (dead_cycles s.dead_cycles) tt (λ d. d)
+run-ships p calm (starts_too_full s) k c = never-done s [] [] (node_limit (held_count s)) tt (λ d. d)
+run-ships p calm (goes_on_so {s = s} {t = t} {es = es} {rs = rs} {r = r} x y) k c =
+    let w : (v : Weight) → StepWeighs v s (goes_on es rs t) = λ v. weighs v p calm s k (changes-fit p calm s k c v) x in
+    let z : StepCloses p s (goes_on es rs t) = steps-close p calm s k c x in
+    let later = run-ships p calm y (w ones).0 z.1 in
+    record { empty = all-join IsEmptied rs r.records z.0 later.empty; ships = λ d v. sums (events_weight v (es ++ r.events)) (events_weight v es) (events_weight v r.events) (state_weight v t) (state_weight v s) (events-append v es r.events) (later.ships d v) (w v).1 }
   where
-    some : Weight
-    some = record { box = λ n. 0; float = λ n. 0; margin = λ n. 0 }
-
     sums : (E A B T S : ℕ) → E ≡ A + B → B ≡ T → A + T ≡ S → E ≡ S
     sums E A B T S a b c = omega arith
-by-ships p s later h (ends es rs (done left)) w c = record { empty = c.0; ships = λ d v. (w v).0 ∙ sym (c.1 v) }
-by-ships p s later h (ends es rs (pool_full line live)) w c = never-done s es rs (pool_full line live) c (λ d. d)
-by-ships p s later h (ends es rs (dead_cycles n)) w c = never-done s es rs (dead_cycles n) c (λ d. d)
-by-ships p s later h (ends es rs (page_limit n)) w c = never-done s es rs (page_limit n) c (λ d. d)
-by-ships p s later h (ends es rs (node_limit n)) w c = never-done s es rs (node_limit n) c (λ d. d)
-
-pub run-ships : (p : Params) → int_le p.interlinepenalty eject_penalty ≡ false → (fuel : ℕ) (s : State) → Kept s → Closing p s → Ships s (run_from p fuel s)
-unfolding run_from
-run-ships p calm zero s k c = never-done s [] [] (dead_cycles s.dead_cycles) tt (λ d. d)
-run-ships p calm (suc fuel) s k c = by-ships p s (λ t. run_from p fuel t) (λ t x y. run-ships p calm fuel t x y) (step p s) (λ v. step-weighs v p calm s k (changes-fit p calm s k c v)) (step-closes p calm s k c)
-
-ships_if : (s : State) (t : Bool) (a b : Run) → Ships s a → Ships s b → Ships s (if t then a else b)
-ships_if s true a b x y = x
-ships_if s false a b x y = y
-
--- the run of a galley
-pub galley-ships : (g : Galley) → int_le g.params.interlinepenalty eject_penalty ≡ false → NumbersDiffer (classes_of g) → ItemsFit (class_numbers (classes_of g)) g.items → Ships (first_state g.params (classes_of g) (expanded g)) (run_of g)
-unfolding run_of
-galley-ships g calm d f =
-    let s = first_state g.params (classes_of g) (expanded g) in
-    ships_if s (int_lt g.params.maxnodes (pos (held_count s))) (record { events = []; records = []; end = node_limit (held_count s) }) (run_from g.params (suc (firings_left g.params s)) s) (never-done s [] [] (node_limit (held_count s)) tt (λ d. d)) (run-ships g.params calm (suc (firings_left g.params s)) s (start-kept g d f) (start-closing g f))
+run-ships p calm (ends_so {s = s} (is_done x u)) k c =
+    let z = steps-close p calm s k c (is_done x u) in
+    record { empty = z.0; ships = λ d v. (weighs v p calm s k (changes-fit p calm s k c v) (is_done x u)).0 ∙ sym (z.1 v) }
+run-ships p calm (ends_so {s = s} x) k c = never-done s _ _ _ (steps-close p calm s k c x) (λ d. d)
 
 -- a valid galley
 pub valid-ships : (g : Galley) → IsValid g → Ships (first_state g.params (classes_of g) (expanded g)) (run_of g)
-valid-ships g v = galley-ships g (interline-calm g.params v.params) (valid-differ g v) (valid-fit g v)
+valid-ships g v =
+    let f = valid-fit g v in
+    run-ships g.params (interline-calm g.params v.params) (galley-is g) (start-kept g (valid-differ g v) f) (start-closing g f)
 
 pub lists-emptied : (g : Galley) → IsValid g → AllByRecursion IsEmptied (run_of g).records
 lists-emptied g v = (valid-ships g v).empty

@@ -1,26 +1,28 @@
 -- A run that is done shows the boxes and rules of its galley in their order, and ships no insertions and no acts.
-use Rattle.std.proofs.Common.{◌≡◌, refl, sym, ◌∙◌, ap, subst, ℕ, zero, suc, pos, Bool, true, false, List, [], ◌∷◌, ◌++◌, map, take, drop, Option, Some, None, arith, append_assoc}
-use Rattle.std.specs.Prelude.{ℤ, pred, int_lt, int_le, if◌then◌else◌}
+use Rattle.std.proofs.Common.{◌≡◌, refl, sym, ◌∙◌, ap, subst, ℕ, true, false, List, [], ◌∷◌, ◌++◌, map, take, drop, arith, append_assoc}
+use Rattle.std.specs.Prelude.{int_le}
 use Rattle.std.specs.List.{AllByRecursion}
-use Rattle.tb_scaled.specs.Scaled.{awful_bad, min_ℤ, eject_penalty}
+use Rattle.tb_scaled.specs.Scaled.{eject_penalty}
 use Rattle.tb_node.specs.PlainNodes.{without_acts, without_insertions}
 use Rattle.tb_param.specs.declared.Params.{Params}
 use Rattle.tb_insert.specs.Account.{Frozen, labelled}
-use Rattle.tb_builder.specs.Reach.{Reached, acted, tried}
-use Rattle.tb_builder.specs.FiredPages.{Fired, page_break, from_break, with_spent_break, fired_by, fired_of, frozen_for}
+use Rattle.tb_builder.specs.Reach.{Reached}
+use Rattle.tb_builder.specs.FiredPages.{page_break, from_break, with_spent_break, fired_by, frozen_for}
 use Rattle.tb_builder.proofs.FiredPages.PageWeights.{acted_weight}
 use Rattle.tb_sheet.specs.declared.Warn.{Warn}
 use Rattle.tb_sheet.specs.Sheet.{PlainSent, warned, shipped}
 use Rattle.tb_galley.specs.declared.Galley.{Galley}
 use Rattle.tb_galley.specs.GalleyNodes.{expanded}
 use Rattle.tb_galley.specs.Valid.{IsValid}
-use Rattle.tb_output.specs.State.{first_state, State, Recorded, emptied, Work}
-use Rattle.tb_output.specs.Act.{Acted, went, full, act_on}
+use Rattle.tb_output.specs.State.{first_state, State, Recorded}
 use Rattle.tb_output.specs.Output.{out}
 use Rattle.tb_laws.proofs.NothingLost.StateWeights.{state_weight}
 use Rattle.tb_laws.proofs.Closed.Sorts.{Stands, sorts-calm, acts-silent, CalmSort, light, blank, real, silent, pause, hold, serve, clear, odd, seen_after, Sort, Seen}
 use Rattle.tb_laws.proofs.Closed.SortLemmas.{none, pruned-stands, sorts, sorts-append, take-drop}
-use Rattle.tb_steps.specs.Run.{Run, End, done, pool_full, dead_cycles, page_limit, node_limit, Progress, progress_by, progress, Step, ends, goes_on, held_count, after_firing, fire, after_progress, step, run_by, run_from, firings_left, run_of, ask_for}
+use Rattle.tb_builder.specs.Reach.{Reached}
+use Rattle.tb_steps.specs.Run.{Run, End, done, pool_full, dead_cycles, page_limit, node_limit, Step, ends, goes_on, held_count, run_of, ask_for}
+use Rattle.tb_steps.proofs.RunTree.{PageMoves, served_at, StepIs, RunIs, galley-is, fires_on, is_done, runs_out, starts_too_full, ends_so, goes_on_so}
+use Rattle.tb_steps.proofs.RunFolds.{PageLaw, page-holds}
 use Rattle.tb_items.specs.RunEvents.{RunEvent, offered, sent}
 use Rattle.tb_items.specs.Classes.{classes_of}
 use Rattle.tb_laws.specs.Laws.{EndsDone}
@@ -31,12 +33,12 @@ use Rattle.tb_sheet.proofs.PrintedSheets.{sheet_prints, sent_prints, SheetPlain,
 use Rattle.tb_laws.proofs.InOrder.PrintedOutput.{state_prints, pruned-prints, spent-prints, OutReads, out-reads}
 use Rattle.tb_laws.proofs.Closed.ClosingStates.{Closing}
 use Rattle.tb_laws.proofs.NothingLost.ClosingActs.{ActsClosed}
-use Rattle.tb_laws.proofs.NothingLost.ClosingRuns.{ones, weightless-prints, weightless-left, page_cut, progressed, acts-after, changes-fit, step-closes, StepCloses}
+use Rattle.tb_laws.proofs.NothingLost.ClosingRuns.{ones, weightless-prints, weightless-left, page_cut, page-after, closed-page, changes-fit, steps-close}
 use Rattle.tb_laws.proofs.NothingLost.ClosingStarts.{start-closing}
 use Rattle.tb_laws.proofs.NothingLost.StartLemmas.{start-kept}
 use Rattle.tb_laws.proofs.DeadCycles.ValidPenalties.{interline-calm}
 use Rattle.tb_laws.proofs.NothingLost.ClassLemmas.{valid-differ, valid-fit}
-use Rattle.tb_laws.proofs.NothingLost.RunWeights.{After, Kept, page_of, cut_stands, StepWeighs, step-weighs}
+use Rattle.tb_laws.proofs.NothingLost.RunWeights.{After, Kept, page_of, cut_stands, weighs}
 use Rattle.tb_builder.proofs.Cutting.CutLemmas.{acted_of}
 
 -- ---- what events show
@@ -76,28 +78,26 @@ sent-plain (warned w ∷ es) h = sent-plain es h
 sent-plain (shipped page sheet ∷ es) h = (h.0, sent-plain es h.1)
 
 -- tries and warnings show nothing
-Silent : List RunEvent → Type 0
+abbrev Silent : List RunEvent → Type 0
 Silent es = (events_prints es ≡ []) × EventsPlain es
 
 silent-append : (xs ys : List RunEvent) → Silent xs → Silent ys → Silent (xs ++ ys)
-unfolding Silent
 silent-append xs ys a b = (events-append xs ys ∙ (λ i. a.0 i ++ b.0 i), plain-append xs ys a.1 b.1)
 
 warnings-silent : (ws : List Warn) → Silent (map (λ w. sent (warned w)) ws)
-unfolding Silent
 warnings-silent [] = (refl, tt)
 warnings-silent (w ∷ ws) = warnings-silent ws
 
-act-silent : (s : State) (later : State → Progress) → ((t : State) → Silent (later t).events) → (x : Acted) → Silent (progress_by later s x).events
-unfolding Silent
-act-silent s later h (went t ws rs) = silent-append (map (λ w. sent (warned w)) ws) (later t).events (warnings-silent ws) (h t)
-act-silent s later h (full line live) = (refl, tt)
+abbrev silence : (p : Params) → PageLaw p
+silence p = record {
+  shows = record { holds = λ es rs. Silent es; none = (refl, tt); both = λ es fs rs qs a b. silent-append es fs a b };
+  holds = λ rs s. Unit {0};
+  tries = λ line b least rs s h. ((refl, tt), tt);
+  acts = λ s t a ws records rs m h. (warnings-silent ws, tt);
+}
 
-progress-silent : (p : Params) (rs : List Reached) (least : ℤ) (s : State) → Silent (progress p rs least s).events
-unfolding Silent
-progress-silent p [] least s = (refl, tt)
-progress-silent p (acted a ∷ rs) least s = act-silent s (λ t. progress p rs least t) (λ t. progress-silent p rs least t) (act_on p s a)
-progress-silent p (tried line b ∷ rs) least s = progress-silent p rs (min_ℤ least b.cost) s
+page-silent : {p : Params} {rs qs : List Reached} {s t : State} {es : List RunEvent} {records : List Recorded} → PageMoves p rs s es records qs t → Silent es
+page-silent {p = p} x = (page-holds (silence p) x tt).0
 
 -- ---- a page while another is held
 
@@ -161,47 +161,14 @@ module _ (p : Params) (calm : int_le p.interlinepenalty eject_penalty ≡ false)
       let x : OutReads f t (out p t f) = out-reads p calm t f before refl stands.calm stands.free kept.placed.held stands.rest unreal (λ h. a.held ∙ kept.placed.free h) a.sound.entries a.sound.columns (tt, d.left_plain left_plain) in
       (subst (λ l. Within l (sent_prints (out p t f).sent ++ state_prints (out p t f).state)) (λ i. (d.left i ++ prints (a.held i)) ++ page-prints i) (x.lines r), x.plain.0, x.plain.1)
 
-  fire-reads : (q : Progress) → Silent q.events → After ones (acted_weight ones (page_of p s).reached) s q.state → ActsClosed p closing.owed (acted_of (page_of p s).reached) s q.state → StepReads s (fire p (ask_for p s) (page_of p s) q)
-  unfolding Silent
-  fire-reads q e a d = by_cycles (int_lt (pos q.state.dead_cycles) p.maxdeadcycles)
-    where
-      f : Fired
-      f = fired_of (ask_for p s) (q.state.classes) q.state.boxes (page_of p s)
-
-      o : Work
-      o = out p q.state f
-
-      goes : o.refused ≡ false → Within (state_prints s) (events_prints (q.events ++ map sent o.sent) ++ state_prints o.state) × EventsPlain (q.events ++ map sent o.sent) × LeftPlain o.state.left_column
-      goes r =
-          let x = fired-reads q.state a d (frozen_for (ask_for p s) (q.state.classes) q.state.boxes) r in
-          (subst (λ l. Within (state_prints s) (l ++ state_prints o.state)) (sym (events-append q.events (map sent o.sent) ∙ (λ i. e.0 i ++ sent-events o.sent i))) x.0, plain-append q.events (map sent o.sent) e.1 (sent-plain o.sent x.1), x.2)
-
-      by_nodes : (u : Bool) → o.refused ≡ false → StepReads s (if u then ends (q.events ++ map sent o.sent) (q.records ++ o.records) (node_limit (held_count o.state)) else goes_on (q.events ++ map sent o.sent) (q.records ++ o.records) o.state)
-      by_nodes true r = tt
-      by_nodes false r = goes r
-
-      by_refused : (u : Bool) → o.refused ≡ u → StepReads s (if u then ends (q.events ++ map sent o.sent) (q.records ++ o.records) (page_limit (pred o.state.page)) else (if int_lt p.maxnodes (pos (held_count o.state)) then ends (q.events ++ map sent o.sent) (q.records ++ o.records) (node_limit (held_count o.state)) else goes_on (q.events ++ map sent o.sent) (q.records ++ o.records) o.state))
-      by_refused true r = tt
-      by_refused false r = by_nodes (int_lt p.maxnodes (pos (held_count o.state))) r
-
-      by_cycles : (u : Bool) → StepReads s (if u then after_firing p q.events q.records o else ends q.events q.records (dead_cycles q.state.dead_cycles))
-      by_cycles true = by_refused o.refused refl
-      by_cycles false = tt
-
-  step-reads : StepReads s (step p s)
-  unfolding step Silent
-  step-reads = by_fault (progress p (page_of p s).reached awful_bad s).fault refl
-    where
-      q : Progress
-      q = progress p (page_of p s).reached awful_bad s
-
-      by_firing : (u : Bool) → q.fault ≡ None → StepReads s (if u then fire p (ask_for p s) (page_of p s) q else ends q.events (q.records ++ emptied q.state.floats ∷ []) (done (page_of p s).passed))
-      by_firing true f = fire-reads q (progress-silent p (page_of p s).reached awful_bad s) (acts-after p calm s kept closing f ones) ((progressed p calm s kept closing).after f)
-      by_firing false f = (progress-silent p (page_of p s).reached awful_bad s).1
-
-      by_fault : (o : Option (ℕ × ℕ)) → q.fault ≡ o → StepReads s (after_progress p (ask_for p s) (page_of p s) q o)
-      by_fault None f = by_firing (page_of p s).fires f
-      by_fault (Some y) f = tt
+  reads : {x : Step} → StepIs p s x → StepReads s x
+  reads (fires_on {es = es} {t = t} x f r) =
+      let o = served_at p s t in
+      let e = page-silent x in
+      let k = fired-reads t (page-after p calm s kept closing x ones) (closed-page p calm s kept closing x) (frozen_for (ask_for p s) t.classes t.boxes) r in
+      (subst (λ l. Within (state_prints s) (l ++ state_prints o.state)) (sym (events-append es (map sent o.sent) ∙ (λ i. e.0 i ++ sent-events o.sent i))) k.0, plain-append es (map sent o.sent) e.1 (sent-plain o.sent k.1), k.2)
+  reads (is_done x u) = (page-silent x).1
+  reads x = tt
 
 -- ---- a run
 
@@ -221,30 +188,21 @@ weightless-state s e =
 never-reads : (s : State) (es : List RunEvent) (rs : List Recorded) (e : End) → (EndsDone e → ⊥) → Reads s (record { events = es; records = rs; end = e })
 never-reads s es rs e n = record { lines = λ d. absurd (n d); plain_events = λ d. absurd (n d) }
 
-by-reads : (p : Params) (s : State) (later : State → Run) → ((t : State) → Kept t → Closing p t → LeftPlain t.left_column → Reads t (later t)) → (x : Step) → StepWeighs ones s x → StepCloses p s x → StepReads s x → Reads s (run_by later x)
-by-reads p s later h (goes_on es rs t) w c x =
-    let r = h t w.0 c.1 x.2 in
+run-reads : (p : Params) → int_le p.interlinepenalty eject_penalty ≡ false → {s : State} {r : Run} → RunIs p s r → Kept s → Closing p s → LeftPlain s.left_column → Reads s r
+run-reads p calm (goes_on_so {s = s} {t = t} {es = es} {r = r} x y) k c l =
+    let z = reads p calm s k c l x in
+    let later = run-reads p calm y (weighs ones p calm s k (changes-fit p calm s k c ones) x).0 (steps-close p calm s k c x).1 z.2 in
     record {
-      lines = λ d. subst (Within (state_prints s)) (sym (events-append es (later t).events)) (within-within (state_prints s) (events_prints es ++ state_prints t) (events_prints es ++ events_prints (later t).events) x.0 (both-within (events_prints es) (events_prints es) (state_prints t) (events_prints (later t).events) (itself (events_prints es)) (r.lines d)));
-      plain_events = λ d. plain-append es (later t).events x.1 (r.plain_events d);
+      lines = λ d. subst (Within (state_prints s)) (sym (events-append es r.events)) (within-within (state_prints s) (events_prints es ++ state_prints t) (events_prints es ++ events_prints r.events) z.0 (both-within (events_prints es) (events_prints es) (state_prints t) (events_prints r.events) (itself (events_prints es)) (later.lines d)));
+      plain_events = λ d. plain-append es r.events z.1 (later.plain_events d);
     }
-by-reads p s later h (ends es rs (done left)) w c x = record { lines = λ d. subst (λ l. Within l (events_prints es)) (sym (weightless-state s (c.1 ones))) tt; plain_events = λ d. x }
-by-reads p s later h (ends es rs k) w c x = never-reads s es rs k (λ d. d)
-
-run-reads : (p : Params) → int_le p.interlinepenalty eject_penalty ≡ false → (fuel : ℕ) (s : State) → Kept s → Closing p s → LeftPlain s.left_column → Reads s (run_from p fuel s)
-unfolding run_from
-run-reads p calm zero s k c l = never-reads s [] [] (dead_cycles s.dead_cycles) (λ d. d)
-run-reads p calm (suc fuel) s k c l = by-reads p s (λ t. run_from p fuel t) (λ t x y z. run-reads p calm fuel t x y z) (step p s) (step-weighs ones p calm s k (changes-fit p calm s k c ones)) (step-closes p calm s k c) (step-reads p calm s k c l)
-
-reads_if : (s : State) (t : Bool) (a b : Run) → Reads s a → Reads s b → Reads s (if t then a else b)
-reads_if s true a b x y = x
-reads_if s false a b x y = y
+run-reads p calm (ends_so {s = s} {es = es} (is_done x u)) k c l = record { lines = λ d. subst (λ y. Within y (events_prints es)) (sym (weightless-state s ((steps-close p calm s k c (is_done x u)).1 ones))) tt; plain_events = λ d. (page-silent x).1 }
+run-reads p calm (ends_so {s = s} x) k c l = never-reads s _ _ _ (λ d. d)
+run-reads p calm (runs_out s) k c l = never-reads s [] [] (dead_cycles s.dead_cycles) (λ d. d)
+run-reads p calm (starts_too_full s) k c l = never-reads s [] [] (node_limit (held_count s)) (λ d. d)
 
 -- the run of a valid galley
 pub valid-reads : (g : Galley) → IsValid g → Reads (first_state g.params (classes_of g) (expanded g)) (run_of g)
-unfolding run_of
 valid-reads g v =
-    let s = first_state g.params (classes_of g) (expanded g) in
-    let calm = interline-calm g.params v.params in
     let f = valid-fit g v in
-    reads_if s (int_lt g.params.maxnodes (pos (held_count s))) (record { events = []; records = []; end = node_limit (held_count s) }) (run_from g.params (suc (firings_left g.params s)) s) (never-reads s [] [] (node_limit (held_count s)) (λ d. d)) (run-reads g.params calm (suc (firings_left g.params s)) s (start-kept g (valid-differ g v) f) (start-closing g f) tt)
+    run-reads g.params (interline-calm g.params v.params) (galley-is g) (start-kept g (valid-differ g v) f) (start-closing g f) tt

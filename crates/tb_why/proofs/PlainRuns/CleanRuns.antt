@@ -1,10 +1,9 @@
 -- No name in what is shown of the run of a valid galley has a line feed: each is that of an item of the galley.
-use Rattle.std.proofs.Common.{◌≡◌, refl, ℕ, zero, suc, ℤ, pos, Bool, true, false, List, [], ◌∷◌, ◌++◌, map, length, drop, Option, Some, None, arith}
-use Rattle.std.specs.Prelude.{pred, not, ◌-ℤ◌, ◌&&◌, ◌||◌, ◌==◌, nat_le, int_lt, IsTrue, if◌then◌else◌}
+use Rattle.std.proofs.Common.{◌≡◌, refl, ℕ, ℤ, Bool, true, false, List, [], ◌∷◌, ◌++◌, map, length, drop, arith}
+use Rattle.std.specs.Prelude.{not, ◌-ℤ◌, ◌&&◌, ◌||◌, ◌==◌, nat_le, int_lt, IsTrue, if◌then◌else◌}
 use Rattle.std.specs.List.{AllByRecursion, list_all}
 use Rattle.std.proofs.lemmas.Bool.{and_parts}
 use Rattle.tb_break.proofs.EachLemmas.{all-join, all-drop}
-use Rattle.tb_scaled.specs.Scaled.{awful_bad, min_ℤ}
 use Rattle.tb_node.specs.declared.Act.{Act}
 use Rattle.tb_node.specs.declared.Act.TheVariants as acts
 use Rattle.tb_node.specs.declared.Float.{Float}
@@ -25,31 +24,30 @@ use Rattle.tb_galley.specs.Valid.{is_size, is_leaf, is_float, is_margin, is_item
 use Rattle.tb_insert.specs.declared.Class.{Class}
 use Rattle.tb_insert.specs.Account.{terms_after}
 use Rattle.tb_break.specs.PageTop.{pruned_nodes}
-use Rattle.tb_builder.specs.declared.Ask.{Ask}
-use Rattle.tb_builder.specs.Reach.{Reached, acted, tried, Reach}
-use Rattle.tb_builder.specs.FiredPages.{frozen_for, reach_of, fired_of}
+use Rattle.tb_builder.specs.FiredPages.{frozen_for}
 use Rattle.tb_float.specs.declared.Entry.TheVariants as entries
 use Rattle.tb_float.specs.Lists.{FloatLists}
 use Rattle.tb_sheet.specs.declared.Warn.{Warn}
 use Rattle.tb_sheet.specs.Sheet.{PlainSent, warned}
-use Rattle.tb_output.specs.State.{State, Work, Recorded, emptied, first_state, void_boxes}
-use Rattle.tb_output.specs.Act.{Acted, went, full, act_on, taken_float, lists_with_taken, large_warning, with_taken, with_current, has_head_room, taken_head, with_head}
-use Rattle.tb_output.specs.Output.{out}
-use Rattle.tb_steps.specs.Run.{Run, End, done, dead_cycles, page_limit, node_limit, Progress, progress_by, progress, Step, ends, goes_on, held_count, after_firing, fire, after_progress, step, run_by, run_from, firings_left, run_of, ask_for}
+use Rattle.tb_output.specs.State.{State, Recorded, first_state, void_boxes}
+use Rattle.tb_output.specs.Act.{taken_float, lists_with_taken, large_warning, taken_head}
+use Rattle.tb_steps.specs.Run.{Step, Run, End, done, run_of, ask_for}
+use Rattle.tb_steps.proofs.RunTree.{ActMove, page_of, fired_at, served_at, such-step, RunIs, galley-is, takes_float, takes_note, changes_columns, takes_title, is_done, ends_so, goes_on_so}
+use Rattle.tb_steps.proofs.RunFolds.{each_event, RunLaw, filled-holds, step-holds}
 use Rattle.tb_items.specs.RunEvents.{RunEvent, sent}
 use Rattle.tb_items.specs.Classes.{classes_of}
 use Rattle.tb_why.proofs.PlainRuns.CleanNodes.{CleanLeaves, CleanNote, CleanKind, CleanAct, CleanNodes, nodes-join, nodes-pruned, CleanReached, CleanReach, reached-clean, CleanBoxes, CleanFired, fired-clean}
 use Rattle.tb_why.proofs.PlainRuns.CleanWorks.{CleanLists, CleanState, CleanSent, out-clean}
 use Rattle.tb_why.proofs.PlainRuns.CleanTales.{CleanPieces, told-clean}
+use Rattle.tb_why.proofs.ShownTree.{page_filled, page_served, shown_with, served_shown, StepShows, shows_going, shows_ending, shows_page, RunShows, shows_none, shows_last, shows_more, galley-shows}
 use Rattle.tb_why.specs.PlainNames.{IsPlainFloat, ArePlainNodes, IsPlainWarning, IsPlainSent, IsPlainEvent, IsPlainShown, ArePlainNames, IsPlainEnd}
 use Rattle.tb_why.specs.Firing.{all_sent, woven, spot_of, firing_pieces}
-use Rattle.tb_why.specs.WhyRun.{Shown, tells, all_happen, all_shown, wait_tales, firing_shown, fired_shown, step_shown, shown_after, shown_from, shown_run}
+use Rattle.tb_why.specs.WhyRun.{Shown, tells, all_happen, all_shown, wait_tales, shown_run}
 use Rattle.tb_told.specs.declared.Piece.{Piece}
 use Rattle.tb_told.specs.declared.Piece.TheVariants.{Says, NextSent}
 use Rattle.tb_told.specs.declared.Tale.TheVariants.{Waits}
 use Rattle.tb_text.specs.Lines.{is_feed, IsUnended}
 use Rattle.tb_node.specs.PlainNodes.{PlainKind, plain, ins, act, PlainNode}
-use Rattle.tb_builder.specs.FiredPages.{Fired}
 use Rattle.tb_sheet.specs.Sheet.{one, wide, two, shipped}
 use Rattle.tb_sheet.specs.declared.Warn.TheVariants as warnings
 use Rattle.std.proofs.lemmas.Bool.Decides.{nat_tests}
@@ -57,10 +55,6 @@ use Rattle.std.specs.Cmp.{first_so, second_so}
 use Rattle.std.proofs.lemmas.Bool.{and_from}
 
 -- ---- acts
-
-abbrev CleanActed : Acted → Type 0
-CleanActed (went s ws rs) = CleanState s × AllByRecursion IsPlainWarning ws
-CleanActed (full line live) = Unit {0}
 
 -- what is left on the page by a run that ends well
 abbrev CleanEnd : End → Type 0
@@ -71,10 +65,6 @@ CleanEnd e = Unit {0}
 
 names-join : (xs ys : List Shown) → ArePlainNames xs → ArePlainNames ys → ArePlainNames (xs ++ ys)
 names-join xs ys h k = all-join IsPlainShown xs ys h k
-
-names-if : (t : Bool) (xs ys : List Shown) → ArePlainNames xs → ArePlainNames ys → ArePlainNames (if t then xs else ys)
-names-if true xs ys h k = h
-names-if false xs ys h k = k
 
 -- the nodes of a page that have lines
 nodes-plain : (ns : List PlainNode) → CleanNodes ns → ArePlainNodes ns
@@ -93,6 +83,12 @@ happen-plain (e ∷ es) h = (h.0, happen-plain es h.1)
 waits-plain : (s : State) (fs : List Float) → AllByRecursion IsPlainFloat fs → ArePlainNames (map (λ f. tells (Waits (spot_of s) f)) fs)
 waits-plain s [] h = tt
 waits-plain s (f ∷ fs) h = (h.0, waits-plain s fs h.1)
+
+-- what happens while a page is filled, what waits from then on, and more
+page-plain : (s now : State) (es : List RunEvent) (xs : List Shown) → AllByRecursion IsPlainEvent es → CleanState now → ArePlainNames xs → ArePlainNames (all_happen es ++ (wait_tales s now ++ xs))
+page-plain s now es xs h k l =
+    names-join (all_happen es) (wait_tales s now ++ xs) (happen-plain es h)
+    (names-join (wait_tales s now) xs (waits-plain now (drop (length s.floats.second) now.floats.second) (all-drop IsPlainFloat (length s.floats.second) now.floats.second k.3.5)) l)
 
 module _ (p : Params) where
   sent-plain : (e : PlainSent) → CleanSent p e → IsPlainSent e
@@ -127,20 +123,12 @@ module _ (p : Params) where
       by_test true = (h, tt)
       by_test false = tt
 
-  acted-if : (t : Bool) (line live : ℕ) (s : State) (ws : List Warn) (rs : List Recorded) → CleanState s → AllByRecursion IsPlainWarning ws → CleanActed (if t then full line live else went s ws rs)
-  acted-if true line live s ws rs h g = tt
-  acted-if false line live s ws rs h g = (h, g)
-
-  acts-on : (s : State) (a : Act) → CleanState s → CleanAct a → CleanActed (act_on p s a)
-  acts-on s (acts.Take f) h g =
-      acted-if _ _ _ (with_taken p s (taken_float p s f)) (large_warning p f) [] (h.0, h.1, h.2, taken (taken_float p s f) s.floats g h.3, h.4) (large f g)
-  acts-on s (acts.TakeMargin m) h g =
-      acted-if _ _ _ (with_current s (entries.Left m ∷ entries.Right m ∷ [])) [] [] (h.0, h.1, h.2, (all-join _ s.floats.current (entries.Left m ∷ entries.Right m ∷ []) h.3.0 (g, (tt, tt)), h.3.1, h.3.2, h.3.3, h.3.4, h.3.5, h.3.6), h.4) tt
-  acts-on s (acts.Suppress area) h g = (h, tt)
-  acts-on s (acts.Page n) h g = (h, tt)
-  acts-on s (acts.Head f) h g =
-      acted-if (not (has_head_room p s)) _ _ (with_head p s (taken_head p f)) [] [] (h.0, h.1, h.2, (h.3.0, h.3.1, h.3.2, h.3.3, all-join IsPlainFloat s.floats.double (taken_head p f ∷ []) h.3.4 (g, tt), h.3.5, h.3.6), h.4) tt
-  acts-on s (acts.Columns pair) h g = ((h.0, h.1, h.2, h.3, tt), tt)
+  acts-on : {s u : State} {a : Act} {ws : List Warn} {rs : List Recorded} → ActMove p s a u ws rs → CleanState s → CleanAct a → CleanState u × AllByRecursion IsPlainWarning ws
+  acts-on (takes_float {s = s} f r) h g = ((h.0, h.1, h.2, taken (taken_float p s f) s.floats g h.3, h.4), large f g)
+  acts-on (takes_note {s = s} m r) h g = ((h.0, h.1, h.2, (all-join _ s.floats.current (entries.Left m ∷ entries.Right m ∷ []) h.3.0 (g, (tt, tt)), h.3.1, h.3.2, h.3.3, h.3.4, h.3.5, h.3.6), h.4), tt)
+  acts-on (takes_title {s = s} f r) h g = ((h.0, h.1, h.2, (h.3.0, h.3.1, h.3.2, h.3.3, all-join IsPlainFloat s.floats.double (taken_head p f ∷ []) h.3.4 (g, tt), h.3.5, h.3.6), h.4), tt)
+  acts-on (changes_columns pair) h g = ((h.0, h.1, h.2, h.3, tt), tt)
+  acts-on m h g = (h, tt)
 
   -- ---- one page and the firing after it
 
@@ -148,106 +136,53 @@ module _ (p : Params) where
   warnings-plain [] h = tt
   warnings-plain (w ∷ ws) h = (h.0, warnings-plain ws h.1)
 
-  abbrev CleanProgress : Progress → Type 0
-  CleanProgress q = CleanState q.state × AllByRecursion IsPlainEvent q.events
+  events-plain : (es : List PlainSent) → AllByRecursion (CleanSent p) es → AllByRecursion IsPlainEvent (map sent es)
+  events-plain [] h = tt
+  events-plain (e ∷ es) h = (sent-plain e h.0, events-plain es h.1)
 
-  progresses-by : (later : State → Progress) → ((s : State) → CleanState s → CleanProgress (later s)) → (s : State) (x : Acted) → CleanState s → CleanActed x → CleanProgress (progress_by later s x)
-  progresses-by later f s (went t ws rs) h g = let k = f t g.0 in (k.0, all-join IsPlainEvent (map (λ w. sent (warned w)) ws) (later t).events (warnings-plain ws g.1) k.1)
-  progresses-by later f s (full line live) h g = (h, tt)
-
-  progresses : (rs : List Reached) (least : ℤ) (s : State) → AllByRecursion CleanReached rs → CleanState s → CleanProgress (progress p rs least s)
-  progresses [] least s g h = (h, tt)
-  progresses (acted a ∷ rs) least s g h = progresses-by (λ t. progress p rs least t) (λ t k. progresses rs least t g.1 k) s (act_on p s a) h (acts-on s a h g.0)
-  progresses (tried line b ∷ rs) least s g h = let k = progresses rs (min_ℤ least b.cost) s g.1 h in (k.0, (tt, k.1))
-
-  -- what is left after the last step, or the state after another one
-  abbrev CleanStep : Step → Type 0
-  CleanStep (ends es rs e) = CleanEnd e
-  CleanStep (goes_on es rs s) = CleanState s
-
-  step-if : (t : Bool) (x y : Step) → CleanStep x → CleanStep y → CleanStep (if t then x else y)
-  step-if true x y h k = h
-  step-if false x y h k = k
-
-  abbrev page_of : State → Reach
-  page_of s = reach_of (ask_for p s) s.classes s.boxes [] s.waiting
-
-  page-reached : (s : State) → CleanState s → CleanReach (page_of s)
+  page-reached : (s : State) → CleanState s → CleanReach (page_of p s)
   page-reached s h = reached-clean (ask_for p s).max_depth (terms_after (frozen_for (ask_for p s) s.classes s.boxes)) [] (pruned_nodes p.topskip s.waiting) tt (nodes-pruned p.topskip s.waiting h.0)
 
-  abbrev fired_at : Ask → Reach → State → Fired
-  fired_at a w s = fired_of a s.classes s.boxes w
+  fired-at : (o s : State) → CleanReach (page_of p o) → CleanState s → CleanFired (fired_at p o s)
+  fired-at o s h k = fired-clean (frozen_for (ask_for p o) s.classes s.boxes) s.boxes (page_of p o) k.1 h
 
-  fired-at : (a : Ask) (w : Reach) (s : State) → CleanReach w → CleanState s → CleanFired (fired_at a w s)
-  fired-at a w s h k = fired-clean (frozen_for a s.classes s.boxes) s.boxes w k.1 h
+  abbrev cleaning : RunLaw p
+  cleaning = record {
+    shows = each_event IsPlainEvent;
+    between = CleanState;
+    within = λ o rs s. AllByRecursion CleanReached rs × CleanState s × CleanReach (page_of p o);
+    begins = λ s h. let x = page-reached s h in (x.reached, h, x);
+    tries = λ o line b least rs s h. ((tt, tt), (h.0.1, h.1, h.2));
+    acts = λ o s t a ws records rs m h. let x = acts-on m h.1 h.0.0 in (warnings-plain ws x.1, (h.0.1, x.0, h.2));
+    fires = λ o s h. let x = out-clean p s (fired_at p o s) h.1 (fired-at o s h.2 h.1) in (events-plain (served_at p o s).sent x.2, x.0);
+    stops = λ o s h. tt;
+  }
 
-  after-firing : (es : List RunEvent) (rs : List Recorded) (w : Work) → CleanState w.state → CleanStep (after_firing p es rs w)
-  after-firing es rs w h =
-      step-if w.refused (ends (es ++ map sent w.sent) (rs ++ w.records) (page_limit (pred w.state.page))) _ tt
-      (step-if (int_lt p.maxnodes (pos (held_count w.state))) (ends (es ++ map sent w.sent) (rs ++ w.records) (node_limit (held_count w.state))) (goes_on (es ++ map sent w.sent) (rs ++ w.records) w.state) tt h)
+  fired-plain : (s : State) → CleanState s → ArePlainNames (shown_with p s (served_shown p s))
+  fired-plain s h =
+      let k = filled-holds cleaning {o = s} h in
+      let t = (page_filled p s).state in
+      let c = fired-at s t k.1.1.2 k.1.1.1 in
+      page-plain s t (page_filled p s).events (served_shown p s) k.0 k.1.1.1
+      (woven-plain (firing_pieces p t (fired_at p s t)) (page_served p s).sent (told-clean p t (fired_at p s t) k.1.1.1 c) (out-clean p t (fired_at p s t) k.1.1.1 c).2)
 
-  fires : (a : Ask) (w : Reach) (q : Progress) → CleanReach w → CleanProgress q → CleanStep (fire p a w q)
-  fires a w q h k =
-      step-if (int_lt (pos q.state.dead_cycles) p.maxdeadcycles) (after_firing p q.events q.records (out p q.state (fired_at a w q.state))) (ends q.events q.records (dead_cycles q.state.dead_cycles))
-      (after-firing q.events q.records (out p q.state (fired_at a w q.state)) (out-clean p q.state (fired_at a w q.state) k.0 (fired-at a w q.state h k.0)).0) tt
-
-  steps : (s : State) → CleanState s → CleanStep (step p s)
-  unfolding step
-  steps s h = by_fault q.fault
-    where
-      q : Progress
-      q = progress p (page_of s).reached awful_bad s
-
-      k : CleanProgress q
-      k = progresses (page_of s).reached awful_bad s (page-reached s h).reached h
-
-      by_fault : (o : Option (ℕ × ℕ)) → CleanStep (after_progress p (ask_for p s) (page_of s) q o)
-      by_fault None = step-if (page_of s).fires (fire p (ask_for p s) (page_of s) q) (ends q.events (q.records ++ emptied q.state.floats ∷ []) (done (page_of s).passed)) (fires (ask_for p s) (page_of s) q (page-reached s h) k) (page-reached s h).passed
-      by_fault (Some f) = tt
-
-  -- what is shown of a firing
-  firing-plain : (s : State) (f : Fired) → CleanState s → CleanFired f → ArePlainNames (firing_shown p s f)
-  firing-plain s f h g =
-      names-if (int_lt (pos s.dead_cycles) p.maxdeadcycles) (all_shown (woven (firing_pieces p s f) (out p s f).sent)) []
-      (woven-plain (firing_pieces p s f) (out p s f).sent (told-clean p s f h g) (out-clean p s f h g).2) tt
-
-  step-plain : (s : State) → CleanState s → ArePlainNames (step_shown p s)
-  unfolding step_shown
-  step-plain s h =
-      names-join (all_happen q.events) (wait_tales s q.state ++ fired_shown p (ask_for p s) (page_of s) q q.fault) (happen-plain q.events k.1)
-      (names-join (wait_tales s q.state) (fired_shown p (ask_for p s) (page_of s) q q.fault) (waits-plain q.state (drop (length s.floats.second) q.state.floats.second) (all-drop IsPlainFloat (length s.floats.second) q.state.floats.second k.0.3.5)) (by_fault q.fault))
-    where
-      q : Progress
-      q = progress p (page_of s).reached awful_bad s
-
-      k : CleanProgress q
-      k = progresses (page_of s).reached awful_bad s (page-reached s h).reached h
-
-      by_fault : (o : Option (ℕ × ℕ)) → ArePlainNames (fired_shown p (ask_for p s) (page_of s) q o)
-      by_fault None = names-if (page_of s).fires (firing_shown p q.state (fired_at (ask_for p s) (page_of s) q.state)) [] (firing-plain q.state (fired_at (ask_for p s) (page_of s) q.state) k.0 (fired-at (ask_for p s) (page_of s) q.state (page-reached s h) k.0)) tt
-      by_fault (Some f) = tt
+  -- what is shown of a step
+  step-plain : {s : State} {x : Step} {xs : List Shown} → StepShows p s x xs → CleanState s → ArePlainNames xs
+  step-plain {s = s} (shows_going e f r rs) h = fired-plain s h
+  step-plain {s = s} (shows_ending e f rs d) h = fired-plain s h
+  step-plain {s = s} (shows_page rs d) h = let k = filled-holds cleaning {o = s} h in page-plain s (page_filled p s).state (page_filled p s).events [] k.0 k.1.1.1 tt
 
   -- ---- a run
 
-  after-plain : (later : State → List Shown) → ((s : State) → CleanState s → ArePlainNames (later s)) → (x : Step) → CleanStep x → ArePlainNames (shown_after later x)
-  after-plain later f (ends es rs e) h = tt
-  after-plain later f (goes_on es rs s) h = f s h
+  shown-plain : {s : State} {r : Run} {xs : List Shown} → RunShows p s r xs → CleanState s → ArePlainNames xs
+  shown-plain (shows_none s e) h = tt
+  shown-plain (shows_last {xs = xs} x) h = names-join xs [] (step-plain x h) tt
+  shown-plain (shows_more {xs = xs} {ys = ys} x y z) h = names-join xs ys (step-plain x h) (shown-plain z (step-holds cleaning (such-step p _ y) h).1)
 
-  runs : (fuel : ℕ) (s : State) → CleanState s → ArePlainNames (shown_from p fuel s)
-  unfolding shown_from
-  runs zero s h = tt
-  runs (suc fuel) s h =
-      names-join (step_shown p s) (shown_after (λ t. shown_from p fuel t) (step p s)) (step-plain s h)
-      (after-plain (λ t. shown_from p fuel t) (λ t k. runs fuel t k) (step p s) (steps s h))
-
-  ended-by : (later : State → Run) → ((s : State) → CleanState s → CleanEnd (later s).end) → (x : Step) → CleanStep x → CleanEnd (run_by later x).end
-  ended-by later f (ends es rs e) h = h
-  ended-by later f (goes_on es rs s) h = f s h
-
-  ended : (fuel : ℕ) (s : State) → CleanState s → CleanEnd (run_from p fuel s).end
-  unfolding run_from
-  ended zero s h = tt
-  ended (suc fuel) s h = ended-by (λ t. run_from p fuel t) (λ t k. ended fuel t k) (step p s) (steps s h)
+  ended : {s : State} {r : Run} → RunIs p s r → CleanState s → CleanEnd r.end
+  ended (ends_so {s = s} (is_done x u)) h = (page-reached s h).passed
+  ended (goes_on_so x y) h = ended y (step-holds cleaning x h).1
+  ended x h = tt
 
 -- ---- the nodes of a valid galley
 
@@ -350,23 +285,12 @@ begins g v = (expanded-clean g v, void (classes_of g), tt, (tt, tt, tt, tt, tt, 
 
 -- no name in what is shown of the run of a valid galley has a line feed
 pub run-plain : (g : Galley) → IsValid g → ArePlainNames (shown_run g)
-unfolding shown_run
-run-plain g v =
-    let s = first_state g.params (classes_of g) (expanded g) in
-    names-if (int_lt g.params.maxnodes (pos (held_count s))) [] (shown_from g.params (suc (firings_left g.params s)) s) tt (runs g.params (suc (firings_left g.params s)) s (begins g v))
+run-plain g v = shown-plain g.params (galley-shows g) (begins g v)
 
 -- nor one in what is left by it, if it ends well
 pub end-plain : (g : Galley) → IsValid g → IsPlainEnd (run_of g).end
-unfolding run_of
-end-plain g v = by_nodes (int_lt g.params.maxnodes (pos (held_count s)))
+end-plain g v = end-left (run_of g).end (ended g.params (galley-is g) (begins g v))
   where
-    s : State
-    s = first_state g.params (classes_of g) (expanded g)
-
     end-left : (e : End) → CleanEnd e → IsPlainEnd e
     end-left (done left) h = nodes-plain left h
     end-left e h = tt
-
-    by_nodes : (t : Bool) → IsPlainEnd (if t then record { events = []; records = []; end = node_limit (held_count s) } else run_from g.params (suc (firings_left g.params s)) s).end
-    by_nodes true = tt
-    by_nodes false = end-left (run_from g.params (suc (firings_left g.params s)) s).end (ended g.params (suc (firings_left g.params s)) s (begins g v))

@@ -1,28 +1,27 @@
 -- What is shown of the run of a valid galley is in order: step by step.
-use Rattle.std.proofs.Common.{◌≡◌, refl, sym, ◌∙◌, ap, subst, inl, inr, ◌⊎◌, ℕ, zero, suc, ℤ, pos, Bool, true, false, List, [], ◌∷◌, ◌++◌, map, length, drop, Option, Some, None, if◌then◌else◌, append_assoc}
-use Rattle.std.specs.Prelude.{⊤, ◌&&◌, pred, int_lt}
+use Rattle.std.proofs.Common.{◌≡◌, refl, sym, ◌∙◌, ap, subst, inl, inr, ◌⊎◌, ℕ, ℤ, Bool, true, false, List, [], ◌∷◌, ◌++◌, map, length, drop, Some, None, if◌then◌else◌, append_assoc}
+use Rattle.std.specs.Prelude.{⊤, ◌&&◌}
 use Rattle.std.specs.List.{AllByRecursion}
-use Rattle.tb_break.proofs.EachLemmas.{all-join, all-map}
-use Rattle.tb_scaled.specs.Scaled.{awful_bad, min_ℤ}
+use Rattle.tb_break.proofs.EachLemmas.{all-map}
+use Rattle.tb_scaled.specs.Scaled.{awful_bad}
 use Rattle.tb_node.specs.declared.Float.{Float}
 use Rattle.tb_param.specs.declared.Params.{Params}
 use Rattle.tb_galley.specs.declared.Galley.{Galley}
-use Rattle.tb_galley.specs.GalleyNodes.{expanded}
 use Rattle.tb_galley.specs.Valid.{IsValid}
-use Rattle.tb_builder.specs.Reach.{Reached, acted, tried}
+use Rattle.tb_builder.specs.Reach.{Reached}
 use Rattle.tb_builder.proofs.Cutting.CutLemmas.{acted_of}
 use Rattle.tb_sheet.specs.declared.Warn.{Warn}
 use Rattle.tb_sheet.specs.Sheet.{warned, shipped}
-use Rattle.tb_output.specs.State.{State, Work, Recorded, emptied, first_state}
-use Rattle.tb_output.specs.Act.{Acted, went, full, act_on}
+use Rattle.tb_output.specs.State.{State, Recorded}
 use Rattle.tb_output.specs.Output.{out}
 use Rattle.tb_items.specs.RunEvents.{RunEvent, offered, sent}
-use Rattle.tb_items.specs.Classes.{classes_of}
-use Rattle.tb_steps.specs.Run.{End, done, pool_full, dead_cycles, page_limit, node_limit, Progress, progress_by, progress, Step, ends, goes_on, held_count, after_firing, fire, after_progress, step, firings_left, ask_for}
+use Rattle.tb_steps.specs.Run.{End, Run, progress, Step, ends, goes_on}
+use Rattle.tb_steps.proofs.RunTree.{page-is}
+use Rattle.tb_steps.proofs.RunFolds.{each_event, PageLaw, progress-holds}
 use Rattle.tb_told.specs.declared.Tale.TheVariants as tale
 use Rattle.tb_story.specs.Summary.{SummaryView, no_stories, by_width, after_tale}
-use Rattle.tb_why.specs.Firing.{spot_of, firing_pieces, woven}
-use Rattle.tb_why.specs.WhyRun.{Shown, tells, all_happen, all_shown, firing_shown, fired_shown, step_shown, shown_after, shown_from, shown_run}
+use Rattle.tb_why.specs.Firing.{spot_of, firing_pieces}
+use Rattle.tb_why.specs.WhyRun.{Shown, tells, all_happen, wait_tales, shown_run}
 use Rattle.tb_why.specs.SummaryLaws.{IsOrderly}
 use Rattle.tb_laws.specs.Laws.{float_lines}
 use Rattle.tb_laws.proofs.ClassesRise.PageLines.{deeds}
@@ -30,6 +29,7 @@ use Rattle.tb_laws.proofs.ClassesRise.RisingLists.{IsAmong, among-front, among-b
 use Rattle.tb_laws.proofs.NothingLost.RunWeights.{page_of}
 use Rattle.tb_why_laws.proofs.OnePlace.WaitingLines.{uncalled}
 use Rattle.tb_why_laws.proofs.OnePlace.OnceLists.{among-parts}
+use Rattle.tb_why.proofs.ShownTree.{shown_with, served_shown, StepShows, shows_going, shows_ending, shows_page, RunShows, shows_none, shows_last, shows_more, galley-shows}
 use Rattle.tb_why_laws.proofs.OnePlace.OnceStates.{Running, now, fires, fires-once, goes, starts}
 use Rattle.tb_why_laws.proofs.OnePlace.CallWeights.{called_later}
 use Rattle.tb_why_laws.proofs.OnePlace.ActedLists.{ActedLists}
@@ -52,14 +52,16 @@ warnings-quiet : (ws : List Warn) → AllByRecursion IsQuiet (map (λ w. sent (w
 warnings-quiet [] = tt
 warnings-quiet (w ∷ ws) = (tt, warnings-quiet ws)
 
-progress-quiet-by : (later : State → Progress) → ((s : State) → AllByRecursion IsQuiet (later s).events) → (s : State) (x : Acted) → AllByRecursion IsQuiet (progress_by later s x).events
-progress-quiet-by later f s (went t ws rs) = all-join IsQuiet (map (λ w. sent (warned w)) ws) (later t).events (warnings-quiet ws) (f t)
-progress-quiet-by later f s (full line live) = tt
+abbrev quiet : (p : Params) → PageLaw p
+quiet p = record {
+  shows = each_event IsQuiet;
+  holds = λ rs s. ⊤;
+  tries = λ line b least rs s h. ((tt, tt), tt);
+  acts = λ s t a ws records rs m h. (warnings-quiet ws, tt);
+}
 
 pub progress-quiet : (p : Params) (rs : List Reached) (least : ℤ) (s : State) → AllByRecursion IsQuiet (progress p rs least s).events
-progress-quiet p [] least s = tt
-progress-quiet p (acted a ∷ rs) least s = progress-quiet-by (λ t. progress p rs least t) (λ t. progress-quiet p rs least t) s (act_on p s a)
-progress-quiet p (tried line b ∷ rs) least s = (tt, progress-quiet p rs (min_ℤ least b.cost) s)
+progress-quiet p rs least s = (progress-holds (quiet p) (page-is p rs least s) tt).0
 
 -- it changes nothing
 quiet-order : (es : List RunEvent) → AllByRecursion IsQuiet es → (later : List Shown) (m : SummaryView) → IsOrderly later m → IsOrderly (all_happen es ++ later) m
@@ -212,99 +214,42 @@ record StepShown (p : Params) (x : Step) (shown : List Shown) (m : SummaryView) 
   fit : (es : List RunEvent) (rs : List Recorded) (t : State) → x ≡ goes_on es rs t → FitsRun p t now
   order : (later : List Shown) → IsOrderly later now → IsOrderly (shown ++ later) m
 
-not-on : (es qs : List RunEvent) (rs us : List Recorded) (d : End) (t : State) → ends es rs d ≡ goes_on qs us t → ⊥
-not-on es qs rs us d t e = cc
+not-on : {es qs : List RunEvent} {rs us : List Recorded} {d : End} {t : State} → ends es rs d ≡ goes_on qs us t → ⊥
+not-on e = cc
 
-same-state : (es qs : List RunEvent) (rs us : List Recorded) (s t : State) → goes_on es rs s ≡ goes_on qs us t → s ≡ t
-same-state es qs rs us s t e = cc
+same-state : {es qs : List RunEvent} {rs us : List Recorded} {s t : State} → goes_on es rs s ≡ goes_on qs us t → s ≡ t
+same-state e = cc
 
 module _ (p : Params) where
-  -- the run ends
-  ends-shown : (es : List RunEvent) (rs : List Recorded) (d : End) (m : SummaryView) → StepShown p (ends es rs d) [] m
-  ends-shown es rs d m = record { now = m; fit = λ qs us t e. absurd (not-on es qs rs us d t e); order = λ later h. h }
-
-  step-if : (t : Bool) (x y : Step) (xs ys : List Shown) (m : SummaryView) → StepShown p x xs m → StepShown p y ys m → StepShown p (if t then x else y) (if t then xs else ys) m
-  step-if true x y xs ys m h k = h
-  step-if false x y xs ys m h k = k
-
-  -- by the work of a firing
-  work-shown : (es : List RunEvent) (rs : List Recorded) (w : Work) (shown : List Shown) (m n : SummaryView) → (w.refused ≡ false → FitsRun p w.state n) → ((later : List Shown) → IsOrderly later n → IsOrderly (shown ++ later) m) → StepShown p (after_firing p es rs w) shown m
-  work-shown es rs w shown m n fit order = record { now = n; fit = λ qs us t e. by_refused w.refused refl qs us t e; order = order }
-    where
-      events : List RunEvent
-      events = es ++ map sent w.sent
-
-      records : List Recorded
-      records = rs ++ w.records
-
-      by_nodes : w.refused ≡ false → (b : Bool) (qs : List RunEvent) (us : List Recorded) (t : State) → (if b then ends (es ++ map sent w.sent) (rs ++ w.records) (node_limit (held_count w.state)) else goes_on (es ++ map sent w.sent) (rs ++ w.records) w.state) ≡ goes_on qs us t → FitsRun p t n
-      by_nodes r true qs us t e = absurd (not-on (es ++ map sent w.sent) qs (rs ++ w.records) us (node_limit (held_count w.state)) t e)
-      by_nodes r false qs us t e = subst (λ s. FitsRun p s n) (same-state (es ++ map sent w.sent) qs (rs ++ w.records) us w.state t e) (fit r)
-
-      by_refused : (b : Bool) → w.refused ≡ b → (qs : List RunEvent) (us : List Recorded) (t : State)
-          → (if b then ends (es ++ map sent w.sent) (rs ++ w.records) (page_limit (pred w.state.page)) else (if int_lt p.maxnodes (pos (held_count w.state)) then ends (es ++ map sent w.sent) (rs ++ w.records) (node_limit (held_count w.state)) else goes_on (es ++ map sent w.sent) (rs ++ w.records) w.state)) ≡ goes_on qs us t → FitsRun p t n
-      by_refused true r qs us t e = absurd (not-on (es ++ map sent w.sent) qs (rs ++ w.records) us (page_limit (pred w.state.page)) t e)
-      by_refused false r qs us t e = by_nodes r (int_lt p.maxnodes (pos (held_count w.state))) qs us t e
-
-  -- what happened, and what waits from now on, comes before
-  behind-waits : (x : Step) (xs : List Shown) (es : List RunEvent) (s : State) (fs : List Float) (m : SummaryView) → AllByRecursion IsQuiet es → StepShown p x xs (after-waits s fs m) → StepShown p x (all_happen es ++ (map (λ f. tells (tale.Waits (spot_of s) f)) fs ++ xs)) m
-  behind-waits x xs es s fs m q h = record {
-    now = h.now;
-    fit = h.fit;
-    order = λ later k.
-        let ws = map (λ f. tells (tale.Waits (spot_of s) f)) fs in
-        subst (λ us. IsOrderly us m) (sym (append_assoc (all_happen es) (ws ++ xs) later ∙ ap (λ us. all_happen es ++ us) (append_assoc ws xs later)))
-        (quiet-order es q (ws ++ (xs ++ later)) m (waits-order s fs (xs ++ later) m (h.order later k)));
-  }
-
   module _ (s : State) (o : Running p s) (m : SummaryView) (a : FitsRun p s m) where
     abbrev waited : SummaryView
     waited = after-waits (now p s o).state (drop (length s.floats.second) (now p s o).state.floats.second) m
 
-    firing-shown : (now p s o).fault ≡ None → StepShown p (fire p (ask_for p s) (page_of p s) (now p s o)) (firing_shown p (now p s o).state (fires p s o)) waited
-    firing-shown e =
+    -- what happened, and what waits from now on, comes before
+    behind : (xs : List Shown) (n : SummaryView) → ((later : List Shown) → IsOrderly later n → IsOrderly (xs ++ later) waited) → (later : List Shown) → IsOrderly later n → IsOrderly (shown_with p s xs ++ later) m
+    behind xs n h later k =
         let q = now p s o in
-        let x = fired-ends p s o e waited (waiting-fit p s o e m a) in
-        step-if (int_lt (pos q.state.dead_cycles) p.maxdeadcycles) (after_firing p q.events q.records (out p q.state (fires p s o))) (ends q.events q.records (dead_cycles q.state.dead_cycles))
-        (all_shown (woven (firing_pieces p q.state (fires p s o)) (out p q.state (fires p s o)).sent)) [] waited
-        (work-shown q.events q.records (out p q.state (fires p s o)) (all_shown (woven (firing_pieces p q.state (fires p s o)) (out p q.state (fires p s o)).sent)) waited x.now x.after x.order)
-        (ends-shown q.events q.records (dead_cycles q.state.dead_cycles) waited)
+        let ws = wait_tales s q.state in
+        subst (λ us. IsOrderly us m) (sym (append_assoc (all_happen q.events) (ws ++ xs) later ∙ ap (λ us. all_happen q.events ++ us) (append_assoc ws xs later)))
+        (quiet-order q.events (progress-quiet p (page_of p s).reached awful_bad s) (ws ++ (xs ++ later)) m (waits-order q.state (drop (length s.floats.second) q.state.floats.second) (xs ++ later) m (h later k)))
 
-    by_fault : (y : Option (ℕ × ℕ)) → (now p s o).fault ≡ y → StepShown p (after_progress p (ask_for p s) (page_of p s) (now p s o) y) (fired_shown p (ask_for p s) (page_of p s) (now p s o) y) waited
-    by_fault None e =
-        let q = now p s o in
-        step-if (page_of p s).fires (fire p (ask_for p s) (page_of p s) q) (ends q.events (q.records ++ emptied q.state.floats ∷ []) (done (page_of p s).passed)) (firing_shown p q.state (fires p s o)) [] waited (firing-shown e)
-        (ends-shown q.events (q.records ++ emptied q.state.floats ∷ []) (done (page_of p s).passed) waited)
-    by_fault (Some f) e = ends-shown (now p s o).events (now p s o).records (pool_full f.0 f.1) waited
+    fired : (now p s o).fault ≡ None → Ends (firing_pieces p (now p s o).state (fires p s o)) (out p (now p s o).state (fires p s o)).sent waited (λ k. (out p (now p s o).state (fires p s o)).refused ≡ false → FitsRun p (out p (now p s o).state (fires p s o)).state k)
+    fired e = fired-ends p s o e waited (waiting-fit p s o e m a)
 
-    step-is-shown : StepShown p (step p s) (step_shown p s) m
-    unfolding step step_shown
-    step-is-shown =
-        let q = now p s o in
-        behind-waits (after_progress p (ask_for p s) (page_of p s) q q.fault) (fired_shown p (ask_for p s) (page_of p s) q q.fault) q.events q.state (drop (length s.floats.second) q.state.floats.second) m (progress-quiet p (page_of p s).reached awful_bad s) (by_fault q.fault refl)
+    shown-so : {x : Step} {xs : List Shown} → StepShows p s x xs → StepShown p x xs m
+    shown-so (shows_going e f r rs) = let y = fired e in record { now = y.now; fit = λ qs us t i. subst (λ u. FitsRun p u y.now) (same-state i) (y.after r); order = behind (served_shown p s) y.now y.order }
+    shown-so (shows_ending e f rs d) = let y = fired e in record { now = y.now; fit = λ qs us t i. absurd (not-on i); order = behind (served_shown p s) y.now y.order }
+    shown-so (shows_page rs d) = record { now = waited; fit = λ qs us t i. absurd (not-on i); order = behind [] waited (λ later h. h) }
 
   -- ---- a run
 
-  runs-in-order : (fuel : ℕ) (s : State) → Running p s → (m : SummaryView) → FitsRun p s m → IsOrderly (shown_from p fuel s) m
-  unfolding shown_from
-  runs-in-order zero s o m a = tt
-  runs-in-order (suc fuel) s o m a = by_step (step p s) refl (λ t o m a. runs-in-order fuel t o m a)
-    where
-      x : StepShown p (step p s) (step_shown p s) m
-      x = step-is-shown s o m a
-
-      by_step : (y : Step) → step p s ≡ y → ((t : State) → Running p t → (n : SummaryView) → FitsRun p t n → IsOrderly (shown_from p fuel t) n) → IsOrderly (step_shown p s ++ shown_after (λ t. shown_from p fuel t) y) m
-      by_step (ends es rs d) e again = x.order [] tt
-      by_step (goes_on es rs t) e again = x.order (shown_from p fuel t) (again t (goes p s o es rs t e) x.now (x.fit es rs t e))
+  runs-in-order : {s : State} {r : Run} {xs : List Shown} → RunShows p s r xs → Running p s → (m : SummaryView) → FitsRun p s m → IsOrderly xs m
+  runs-in-order (shows_none s e) o m a = tt
+  runs-in-order (shows_last {s = s} x) o m a = (shown-so s o m a x).order [] tt
+  runs-in-order (shows_more {s = s} {t = t} {ys = ys} {es = es} {rs = rs} x e y) o m a =
+      let k = shown-so s o m a x in
+      k.order ys (runs-in-order y (goes p s o es rs t e) k.now (k.fit es rs t refl))
 
 -- what is shown of the run of a valid galley is in order
 pub shown-in-order : (g : Galley) → IsValid g → IsOrderly (shown_run g) no_stories
-unfolding shown_run
-shown-in-order g v = by_nodes (int_lt g.params.maxnodes (pos (held_count (first_state g.params (classes_of g) (expanded g)))))
-  where
-    s : State
-    s = first_state g.params (classes_of g) (expanded g)
-
-    by_nodes : (b : Bool) → IsOrderly (if b then [] else shown_from g.params (suc (firings_left g.params (first_state g.params (classes_of g) (expanded g)))) (first_state g.params (classes_of g) (expanded g))) no_stories
-    by_nodes true = tt
-    by_nodes false = runs-in-order g.params (suc (firings_left g.params (first_state g.params (classes_of g) (expanded g)))) (first_state g.params (classes_of g) (expanded g)) (starts g v) no_stories tt
+shown-in-order g v = runs-in-order g.params (galley-shows g) (starts g v) no_stories tt

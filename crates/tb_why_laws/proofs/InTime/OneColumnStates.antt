@@ -1,8 +1,8 @@
 -- Along the run of a galley without items `twocolumn` and `page` there is one column, and no page number is set.
-use Rattle.std.proofs.Common.{◌≡◌, refl, sym, ◌∙◌, subst, ℕ, pos, ◌+◌, Bool, true, false, List, [], ◌∷◌, None}
-use Rattle.std.specs.Prelude.{ℤ, int_lt, int_le, ◌&&◌, if◌then◌else◌, not}
+use Rattle.std.proofs.Common.{◌≡◌, refl, sym, ◌∙◌, subst, ℕ, Bool, true, false, List, [], ◌∷◌, None}
+use Rattle.std.specs.Prelude.{ℤ, ◌&&◌, if◌then◌else◌}
 use Rattle.std.specs.List.{AllByRecursion}
-use Rattle.tb_scaled.specs.Scaled.{awful_bad, min_ℤ}
+use Rattle.tb_scaled.specs.Scaled.{awful_bad}
 use Rattle.tb_break.proofs.EachLemmas.{all-front, all-back, all-join}
 use Rattle.tb_node.specs.declared.Act.{Act}
 use Rattle.tb_node.specs.declared.Act.TheVariants as acts
@@ -15,15 +15,16 @@ use Rattle.tb_galley.specs.declared.ItemKind.TheVariants as items
 use Rattle.tb_galley.specs.declared.Galley.{Galley}
 use Rattle.tb_galley.specs.GalleyNodes.{with_firings, item_kinds, two_after, item_nodes, expanded}
 use Rattle.tb_break.specs.PageTop.{pruned_nodes}
-use Rattle.tb_builder.specs.Reach.{Reached, acted, tried}
+use Rattle.tb_builder.specs.Reach.{Reached}
 use Rattle.tb_builder.specs.FiredPages.{frozen_for}
 use Rattle.tb_builder.proofs.Cutting.CutLemmas.{acted_of}
-use Rattle.tb_float.specs.Lists.{live_count}
 use Rattle.tb_items.specs.Classes.{classes_of}
 use Rattle.tb_items.specs.RunEvents.{RunEvent}
 use Rattle.tb_output.specs.State.{State, Recorded, first_state}
-use Rattle.tb_output.specs.Act.{Acted, went, full, act_on, has_head_room}
-use Rattle.tb_steps.specs.Run.{Progress, progress_by, progress, goes_on, step, ask_for}
+use Rattle.tb_sheet.specs.declared.Warn.{Warn}
+use Rattle.tb_steps.specs.Run.{progress, goes_on, step, ask_for}
+use Rattle.tb_steps.proofs.RunTree.{ActMove, page-is, changes_columns, sets_number}
+use Rattle.tb_steps.proofs.RunFolds.{nothing_shown, PageLaw, progress-holds}
 use Rattle.tb_laws.proofs.ClassesRise.PageLines.{deeds, deeds-append, pruned-deeds}
 use Rattle.tb_laws.proofs.NothingLost.RunWeights.{page_of, cut}
 use Rattle.tb_laws.proofs.NothingLost.ClosingRuns.{progressed, fired_closes}
@@ -55,33 +56,21 @@ record Kept (s t : State) : Type 0 where
   page : t.number ≡ s.number
   two : s.two_columns ≡ false → t.two_columns ≡ false
 
-Acts : State → Acted → Type 0
-Acts s (went t ws rs) = Kept s t
-Acts s (full line live) = Unit {0}
+act-kept : {p : Params} {s t : State} {a : Act} {ws : List Warn} {rs : List Recorded} → ActMove p s a t ws rs → IsSingleAct a → Kept s t
+act-kept (sets_number n) h = absurd h
+act-kept (changes_columns two) h = record { page = refl; two = λ e. h }
+act-kept m h = record { page = refl; two = λ e. e }
 
-room-kept : (s : State) (u : Bool) (line live : ℕ) (x : Acted) → Acts s x → Acts s (if u then full line live else x)
-unfolding Acts
-room-kept s true line live x h = tt
-room-kept s false line live x h = h
-
-act-kept : (p : Params) (s : State) (a : Act) → IsSingleAct a → Acts s (act_on p s a)
-unfolding Acts
-act-kept p s (acts.Take f) h = room-kept s (int_le p.pool (pos (live_count s.floats))) _ _ _ (record { page = refl; two = λ e. e })
-act-kept p s (acts.TakeMargin m) h = room-kept s (int_lt p.pool (pos (live_count s.floats + 2))) _ _ _ (record { page = refl; two = λ e. e })
-act-kept p s (acts.Suppress area) h = record { page = refl; two = λ e. e }
-act-kept p s (acts.Page n) h = absurd h
-act-kept p s (acts.Head f) h = room-kept s (not (has_head_room p s)) _ _ _ (record { page = refl; two = λ e. e })
-act-kept p s (acts.Columns two) h = record { page = refl; two = λ e. h }
-
-by_act-kept : (s : State) (later : State → Progress) → ((t : State) → Kept t (later t).state) → (x : Acted) → Acts s x → Kept s (progress_by later s x).state
-unfolding Acts
-by_act-kept s later h (went t ws rs) k = let x = h t in record { page = x.page ∙ k.page; two = λ e. x.two (k.two e) }
-by_act-kept s later h (full line live) k = record { page = refl; two = λ e. e }
+abbrev keeping : (p : Params) → State → PageLaw p
+keeping p o = record {
+  shows = nothing_shown;
+  holds = λ rs s. AllByRecursion IsSingleAct (acted_of rs) × Kept o s;
+  tries = λ line b least rs s h. (tt, h);
+  acts = λ s t a ws records rs m h. let x = act-kept m h.0.0 in (tt, (h.0.1, record { page = x.page ∙ h.1.page; two = λ e. x.two (h.1.two e) }));
+}
 
 progress-kept : (p : Params) (rs : List Reached) (least : ℤ) (s : State) → AllByRecursion IsSingleAct (acted_of rs) → Kept s (progress p rs least s).state
-progress-kept p [] least s h = record { page = refl; two = λ e. e }
-progress-kept p (acted a ∷ rs) least s h = by_act-kept s (λ t. progress p rs least t) (λ t. progress-kept p rs least t h.1) (act_on p s a) (act-kept p s a h.0)
-progress-kept p (tried line b ∷ rs) least s h = progress-kept p rs (min_ℤ least b.cost) s h
+progress-kept p rs least s h = (progress-holds (keeping p s) (page-is p rs least s) (h, record { page = refl; two = λ e. e })).1.1.1
 
 -- ---- a step
 

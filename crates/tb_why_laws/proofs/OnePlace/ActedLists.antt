@@ -1,9 +1,8 @@
 -- The float lists after the acts of a page: the current list and the second one grow by what the acts take.
-use Rattle.std.proofs.Common.{◌≡◌, refl, sym, ◌∙◌, ap, ℕ, pos, ◌+◌, ◌⊎◌, inl, inr, Bool, true, false, List, [], ◌∷◌, ◌++◌, append_assoc, append-nil, None, arith}
-use Rattle.std.specs.Prelude.{ℤ, int_lt, int_le, ◌&&◌, if◌then◌else◌, not}
+use Rattle.std.proofs.Common.{◌≡◌, refl, sym, ◌∙◌, ap, ℕ, ◌+◌, ◌⊎◌, inl, inr, Bool, true, false, List, [], ◌∷◌, ◌++◌, append_assoc, append-nil, None, subst, arith}
+use Rattle.std.specs.Prelude.{ℤ, ◌&&◌, if◌then◌else◌}
 use Rattle.std.specs.List.{AllByRecursion}
 use Rattle.std.proofs.lemmas.Option.{none-some}
-use Rattle.tb_scaled.specs.Scaled.{min_ℤ}
 use Rattle.tb_break.proofs.EachLemmas.{all-front, all-back}
 use Rattle.tb_node.specs.declared.Act.{Act}
 use Rattle.tb_node.specs.declared.Act.TheVariants as acts
@@ -11,14 +10,17 @@ use Rattle.tb_node.specs.declared.Float.{Float}
 use Rattle.tb_node.proofs.Weights.{Weight, act_weight}
 use Rattle.tb_param.specs.declared.Params.{Params}
 use Rattle.tb_param.specs.Release.{has_second}
-use Rattle.tb_builder.specs.Reach.{Reached, acted, tried}
+use Rattle.tb_builder.specs.Reach.{Reached}
 use Rattle.tb_builder.proofs.Cutting.CutLemmas.{acted_of}
 use Rattle.tb_float.specs.declared.Entry.{Entry}
 use Rattle.tb_float.specs.declared.Entry.TheVariants as entries
-use Rattle.tb_float.specs.Lists.{FloatLists, live_count}
-use Rattle.tb_output.specs.State.{State}
-use Rattle.tb_output.specs.Act.{Acted, went, full, act_on, taken_float, has_head_room, taken_head}
-use Rattle.tb_steps.specs.Run.{Progress, progress_by, progress}
+use Rattle.tb_float.specs.Lists.{FloatLists}
+use Rattle.tb_sheet.specs.declared.Warn.{Warn}
+use Rattle.tb_output.specs.State.{State, Recorded}
+use Rattle.tb_items.specs.RunEvents.{RunEvent}
+use Rattle.tb_output.specs.Act.{taken_float, taken_head}
+use Rattle.tb_steps.specs.Run.{Progress, progress}
+use Rattle.tb_steps.proofs.RunTree.{ActMove, PageMoves, PageIs, page-is, takes_float, takes_note, sets_flag, changes_columns, sets_number, takes_title, shows_try, does_act, rests, moves, is_whole, is_cut}
 use Rattle.tb_laws.specs.Laws.{IsEmptied}
 use Rattle.tb_laws.proofs.NothingLost.StateWeights.{floats_weight, floats-append, entries_weight}
 use Rattle.tb_why_laws.proofs.OnePlace.CallWeights.{deeds_weight}
@@ -71,15 +73,6 @@ both-done a ds s t u x y = record {
 
 -- ---- an act
 
-Done : State → Act → Acted → Type 0
-Done s a (went t ws rs) = AllByRecursion IsEmptied rs → ActedLists (a ∷ []) s t
-Done s a (full line live) = Unit {0}
-
-room-done : (s : State) (a : Act) (u : Bool) (line live : ℕ) (x : Acted) → Done s a x → Done s a (if u then full line live else x)
-unfolding Done
-room-done s a true line live x h = tt
-room-done s a false line live x h = h
-
 entries-append : (v : Weight) (xs ys : List Entry) → entries_weight v (xs ++ ys) ≡ entries_weight v xs + entries_weight v ys
 entries-append v [] ys = omega arith
 entries-append v (entries.Float f ∷ xs) ys = let h : entries_weight v (xs ++ ys) ≡ entries_weight v xs + entries_weight v ys = entries-append v xs ys in omega arith
@@ -104,28 +97,29 @@ joins a s es h = record {
     sums : (x y z w : ℕ) → x ≡ y + z → z ≡ w → x + 0 + 0 ≡ y + (w + 0)
     sums x y z w e g = omega arith
 
-act-done : (p : Params) (s : State) (a : Act) → Done s a (act_on p s a)
-unfolding Done
-act-done p s (acts.Take f) = room-done s (acts.Take f) (int_le p.pool (pos (live_count s.floats))) _ _ _ (λ e. by_list (has_second p && (f.wide && s.two_columns)))
+act-done : (p : Params) {s t : State} {a : Act} {ws : List Warn} {rs : List Recorded} → ActMove p s a t ws rs → AllByRecursion IsEmptied rs → ActedLists (a ∷ []) s t
+act-done p (takes_float {s = s} f r) e = by_list (has_second p && (f.wide && s.two_columns))
   where
     by_list : (t : Bool) → ActedLists (acts.Take f ∷ []) s (record s { floats = if t then record s.floats { second = s.floats.second ++ taken_float p s f ∷ [] } else record s.floats { current = s.floats.current ++ entries.Float (taken_float p s f) ∷ [] } })
     by_list true = record { here = refl; top = refl; bottom = refl; deferred = refl; titles = []; double = sym (append-nil s.floats.double); news = taken_float p s f ∷ []; second = refl; columns = inl (refl, refl); taken = λ v. omega arith }
     by_list false = joins (acts.Take f) s (entries.Float (taken_float p s f) ∷ []) (λ v. omega arith)
-act-done p s (acts.TakeMargin m) = room-done s (acts.TakeMargin m) (int_lt p.pool (pos (live_count s.floats + 2))) _ _ _ (λ e. joins (acts.TakeMargin m) s (entries.Left m ∷ entries.Right m ∷ []) (λ v. omega arith))
-act-done p s (acts.Suppress area) = λ e. record { here = refl; top = refl; bottom = refl; deferred = refl; titles = []; double = sym (append-nil s.floats.double); news = []; second = sym (append-nil s.floats.second); columns = inl (refl, refl); taken = λ v. omega arith }
-act-done p s (acts.Page n) = λ e. record { here = refl; top = refl; bottom = refl; deferred = refl; titles = []; double = sym (append-nil s.floats.double); news = []; second = sym (append-nil s.floats.second); columns = inl (refl, refl); taken = λ v. omega arith }
-act-done p s (acts.Head f) = room-done s (acts.Head f) (not (has_head_room p s)) _ _ _ (λ e. record { here = refl; top = refl; bottom = refl; deferred = refl; titles = taken_head p f ∷ []; double = refl; news = []; second = sym (append-nil s.floats.second); columns = inl (refl, refl); taken = λ v. omega arith })
-act-done p s (acts.Columns two) = λ e. record { here = refl; top = refl; bottom = refl; deferred = refl; titles = []; double = sym (append-nil s.floats.double); news = []; second = sym (append-nil s.floats.second); columns = inr (ap (λ (l : FloatLists). l.double) e.0); taken = λ v. omega arith }
+act-done p (takes_note {s = s} m r) e = joins (acts.TakeMargin m) s (entries.Left m ∷ entries.Right m ∷ []) (λ v. omega arith)
+act-done p (takes_title {s = s} f r) e = record { here = refl; top = refl; bottom = refl; deferred = refl; titles = taken_head p f ∷ []; double = refl; news = []; second = sym (append-nil s.floats.second); columns = inl (refl, refl); taken = λ v. omega arith }
+act-done p (changes_columns {s = s} two) e = record { here = refl; top = refl; bottom = refl; deferred = refl; titles = []; double = sym (append-nil s.floats.double); news = []; second = sym (append-nil s.floats.second); columns = inr (ap (λ (l : FloatLists). l.double) e.0); taken = λ v. omega arith }
+act-done p (sets_flag {s = s} area) e = record { here = refl; top = refl; bottom = refl; deferred = refl; titles = []; double = sym (append-nil s.floats.double); news = []; second = sym (append-nil s.floats.second); columns = inl (refl, refl); taken = λ v. omega arith }
+act-done p (sets_number {s = s} n) e = record { here = refl; top = refl; bottom = refl; deferred = refl; titles = []; double = sym (append-nil s.floats.double); news = []; second = sym (append-nil s.floats.second); columns = inl (refl, refl); taken = λ v. omega arith }
 
 -- ---- all acts of a page
 
-by_act-done : (a : Act) (ds : List Act) (s : State) (later : State → Progress) → ((t : State) → AllByRecursion IsEmptied (later t).records → (later t).fault ≡ None → ActedLists ds t (later t).state)
-    → (x : Acted) → Done s a x → AllByRecursion IsEmptied (progress_by later s x).records → (progress_by later s x).fault ≡ None → ActedLists (a ∷ ds) s (progress_by later s x).state
-unfolding Done
-by_act-done a ds s later h (went t ws rs) k e f = both-done a ds s t (later t).state (k (all-front IsEmptied rs (later t).records e)) (h t (all-back IsEmptied rs (later t).records e) f)
-by_act-done a ds s later h (full line live) k e f = absurd (none-some (line, live) (sym f))
+page-lists : {p : Params} {rs qs : List Reached} {s t : State} {es : List RunEvent} {records : List Recorded} → PageMoves p rs s es records qs t → qs ≡ [] → AllByRecursion IsEmptied records → ActedLists (acted_of rs) s t
+page-lists (rests {s = s}) none e = subst (λ l. ActedLists (acted_of l) s s) (sym none) (nothing-done s)
+page-lists (moves (shows_try line b least qs) x) none e = page-lists x none e
+page-lists {p = p} (moves {u = u} {more = more} (does_act {s = s} {t = t} {records = records} a qs m) x) none e =
+    both-done a (acted_of qs) s t u (act-done p m (all-front IsEmptied records more e)) (page-lists x none (all-back IsEmptied records more e))
 
 pub progress-lists : (p : Params) (rs : List Reached) (least : ℤ) (s : State) → AllByRecursion IsEmptied (progress p rs least s).records → (progress p rs least s).fault ≡ None → ActedLists (acted_of rs) s (progress p rs least s).state
-progress-lists p [] least s e f = nothing-done s
-progress-lists p (acted a ∷ rs) least s e f = by_act-done a (acted_of rs) s (λ t. progress p rs least t) (λ t x y. progress-lists p rs least t x y) (act_on p s a) (act-done p s a) e f
-progress-lists p (tried line b ∷ rs) least s e f = progress-lists p rs (min_ℤ least b.cost) s e f
+progress-lists p rs least s = by_page (page-is p rs least s)
+  where
+    by_page : {q : Progress} → PageIs p rs s q → AllByRecursion IsEmptied q.records → q.fault ≡ None → ActedLists (acted_of rs) s q.state
+    by_page (is_whole x) e f = page-lists x refl e
+    by_page (is_cut {line = line} {live = live} x y) e f = absurd (none-some (line, live) (sym f))
