@@ -63,6 +63,15 @@ impl ClassLists {
         })
     }
 
+    /// Becomes a copy of another in place. It fails only if memory runs out.
+    pub(crate) fn copy_from(&mut self, other: &Self, alloc: Global) -> Result<(), AllocError>
+        ensures { OnOk result (self.new ≡ other.now) }
+    {
+        self.items = other.items.to_vec(alloc)?;
+        self.places = other.places;
+        Ok(())
+    }
+
     /// The classes in order.
     pub(crate) fn as_slice(&self) -> &[ClassList]
         ensures { result.now ≡ self.now }

@@ -1,6 +1,6 @@
 //! The course of a page: its running sums and account, and the best of its places.
 
-ghost use Rattle.std.specs.Prelude.{◌≡◌, ◌<◌, ◌<ℤ◌, ◌≤ℤ◌, ◌||◌, pos, negsuc, int_le, ℕ, ℤ, List, [], ◌∷◌, ◌++◌, length, None};
+ghost use Rattle.std.specs.Prelude.{◌≡◌, ◌<◌, ◌<ℤ◌, ◌≤ℤ◌, ◌||◌, pos, negsuc, int_le, ℕ, ℤ, List, [], ◌∷◌, ◌++◌, length, None, true};
 ghost use Rattle.tb_scaled.specs.Scaled.{awful_bad};
 ghost use Rattle.tb_pool.specs.Lists.{list_at};
 ghost use Rattle.tb_node.specs.declared.Node.{Node as NodeOf};
@@ -13,7 +13,8 @@ ghost use Rattle.tb_break.specs.Best.{Breakpoint};
 ghost use Rattle.tb_break.specs.Places.{ends_lasting};
 ghost use Rattle.tb_insert.specs.Account.{Frozen};
 ghost use Rattle.tb_insert.specs.AccountEntries.{Differ, ComesTo};
-ghost use Rattle.tb_insert.specs.Arrival.{ArriveFits};
+ghost use Rattle.tb_insert.specs.declared.Class.{Class as ClassOf};
+ghost use Rattle.tb_insert.specs.Arrival.{ArriveFits, IsCutOff, LateFits};
 ghost use Rattle.tb_builder.specs.LegalPlaces.{page_shapes};
 ghost use Rattle.tb_builder.specs.Courses.{IsCourseOf, IsFlat, AllLoose};
 ghost use Rattle.tb_builder.specs.CourseOffers.{OfferIs, MarksBest, TermsFit};
@@ -186,6 +187,27 @@ impl Course {
     {
         self.account
             .arrive(store, ins, index, class, box_size, &mut self.scan);
+        self.lasting = true;
+    }
+
+    // Whether the page has a split insertion of the class, so that each further one is late.
+    pub(crate) fn is_late(&self, class: u8) -> bool
+        requires { class < 256 }
+        ensures { result ≡ true → IsCutOff self.now.account class }
+    {
+        self.account.is_late(class)
+    }
+
+    // A late insertion goes to the end of the page, which has `index` nodes. Its class and the size of its box are not needed.
+    pub(crate) fn join_late(&mut self, ins: &Insertion, index: usize)
+        requires most { ins.now.class < 256 }
+        requires late { IsCutOff self.old.account ins.now.class }
+        requires fits { LateFits self.old.account ins.now }
+        ensures { (held : ℕ → List NodeOf) (class : ClassOf) (size : ℤ) (z : Frozen) (page : List PlainNode) (bs : List Breakpoint) (line : ℕ)
+            → class.number ≡ ins.now.class → IsCourseOf z self.old page bs → ComesTo z page self.old.scan class size index
+            → IsCourseOf z self.new (page ++ record { line = line; kind = an_insertion (inserted_of held ins.now) } ∷ []) bs }
+    {
+        self.account.arrive_late(ins, index);
         self.lasting = true;
     }
 }

@@ -439,9 +439,14 @@ impl Builder {
             unreachable!()
         };
         self.freeze(ask);
+        let index = store.len(self.page);
+        if self.course.is_late(i.class) {
+            self.course.join_late(&i, index);
+            store.move_first(self.waiting, self.page);
+            return;
+        }
         let own = self.class_list(i.class);
         let size = list_size(store, own.list);
-        let index = store.len(self.page);
         self.course.join(store, &i, index, &own.class, size);
         store.move_first(self.waiting, self.page);
     }

@@ -159,6 +159,9 @@ fn is_at(standing: Standing, note: &NoteBox) -> bool
 
 // Moves the insertions of each class that stands there to the end of a text, in the order of the classes; footnotes under
 // the kern that takes the depth of the text back.
+//
+// It is laid into its callers, since most pages have no insertions, or those of one class.
+#[inline(always)]
 fn join_standing(
     store: &mut Lists<Node>,
     p: &Params,

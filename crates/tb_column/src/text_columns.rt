@@ -99,6 +99,7 @@ fn put_front(
 }
 
 // Puts footnotes, and the insertions below them, behind a column with this many floats at its bottom.
+#[inline(always)]
 fn put_feet(store: &mut Lists<Node>, p: &Params, body: ListId, notes: &[NoteBox], bottoms: usize)
     requires params { AreColumnParams p.now }
     requires live { IsLive store.old body }

@@ -1,17 +1,21 @@
 -- What the parts of `settle` add up to.
-use Rattle.std.proofs.Common.{◌≡◌, refl, sym, ◌∙◌, ap, ℕ, ℤ, pos, ◌+ℤ◌, ◌-ℤ◌, Bool, true, false, Option, None, Some, arith}
-use Rattle.std.specs.Prelude.{◌*ℤ◌, int_div, ◌||◌, if◌then◌else◌}
+use Rattle.std.proofs.Common.{◌≡◌, refl, sym, subst, ◌∙◌, ap, ℕ, ℤ, pos, ◌+ℤ◌, ◌-ℤ◌, Bool, true, false, Option, None, Some, arith}
+use Rattle.std.specs.Prelude.{◌*ℤ◌, int_div, ◌||◌, if◌then◌else◌, slice_index_or}
 use Rattle.std.proofs.lemmas.Int.{ints}
 use Rattle.tb_scaled.specs.Scaled.{is_zero}
 use Rattle.tb_node.specs.declared.Sums.{Sums}
-use Rattle.tb_node.specs.PlainNodes.{Inserted}
+use Rattle.tb_pool.specs.Lists.{Lists, list_at}
+use Rattle.tb_node.specs.declared.Node.{Node}
+use Rattle.tb_node.specs.declared.Insertion.{Insertion}
+use Rattle.tb_node.specs.SmallAmounts.{IsAmount}
+use Rattle.tb_node.specs.PlainNodes.{Inserted, inserted_of}
 use Rattle.tb_break.specs.Scan.{Scanned}
 use Rattle.tb_insert.specs.declared.Class.{Class}
 use Rattle.tb_insert.specs.declared.Entry.{Entry}
 use Rattle.tb_insert.specs.declared.Account.{Account}
 use Rattle.tb_insert.specs.Account.{Label, late, scaled_by, taken_by, penalty_of, is_split}
-use Rattle.tb_insert.specs.AccountEntries.{met_goal, met_scan, met_height, label_by, is_let_in, or_else, cut_there, split_before_end}
-use Rattle.tb_insert.specs.Arrival.{label_here, goal_here, height_here, penalties_here, Arrived, late_entry}
+use Rattle.tb_insert.specs.AccountEntries.{blank_entry, entry_of, met_goal, met_scan, met_height, label_by, is_let_in, or_else, cut_there, split_before_end}
+use Rattle.tb_insert.specs.Arrival.{label_here, goal_here, height_here, penalties_here, Arrived, ArriveFits, IsCutOff, LateFits, late_entry}
 
 -- what is known once the label of the insertion is found
 pub record FindsLabel (a : Account) (s t : Scanned) (e : Entry) (i : Inserted) (class : Class) (size goal height : ℤ) (sums : Sums) (l : Label) : Type 0 where
@@ -79,3 +83,11 @@ module _ (a b : Account) (s : Scanned) (e : Entry) (i : Inserted) (index : ℕ) 
 
       height_is : height_here a s e i class size ≡ e.height
       height_is = (λ j. met_height (met j) e.height size +ℤ taken_by (late_is j) i) ∙ same e.height
+
+-- the penalties fit after a late insertion that would fit as any other
+pub late_fits : (store : Lists Node) (a : Account) (s : Scanned) (i : Insertion) (class : Class) (size : ℤ) → IsCutOff a i.class → ArriveFits store a s i class size → LateFits a i
+late_fits store a s i class size cut fits =
+    subst IsAmount (late_penalties a a s (entry_of a i.class) (inserted_of (list_at store) i) 0 class size (ap (λ (x : Entry). x.met) here ∙ cut.met) (ap (λ (x : Entry). x.split) here ∙ cut.split)) fits.penalties
+  where
+    here : entry_of a i.class ≡ slice_index_or a.entries i.class blank_entry
+    here = ap (λ b. if b then slice_index_or a.entries i.class blank_entry else blank_entry) cut.here

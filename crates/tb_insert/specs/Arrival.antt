@@ -1,5 +1,5 @@
 -- What the arrival of an insertion changes (TeX: The Program §1008 to §1010).
-use Rattle.std.specs.Prelude.{◌≡◌, ℕ, ℤ, pos, ◌≤ℤ◌, ◌+ℤ◌, ◌-ℤ◌, ◌||◌, true, Some, List, map, if◌then◌else◌, slice_set, slice_index_or}
+use Rattle.std.specs.Prelude.{◌≡◌, ℕ, ℤ, pos, ◌≤ℤ◌, ◌+ℤ◌, ◌-ℤ◌, Bool, ◌||◌, ◌&&◌, true, false, Some, List, map, if◌then◌else◌, slice_set, slice_index_or}
 use Rattle.tb_pool.specs.Lists.{Lists, IsLive, list_at}
 use Rattle.tb_node.specs.declared.Node.{Node}
 use Rattle.tb_node.specs.declared.Insertion.{Insertion}
@@ -97,3 +97,17 @@ with_late a class floating index = record a {
   newest = Some index;
   entries = slice_set a.entries class (late_entry a (slice_index_or a.entries class blank_entry));
 }
+
+-- whether a class of the page has a split insertion, so that each further one is late
+abbrev pub is_cut_off : Account → ℕ → Bool
+is_cut_off a class = slice_index_or a.on_page class false && (slice_index_or a.entries class blank_entry).met && (slice_index_or a.entries class blank_entry).split
+
+-- it has one
+pub record IsCutOff (a : Account) (class : ℕ) : Type 0 where
+  pub here : slice_index_or a.on_page class false ≡ true
+  pub met : (slice_index_or a.entries class blank_entry).met ≡ true
+  pub split : (slice_index_or a.entries class blank_entry).split ≡ true
+
+-- the penalties after a late insertion fit
+abbrev pub LateFits : Account → Insertion → Type 0
+LateFits a i = IsAmount (a.penalties +ℤ i.floating)

@@ -435,6 +435,10 @@ impl<'a> Routine<'a> {
     }
 
     // Does an act. A first column that it drops is closed.
+    //
+    // It stays out of the loop over the events. There LLVM would take the act apart into its fields, and with it each other
+    // event, which lies in the same place.
+    #[inline(never)]
     fn act(&mut self, act: Act) -> Result<(), Full>
         requires whole { IsConsistent self.old }
         requires act { IsSizedAct act }

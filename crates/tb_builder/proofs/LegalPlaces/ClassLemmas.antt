@@ -1,10 +1,10 @@
 -- The class of a number among the classes, and its box.
 use Rattle.std.proofs.Common.{◌≡◌, refl, sym, subst, ◌∙◌, ap, ℕ, zero, suc, ◌+◌, ◌<◌, Bool, true, false, List, [], ◌∷◌, length, map, Some, None, get_or, cond, arith}
-use Rattle.std.specs.Prelude.{◌==◌, ◌||◌, position, if◌then◌else◌}
+use Rattle.std.specs.Prelude.{◌==◌, ◌||◌, position, slice_index_or, if◌then◌else◌}
 use Rattle.std.specs.List.{position_from}
 use Rattle.std.proofs.lemmas.Iterator.Adapters.{position_from-zero}
 use Rattle.std.proofs.lemmas.List.Quantifiers.{position-Some}
-use Rattle.std.proofs.lemmas.Bool.{eqb-true}
+use Rattle.std.proofs.lemmas.Bool.{eqb-true, true≢false}
 use Rattle.tb_pool.specs.Lists.{Lists, IsLive, list_at}
 use Rattle.tb_node.specs.declared.Node.{Node}
 use Rattle.tb_node.specs.PlainNodes.{leaf_shape, shape_of}
@@ -101,6 +101,22 @@ pub live_at : (s : Lists Node) (es : List ClassList) (k : ℕ) (d : ClassList) �
 live_at s [] k d w h = absurd (omega arith)
 live_at s (e ∷ es) zero d w h = h.0
 live_at s (e ∷ es) (suc k) d w h = live_at s es k d (omega arith) h.1
+
+-- one of the classes that has a number is the first of them
+pub class_there : (es : List ClassList) (number : ℕ) → has_class (map (λ e. e.class) es) number ≡ true → (e : ClassList) × IsClassList es number e
+class_there [] number h = absurd (true≢false (sym h))
+class_there (x ∷ es) number h = by_test (x.class.number == number) refl (λ later. class_there es number later)
+  where
+    behind : (e : ClassList) × IsClassList es number e → (x.class.number == number) ≡ false → (e : ClassList) × IsClassList (x ∷ es) number e
+    behind rest t = (rest.0, record { place = suc rest.1.place; first = record { within = omega (arith, rest.1.first.within); there = rest.1.first.there; before = before }; is = rest.1.is })
+      where
+        before : (j : ℕ) → j < suc rest.1.place → has_number number (slice_index_or (x ∷ es) j rest.0) ≡ false
+        before zero w = t
+        before (suc j) w = rest.1.first.before j (omega arith)
+
+    by_test : (t : Bool) → (x.class.number == number) ≡ t → (has_class (map (λ e. e.class) es) number ≡ true → (e : ClassList) × IsClassList es number e) → (e : ClassList) × IsClassList (x ∷ es) number e
+    by_test true t later = (x, record { place = 0; first = record { within = omega arith; there = t; before = λ j w. absurd (omega arith) }; is = refl })
+    by_test false t later = behind (later (sym (ap (λ b. b || has_class (map (λ e. e.class) es) number) t) ∙ h)) t
 
 -- ---- facts about the class with a number and its box
 

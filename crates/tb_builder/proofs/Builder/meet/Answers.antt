@@ -12,7 +12,9 @@ use Rattle.tb_builder.specs.Ownership.{Ids, ids_of, has_class, box_ids, inner_id
 use Rattle.tb_builder.specs.Contents.{contents_of, frozen_of}
 use Rattle.tb_builder.specs.Courses.{Underway, IsCourseOf, places_by, frozen_with, IsPageSoFar}
 use Rattle.tb_builder.proofs.Ownership.OwnedLemmas.{live-left}
-use Rattle.tb_builder.proofs.LegalPlaces.ClassLemmas.{list_live, list_fits}
+use Rattle.tb_insert.proofs.SettleLemmas.{late_fits}
+use Rattle.tb_builder.specs.declared.ClassList.{ClassList}
+use Rattle.tb_builder.proofs.LegalPlaces.ClassLemmas.{class_there, list_live, list_fits}
 use Rattle.tb_builder.proofs.Turns.MoveLemmas.{written_shift}
 use Rattle.tb_builder.proofs.Turns.FillLemmas.{first_is, no_insertion_role}
 use Rattle.tb_builder.proofs.Turns.FreezeLemmas.{frozen_course, first_known, comes_to, class_is, meets_fits, plain_insertion, insertion_plain, insertion_shape, insertion_act}
@@ -25,6 +27,13 @@ pub unreachable-requires-in_default-role : goal.unreachable-requires-in_default-
 unreachable-requires-in_default-role c =
     let is = c.requires.insertion c.in-Some.n.now (sym c.in-Some.ensures) in
     true≢false (sym is ∙ ap is_some (sym c.role.ensures.insertion ∙ no_insertion_role c.role.result c.in_default-role.not-Insertion))
+
+-- the class of the insertion, and the list of its box
+class_of : (c : After-freeze) → (e : ClassList) × IsClassList (ids_of c.args.self.now).boxes c.in-Insertion.i.class e
+class_of c =
+    let f = first_is (list_at c.args.store.now c.args.self.now.waiting) c.in-Some.n.now (sym c.in-Some.ensures) in
+    class_there (ids_of c.args.self.now).boxes c.in-Insertion.i.class
+    (first_known (ids_of c.args.self.now) c.args.store.now (contents_of c.args.self.now c.args.store.now).classes c.in-Some.n.now f.0 c.in-Insertion.i c.requires.sound.own.known f.1 (sym c.in-Insertion.ensures.insertion))
 
 pub class_list-own-requires : goal.class_list-own-requires
 class_list-own-requires c =
@@ -47,6 +56,53 @@ size_is : (c : After-list_size-size) → to_z w64 (of_z w64 c.list_size-size.res
 size_is c =
     let r : FitsSigned w64 c.list_size-size.result = search rules in
     to_z-of_z w64 c.list_size-size.result r ∙ c.list_size-size.ensures
+
+-- the number of the class is below 256
+numbered_below : (c : After-freeze) → c.in-Insertion.i.class < 256
+numbered_below c =
+    let f = first_is (list_at c.args.store.now c.args.self.now.waiting) c.in-Some.n.now (sym c.in-Some.ensures) in
+    let e = class_of c in
+    subst (λ k. k < 256) (number_is c.args.store.now (ids_of c.args.self.now).boxes c.in-Insertion.i.class e.0 e.1)
+    (class_is (ids_of c.args.self.now) c.args.store.now (contents_of c.args.self.now c.args.store.now) c.args.ask.now c.freeze.new.self.course c.in-Some.n.now f.0 c.in-Insertion.i e.0 c.requires.sound.own refl refl refl refl c.requires.fits f.1 (sym c.in-Insertion.ensures.insertion) e.1 (course_is c)).0
+
+pub is_late-requires : goal.is_late-requires
+is_late-requires c = numbered_below (goal.at.is_late-requires c).After-freeze
+
+pub join_late-requires-clause-most : goal.join_late-requires-clause-most
+join_late-requires-clause-most c = numbered_below (goal.at.join_late-requires-clause-most c).After-freeze
+
+pub join_late-requires-clause-fits : goal.join_late-requires-clause-fits
+join_late-requires-clause-fits c =
+    let at = goal.at.join_late-requires-clause-fits c in
+    let f = first_is (list_at c.args.store.now c.args.self.now.waiting) c.in-Some.n.now (sym c.in-Some.ensures) in
+    let e = class_of at.After-freeze in
+    late_fits c.args.store.now c.freeze.new.self.course.account c.freeze.new.self.course.scan c.in-Insertion.i e.0.class (size_of (shapes c.args.store.now e.0.list)) (c.is_late.ensures c.if-is_late.true)
+    (meets_fits (ids_of c.args.self.now) c.args.store.now (contents_of c.args.self.now c.args.store.now) c.args.ask.now c.freeze.new.self.course c.in-Some.n.now f.0 c.in-Insertion.i e.0 c.requires.sound.own refl refl refl refl c.requires.fits f.1 (sym c.in-Insertion.ensures.insertion) e.1 (course_is at.After-freeze))
+
+pub returns-then-is_late : goal.returns-then-is_late
+returns-then-is_late c =
+    let at = goal.at.returns-then-is_late c in
+    let e = class_of at.After-freeze in
+    let f = first_is (list_at c.args.store.now c.args.self.now.waiting) c.in-Some.n.now (sym c.in-Some.ensures) in
+    let before = contents_of c.args.self.now c.args.store.now in
+    let u = course_is at.After-freeze in
+    let b = c.args.self.now in
+    let s = c.args.store.now in
+    let held = list_at s in
+    let z = frozen_of before c.args.ask.now in
+    let bs = places_by z before.page before.waiting in
+    let size = size_of (shapes s e.0.list) in
+    let co = comes_to (ids_of b) s before c.args.ask.now c.freeze.new.self.course c.in-Some.n.now f.0 c.in-Insertion.i e.0 c.requires.sound.own refl refl refl refl c.requires.fits f.1 (sym c.in-Insertion.ensures.insertion) e.1 u in
+    let index : c.len-index.result ≡ length (list_at s b.page) = c.len-index.ensures ∙ ap (λ (j : Ids). length (list_at s j.page)) c.freeze.ensures.ids in
+    let joined = c.join_late.ensures held e.0.class size z before.page bs c.in-Some.n.now.line (number_is s (ids_of b).boxes c.in-Insertion.i.class e.0 e.1) u.course
+    (subst (λ k. ComesTo z before.page c.freeze.new.self.course.scan e.0.class size k) (sym index) co) in
+    let d : Builder = record c.freeze.new.self { course = c.join_late.new.self } in
+    let shifted = c.move_first.ensures.moved c.in-Some.n.now f.0 (ap (λ (j : Ids). list_at s j.waiting) c.freeze.ensures.ids ∙ f.1) ∙ ap (λ (j : Ids). insert (with_list s j.waiting f.0) j.page (list_at s j.page ++ c.in-Some.n.now ∷ [])) c.freeze.ensures.ids in
+    met b d s c.move_first.new.self c.args.ask.now c.in-Some.n.now f.0 c.requires.sound (c.freeze.ensures.stopped ∙ c.requires.on) c.freeze.ensures.ids f.1
+    (written_shift (ids_of b) s c.move_first.new.self c.in-Some.n.now f.0 c.requires.sound.own f.1 shifted) (omega (arith, c.move_first.ensures.spare)) c.freeze.ensures.opened
+    (insertion_shape c.in-Some.n.now c.in-Insertion.i (sym c.in-Insertion.ensures.insertion)) (insertion_act c.in-Some.n.now c.in-Insertion.i (sym c.in-Insertion.ensures.insertion))
+    c.freeze.new.self.course (frozen_with b.frozen c.args.ask.now) (insertion_plain held c.in-Some.n.now c.in-Insertion.i (sym c.in-Insertion.ensures.insertion)) c.freeze.ensures.frozen refl u
+    (subst (λ m. IsCourseOf z c.join_late.new.self (before.page ++ m ∷ []) bs) (sym (plain_insertion held c.in-Some.n.now c.in-Insertion.i (sym c.in-Insertion.ensures.insertion))) joined)
 
 pub list_size-size-requires-clause-live : goal.list_size-size-requires-clause-live
 list_size-size-requires-clause-live c =
@@ -100,9 +156,9 @@ returns c =
     let joined = c.join.ensures z before.page bs c.in-Some.n.now.line u.course
     (subst (λ k. ComesTo z before.page c.freeze.new.self.course.scan c.class_list-own.result.class (to_z w64 (of_z w64 c.list_size-size.result)) k) (sym index) (subst (λ x. ComesTo z before.page c.freeze.new.self.course.scan c.class_list-own.result.class x (length (list_at s b.page))) (sym size) co)) in
     let d : Builder = record c.freeze.new.self { course = c.join.new.self } in
-    let shifted = c.move_first.ensures.moved c.in-Some.n.now f.0 (ap (λ (j : Ids). list_at s j.waiting) c.freeze.ensures.ids ∙ f.1) ∙ ap (λ (j : Ids). insert (with_list s j.waiting f.0) j.page (list_at s j.page ++ c.in-Some.n.now ∷ [])) c.freeze.ensures.ids in
-    met b d s c.move_first.new.self c.args.ask.now c.in-Some.n.now f.0 c.requires.sound (c.freeze.ensures.stopped ∙ c.requires.on) c.freeze.ensures.ids f.1
-    (written_shift (ids_of b) s c.move_first.new.self c.in-Some.n.now f.0 c.requires.sound.own f.1 shifted) (omega (arith, c.move_first.ensures.spare)) c.freeze.ensures.opened
+    let shifted = c.move_first-2.ensures.moved c.in-Some.n.now f.0 (ap (λ (j : Ids). list_at s j.waiting) c.freeze.ensures.ids ∙ f.1) ∙ ap (λ (j : Ids). insert (with_list s j.waiting f.0) j.page (list_at s j.page ++ c.in-Some.n.now ∷ [])) c.freeze.ensures.ids in
+    met b d s c.move_first-2.new.self c.args.ask.now c.in-Some.n.now f.0 c.requires.sound (c.freeze.ensures.stopped ∙ c.requires.on) c.freeze.ensures.ids f.1
+    (written_shift (ids_of b) s c.move_first-2.new.self c.in-Some.n.now f.0 c.requires.sound.own f.1 shifted) (omega (arith, c.move_first-2.ensures.spare)) c.freeze.ensures.opened
     (insertion_shape c.in-Some.n.now c.in-Insertion.i (sym c.in-Insertion.ensures.insertion)) (insertion_act c.in-Some.n.now c.in-Insertion.i (sym c.in-Insertion.ensures.insertion))
     c.freeze.new.self.course (frozen_with b.frozen c.args.ask.now) (insertion_plain held c.in-Some.n.now c.in-Insertion.i (sym c.in-Insertion.ensures.insertion)) c.freeze.ensures.frozen refl u
     (subst (λ m. IsCourseOf z c.join.new.self (before.page ++ m ∷ []) bs) (sym (plain_insertion held c.in-Some.n.now c.in-Insertion.i (sym c.in-Insertion.ensures.insertion))) joined)
