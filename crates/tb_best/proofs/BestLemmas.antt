@@ -40,7 +40,12 @@ at-least total d best breaks (inr h) = let e = h.0 in grind (arith, ints, e)
 in-less : (total d e : ℤ) (l m n : ℕ) → l < m → m ≡ n → (pos (1000 * n) +ℤ d) ≡ e → total ≤ℤ (pos 0 +ℤ (d +ℤ pos (1000 * l))) → total <ℤ e
 in-less total d e l m n h k i j = omega (arith, ints, h, k, i, j)
 
-module _ (g : Galley) (total : ℤ) (best : List ℕ) (Known : Table) (closed : IsClosed g total best Known) (plan : List ℕ) (h : IsPlan g plan) where
+-- no way from the beginning ends better
+abbrev pub HasNoBetterWay : Galley → ℤ → List ℕ → Type 0
+HasNoBetterWay g total best =
+    (k : ℕ) (ms : List Bool) (d : ℤ) → Path g.params (place_penalties g.items) k (empty_start g) (all_ahead g) ms d → IsNoBetter total best (pos 0 +ℤ (d +ℤ pos (1000 * marked ms))) (breaks_after [] (all_ahead g) ms)
+
+module _ (g : Galley) (total : ℤ) (best : List ℕ) (none : HasNoBetterWay g total best) (plan : List ℕ) (h : IsPlan g plan) where
   -- the run with the breaks of a plan is a way from the beginning, perhaps without some of them
   by-way : (d e : ℤ) → (pos (1000 * length plan) +ℤ d) ≡ e
       → (less : List Bool) × Path g.params (place_penalties g.items) (plan_fuel g) (empty_start g) (all_ahead g) less d × ((less ≡ plan_marks g plan) ⊎ (marked less < marked (plan_marks g plan)))
@@ -48,11 +53,11 @@ module _ (g : Galley) (total : ℤ) (best : List ℕ) (Known : Table) (closed : 
   by-way d e sum (less, way, inl same) =
       subst (λ x. IsNoBetter total best x (reverse plan)) (in-all d e (marked less) (length plan) (ap marked same ∙ marks-are-counted g plan h) sum)
       (subst (λ l. IsNoBetter total best (pos 0 +ℤ (d +ℤ pos (1000 * marked less))) l) (ap (breaks_after [] (all_ahead g)) same ∙ marks-are-breaks g plan h)
-      (closed-ways g total best Known closed (plan_fuel g) (empty_start g) (all_ahead g) less d (pos 0) [] way closed.begins))
+      (none (plan_fuel g) less d way))
   by-way d e sum (less, way, inr fewer) =
       inl (in-less total d e (marked less) (marked (plan_marks g plan)) (length plan) fewer (marks-are-counted g plan h) sum
       (at-least total (pos 0 +ℤ (d +ℤ pos (1000 * marked less))) best (breaks_after [] (all_ahead g) less)
-      (closed-ways g total best Known closed (plan_fuel g) (empty_start g) (all_ahead g) less d (pos 0) [] way closed.begins)))
+      (none (plan_fuel g) less d way)))
 
   plan-no-better : (d : ℤ) → plan_demerits g plan ≡ Some d → IsNoBetter total best d (reverse plan)
   unfolding plan_demerits
@@ -65,11 +70,16 @@ no-greater : (total : ℤ) (best breaks : List ℕ) → IsNoBetter total best to
 no-greater total best breaks (inl h) = let no : ⊥ = grind (arith, ints, h) in absurd no
 no-greater total best breaks (inr h) = h.1
 
--- a plan with the demerits and breaks of a closed table is the best one
-pub closed-best : (g : Galley) (plan : List ℕ) (total : ℤ) (Known : Table) → IsPlan g plan → plan_demerits g plan ≡ Some total → IsClosed g total (reverse plan) Known → IsBest g plan total
-closed-best g plan total Known is sum closed = record {
+-- a plan is the best one if no way from the beginning ends better
+pub ways-best : (g : Galley) (plan : List ℕ) (total : ℤ) → IsPlan g plan → plan_demerits g plan ≡ Some total → HasNoBetterWay g total (reverse plan) → IsBest g plan total
+ways-best g plan total is sum none = record {
   is_plan = is;
   sum = sum;
-  least = λ others d h e. at-least total d (reverse plan) (reverse others) (plan-no-better g total (reverse plan) Known closed others h d e);
-  greatest = λ others h e. no-greater total (reverse plan) (reverse others) (plan-no-better g total (reverse plan) Known closed others h total e);
+  least = λ others d h e. at-least total d (reverse plan) (reverse others) (plan-no-better g total (reverse plan) none others h d e);
+  greatest = λ others h e. no-greater total (reverse plan) (reverse others) (plan-no-better g total (reverse plan) none others h total e);
 }
+
+-- a plan with the demerits and breaks of a closed table is the best one
+pub closed-best : (g : Galley) (plan : List ℕ) (total : ℤ) (Known : Table) → IsPlan g plan → plan_demerits g plan ≡ Some total → IsClosed g total (reverse plan) Known → IsBest g plan total
+closed-best g plan total Known is sum closed =
+    ways-best g plan total is sum (λ k ms d way. closed-ways g total (reverse plan) Known closed k (empty_start g) (all_ahead g) ms d (pos 0) [] way closed.begins)

@@ -66,10 +66,13 @@ step-low p places s (goes_on es rs t) = rating-low p places (first_number t.numb
 
 -- ---- the sum of a way
 
-in-cut : (total a d : ℤ) (m : ℕ) → ((a +ℤ pos 1000) +ℤ (d +ℤ pos (1000 * m))) ≡ (a +ℤ (d +ℤ pos (1000 * suc m)))
+pub nothing-more : (a : ℤ) → a ≡ (a +ℤ (pos 0 +ℤ pos (1000 * 0)))
+nothing-more a = grind (arith, ints)
+
+pub in-cut : (total a d : ℤ) (m : ℕ) → ((a +ℤ pos 1000) +ℤ (d +ℤ pos (1000 * m))) ≡ (a +ℤ (d +ℤ pos (1000 * suc m)))
 in-cut total a d m = omega (arith, ints)
 
-in-fill : (a r d c : ℤ) → ((a +ℤ r) +ℤ (d +ℤ c)) ≡ (a +ℤ ((r +ℤ d) +ℤ c))
+pub in-fill : (a r d c : ℤ) → ((a +ℤ r) +ℤ (d +ℤ c)) ≡ (a +ℤ ((r +ℤ d) +ℤ c))
 in-fill a r d c = omega (arith, ints)
 
 past : (total a b c d : ℤ) → total <ℤ a → pos 0 ≤ℤ b → (a +ℤ b) ≡ c → total <ℤ c
@@ -79,7 +82,7 @@ one-more : (d : ℤ) (m : ℕ) → pos 0 ≤ℤ (d +ℤ pos (1000 * m)) → pos 
 one-more d m h = omega (arith, ints, h)
 
 module _ (p : Params) (places : List PlacePenalty) where
-  way-low : (k : ℕ) (s : State) (cs : List Ahead) (ms : List Bool) (d : ℤ) → Path p places k s cs ms d → pos 0 ≤ℤ (d +ℤ pos (1000 * marked ms))
+  pub way-low : (k : ℕ) (s : State) (cs : List Ahead) (ms : List Bool) (d : ℤ) → Path p places k s cs ms d → pos 0 ≤ℤ (d +ℤ pos (1000 * marked ms))
   way-low _ _ _ _ _ (finished k s es rs left quiet e) = omega (arith, ints)
   way-low _ _ _ _ _ (taken k s c cs ms d quiet h) = way-low k (state_with c.nodes s) cs ms d h
   way-low _ _ _ _ _ (cut k s c cs ms d quiet place box h) = one-more d (marked ms) (way-low k (state_with (forced c ∷ c.nodes) s) cs ms d h)
@@ -123,6 +126,18 @@ merged a e d breaks cs less ms (inl h) k = by (less-or-same e d (int_lt e d) ref
     by (inl i) = inl (in-less a e d (marked less) (marked ms) (ap marked h) i)
     by (inr i) = inr (in-same a e d (marked less) (marked ms) (ap marked h) i, ap (breaks_after breaks cs) h)
 
+module _ (g : Galley) (total : ℤ) (best : List ℕ) where
+  -- a way from a state ends no better, if none from one that is as good does
+  pub as-good-way : (k : ℕ) (t u : State) (cs : List Ahead) (ms : List Bool) (d a : ℤ) (breaks : List ℕ) → Path g.params (place_penalties g.items) k t cs ms d → IsAsGood g t u
+      → ((others : List Bool) (e : ℤ) → Path g.params (place_penalties g.items) k u cs others e → IsNoBetter total best (a +ℤ (e +ℤ pos (1000 * marked others))) (breaks_after breaks cs others))
+      → IsNoBetter total best (a +ℤ (d +ℤ pos (1000 * marked ms))) (breaks_after breaks cs ms)
+  as-good-way k t u cs ms d a breaks way good claim =
+      let run = good k (planned ms cs) d (path-runs g.params (place_penalties g.items) k t cs ms d way) in
+      let other = run-paths g.params (place_penalties g.items) k u cs ms run.0 (path-marks g.params (place_penalties g.items) k t cs ms d way) run.1 in
+      no-worse total (a +ℤ (run.0 +ℤ pos (1000 * marked other.0))) (a +ℤ (d +ℤ pos (1000 * marked ms))) best (breaks_after breaks cs other.0) (breaks_after breaks cs ms)
+      (merged a run.0 d breaks cs other.0 ms other.2 run.2)
+      (claim other.0 run.0 other.1)
+
 module _ (g : Galley) (total : ℤ) (best : List ℕ) (Known : Table) (closed : IsClosed g total best Known) where
   abbrev Ways : ℕ → State → List Ahead → List Bool → ℤ → Type 0
   Ways = Path g.params (place_penalties g.items)
@@ -135,22 +150,9 @@ module _ (g : Galley) (total : ℤ) (best : List ℕ) (Known : Table) (closed : 
   Earlier zero = Unit {0}
   Earlier (suc k) = Claim k
 
-  -- after a page the way goes on from a state that is as good
-  goes-on-as-good : (k : ℕ) (t u : State) (cs : List Ahead) (ms : List Bool) (d a : ℤ) (breaks : List ℕ) → Claim k → Ways k t cs ms d → IsAsGood g t u → Known u cs a breaks
-      → IsNoBetter total best (a +ℤ (d +ℤ pos (1000 * marked ms))) (breaks_after breaks cs ms)
-  goes-on-as-good k t u cs ms d a breaks later way good known =
-      let run = good k (planned ms cs) d (path-runs g.params (place_penalties g.items) k t cs ms d way) in
-      let other = run-paths g.params (place_penalties g.items) k u cs ms run.0 (path-marks g.params (place_penalties g.items) k t cs ms d way) run.1 in
-      no-worse total (a +ℤ (run.0 +ℤ pos (1000 * marked other.0))) (a +ℤ (d +ℤ pos (1000 * marked ms))) best (breaks_after breaks cs other.0) (breaks_after breaks cs ms)
-      (merged a run.0 d breaks cs other.0 ms other.2 run.2)
-      (later u cs other.0 run.0 a breaks other.1 known)
-
   ways-with : (k : ℕ) → Earlier k → (s : State) (cs : List Ahead) (ms : List Bool) (d : ℤ) → Ways k s cs ms d → (a : ℤ) (breaks : List ℕ) → Known s cs a breaks
       → IsNoBetter total best (a +ℤ (d +ℤ pos (1000 * marked ms))) (breaks_after breaks cs ms)
   ways-with _ later _ _ _ _ (finished k s es rs left quiet e) a breaks known = subst (λ x. IsNoBetter total best x breaks) (nothing-more a) (closed.finishes s a breaks es rs left known quiet e)
-    where
-      nothing-more : (a : ℤ) → a ≡ (a +ℤ (pos 0 +ℤ pos (1000 * 0)))
-      nothing-more a = grind (arith, ints)
   ways-with _ later _ _ _ _ (taken k s c cs ms d quiet h) a breaks known = ways-with k later (state_with c.nodes s) cs ms d h a breaks (closed.takes s c cs a breaks known quiet)
   ways-with _ later _ _ _ _ (cut k s c cs ms d quiet place box h) a breaks known =
       by (closed.cuts s c cs a breaks known quiet place box) (λ x. ways-with k later (state_with (forced c ∷ c.nodes) s) cs ms d h (a +ℤ pos 1000) (c.number ∷ breaks) x)
@@ -162,7 +164,7 @@ module _ (g : Galley) (total : ℤ) (best : List ℕ) (Known : Table) (closed : 
       by (inr y) next i = inl (past total (a +ℤ pos 1000) (d +ℤ pos (1000 * marked ms)) (a +ℤ (d +ℤ pos (1000 * suc (marked ms)))) d y i (in-cut total a d (marked ms)))
   ways-with _ later _ _ _ _ (filled k s cs ms d es rs t fires e h) a breaks known =
       by (step_demerits g.params (place_penalties g.items) s (goes_on es rs t)) (closed.fills s t cs a breaks es rs known fires e)
-      (λ x. goes-on-as-good k t x.0 cs ms d (a +ℤ step_demerits g.params (place_penalties g.items) s (goes_on es rs t)) breaks later h x.1 x.2)
+      (λ x. as-good-way g total best k t x.0 cs ms d (a +ℤ step_demerits g.params (place_penalties g.items) s (goes_on es rs t)) breaks h x.1 (λ others e w. later x.0 cs others e (a +ℤ step_demerits g.params (place_penalties g.items) s (goes_on es rs t)) breaks w x.2))
       (way-low g.params (place_penalties g.items) k t cs ms d h)
     where
       by : {X : Type 0} (r : ℤ) → X ⊎ (total <ℤ (a +ℤ r)) → (X → IsNoBetter total best ((a +ℤ r) +ℤ (d +ℤ pos (1000 * marked ms))) (breaks_after breaks cs ms)) → pos 0 ≤ℤ (d +ℤ pos (1000 * marked ms))

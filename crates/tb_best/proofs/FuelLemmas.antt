@@ -1,91 +1,43 @@
 -- Each firing that goes on lowers what is left of the firings, so the fuel of a run without the limit on nodes is never used up.
-use Rattle.std.proofs.Common.{◌≡◌, refl, ◌∙◌, ap, ℕ, zero, suc, ◌+◌, ◌*◌, ◌-◌, ◌<◌, ◌≤◌, ◌⊎◌, inl, inr, ℤ, Bool, true, false, List, [], ◌∷◌, ◌++◌, map, Option, Some, None, arith}
-use Rattle.std.specs.Prelude.{pos, pred, nat_abs, int_lt, if◌then◌else◌}
-use Rattle.std.proofs.lemmas.Int.{ints}
-use Rattle.std.proofs.lemmas.Nat.{mul-le}
+use Rattle.std.proofs.Common.{◌≡◌, refl, ◌∙◌, ap, ℕ, zero, suc, ◌+◌, ◌<◌, ◌≤◌, ℤ, Bool, true, false, List, ◌++◌, map, Option, Some, arith}
+use Rattle.std.specs.Prelude.{pred, if◌then◌else◌}
 use Rattle.tb_scaled.specs.Scaled.{awful_bad}
 use Rattle.tb_param.specs.declared.Params.{Params}
-use Rattle.tb_builder.specs.declared.Ask.{Ask}
-use Rattle.tb_builder.specs.Reach.{Reach}
-use Rattle.tb_builder.specs.FiredPages.{Fired, fired_of}
-use Rattle.tb_output.specs.State.{State, Work, Recorded, begun, emptied}
-use Rattle.tb_output.specs.Output.{out, after_page}
+use Rattle.tb_output.specs.State.{State, Work, Recorded}
 use Rattle.tb_items.specs.RunEvents.{RunEvent, sent}
-use Rattle.tb_steps.specs.Run.{dead_cycles, page_limit, done, Progress, progress, Step, ends, goes_on, firings_left, ask_for}
-use Rattle.tb_laws.proofs.StepLaws.TurnLemmas.{Turned, out-turned}
-use Rattle.tb_laws.proofs.Defined.FuelLemmas.{SameCounts, progress-counts, left_of, Turns}
+use Rattle.tb_steps.specs.Run.{page_limit, Progress, Step, ends, goes_on, firings_left, ask_for}
+use Rattle.tb_steps.proofs.RunTree.{PageIs, page-is, page_of, served_at, Fires, WholePage, StepIs, whole-is, is_whole, is_cut, fires_on, meets_page_limit, meets_full_pool}
+use Rattle.tb_laws.proofs.Defined.FuelLemmas.{Turns, steps-turn}
 use Rattle.tb_rate.specs.declared.PlacePenalty.{PlacePenalty}
 use Rattle.tb_rate.specs.RatedRun.{demerits_after, more_demerits}
-use Rattle.tb_best.specs.PlanDemerits.{reach_in, unlimited_firing, unlimited_fire, unlimited_progress, unlimited_step, step_demerits, unlimited_demerits_from}
+use Rattle.tb_best.specs.PlanDemerits.{unlimited_firing, unlimited_progress, unlimited_step, step_demerits, unlimited_demerits_from}
 use Rattle.tb_best.proofs.Paths.{no-amount, more-some}
-
--- ---- what is left of the firings
-
-left-firing : (m d q c : ℕ) → c < d → left_of m d q (c + 1) < left_of m d q c
-left-firing m d q c h = omega arith
-
-left-page : (m d q r c e : ℕ) → q < r → r ≤ m → left_of m d r e < left_of m d q c
-left-page m d q r c e h k =
-    let less : (m - r + 1) * (d + 1) ≤ (m - q) * (d + 1) = mul-le (m - r + 1) (d + 1) (m - q) (d + 1) (omega arith) (omega arith) in
-    let more : (m - r + 1) * (d + 1) ≡ (m - r) * (d + 1) + (d + 1) = omega arith in
-    omega arith
-
-pred-less : (a b : ℕ) → 1 ≤ a → a < b → pred a < pred b
-pred-less zero b h k = let no : ⊥ = omega arith in absurd no
-pred-less (suc a) zero h k = let no : ⊥ = omega arith in absurd no
-pred-less (suc a) (suc b) h k = omega arith
-
-pred-most : (b m : ℕ) → b ≤ m + 1 → pred b ≤ m
-pred-most zero m h = omega arith
-pred-most (suc b) m h = omega arith
-
-below-abs : (c : ℕ) (d : ℤ) → int_lt (pos c) d ≡ true → c < nat_abs d
-below-abs c d h = grind (arith, ints, h)
-
-turned-left : (p : Params) (s t : State) → 1 ≤ s.page → s.dead_cycles < nat_abs p.maxdeadcycles → ((t.page ≡ s.page × t.dead_cycles ≡ s.dead_cycles + 1) ⊎ (s.page < t.page × t.page ≤ nat_abs p.maxpages + 1 × t.dead_cycles ≡ 0)) → (1 ≤ t.page) × (firings_left p t < firings_left p s)
-turned-left p s t h k (inl e) = (grind (arith, e, h), rw (e.0, e.1) (left-firing (nat_abs p.maxpages) (nat_abs p.maxdeadcycles) (pred s.page) s.dead_cycles k))
-turned-left p s t h k (inr e) = (grind (arith, e, h), left-page (nat_abs p.maxpages) (nat_abs p.maxdeadcycles) (pred s.page) (pred t.page) s.dead_cycles t.dead_cycles (pred-less s.page t.page h e.0) (pred-most t.page (nat_abs p.maxpages) e.1))
 
 -- ---- a step
 
-work-turns : (p : Params) (s : State) (es : List RunEvent) (rs : List Recorded) (w : Work) → (w.refused ≡ false → (1 ≤ w.state.page) × (firings_left p w.state < firings_left p s)) → Turns p s (unlimited_firing es rs w)
-work-turns p s es rs w h = by w.refused refl
-  where
-    by : (t : Bool) → w.refused ≡ t → Turns p s (if t then ends (es ++ map sent w.sent) (rs ++ w.records) (page_limit (pred w.state.page)) else goes_on (es ++ map sent w.sent) (rs ++ w.records) w.state)
-    by true r = tt
-    by false r = h r
+module _ (p : Params) (s : State) where
+  firing-is : {es : List RunEvent} {rs : List Recorded} {t : State} → WholePage p s es rs t → Fires p s t → StepIs p s (unlimited_firing es rs (served_at p s t))
+  firing-is {es = es} {rs = rs} {t = t} x f = by_refused w.refused refl
+    where
+      w : Work
+      w = served_at p s t
 
-fire-turns : (p : Params) (s : State) (a : Ask) (w : Reach) (q : Progress) → 1 ≤ s.page → SameCounts s q.state → Turns p s (unlimited_fire p a w q)
-fire-turns p s a w q h k = by_cycles (int_lt (pos q.state.dead_cycles) p.maxdeadcycles) refl
-  where
-    f : Fired
-    f = fired_of a q.state.classes q.state.boxes w
+      by_refused : (u : Bool) → w.refused ≡ u → StepIs p s (if u then ends (es ++ map sent w.sent) (rs ++ w.records) (page_limit (pred w.state.page)) else goes_on (es ++ map sent w.sent) (rs ++ w.records) w.state)
+      by_refused true r = meets_page_limit x f r
+      by_refused false r = fires_on x f r
 
-    turned : Turned p (begun (after_page q.state f)) (out p q.state f)
-    turned = out-turned p q.state f
+  unlimited-by : {q : Progress} → PageIs p (page_of p s).reached s q → StepIs p s (unlimited_progress p (ask_for p s) (page_of p s) q q.fault)
+  unlimited-by (is_whole x) = whole-is p s unlimited_firing x (firing-is x)
+  unlimited-by (is_cut x e) = meets_full_pool x e
 
-    counted : (o : Work) → Turned p (begun (after_page q.state f)) o → int_lt (pos q.state.dead_cycles) p.maxdeadcycles ≡ true → o.refused ≡ false → (1 ≤ o.state.page) × (firings_left p o.state < firings_left p s)
-    counted o t c r = turned-left p s o.state h (grind (arith, k, below-abs q.state.dead_cycles p.maxdeadcycles c)) (grind (arith, k, t.by r))
-
-    by_cycles : (t : Bool) → int_lt (pos q.state.dead_cycles) p.maxdeadcycles ≡ t → Turns p s (if t then unlimited_firing q.events q.records (out p q.state f) else ends q.events q.records (dead_cycles q.state.dead_cycles))
-    by_cycles true c = work-turns p s q.events q.records (out p q.state f) (counted (out p q.state f) turned c)
-    by_cycles false c = tt
-
-either-turns : (p : Params) (s : State) (t : Bool) (x y : Step) → Turns p s x → Turns p s y → Turns p s (if t then x else y)
-either-turns p s true x y h k = h
-either-turns p s false x y h k = k
-
-progress-turns : (p : Params) (s : State) (a : Ask) (w : Reach) (q : Progress) (o : Option (ℕ × ℕ)) → 1 ≤ s.page → SameCounts s q.state → Turns p s (unlimited_progress p a w q o)
-progress-turns p s a w q None h k = either-turns p s w.fires (unlimited_fire p a w q) (ends q.events (q.records ++ emptied q.state.floats ∷ []) (done w.passed)) (fire-turns p s a w q h k) tt
-progress-turns p s a w q (Some f) h k = tt
+  -- what a step is made of if the number of nodes is not tested
+  pub unlimited-is : StepIs p s (unlimited_step p s)
+  unfolding unlimited_step
+  unlimited-is = unlimited-by (page-is p (page_of p s).reached awful_bad s)
 
 -- a step that goes on lowers what is left of the firings
 pub step-turns : (p : Params) (s : State) → 1 ≤ s.page → Turns p s (unlimited_step p s)
-unfolding unlimited_step
-step-turns p s h =
-    let w = reach_in p s in
-    let q = progress p w.reached awful_bad s in
-    progress-turns p s (ask_for p s) w q q.fault h (progress-counts p w.reached awful_bad s)
+step-turns p s h = steps-turn (unlimited-is p s) h
 
 -- ---- the fuel
 

@@ -20,5 +20,5 @@ pub mod PageTableLemmas
 pub mod ReachedLemmas
 pub mod LimitLemmas
 pub mod LimitRuns
-pub mod LeftFirings
-pub mod LeftStates
+pub mod CountedFirings
+pub mod CountedStates

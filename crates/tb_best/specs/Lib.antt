@@ -2,6 +2,7 @@ pub mod PlanDemerits
 pub mod BestPlan
 pub mod ItemsAhead
 pub mod ClosedTables
+pub mod Counts
 pub mod Tidied
 pub mod PageTables
 pub mod BestOf

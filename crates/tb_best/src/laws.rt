@@ -18,7 +18,8 @@ ghost use Rattle.tb_best.specs.PlanDemerits.{reach_in, unlimited_step, step_deme
 ghost use Rattle.tb_best.specs.BestPlan.{IsBest, HasNoPlan, with_limit};
 ghost use Rattle.tb_best.specs.BestOf.{RatedPlan, best_of};
 ghost use Rattle.tb_best.specs.ItemsAhead.{Ahead, forced, state_with};
-ghost use Rattle.tb_best.specs.ClosedTables.{Row, rows_know, AreAlike, IsClosed, Reaches, IsEnd};
+ghost use Rattle.tb_best.specs.Counts.{counts_of, with_counts, AreNoGreater, Counts};
+ghost use Rattle.tb_best.specs.ClosedTables.{Row, rows_know, AreAlike, IsAsGood, IsClosed, Reaches, IsEnd};
 ghost use Rattle.tb_best.specs.Tidied.{tidied};
 ghost use Rattle.tb_best.specs.PageTables.{IsClosedByPages};
 
@@ -61,6 +62,12 @@ pub fn tidied_states_are_alike()
 /// A state may stand for one that differs only in the left column that is kept: both have the same runs, but for what is shipped.
 pub fn left_columns_are_alike()
     ensures { (g : Galley) (s : State) (c : Option PlainColumn) → AreAlike g s (record s { left_column = c }) }
+{}
+
+/// A state is as good as one whose counts are no smaller: the run from it has no more demerits. So a search may leave out one
+/// that has shipped more pages, or has fired more often since, for no gain.
+pub fn smaller_counts_are_as_good()
+    ensures { (g : Galley) (s : State) (c : Counts) → AreNoGreater g.params c (counts_of s) → IsAsGood g s (with_counts c s) }
 {}
 
 /// A page with a box fires where a break is put in, and any page fires at a float or marginal note that has firings of its own.

@@ -1,17 +1,19 @@
-//! Whether two machines show the same.
+//! Whether two machines show the same, and which has the smaller counts.
 
-ghost use Rattle.std.specs.Prelude.{◌≡◌, ◌↔◌, IsTrue};
+ghost use Rattle.std.specs.Prelude.{◌≡◌, ◌%◌, ◌↔◌, true, IsTrue};
+ghost use Rattle.tb_margin.specs.Margin.{is_on};
 ghost use Rattle.tb_output.specs.Machine.{IsMachine};
-ghost use Rattle.tb_output.specs.SameMachines.{ShowSame};
+ghost use Rattle.tb_output.specs.SameMachines.{HasCountsWithin, ShowSame};
 
 use crate::Machine;
 use tb_float::Suppress;
 use tb_node::{Node, same_lists};
+use tb_param::Choice;
 use tb_pool::Lists;
 
 impl Machine {
-    /// Whether two machines, each with its store, show the same between two firings, but for their classes and for the column
-    /// that waits for a second one.
+    /// Whether two machines, each with its store, show the same between two firings, but for their classes, for their counts
+    /// (of pages and of firings, and the number of the next page), and for the column that waits for a second one.
     pub fn shows_same(
         &self,
         store: &Lists<Node>,
@@ -32,14 +34,32 @@ impl Machine {
             && same_lists(store, self.held_page, other_store, other.held_page)
     }
 
+    /// Whether this machine has shipped no more pages than another and has fired no more often since, and its marginal notes
+    /// go to the same sides.
+    pub fn counts_within(&self, other: &Machine) -> bool
+        ensures { IsTrue result ↔ HasCountsWithin self.now other.now }
+    {
+        if self.page > other.page {
+            return false;
+        }
+        if self.dead_cycles > other.dead_cycles {
+            return false;
+        }
+        self.sides_same(other)
+    }
+
+    // Whether the marginal notes of two machines with the same parameters go to the same sides.
+    fn sides_same(&self, other: &Machine) -> bool
+        ensures { IsTrue result ↔ (is_on self.now.params.mparswitch ≡ true → (self.now.number % 2) ≡ (other.now.number % 2)) }
+    {
+        !is_on(self.params.mparswitch) || self.number % 2 == other.number % 2
+    }
+
     // Whether the numbers of two machines are the same. They differ most often.
     fn numbers_same(&self, other: &Machine) -> bool
-        ensures { IsTrue result ↔ ((self.now.page ≡ other.now.page) × (self.now.number ≡ other.now.number) × (self.now.dead_cycles ≡ other.now.dead_cycles) × (self.now.goal ≡ other.now.goal) × (self.now.note_bottom ≡ other.now.note_bottom) × (self.now.shrink ≡ other.now.shrink)) }
+        ensures { IsTrue result ↔ ((self.now.goal ≡ other.now.goal) × (self.now.note_bottom ≡ other.now.note_bottom) × (self.now.shrink ≡ other.now.shrink)) }
     {
-        self.page == other.page
-            && self.number == other.number
-            && self.dead_cycles == other.dead_cycles
-            && self.goal == other.goal
+        self.goal == other.goal
             && self.note_bottom == other.note_bottom
             && self.shrink == other.shrink
     }
@@ -59,4 +79,10 @@ fn same_suppress(a: Suppress, b: Suppress) -> bool
     ensures { IsTrue result ↔ (a ≡ b) }
 {
     a.all == b.all && a.top == b.top && a.bottom == b.bottom
+}
+
+fn is_on(choice: Choice) -> bool
+    ensures { result ≡ is_on choice }
+{
+    matches!(choice, Choice::On)
 }

@@ -1,5 +1,5 @@
 -- The lists of a page that was shipped are closed: the state after it stays as it was.
-use Rattle.std.proofs.Common.{◌≡◌, sym, subst, ◌∙◌, ap, ◌++◌, ℤ, List, Option, None}
+use Rattle.std.proofs.Common.{◌≡◌, refl, sym, subst, ◌∙◌, ap, ◌++◌, ℤ, List, Option, None}
 use Rattle.tb_output.specs.Machine.{MachineView}
 use Rattle.tb_output.specs.State.{State}
 use Rattle.tb_param.specs.declared.Params.{Params}
@@ -15,10 +15,10 @@ use Rattle.tb_search.specs.declared.branch.Branch.{Branch}
 use Rattle.tb_search.specs.Branches.{shown, IsBranch}
 use Rattle.tb_search.specs.FilledBranches.{HasFired}
 
--- a routine that shows the same, over other lists
-pub fired-closed : (p : Params) (places : List PlacePenalty) (d : ℤ) (b : Branch) (r : Routine) (o : Option ItemsLeft) (q : Routine) → IsReady q → state_of q ≡ state_of r → q.machine ≡ r.machine → q.left ≡ r.left
-    → HasFired p places d b (record { routine = r; ahead = o }) → HasFired p places d b (record { routine = q; ahead = o })
-fired-closed p places d b r o q ready state machine left h = record {
+-- a branch that shows the same, with the same ahead
+pub fired-copied : (p : Params) (places : List PlacePenalty) (d : ℤ) (b c e : Branch) → IsBranch e → shown e ≡ shown c → e.ahead ≡ c.ahead → e.routine.machine.params ≡ c.routine.machine.params
+    → HasFired p places d b c → HasFired p places d b e
+fired-copied p places d b c e branch state ahead params h = record {
   events = h.events;
   records = h.records;
   fires = h.fires;
@@ -26,14 +26,21 @@ fired-closed p places d b r o q ready state machine left h = record {
   demerits = subst (λ s. d ≡ step_demerits p places (shown b) (goes_on h.events h.records s)) (sym state) h.demerits;
   low = h.low;
   high = h.high;
-  branch = record {
-    ready = ready;
-    none = left ∙ h.branch.none;
-    items = subst (λ (s : State). AreItemsLeft s.classes o) (sym state) h.branch.items;
-    served = subst (λ (s : State). IsServed (s.waiting ++ nodes_left o) s) (sym state) h.branch.served;
-    few = h.branch.few;
-  };
-  ahead = h.ahead;
-  params = ap (λ (m : MachineView). m.params) machine ∙ h.params;
+  branch = branch;
+  ahead = ahead ∙ h.ahead;
+  params = params ∙ h.params;
   classes = ap (λ (s : State). s.classes) state ∙ h.classes;
 }
+
+-- a routine that shows the same, over other lists
+pub fired-closed : (p : Params) (places : List PlacePenalty) (d : ℤ) (b : Branch) (r : Routine) (o : Option ItemsLeft) (q : Routine) → IsReady q → state_of q ≡ state_of r → q.machine ≡ r.machine → q.left ≡ r.left
+    → HasFired p places d b (record { routine = r; ahead = o }) → HasFired p places d b (record { routine = q; ahead = o })
+fired-closed p places d b r o q ready state machine left h =
+    let branch : IsBranch (record { routine = q; ahead = o }) = record {
+      ready = ready;
+      none = left ∙ h.branch.none;
+      items = subst (λ (s : State). AreItemsLeft s.classes o) (sym state) h.branch.items;
+      served = subst (λ (s : State). IsServed (s.waiting ++ nodes_left o) s) (sym state) h.branch.served;
+      few = h.branch.few;
+    } in
+    fired-copied p places d b (record { routine = r; ahead = o }) (record { routine = q; ahead = o }) branch state refl (ap (λ (m : MachineView). m.params) machine) h

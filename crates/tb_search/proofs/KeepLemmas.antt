@@ -1,27 +1,30 @@
 -- A state is kept among those that wait.
-use Rattle.std.proofs.Common.{◌≡◌, refl, sym, ap, subst, ◌∙◌, ◌⊎◌, inl, inr, ℕ, zero, suc, ◌+◌, ◌<◌, List, [], ◌∷◌, ◌++◌, None, map, length, get_or, set, arith}
+use Rattle.std.proofs.Common.{◌≡◌, refl, sym, ap, subst, ◌∙◌, inl, inr, ℕ, zero, suc, ◌+◌, ◌<◌, List, [], ◌∷◌, ◌++◌, map, length, get_or, set, arith}
 use Rattle.std.specs.Prelude.{ℤ, pos, reverse}
 use Rattle.std.specs.List.{AllByRecursion}
 use Rattle.std.specs.declared.alloc.Global.{Global}
 use Rattle.std.specs.declared.vec.Vec.{Vec}
-use Rattle.std.proofs.lemmas.Int.{ints}
 use Rattle.std.proofs.lemmas.List.{get_or-set_same, length-set}
 use Rattle.tb_galley.specs.declared.Galley.{Galley}
+use Rattle.tb_param.specs.declared.Params.{Params}
 use Rattle.tb_output.specs.State.{State}
 use Rattle.tb_best.specs.ItemsAhead.{Ahead}
-use Rattle.tb_best.specs.ClosedTables.{Row, rows_know, IsAsGood, AreAlike, demerits_with, merges}
-use Rattle.tb_best.proofs.LeftStates.{left-alike}
+use Rattle.tb_best.specs.ClosedTables.{Row, rows_know, IsAsGood}
+use Rattle.tb_best.specs.Counts.{counts_of, AreNoGreater}
+use Rattle.tb_best.proofs.CountedFirings.{counted}
+use Rattle.tb_best.proofs.CountedStates.{counts-good}
 use Rattle.tb_search.specs.declared.table.Way.{Way}
 use Rattle.tb_search.specs.declared.table.Start.{Start}
 use Rattle.tb_search.specs.declared.table.Table.{Table}
-use Rattle.tb_search.specs.Branches.{shown}
+use Rattle.tb_search.specs.Branches.{shown, IsBranch}
 use Rattle.tb_search.specs.AheadInCode.{items_ahead}
-use Rattle.tb_search.specs.SameStates.{without_left}
-use Rattle.tb_search.specs.KeptStarts.{IsNoWorseWay, IsBetterOf}
-use Rattle.tb_search.specs.Searched.{KnowsMore}
+use Rattle.tb_search.specs.SameStates.{without_counts}
+use Rattle.tb_search.specs.KeptStarts.{HasRowAsGood, IsNeedlessAt, IsNoWorseWay, MayStandFor, StandsAt}
+use Rattle.tb_search.specs.Searched.{KnowsMore, KnowsAsMuch}
 use Rattle.tb_search.specs.Continues.{Continues}
 use Rattle.tb_search.specs.Starts.{row_of, rows_from, rows_of, IsStart, AreStarts, IsTable}
 use Rattle.tb_search.proofs.OrderLemmas.{no-better-same, no-better-through}
+use Rattle.tb_search.proofs.SearchedLemmas.{as-good-itself}
 use Rattle.tb_search.proofs.LaterLemmas.{know-first, know-second}
 
 -- ---- what holds of each element
@@ -53,32 +56,38 @@ module _ (g : Galley) (left : ℕ) where
   known-at (y ∷ xs) zero x w h e b = inl (ap (λ (z : Start). shown z.branch) e, refl, subst (λ (z : Start). IsNoWorseWay z.way w) (sym e) b)
   known-at (y ∷ xs) (suc k) x w h e b = inr (known-at xs k x w (omega (arith, h)) e b)
 
-  -- with another way for one of them that is no worse, they know what they knew
-  pub known-set : (xs : List Start) (k : ℕ) (y d : Start) → y.branch ≡ (get_or xs k d).branch → IsNoWorseWay y.way (get_or xs k d).way → KnowsMore (map (row_of g left) xs) (map (row_of g left) (set xs k y))
-  known-set [] k y d e b s cs t breaks h = h
-  known-set (x ∷ xs) zero y d e b s cs t breaks (inl h) =
-      inl (ap shown e ∙ h.0, h.1, no-better-through y.way.demerits x.way.demerits t (reverse y.way.breaks.items) (reverse x.way.breaks.items) breaks b h.2)
-  known-set (x ∷ xs) zero y d e b s cs t breaks (inr h) = inr h
-  known-set (x ∷ xs) (suc k) y d e b s cs t breaks (inl h) = inl h
-  known-set (x ∷ xs) (suc k) y d e b s cs t breaks (inr h) = inr (known-set xs k y d e b s cs t breaks h)
+  -- with another state for one of them, which is as good and was reached in a way that is no worse, they know as much
+  pub known-set : (xs : List Start) (k : ℕ) (y d : Start) → IsAsGood g (shown (get_or xs k d).branch) (shown y.branch) → IsNoWorseWay y.way (get_or xs k d).way → KnowsAsMuch g (map (row_of g left) xs) (map (row_of g left) (set xs k y))
+  known-set [] k y d good b s cs t breaks h = absurd h
+  known-set (x ∷ xs) zero y d good b s cs t breaks (inl h) = (
+    shown y.branch,
+    subst (λ (u : State). IsAsGood g u (shown y.branch)) h.0 good,
+    inl (refl, h.1, no-better-through y.way.demerits x.way.demerits t (reverse y.way.breaks.items) (reverse x.way.breaks.items) breaks b h.2),
+  )
+  known-set (x ∷ xs) zero y d good b s cs t breaks (inr h) = (s, as-good-itself g s, inr h)
+  known-set (x ∷ xs) (suc k) y d good b s cs t breaks (inl h) = (s, as-good-itself g s, inl h)
+  known-set (x ∷ xs) (suc k) y d good b s cs t breaks (inr h) = let r = known-set xs k y d good b s cs t breaks h in (r.0, r.1, inr r.2)
 
-  -- so they do with one more
+  -- with one more they know what they knew
   pub known-with : (xs : List Start) (y : Start) → KnowsMore (map (row_of g left) xs) (map (row_of g left) (xs ++ y ∷ []))
   known-with [] y s cs t breaks h = absurd h
   known-with (x ∷ xs) y s cs t breaks (inl h) = inl h
   known-with (x ∷ xs) y s cs t breaks (inr h) = inr (known-with xs y s cs t breaks h)
 
-  -- which they know too
+  -- and that one
   pub known-last : (xs : List Start) (y : Start) → rows_know (map (row_of g left) (xs ++ y ∷ [])) (shown y.branch) (items_ahead g left) y.way.demerits (reverse y.way.breaks.items)
   known-last [] y = inl (refl, refl, no-better-same y.way.demerits (reverse y.way.breaks.items))
   known-last (x ∷ xs) y = inr (known-last xs y)
 
 -- ---- the same of the states of all levels
 
-know-pair : (xs zs ys ws : List Row) → KnowsMore xs zs → KnowsMore ys ws → KnowsMore (xs ++ ys) (zs ++ ws)
-know-pair [] zs ys ws f k s cs d breaks h = know-second zs ws s cs d breaks (k s cs d breaks h)
-know-pair (x ∷ xs) zs ys ws f k s cs d breaks (inl h) = know-first zs ws s cs d breaks (f s cs d breaks (inl h))
-know-pair (x ∷ xs) zs ys ws f k s cs d breaks (inr h) = know-pair xs zs ys ws (λ t es e bs i. f t es e bs (inr i)) k s cs d breaks h
+pub as-much : (g : Galley) (xs ys : List Row) → KnowsMore xs ys → KnowsAsMuch g xs ys
+as-much g xs ys f s cs d breaks h = (s, as-good-itself g s, f s cs d breaks h)
+
+know-pair : (g : Galley) (xs zs ys ws : List Row) → KnowsAsMuch g xs zs → KnowsAsMuch g ys ws → KnowsAsMuch g (xs ++ ys) (zs ++ ws)
+know-pair g [] zs ys ws f k s cs d breaks h = let r = k s cs d breaks h in (r.0, r.1, know-second zs ws r.0 cs d breaks r.2)
+know-pair g (x ∷ xs) zs ys ws f k s cs d breaks (inl h) = let r = f s cs d breaks (inl h) in (r.0, r.1, know-first zs ws r.0 cs d breaks r.2)
+know-pair g (x ∷ xs) zs ys ws f k s cs d breaks (inr h) = know-pair g xs zs ys ws (λ t es e bs i. f t es e bs (inr i)) k s cs d breaks h
 
 module _ (g : Galley) (bound : ℤ) where
   -- the states of a level can be gone on from
@@ -101,16 +110,17 @@ module _ (g : Galley) (bound : ℤ) where
   level-known base (v ∷ vs) (suc k) at d e h s cs t breaks i =
       know-second (map (row_of g base) v.items) (rows_from g (suc base) vs) s cs t breaks (level-known (suc base) vs k at d (omega (arith, e)) (omega (arith, h)) s cs t breaks i)
 
-  -- with another level that knows what it knew, all levels do
-  pub levels-know : (base : ℕ) (vs : List (Vec Start Global)) (k at : ℕ) (w d : Vec Start Global) → at ≡ base + k → KnowsMore (map (row_of g at) (get_or vs k d).items) (map (row_of g at) w.items) → KnowsMore (rows_from g base vs) (rows_from g base (set vs k w))
-  levels-know base [] k at w d e more s cs t breaks = λ h. h
-  levels-know base (v ∷ vs) zero at w d e more s cs t breaks =
+  -- with another level that knows as much as it did, all levels do
+  pub levels-know : (base : ℕ) (vs : List (Vec Start Global)) (k at : ℕ) (w d : Vec Start Global) → at ≡ base + k → KnowsAsMuch g (map (row_of g at) (get_or vs k d).items) (map (row_of g at) w.items) → KnowsAsMuch g (rows_from g base vs) (rows_from g base (set vs k w))
+  levels-know base [] k at w d e more = as-much g [] [] (λ x xs f bs h. h)
+  levels-know base (v ∷ vs) zero at w d e more =
       let same : at ≡ base = omega (arith, e) in
-      know-pair (map (row_of g base) v.items) (map (row_of g base) w.items) (rows_from g (suc base) vs) (rows_from g (suc base) vs)
-      (subst (λ n. KnowsMore (map (row_of g n) v.items) (map (row_of g n) w.items)) same more) (λ x xs e bs h. h) s cs t breaks
-  levels-know base (v ∷ vs) (suc k) at w d e more s cs t breaks =
-      know-pair (map (row_of g base) v.items) (map (row_of g base) v.items) (rows_from g (suc base) vs) (rows_from g (suc base) (set vs k w))
-      (λ x xs e bs h. h) (levels-know (suc base) vs k at w d (omega (arith, e)) more) s cs t breaks
+      know-pair g (map (row_of g base) v.items) (map (row_of g base) w.items) (rows_from g (suc base) vs) (rows_from g (suc base) vs)
+      (subst (λ n. KnowsAsMuch g (map (row_of g n) v.items) (map (row_of g n) w.items)) same more)
+      (as-much g (rows_from g (suc base) vs) (rows_from g (suc base) vs) (λ x xs f bs h. h))
+  levels-know base (v ∷ vs) (suc k) at w d e more =
+      know-pair g (map (row_of g base) v.items) (map (row_of g base) v.items) (rows_from g (suc base) vs) (rows_from g (suc base) (set vs k w))
+      (as-much g (map (row_of g base) v.items) (map (row_of g base) v.items) (λ x xs f bs h. h)) (levels-know (suc base) vs k at w d (omega (arith, e)) more)
 
 -- a level that is set is known
 pub set-known : (g : Galley) (vs : List (Vec Start Global)) (k : ℕ) (w : Vec Start Global) → k < length vs → KnowsMore (map (row_of g k) w.items) (rows_from g 0 (set vs k w))
@@ -118,28 +128,14 @@ set-known g vs k w h =
     subst (λ (v : Vec Start Global). KnowsMore (map (row_of g k) v.items) (rows_from g 0 (set vs k w))) (get_or-set_same vs k w w h)
     (level-known g (pos 0) 0 (set vs k w) k k w (omega arith) (let l = length-set vs k w in omega (arith, l, h)))
 
--- ---- two states that are the same but for the left column
+-- ---- a state that may stand for another
 
-pub alike : (g : Galley) (s t : State) → without_left s ≡ without_left t → AreAlike g s t
-alike g s t e fuel more = left-alike g s None fuel more ∙ ap (λ (x : State). demerits_with g fuel more x) e ∙ sym (left-alike g t None fuel more)
+-- a state that is the same but for the left column and for counts that are no greater is as good
+pub counts-as-good : (g : Galley) (s t : State) → without_counts t ≡ without_counts s → AreNoGreater g.params (counts_of t) (counts_of s) → IsAsGood g s t
+counts-as-good g s t e h = subst (λ (u : State). IsAsGood g s u) (ap (λ (u : State). counted t.left_column (counts_of t) u) (sym e)) (counts-good g s t.left_column (counts_of t) h)
 
-pub alike-good : (g : Galley) (s t : State) → AreAlike g s t → IsAsGood g s t
-alike-good g s t e fuel more d h = (d, sym (e fuel more) ∙ h, omega (arith, ints))
-
--- the better of two ways leads to the one that is kept
-pub kept-start : (g : Galley) (bound : ℤ) (left : ℕ) (x y : Start) (kept : Way) → IsStart g bound left x → IsStart g bound left y → AreAlike g (shown y.branch) (shown x.branch) → (kept ≡ x.way) ⊎ (kept ≡ y.way) → IsStart g bound left (record { branch = x.branch; way = kept })
-kept-start g bound left x y kept h k e (inl is) = subst (λ (w : Way). IsStart g bound left (record { branch = x.branch; way = w })) (sym is) h
-kept-start g bound left x y kept h k e (inr is) = subst (λ (w : Way). IsStart g bound left (record { branch = x.branch; way = w })) (sym is) (record {
-  branch = h.branch;
-  params = h.params;
-  ahead = h.ahead;
-  classes = h.classes;
-  some = h.some;
-  quiet = h.quiet;
-  reached = merges (shown y.branch) (shown x.branch) (items_ahead g left) y.way.demerits (reverse y.way.breaks.items) k.reached e;
-  low = k.low;
-  high = k.high;
-})
+pub stands-as-good : (g : Galley) (x y : Start) → x.branch.routine.machine.params ≡ g.params → MayStandFor x y → IsAsGood g (shown y.branch) (shown x.branch)
+stands-as-good g x y params h = counts-as-good g (shown y.branch) (shown x.branch) h.same (subst (λ (p : Params). AreNoGreater p (counts_of (shown x.branch)) (counts_of (shown y.branch))) params h.counts)
 
 -- ---- a table of which one level is set
 
@@ -149,6 +145,16 @@ same-item [] k x y h a b = absurd (omega (arith, h))
 same-item (z ∷ xs) zero x y h a b = a ∙ sym b
 same-item (z ∷ xs) (suc k) x y h a b = same-item xs k x y (omega (arith, h)) a b
 
+-- no rows are known
+pub none-known : (rows : List Row) (s : State) (cs : List Ahead) (d : ℤ) (breaks : List ℕ) → rows ≡ [] → rows_know rows s cs d breaks → ⊥
+none-known rows s cs d breaks e h = subst (λ rs. rows_know rs s cs d breaks) e h
+
+-- what stands at a place stands there whatever stands past the end
+any-default : {X : Type 0} (xs : List X) (k : ℕ) (d e : X) → k < length xs → get_or xs k d ≡ get_or xs k e
+any-default [] k d e h = absurd (omega (arith, h))
+any-default (x ∷ xs) zero d e h = refl
+any-default (x ∷ xs) (suc k) d e h = any-default xs k d e (omega (arith, h))
+
 module _ (t : Table) (left : ℕ) (inside : left < length t.starts.items) (table : IsTable t) where
   -- the states of this level can be gone on from
   pub level-starts : (v : Vec Start Global) → v ≡ get_or t.starts.items left v → AllByRecursion (IsStart t.galley.now t.bound left) v.items
@@ -157,6 +163,28 @@ module _ (t : Table) (left : ℕ) (inside : left < length t.starts.items) (table
   -- its rows are the table's
   pub level-rows : (v : Vec Start Global) → v ≡ get_or t.starts.items left v → KnowsMore (map (row_of t.galley.now left) v.items) (rows_of t)
   level-rows v is = subst (λ (x : Vec Start Global). KnowsMore (map (row_of t.galley.now left) x.items) (rows_of t)) (sym is) (level-known t.galley.now t.bound 0 t.starts.items left left v (omega arith) inside)
+
+  module _ (v : Vec Start Global) (is : v ≡ get_or t.starts.items left v) (k : ℕ) (y : Start) (here : k < length v.items) where
+    abbrev x : Start
+    x = get_or v.items k y
+
+    -- what this state of the level knows of itself and of worse ways the table knows
+    item-known : (w : Way) → IsNoWorseWay x.way w → rows_know (rows_of t) (shown x.branch) (items_ahead t.galley.now left) w.demerits (reverse w.breaks.items)
+    item-known w better =
+        level-rows v is (shown x.branch) (items_ahead t.galley.now left) w.demerits (reverse w.breaks.items) (known-at t.galley.now left v.items k x w here (any-default v.items k x y here) better)
+
+    -- so the table has rows
+    pub some-rows : rows_of t ≡ [] → ⊥
+    some-rows none =
+        none-known (rows_of t) (shown x.branch) (items_ahead t.galley.now left) x.way.demerits (reverse x.way.breaks.items) none (item-known x.way (no-better-same x.way.demerits (reverse x.way.breaks.items)))
+
+    -- if this state may stand for another, the table knows one that is as good as that
+    pub stands-known : MayStandFor x y → HasRowAsGood t left (shown y.branch) y.way
+    stands-known h = (
+      shown x.branch,
+      stands-as-good t.galley.now x y (all-at (IsStart t.galley.now t.bound left) v.items k y (level-starts v is) here).params h,
+      item-known y.way h.way,
+    )
 
   module _ (w : Vec Start Global) (vs : Vec (Vec Start Global) Global) (n : ℕ) (are : vs.items ≡ set t.starts.items left w) where
     abbrev after : Table
@@ -175,45 +203,67 @@ module _ (t : Table) (left : ℕ) (inside : left < length t.starts.items) (table
       bounded = table.bounded;
     }
 
-    pub set-continues : (v : Vec Start Global) → v ≡ get_or t.starts.items left v → KnowsMore (map (row_of t.galley.now left) v.items) (map (row_of t.galley.now left) w.items) → Continues t after
+    pub set-continues : (v : Vec Start Global) → v ≡ get_or t.starts.items left v → KnowsAsMuch t.galley.now (map (row_of t.galley.now left) v.items) (map (row_of t.galley.now left) w.items) → Continues t after
     set-continues v is more = record {
       later = record { galley = refl; bound = refl; better = no-better-same t.best.demerits (reverse t.best.breaks.items) };
       levels = ap length are ∙ length-set t.starts.items left w;
-      more = subst (λ xs. KnowsMore (rows_of t) (rows_from t.galley.now 0 xs)) (sym are)
-          (levels-know t.galley.now t.bound 0 t.starts.items left left w v (omega arith) (subst (λ (x : Vec Start Global). KnowsMore (map (row_of t.galley.now left) x.items) (map (row_of t.galley.now left) w.items)) is more));
+      more = subst (λ xs. KnowsAsMuch t.galley.now (rows_of t) (rows_from t.galley.now 0 xs)) (sym are)
+          (levels-know t.galley.now t.bound 0 t.starts.items left left w v (omega arith) (subst (λ (x : Vec Start Global). KnowsAsMuch t.galley.now (map (row_of t.galley.now left) x.items) (map (row_of t.galley.now left) w.items)) is more));
     }
 
     pub set-rows : KnowsMore (map (row_of t.galley.now left) w.items) (rows_of after)
     set-rows = subst (λ xs. KnowsMore (map (row_of t.galley.now left) w.items) (rows_from t.galley.now 0 xs)) (sym are) (set-known t.galley.now t.starts.items left w inside)
 
--- no rows are known
-pub none-known : (rows : List Row) (s : State) (cs : List Ahead) (d : ℤ) (breaks : List ℕ) → rows ≡ [] → rows_know rows s cs d breaks → ⊥
-none-known rows s cs d breaks e h = subst (λ rs. rows_know rs s cs d breaks) e h
+-- ---- the states of a level, as they are looked through
 
--- ---- a state of a level gets the better of two ways
+module _ (t : Table) (left : ℕ) (inside : left < length t.starts.items) (table : IsTable t) (v : Vec Start Global) (is : v ≡ get_or t.starts.items left v) (xs : List Start) (seen : xs ≡ v.items) where
+  looked-through : AllByRecursion (IsStart t.galley.now t.bound left) xs
+  looked-through = subst (AllByRecursion (IsStart t.galley.now t.bound left)) (sym seen) (level-starts t left inside table v is)
 
-module _ (g : Galley) (bound : ℤ) (left k : ℕ) (xs ys : List Start) (x y : Start) (kept : Way) (inside : k < length xs) (is : x ≡ get_or xs k x) (better : IsBetterOf x.way y.way kept) (are : ys ≡ set xs k (record { branch = x.branch; way = kept })) where
-  abbrev z : Start
-  z = record { branch = x.branch; way = kept }
+  pub looked-branches : AllByRecursion (λ (x : Start). IsBranch x.branch) xs
+  looked-branches = all-more (IsStart t.galley.now t.bound left) (λ x. IsBranch x.branch) xs (λ x h. h.branch) looked-through
 
-  pub merged-all : AllByRecursion (IsStart g bound left) xs → IsStart g bound left y → without_left (shown x.branch) ≡ without_left (shown y.branch) → AllByRecursion (IsStart g bound left) ys
-  merged-all all h same =
-      subst (AllByRecursion (IsStart g bound left)) (sym are)
-      (all-set (IsStart g bound left) xs k z all
-      (kept-start g bound left x y kept (subst (IsStart g bound left) (sym is) (all-at (IsStart g bound left) xs k x all inside)) h (alike g (shown y.branch) (shown x.branch) (sym same)) better.one))
+  pub looked-classes : (y : Start) → IsStart t.galley.now t.bound left y → AllByRecursion (λ (x : Start). (shown x.branch).classes ≡ (shown y.branch).classes) xs
+  looked-classes y start = all-more (IsStart t.galley.now t.bound left) (λ x. (shown x.branch).classes ≡ (shown y.branch).classes) xs (λ x h. h.classes ∙ sym start.classes) looked-through
 
-  pub merged-more : KnowsMore (map (row_of g left) xs) (map (row_of g left) ys)
-  merged-more =
-      subst (λ zs. KnowsMore (map (row_of g left) xs) (map (row_of g left) zs)) (sym are)
-      (known-set g left xs k z x (ap (λ (a : Start). a.branch) is) (subst (λ (a : Start). IsNoWorseWay kept a.way) is better.first))
+  here-too : (k : ℕ) → k < length xs → k < length v.items
+  here-too k h = subst (λ zs. k < length zs) seen h
 
-  pub merged-known : rows_know (map (row_of g left) ys) (shown x.branch) (items_ahead g left) y.way.demerits (reverse y.way.breaks.items)
-  merged-known =
-      subst (λ zs. rows_know (map (row_of g left) zs) (shown x.branch) (items_ahead g left) y.way.demerits (reverse y.way.breaks.items)) (sym are)
-      (known-at g left (set xs k z) k z y.way (let l = length-set xs k z in omega (arith, l, inside)) (get_or-set_same xs k z z inside) better.second)
+  -- one of them may stand for a state: the table knows one that is as good
+  pub found-known : (y : Start) (k : ℕ) → StandsAt xs k y → HasRowAsGood t left (shown y.branch) y.way
+  found-known y k h = stands-known t left inside table v is k y (here-too k h.inside) (subst (λ zs. MayStandFor (get_or zs k y) y) seen (h.stands y))
 
-  pub was-known : rows_know (map (row_of g left) xs) (shown x.branch) (items_ahead g left) x.way.demerits (reverse x.way.breaks.items)
-  was-known = known-at g left xs k x x.way inside (sym is) (no-better-same x.way.demerits (reverse x.way.breaks.items))
+  -- and it has rows
+  pub found-rows : (y : Start) (k : ℕ) → StandsAt xs k y → rows_of t ≡ [] → ⊥
+  found-rows y k h none = some-rows t left inside table v is k y (here-too k h.inside) none
+
+-- ---- a state is left out for one that may stand for it
+
+module _ (g : Galley) (bound : ℤ) (left k : ℕ) (xs : List Start) (y : Start) (h : IsNeedlessAt xs k y) (start : IsStart g bound left y) where
+  replaced-all : AllByRecursion (IsStart g bound left) xs → AllByRecursion (IsStart g bound left) (set xs k y)
+  replaced-all all = all-set (IsStart g bound left) xs k y all start
+
+  replaced-more : KnowsAsMuch g (map (row_of g left) xs) (map (row_of g left) (set xs k y))
+  replaced-more = known-set g left xs k y y (stands-as-good g y (get_or xs k y) start.params (h.stands y)) (h.stands y).way
+
+  replaced-known : rows_know (map (row_of g left) (set xs k y)) (shown y.branch) (items_ahead g left) y.way.demerits (reverse y.way.breaks.items)
+  replaced-known =
+      known-at g left (set xs k y) k y y.way (let l = length-set xs k y in let i = h.inside in omega (arith, l, i)) (get_or-set_same xs k y y h.inside) (no-better-same y.way.demerits (reverse y.way.breaks.items))
+
+-- the same of the level that is changed, which is the one that was looked through
+module _ (t : Table) (left : ℕ) (inside : left < length t.starts.items) (table : IsTable t) (u v : Vec Start Global) (first : u ≡ get_or t.starts.items left u) (is : v ≡ get_or t.starts.items left v) (xs : List Start) (seen : xs ≡ u.items)
+    (k : ℕ) (y : Start) (found : IsNeedlessAt xs k y) (start : IsStart t.galley.now t.bound left y) where
+  needless : IsNeedlessAt v.items k y
+  needless = subst (λ zs. IsNeedlessAt zs k y) (seen ∙ ap (λ (w : Vec Start Global). w.items) (same-item t.starts.items left u v inside first is)) found
+
+  pub level-all : AllByRecursion (IsStart t.galley.now t.bound left) (set v.items k y)
+  level-all = replaced-all t.galley.now t.bound left k v.items y needless start (level-starts t left inside table v is)
+
+  pub level-more : KnowsAsMuch t.galley.now (map (row_of t.galley.now left) v.items) (map (row_of t.galley.now left) (set v.items k y))
+  level-more = replaced-more t.galley.now t.bound left k v.items y needless start
+
+  pub level-keeps : rows_know (map (row_of t.galley.now left) (set v.items k y)) (shown y.branch) (items_ahead t.galley.now left) y.way.demerits (reverse y.way.breaks.items)
+  level-keeps = replaced-known t.galley.now t.bound left k v.items y needless start
 
 -- ---- levels without a state
 

@@ -6,14 +6,14 @@ use Rattle.std.specs.declared.vec.Vec.{Vec}
 use Rattle.tb_galley.specs.declared.Galley.{Galley}
 use Rattle.tb_output.specs.State.{State}
 use Rattle.tb_best.specs.ItemsAhead.{Ahead}
-use Rattle.tb_best.specs.ClosedTables.{Row, rows_know, IsRowOf, IsNoBetter}
+use Rattle.tb_best.specs.ClosedTables.{Row, rows_know, IsAsGood, IsRowOf, IsNoBetter}
 use Rattle.tb_search.specs.declared.table.Table.{Table}
 use Rattle.tb_search.specs.declared.table.Start.{Start}
 use Rattle.tb_search.specs.Starts.{row_of, rows_from, rows_of}
-use Rattle.tb_search.specs.Searched.{IsSearched, waits, KnowsMore}
+use Rattle.tb_search.specs.Searched.{IsSearched, waits, stands, KnowsMore}
 use Rattle.tb_search.specs.Continues.{IsSearchedBy, IsNoWorse, IsLater, Continues, HasSearched}
 use Rattle.tb_search.proofs.OrderLemmas.{no-better-same, no-better-through}
-use Rattle.tb_search.proofs.SearchedLemmas.{searched-worse, searched-later}
+use Rattle.tb_search.proofs.SearchedLemmas.{as-good-itself, as-good-through, searched-worse, searched-later}
 
 pub later-itself : (t : Table) → IsLater t t
 later-itself t = record { galley = refl; bound = refl; better = no-better-same t.best.demerits (reverse t.best.breaks.items) }
@@ -34,16 +34,28 @@ searched-on rows t u h all s cs d breaks k =
     (subst (λ b. IsSearched t.galley.now b t.best.demerits (reverse t.best.breaks.items) rows s cs d breaks) (sym h.bound) k))
 
 pub continues-searched : (t u : Table) → Continues t u → HasSearched [] t u
-continues-searched t u h = record { later = h.later; all = λ s cs d breaks k. waits s cs d breaks (h.more s cs d breaks k) }
+continues-searched t u h = record {
+  later = h.later;
+  all = λ s cs d breaks k.
+      let r = h.more s cs d breaks k in
+      stands s r.0 cs d breaks (subst (λ g. IsAsGood g.now s r.0) (sym h.later.galley) r.1) (waits r.0 cs d breaks r.2);
+}
 
 pub searched-itself : (t : Table) → HasSearched [] t t
 searched-itself t = record { later = later-itself t; all = λ s cs d breaks k. waits s cs d breaks k }
 
 pub continues-itself : (t : Table) → Continues t t
-continues-itself t = record { later = later-itself t; levels = refl; more = λ s cs d breaks k. k }
+continues-itself t = record { later = later-itself t; levels = refl; more = λ s cs d breaks k. (s, as-good-itself t.galley.now s, k) }
 
 pub continues-through : (t u v : Table) → Continues t u → Continues u v → Continues t v
-continues-through t u v h k = record { later = later-through t u v h.later k.later; levels = k.levels ∙ h.levels; more = λ s cs d breaks x. k.more s cs d breaks (h.more s cs d breaks x) }
+continues-through t u v h k = record {
+  later = later-through t u v h.later k.later;
+  levels = k.levels ∙ h.levels;
+  more = λ s cs d breaks x.
+      let a = h.more s cs d breaks x in
+      let b = k.more a.0 cs d breaks a.2 in
+      (b.0, as-good-through t.galley.now s a.0 b.0 a.1 (subst (λ g. IsAsGood g.now a.0 b.0) h.later.galley b.1), b.2);
+}
 
 -- what was searched stays searched
 pub still-searched : (t u : Table) → HasSearched [] t u → (s : State) (cs : List Ahead) (d : ℤ) (breaks : List ℕ) → IsSearchedBy t s cs d breaks → IsSearchedBy u s cs d breaks

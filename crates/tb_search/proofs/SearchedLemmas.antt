@@ -1,5 +1,5 @@
 -- What stays searched, and that a search to the end has the best plan.
-use Rattle.std.proofs.Common.{◌≡◌, refl, sym, ◌∙◌, ap, subst, ◌⊎◌, inl, inr, ℕ, ℤ, true, false, List, [], ◌∷◌, ◌++◌, append_assoc, append-nil, Some, arith}
+use Rattle.std.proofs.Common.{◌≡◌, refl, sym, ◌∙◌, ap, subst, ◌⊎◌, inl, inr, ℕ, ◌*◌, ℤ, Bool, true, false, List, [], ◌∷◌, ◌++◌, append_assoc, Some, arith}
 use Rattle.std.specs.Prelude.{pos, ◌+ℤ◌, ◌≤ℤ◌, ◌<ℤ◌, reverse}
 use Rattle.std.proofs.lemmas.Int.{ints}
 use Rattle.tb_node.specs.PlainNodes.{PlainNode}
@@ -14,16 +14,27 @@ use Rattle.tb_rate.specs.Places.{place_penalties}
 use Rattle.tb_best.specs.PlanDemerits.{reach_in, unlimited_step, step_demerits, plan_demerits}
 use Rattle.tb_best.specs.BestPlan.{IsBest}
 use Rattle.tb_best.specs.ItemsAhead.{Ahead, all_ahead, empty_start, forced, state_with}
-use Rattle.tb_best.specs.ClosedTables.{Table, Row, rows_know, IsAsGood, KnowsAsGood, IsNoBetter, IsClosed}
+use Rattle.tb_best.specs.ClosedTables.{Row, rows_know, IsAsGood, IsNoBetter}
 use Rattle.tb_best.specs.PageTables.{with_page}
-use Rattle.tb_best.proofs.ClosedLemmas.{step-low}
-use Rattle.tb_best.proofs.BestLemmas.{closed-best}
+use Rattle.tb_best.proofs.Paths.{marked, Path, finished, taken, cut, filled}
+use Rattle.tb_best.proofs.PlanMarks.{breaks_after}
+use Rattle.tb_best.proofs.ClosedLemmas.{way-low, in-cut, in-fill, nothing-more, as-good-way}
+use Rattle.tb_best.proofs.BestLemmas.{ways-best}
 use Rattle.tb_search.specs.FilledBranches.{IsRefusal, IsRefused}
-use Rattle.tb_search.specs.Searched.{IsSearched, over, waits, stuck, fills, takes, ended, KnowsMore}
+use Rattle.tb_search.specs.Searched.{IsSearched, over, waits, stuck, fills, takes, stands, ended}
 use Rattle.tb_search.proofs.OrderLemmas.{no-better-through, no-better-after, no-better-with}
 
 pub as-good-itself : (g : Galley) (t : State) → IsAsGood g t t
 as-good-itself g t fuel behind d h = (d, h, omega (arith, ints))
+
+pub as-good-through : (g : Galley) (s t u : State) → IsAsGood g s t → IsAsGood g t u → IsAsGood g s u
+as-good-through g s t u h k fuel behind d e =
+    let a = h fuel behind d e in
+    let b = k fuel behind a.0 a.1 in
+    (b.0, b.1, no-more b.0 a.0 d b.2 a.2)
+  where
+    no-more : (x y z : ℤ) → x ≤ℤ y → y ≤ℤ z → x ≤ℤ z
+    no-more x y z i j = omega (arith, ints, i, j)
 
 -- ---- a state that was reached in a way that is no better
 
@@ -44,10 +55,11 @@ module _ (g : Galley) (bound total : ℤ) (best : List ℕ) (waiting : List Row)
   searched-worse _ _ _ _ (fills s t u cs d breaks es rs fires is good h) e others k =
       fills s t u cs e others es rs fires is good
       (searched-worse u cs (with_page g d s es rs t) breaks h (with_page g e s es rs t) others (no-better-after d e (step_demerits g.params (place_penalties g.items) s (goes_on es rs t)) breaks others k))
-  searched-worse _ _ _ _ (takes s c cs d breaks quiet cut h) e others k =
+  searched-worse _ _ _ _ (takes s c cs d breaks quiet put h) e others k =
       takes s c cs e others quiet
-      (λ place box. searched-worse (state_with (forced c ∷ c.nodes) s) cs (d +ℤ pos 1000) (c.number ∷ breaks) (cut place box) (e +ℤ pos 1000) (c.number ∷ others) (no-better-with (d +ℤ pos 1000) (e +ℤ pos 1000) c.number breaks others (no-better-after d e (pos 1000) breaks others k)))
+      (λ place box. searched-worse (state_with (forced c ∷ c.nodes) s) cs (d +ℤ pos 1000) (c.number ∷ breaks) (put place box) (e +ℤ pos 1000) (c.number ∷ others) (no-better-with (d +ℤ pos 1000) (e +ℤ pos 1000) c.number breaks others (no-better-after d e (pos 1000) breaks others k)))
       (searched-worse (state_with c.nodes s) cs d breaks h e others k)
+  searched-worse _ _ _ _ (stands s t cs d breaks good h) e others k = stands s t cs e others good (searched-worse t cs d breaks h e others k)
   searched-worse _ _ _ _ (ended s d breaks quiet h) e others k = ended s e others quiet (λ es rs left is. no-better-through total d e best breaks others (h es rs left is) k)
 
 -- ---- later tables
@@ -60,10 +72,11 @@ module _ (g : Galley) (bound total after : ℤ) (best later : List ℕ) (better 
   searched-later _ _ _ _ (waits s cs d breaks h) = all s cs d breaks h
   searched-later _ _ _ _ (stuck s cs d breaks h) = stuck s cs d breaks h
   searched-later _ _ _ _ (fills s t u cs d breaks es rs fires is good h) = fills s t u cs d breaks es rs fires is good (searched-later u cs (with_page g d s es rs t) breaks h)
-  searched-later _ _ _ _ (takes s c cs d breaks quiet cut h) =
+  searched-later _ _ _ _ (takes s c cs d breaks quiet put h) =
       takes s c cs d breaks quiet
-      (λ place box. searched-later (state_with (forced c ∷ c.nodes) s) cs (d +ℤ pos 1000) (c.number ∷ breaks) (cut place box))
+      (λ place box. searched-later (state_with (forced c ∷ c.nodes) s) cs (d +ℤ pos 1000) (c.number ∷ breaks) (put place box))
       (searched-later (state_with c.nodes s) cs d breaks h)
+  searched-later _ _ _ _ (stands s t cs d breaks good h) = stands s t cs d breaks good (searched-later t cs d breaks h)
   searched-later _ _ _ _ (ended s d breaks quiet h) = ended s d breaks quiet (λ es rs left is. no-better-through after total d later best breaks better (h es rs left is))
 
 -- ---- a refused state
@@ -96,69 +109,67 @@ after-or s (ends es rs e) = s
 after-or s (goes_on es rs t) = t
 
 module _ (g : Galley) (bound total : ℤ) (best : List ℕ) (high : total ≤ℤ bound) where
-  abbrev Searched : Table
-  Searched = IsSearched g bound total best []
+  abbrev Ways : ℕ → State → List Ahead → List Bool → ℤ → Type 0
+  Ways = Path g.params (place_penalties g.items)
 
-  over-low : (d a : ℤ) → bound <ℤ d → pos 0 ≤ℤ a → total <ℤ (d +ℤ a)
-  over-low d a h k = grind (arith, ints, high, h, k)
+  -- a way from a state that was reached at these demerits and with these breaks ends no better than the best
+  abbrev EndsNoBetter : ℤ → List ℕ → List Ahead → List Bool → ℤ → Type 0
+  EndsNoBetter a breaks cs ms d = IsNoBetter total best (a +ℤ (d +ℤ pos (1000 * marked ms))) (breaks_after breaks cs ms)
 
-  over-cut : (d : ℤ) → bound <ℤ d → bound <ℤ (d +ℤ pos 1000)
-  over-cut d h = grind (arith, ints, h)
+  -- so do all ways
+  abbrev AllEnd : State → List Ahead → ℤ → List ℕ → Type 0
+  AllEnd s cs a breaks = (k : ℕ) (ms : List Bool) (d : ℤ) → Ways k s cs ms d → EndsNoBetter a breaks cs ms d
 
-  over-end : (d : ℤ) (breaks : List ℕ) → bound <ℤ d → IsNoBetter total best d breaks
-  over-end d breaks h = inl (grind (arith, ints, high, h))
+  over-low : (a d : ℤ) → bound <ℤ a → pos 0 ≤ℤ d → total <ℤ (a +ℤ d)
+  over-low a d h k = grind (arith, ints, high, h, k)
 
-  has-taken : (s : State) (c : Ahead) (cs : List Ahead) (d : ℤ) (breaks : List ℕ) → Searched s (c ∷ cs) d breaks → (reach_in g.params s).fires ≡ false → Searched (state_with c.nodes s) cs d breaks
-  has-taken _ c cs _ _ (over s _ d breaks h) quiet = over (state_with c.nodes s) cs d breaks h
-  has-taken _ c cs _ _ (waits s _ d breaks h) quiet = absurd h
-  has-taken _ c cs _ _ (stuck s _ d breaks h) quiet = stuck (state_with c.nodes s) cs d breaks (refused-with g.params s c.nodes quiet h)
-  has-taken _ c cs _ _ (fills s t u _ d breaks es rs fires is good h) quiet = not-fires g.params s (Searched (state_with c.nodes s) cs d breaks) fires quiet
-  has-taken _ _ _ _ _ (takes s c cs d breaks still cut h) quiet = h
+  -- no way leads from a state from which no run goes on
+  refused-way : {X : Type 0} (k : ℕ) (s : State) (cs : List Ahead) (ms : List Bool) (d : ℤ) → Ways k s cs ms d → IsRefused g.params s → X
+  refused-way _ _ _ _ _ (finished k s es rs left quiet e) h = refused-ends _ (unlimited_step g.params s) es rs left h.step e
+  refused-way _ _ _ _ _ (taken k s c cs ms d quiet w) h = refused-way k (state_with c.nodes s) cs ms d w (refused-with g.params s c.nodes quiet h)
+  refused-way _ _ _ _ _ (cut k s c cs ms d quiet place box w) h = refused-way k (state_with (forced c ∷ c.nodes) s) cs ms d w (refused-with g.params s (forced c ∷ c.nodes) quiet h)
+  refused-way _ _ _ _ _ (filled k s cs ms d es rs t fires e w) h = refused-goes-on _ (unlimited_step g.params s) es rs t h.step e
 
-  has-cut : (s : State) (c : Ahead) (cs : List Ahead) (d : ℤ) (breaks : List ℕ) → Searched s (c ∷ cs) d breaks → (reach_in g.params s).fires ≡ false → c.is_place ≡ true → holds_box s.waiting ≡ true
-      → Searched (state_with (forced c ∷ c.nodes) s) cs (d +ℤ pos 1000) (c.number ∷ breaks)
-  has-cut _ c cs _ _ (over s _ d breaks h) quiet place box = over (state_with (forced c ∷ c.nodes) s) cs (d +ℤ pos 1000) (c.number ∷ breaks) (over-cut d h)
-  has-cut _ c cs _ _ (waits s _ d breaks h) quiet place box = absurd h
-  has-cut _ c cs _ _ (stuck s _ d breaks h) quiet place box = stuck (state_with (forced c ∷ c.nodes) s) cs (d +ℤ pos 1000) (c.number ∷ breaks) (refused-with g.params s (forced c ∷ c.nodes) quiet h)
-  has-cut _ c cs _ _ (fills s t u _ d breaks es rs fires is good h) quiet place box = not-fires g.params s (Searched (state_with (forced c ∷ c.nodes) s) cs (d +ℤ pos 1000) (c.number ∷ breaks)) fires quiet
-  has-cut _ _ _ _ _ (takes s c cs d breaks still cut h) quiet place box = cut place box
+  -- a page is filled
+  filled-way : (k : ℕ) (s : State) (cs : List Ahead) (ms : List Bool) (d : ℤ) → Ways k s cs ms d → (a : ℤ) (breaks : List ℕ) (t : State) (es : List RunEvent) (rs : List Recorded) → (reach_in g.params s).fires ≡ true → unlimited_step g.params s ≡ goes_on es rs t
+      → AllEnd t cs (with_page g a s es rs t) breaks → EndsNoBetter a breaks cs ms d
+  filled-way _ _ _ _ _ (finished k s _ _ left quiet i) a breaks t es rs fires e rest = not-fires g.params s _ fires quiet
+  filled-way _ _ _ _ _ (taken k s c cs ms d quiet w) a breaks t es rs fires e rest = not-fires g.params s _ fires quiet
+  filled-way _ _ _ _ _ (cut k s c cs ms d quiet place box w) a breaks t es rs fires e rest = not-fires g.params s _ fires quiet
+  filled-way _ _ _ _ _ (filled k s cs ms d os qs v _ i w) a breaks t es rs fires e rest =
+      let same = sym e ∙ i in
+      let r = step_demerits g.params (place_penalties g.items) s (goes_on es rs t) in
+      subst (λ x. IsNoBetter total best (a +ℤ ((x +ℤ d) +ℤ pos (1000 * marked ms))) (breaks_after breaks cs ms)) (ap (λ x. step_demerits g.params (place_penalties g.items) s x) same)
+      (subst (λ x. IsNoBetter total best x (breaks_after breaks cs ms)) (in-fill a r d (pos (1000 * marked ms)))
+      (rest k ms d (subst (λ u. Ways k u cs ms d) (sym (ap (after-or s) same)) w)))
 
-  has-filled : (s t : State) (cs : List Ahead) (d : ℤ) (breaks : List ℕ) (es : List RunEvent) (rs : List Recorded) → Searched s cs d breaks → (reach_in g.params s).fires ≡ true → unlimited_step g.params s ≡ goes_on es rs t
-      → KnowsAsGood g Searched t cs (with_page g d s es rs t) breaks ⊎ (total <ℤ with_page g d s es rs t)
-  has-filled _ t _ _ _ es rs (over s cs d breaks h) fires e =
-      inr (over-low d (step_demerits g.params (place_penalties g.items) s (goes_on es rs t)) h (step-low g.params (place_penalties g.items) s (goes_on es rs t)))
-  has-filled _ t _ _ _ es rs (waits s cs d breaks h) fires e = absurd h
-  has-filled _ t _ _ _ es rs (stuck s cs d breaks h) fires e =
-      refused-goes-on (KnowsAsGood g Searched t cs (with_page g d s es rs t) breaks ⊎ (total <ℤ with_page g d s es rs t)) (unlimited_step g.params s) es rs t h.step e
-  has-filled _ t _ _ _ es rs (fills s v u cs d breaks os qs _ is good h) fires e =
-      let same = sym is ∙ e in
-      inl (
-        u,
-        subst (λ w. IsAsGood g w u) (ap (after-or s) same) good,
-        subst (λ x. Searched u cs x breaks) (ap (λ x. d +ℤ step_demerits g.params (place_penalties g.items) s x) same) h,
-      )
-  has-filled _ t _ _ _ es rs (takes s c cs d breaks still cut h) fires e =
-      not-fires g.params s (KnowsAsGood g Searched t (c ∷ cs) (with_page g d s es rs t) breaks ⊎ (total <ℤ with_page g d s es rs t)) fires still
-  has-filled _ t _ _ _ es rs (ended s d breaks still h) fires e =
-      not-fires g.params s (KnowsAsGood g Searched t [] (with_page g d s es rs t) breaks ⊎ (total <ℤ with_page g d s es rs t)) fires still
+  -- an item is taken, or a break is put in and the item is taken
+  taken-way : (k : ℕ) (s : State) (c : Ahead) (cs : List Ahead) (ms : List Bool) (d : ℤ) → Ways k s (c ∷ cs) ms d → (a : ℤ) (breaks : List ℕ) → (reach_in g.params s).fires ≡ false
+      → (c.is_place ≡ true → holds_box s.waiting ≡ true → AllEnd (state_with (forced c ∷ c.nodes) s) cs (a +ℤ pos 1000) (c.number ∷ breaks)) → AllEnd (state_with c.nodes s) cs a breaks → EndsNoBetter a breaks (c ∷ cs) ms d
+  taken-way _ _ _ _ _ _ (taken k s c cs ms d quiet w) a breaks still put rest = rest k ms d w
+  taken-way _ _ _ _ _ _ (cut k s c cs ms d quiet place box w) a breaks still put rest =
+      subst (λ x. IsNoBetter total best x (breaks_after (c.number ∷ breaks) cs ms)) (in-cut total a d (marked ms)) (put place box k ms d w)
+  taken-way _ _ c cs _ _ (filled k s _ ms d es rs t fires e w) a breaks still put rest = not-fires g.params s _ fires still
 
-  has-ended : (s : State) (d : ℤ) (breaks : List ℕ) (es : List RunEvent) (rs : List Recorded) (left : List PlainNode) → Searched s [] d breaks → (reach_in g.params s).fires ≡ false → unlimited_step g.params s ≡ ends es rs (done left)
-      → IsNoBetter total best d breaks
-  has-ended _ _ _ es rs left (over s _ d breaks h) quiet e = over-end d breaks h
-  has-ended _ _ _ es rs left (waits s _ d breaks h) quiet e = absurd h
-  has-ended _ _ _ es rs left (stuck s _ d breaks h) quiet e = refused-ends (IsNoBetter total best d breaks) (unlimited_step g.params s) es rs left h.step e
-  has-ended _ _ _ es rs left (fills s t u _ d breaks _ _ fires _ good h) quiet e = not-fires g.params s (IsNoBetter total best d breaks) fires quiet
-  has-ended _ _ _ es rs left (ended s d breaks still h) quiet e = h es rs left e
+  -- the run ends
+  ended-way : (k : ℕ) (s : State) (ms : List Bool) (d : ℤ) → Ways k s [] ms d → (a : ℤ) (breaks : List ℕ) → (reach_in g.params s).fires ≡ false
+      → ((es : List RunEvent) (rs : List Recorded) (left : List PlainNode) → unlimited_step g.params s ≡ ends es rs (done left) → IsNoBetter total best a breaks) → EndsNoBetter a breaks [] ms d
+  ended-way _ _ _ _ (finished k s es rs left quiet e) a breaks still h = subst (λ x. IsNoBetter total best x breaks) (nothing-more a) (h es rs left e)
+  ended-way _ _ _ _ (filled k s _ ms d es rs t fires e w) a breaks still h = not-fires g.params s _ fires still
 
-  searched-closed : Searched (empty_start g) (all_ahead g) (pos 0) [] → IsClosed g total best Searched
-  searched-closed h = record {
-    begins = h;
-    takes = has-taken;
-    cuts = λ s c cs d breaks k quiet place box. inl (has-cut s c cs d breaks k quiet place box);
-    fills = has-filled;
-    finishes = has-ended;
-  }
+  -- no way from a state that is searched ends better
+  no-better-way : (s : State) (cs : List Ahead) (a : ℤ) (breaks : List ℕ) → IsSearched g bound total best [] s cs a breaks → AllEnd s cs a breaks
+  no-better-way _ _ _ _ (over s cs a breaks h) k ms d way = inl (over-low a (d +ℤ pos (1000 * marked ms)) h (way-low g.params (place_penalties g.items) k s cs ms d way))
+  no-better-way _ _ _ _ (waits s cs a breaks h) k ms d way = absurd h
+  no-better-way _ _ _ _ (stuck s cs a breaks h) k ms d way = refused-way k s cs ms d way h
+  no-better-way _ _ _ _ (fills s t u cs a breaks es rs fires is good h) k ms d way =
+      filled-way k s cs ms d way a breaks t es rs fires is
+      (λ l others e w. as-good-way g total best l t u cs others e (with_page g a s es rs t) breaks w good (λ marks f v. no-better-way u cs (with_page g a s es rs t) breaks h l marks f v))
+  no-better-way _ _ _ _ (takes s c cs a breaks quiet put h) k ms d way =
+      taken-way k s c cs ms d way a breaks quiet (λ place box. no-better-way (state_with (forced c ∷ c.nodes) s) cs (a +ℤ pos 1000) (c.number ∷ breaks) (put place box)) (no-better-way (state_with c.nodes s) cs a breaks h)
+  no-better-way _ _ _ _ (stands s t cs a breaks good h) k ms d way = as-good-way g total best k s t cs ms d a breaks way good (λ others e w. no-better-way t cs a breaks h k others e w)
+  no-better-way _ _ _ _ (ended s a breaks quiet h) k ms d way = ended-way k s ms d way a breaks quiet h
 
 -- if nothing waits any more and the beginning is searched, the best way is the best plan
 pub searched-best : (g : Galley) (bound total : ℤ) (plan : List ℕ) → total ≤ℤ bound → IsPlan g plan → plan_demerits g plan ≡ Some total → IsSearched g bound total (reverse plan) [] (empty_start g) (all_ahead g) (pos 0) [] → IsBest g plan total
-searched-best g bound total plan high is sum h = closed-best g plan total (IsSearched g bound total (reverse plan) []) is sum (searched-closed g bound total (reverse plan) high h)
+searched-best g bound total plan high is sum h = ways-best g plan total is sum (no-better-way g bound total (reverse plan) high (empty_start g) (all_ahead g) (pos 0) [] h)

@@ -9,7 +9,7 @@ use Rattle.tb_search.specs.declared.table.Start.{Start}
 use Rattle.tb_search.specs.declared.table.Table.{Table}
 use Rattle.tb_search.specs.Branches.{shown}
 use Rattle.tb_search.specs.AheadInCode.{items_ahead}
-use Rattle.tb_search.specs.Searched.{IsSearched, IsSearchedAsGood, KnowsMore}
+use Rattle.tb_search.specs.Searched.{IsSearched, IsSearchedAsGood, KnowsAsMuch}
 use Rattle.tb_search.specs.Starts.{rows_of, IsReached}
 
 -- the best way of a table is no worse than that of another
@@ -30,11 +30,11 @@ pub record IsLater (t u : Table) : Type 0 where
   pub bound : u.bound ≡ t.bound
   pub better : IsNoWorse t u
 
--- and it knows what the first knows
+-- and it knows what the first knows, or states that are as good
 pub record Continues (t u : Table) : Type 0 where
   pub later : IsLater t u
   pub levels : length u.starts.items ≡ length t.starts.items
-  pub more : KnowsMore (rows_of t) (rows_of u)
+  pub more : KnowsAsMuch t.galley.now (rows_of t) (rows_of u)
 
 -- and it has searched the ways from these rows
 pub record HasSearched (rows : List Row) (t u : Table) : Type 0 where

@@ -2,11 +2,12 @@
 use Rattle.std.specs.Prelude.{◌≡◌, ◌⊎◌, ◌<◌, ℕ, List, length, reverse, slice_index_or}
 use Rattle.tb_output.specs.State.{State}
 use Rattle.tb_best.specs.ClosedTables.{rows_know, KnowsAsGood, IsNoBetter}
+use Rattle.tb_best.specs.Counts.{counts_of, AreNoGreater}
 use Rattle.tb_search.specs.declared.table.Way.{Way}
 use Rattle.tb_search.specs.declared.table.Start.{Start}
 use Rattle.tb_search.specs.declared.table.Table.{Table}
 use Rattle.tb_search.specs.Branches.{shown}
-use Rattle.tb_search.specs.SameStates.{without_left}
+use Rattle.tb_search.specs.SameStates.{without_counts}
 use Rattle.tb_search.specs.AheadInCode.{items_ahead}
 use Rattle.tb_search.specs.Starts.{rows_of}
 
@@ -20,10 +21,21 @@ pub record IsBetterOf (v w kept : Way) : Type 0 where
   pub first : IsNoWorseWay kept v
   pub second : IsNoWorseWay kept w
 
--- this one of the states is the given one, but for the left column
-pub record IsSameAt (starts : List Start) (k : ℕ) (s : State) : Type 0 where
+-- the first state may stand for the second: they are the same but for the left column, its counts are no greater, and its way is no worse
+pub record MayStandFor (x y : Start) : Type 0 where
+  pub same : without_counts (shown x.branch) ≡ without_counts (shown y.branch)
+  pub counts : AreNoGreater x.branch.routine.machine.params (counts_of (shown x.branch)) (counts_of (shown y.branch))
+  pub way : IsNoWorseWay x.way y.way
+
+-- this one of the states may stand for the given one
+pub record StandsAt (starts : List Start) (k : ℕ) (x : Start) : Type 0 where
   pub inside : k < length starts
-  pub same : (d : Start) → without_left (shown (slice_index_or starts k d).branch) ≡ without_left s
+  pub stands : (d : Start) → MayStandFor (slice_index_or starts k d) x
+
+-- the given one may stand for this one of the states
+pub record IsNeedlessAt (starts : List Start) (k : ℕ) (x : Start) : Type 0 where
+  pub inside : k < length starts
+  pub stands : (d : Start) → MayStandFor x (slice_index_or starts k d)
 
 -- the table has a row with this state and so many items ahead, reached in a way that is no worse
 abbrev pub HasRow : Table → ℕ → State → Way → Type 0

@@ -9,7 +9,7 @@ use Rattle.tb_items.specs.RunEvents.{RunEvent}
 use Rattle.tb_steps.specs.Run.{done, ends, goes_on}
 use Rattle.tb_best.specs.PlanDemerits.{reach_in, unlimited_step}
 use Rattle.tb_best.specs.ItemsAhead.{Ahead, forced, state_with}
-use Rattle.tb_best.specs.ClosedTables.{Row, rows_know, IsAsGood, IsNoBetter}
+use Rattle.tb_best.specs.ClosedTables.{Row, rows_know, IsAsGood, KnowsAsGood, IsNoBetter}
 use Rattle.tb_best.specs.PageTables.{with_page}
 use Rattle.tb_search.specs.FilledBranches.{IsRefused}
 
@@ -26,6 +26,8 @@ module _ (g : Galley) (bound total : ℤ) (best : List ℕ) (waiting : List Row)
     takes : (s : State) (c : Ahead) (cs : List Ahead) (d : ℤ) (breaks : List ℕ) → (reach_in g.params s).fires ≡ false
         → (c.is_place ≡ true → holds_box s.waiting ≡ true → IsSearched (state_with (forced c ∷ c.nodes) s) cs (d +ℤ pos 1000) (c.number ∷ breaks))
         → IsSearched (state_with c.nodes s) cs d breaks → IsSearched s (c ∷ cs) d breaks
+    -- a state that is as good is searched
+    stands : (s t : State) (cs : List Ahead) (d : ℤ) (breaks : List ℕ) → IsAsGood g s t → IsSearched t cs d breaks → IsSearched s cs d breaks
     ended : (s : State) (d : ℤ) (breaks : List ℕ) → (reach_in g.params s).fires ≡ false
         → ((es : List RunEvent) (rs : List Recorded) (left : List PlainNode) → unlimited_step g.params s ≡ ends es rs (done left) → IsNoBetter total best d breaks) → IsSearched s [] d breaks
 
@@ -36,3 +38,7 @@ IsSearchedAsGood g bound total best waiting s cs d breaks = (t : State) × IsAsG
 -- what the first rows know the second know too
 abbrev pub KnowsMore : List Row → List Row → Type 0
 KnowsMore old new = (s : State) (cs : List Ahead) (d : ℤ) (breaks : List ℕ) → rows_know old s cs d breaks → rows_know new s cs d breaks
+
+-- what the first rows know the second know, or a state that is as good
+abbrev pub KnowsAsMuch : Galley → List Row → List Row → Type 0
+KnowsAsMuch g old new = (s : State) (cs : List Ahead) (d : ℤ) (breaks : List ℕ) → rows_know old s cs d breaks → KnowsAsGood g (rows_know new) s cs d breaks

@@ -23,6 +23,7 @@ ghost use Rattle.tb_search.specs.AheadInCode.{HasAhead};
 ghost use Rattle.tb_search.specs.FilledBranches.{stopped, unfired, unserved, FillsTo};
 ghost use Rattle.tb_search.specs.Branches.{shown, nodes_ahead, next_of, break_before, IsBranch, HasTaken};
 
+use crate::copies::copy_routine;
 use crate::moves::{ends_in_kern, hand_cut, hand_next, holds_box};
 use std::alloc::{AllocError, Global};
 use tb_galley::Galley;
@@ -143,6 +144,21 @@ impl<'a> Branch<'a> {
             routine,
             ahead: self.ahead,
         })
+    }
+
+    /// Becomes a copy of another state in place, as [`Self::copy`] makes one. It fails only if memory runs out, and is not to be
+    /// used then.
+    pub fn copy_from(&mut self, other: &Branch<'a>, alloc: Global) -> Result<(), AllocError>
+        requires { IsBranch other.now }
+
+        ensures branch { OnOk result (IsBranch self.new) }
+        ensures state { OnOk result (shown self.new ≡ shown other.now) }
+        ensures ahead { OnOk result (self.new.ahead ≡ other.now.ahead) }
+        ensures params { OnOk result (self.new.routine.machine.params ≡ other.now.routine.machine.params) }
+    {
+        copy_routine(alloc, &mut self.routine, &other.routine)?;
+        self.ahead = other.ahead;
+        Ok(())
     }
 
     /// Fills the page of what waits, and returns the line of its stop if it fires, or none if no page fires. If the run ends in

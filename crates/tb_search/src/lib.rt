@@ -4,6 +4,7 @@
 
 mod branch;
 mod calm;
+mod copies;
 mod moves;
 mod same;
 mod search;

@@ -66,19 +66,37 @@ pub fn best_breaks(alloc: Global, galley: &Galley, greedy: i128) -> Result<BestP
 
     ensures best { IfOk result (λ b. IsBest galley.now b.places.items b.demerits) }
 {
+    let mut trial = Branch::start(alloc, galley)?;
+    best_by_bounds(alloc, galley, greedy, &mut trial)
+}
+
+// The same. Pages are tried in `trial`, here and below: what it shows between two tries is of no account.
+fn best_by_bounds<'a>(
+    alloc: Global,
+    galley: &'a Galley,
+    greedy: i128,
+    trial: &mut Branch<'a>,
+) -> Result<BestPlan, BestFault>
+    requires valid { IsValid galley.now }
+    requires sum { plan_demerits galley.now [] ≡ Some greedy }
+    requires low { pos 0 ≤ℤ greedy }
+    requires high { greedy ≤ℤ pos 1000000000000000000000000000 }
+
+    ensures best { IfOk result (λ b. IsBest galley.now b.places.items b.demerits) }
+{
     // A way with more demerits than a bound is not gone on. Low bounds leave most ways out, so they are tried first: a plan
     // within the bound is the best of all.
     let mut bound = FIRST_BOUND;
     'bounds: for _ in 0..BOUNDS {
         if bound < greedy {
-            let plan = best_within(alloc, galley, greedy, bound)?;
+            let plan = best_within(alloc, galley, greedy, bound, trial)?;
             if plan.demerits <= bound {
                 return Ok(plan);
             }
         }
         bound = next_bound(bound, greedy);
     }
-    best_within(alloc, galley, greedy, greedy)
+    best_within(alloc, galley, greedy, greedy, trial)
 }
 
 // The bound after one that no plan is within.
@@ -94,11 +112,12 @@ fn next_bound(bound: i128, greedy: i128) -> i128
 }
 
 // The best of the plans within a bound, or one past the bound if there is none: no more than the greedy pages have.
-fn best_within(
+fn best_within<'a>(
     alloc: Global,
-    galley: &Galley,
+    galley: &'a Galley,
     greedy: i128,
     bound: i128,
+    trial: &mut Branch<'a>,
 ) -> Result<BestPlan, BestFault>
     requires valid { IsValid galley.now }
     requires sum { plan_demerits galley.now [] ≡ Some greedy }
@@ -111,7 +130,7 @@ fn best_within(
 {
     let mut table = Table::new(alloc, galley, greedy, bound)?;
     table.begin(alloc, galley)?;
-    table.search(alloc)?;
+    table.search(alloc, trial)?;
     Ok(BestPlan {
         places: table.best.breaks,
         demerits: table.best.demerits,
@@ -141,7 +160,7 @@ impl<'a> Table<'a> {
     }
 
     // Goes on from all states that wait, first from those with the most items ahead, until none waits.
-    fn search(&mut self, alloc: Global) -> Result<(), BestFault>
+    fn search(&mut self, alloc: Global, trial: &mut Branch<'a>) -> Result<(), BestFault>
         requires { IsTable self.old }
 
         ensures table { OnOk result (IsTable self.new) }
@@ -150,7 +169,7 @@ impl<'a> Table<'a> {
     {
         'levels: while let Some(starts) = self.starts.pop() {
             let left = self.starts.len();
-            self.expand_all(alloc, left, starts)?;
+            self.expand_all(alloc, left, starts, trial)?;
         }
         Ok(())
     }
@@ -161,6 +180,7 @@ impl<'a> Table<'a> {
         alloc: Global,
         left: usize,
         starts: Vec<Start<'a>>,
+        trial: &mut Branch<'a>,
     ) -> Result<(), BestFault>
         requires table { IsTable self.old }
         requires level { left ≤ length self.old.starts.items }
@@ -173,13 +193,19 @@ impl<'a> Table<'a> {
     {
         let mut starts = starts;
         'starts: while let Some(start) = starts.pop() {
-            self.expand(alloc, left, start)?;
+            self.expand(alloc, left, start, trial)?;
         }
         Ok(())
     }
 
     // All pages that may come next after a state.
-    fn expand(&mut self, alloc: Global, left: usize, start: Start<'a>) -> Result<(), BestFault>
+    fn expand(
+        &mut self,
+        alloc: Global,
+        left: usize,
+        start: Start<'a>,
+        trial: &mut Branch<'a>,
+    ) -> Result<(), BestFault>
         requires table { IsTable self.old }
         requires level { left ≤ length self.old.starts.items }
         requires inside { left ≤ length (all_ahead self.old.galley.now) }
@@ -189,8 +215,8 @@ impl<'a> Table<'a> {
         ensures levels { OnOk result (length self.new.starts.items ≡ length self.old.starts.items) }
         ensures searched { OnOk result (HasSearched (row_of self.old.galley.now left start.entry ∷ []) self.old self.new) }
     {
-        let (behind, last) = self.pass(alloc, left, start)?;
-        self.step_on(alloc, behind, last)
+        let (behind, last) = self.pass(alloc, left, start, trial)?;
+        self.step_on(alloc, behind, last, trial)
     }
 
     // Items are taken before a page can fire, and at each place a break is put in. Returns how many items are ahead then, and
@@ -200,6 +226,7 @@ impl<'a> Table<'a> {
         alloc: Global,
         left: usize,
         start: Start<'a>,
+        trial: &mut Branch<'a>,
     ) -> Result<(usize, Start<'a>), BestFault>
         requires table { IsTable self.old }
         requires level { left ≤ length self.old.starts.items }
@@ -210,11 +237,11 @@ impl<'a> Table<'a> {
         ensures taken { IfOk result (λ x. IsTakenOn self.old left start.entry self.new x.0 x.1) }
         ensures start { IfOk result (λ x. IsStart self.new.galley.now self.new.bound x.0 x.1) }
     {
-        let mut calm = self.calm_items(alloc, left, &start)?;
+        let mut calm = self.calm_items(alloc, left, &start, trial)?;
         let Start { mut branch, way } = start;
         let mut left = left;
         'items: while calm > 0 {
-            self.cut(alloc, left, &branch, &way)?;
+            self.cut(alloc, left, &branch, &way, trial)?;
             if !branch.take()? {
                 return Err(BestFault::Choices);
             }
@@ -225,7 +252,13 @@ impl<'a> Table<'a> {
     }
 
     // The same one item after the other: items are taken while no page fires, and at each place a break is put in.
-    fn step_on(&mut self, alloc: Global, left: usize, start: Start<'a>) -> Result<(), BestFault>
+    fn step_on(
+        &mut self,
+        alloc: Global,
+        left: usize,
+        start: Start<'a>,
+        trial: &mut Branch<'a>,
+    ) -> Result<(), BestFault>
         requires table { IsTable self.old }
         requires level { left ≤ length self.old.starts.items }
         requires inside { left ≤ length (all_ahead self.old.galley.now) }
@@ -238,19 +271,20 @@ impl<'a> Table<'a> {
         let Start { mut branch, way } = start;
         let mut left = left;
         'items: while left > 0 {
-            self.cut(alloc, left, &branch, &way)?;
+            self.cut(alloc, left, &branch, &way, trial)?;
             if !branch.take()? {
                 return Err(BestFault::Choices);
             }
             left -= 1;
-            let (filled, page) = self.page(alloc, &branch)?;
+            let filled = self.page(alloc, &branch, trial)?;
             match filled {
                 Filled::Fired { demerits } => {
                     let way = Way {
                         breaks: way.breaks,
                         demerits: way.demerits + demerits,
                     };
-                    return self.settle(alloc, left, page, way);
+                    let next = trial.copy(alloc)?;
+                    return self.settle(alloc, left, next, way, trial);
                 }
                 Filled::Quiet => {
                     if left == 0 {
@@ -273,6 +307,7 @@ impl<'a> Table<'a> {
         left: usize,
         branch: &Branch<'a>,
         way: &Way,
+        trial: &mut Branch<'a>,
     ) -> Result<(), BestFault>
         requires table { IsTable self.old }
         requires some { 0 < left }
@@ -295,7 +330,7 @@ impl<'a> Table<'a> {
         if !branch.holds_box() {
             return Ok(());
         }
-        self.put_break(alloc, left, branch, way, number)
+        self.put_break(alloc, left, branch, way, number, trial)
     }
 
     // The page into which a break is put before the next item, which has this number.
@@ -306,6 +341,7 @@ impl<'a> Table<'a> {
         branch: &Branch<'a>,
         way: &Way,
         number: usize,
+        trial: &mut Branch<'a>,
     ) -> Result<(), BestFault>
         requires table { IsTable self.old }
         requires some { 0 < left }
@@ -321,22 +357,23 @@ impl<'a> Table<'a> {
         ensures continues { OnOk result (Continues self.old self.new) }
         ensures searched { OnOk result (IsCutSearched self.new (shown branch.now) (items_ahead self.old.galley.now left) way.now.demerits (reverse way.now.breaks.items)) }
     {
-        let mut page = branch.copy(alloc)?;
-        if !page.cut()? {
+        trial.copy_from(branch, alloc)?;
+        if !trial.cut()? {
             return Err(BestFault::Choices);
         }
         let breaks = breaks_with(alloc, way.breaks.as_slice(), Some(number as u32))?;
-        match page.fill(alloc, &self.galley.params, self.penalties.as_slice())? {
+        match trial.fill(alloc, &self.galley.params, self.penalties.as_slice())? {
             Filled::Fired { demerits } => {
                 let way = Way {
                     breaks,
                     demerits: way.demerits + 1000 + demerits,
                 };
-                // Most breaks cost too much: the state is not moved for them.
+                // Most breaks cost too much: no state is made for them.
                 if way.demerits > self.bound {
                     return Ok(());
                 }
-                self.settle(alloc, left - 1, page, way)
+                let next = trial.copy(alloc)?;
+                self.settle(alloc, left - 1, next, way, trial)
             }
             Filled::Quiet | Filled::Full | Filled::Refused => Ok(()),
             Filled::TooMany => Err(BestFault::Choices),
@@ -351,6 +388,7 @@ impl<'a> Table<'a> {
         left: usize,
         branch: Branch<'a>,
         way: Way,
+        trial: &mut Branch<'a>,
     ) -> Result<(), BestFault>
         requires table { IsTable self.old }
         requires level { left < length self.old.starts.items }
@@ -364,10 +402,10 @@ impl<'a> Table<'a> {
         let mut branch = branch;
         let mut way = way;
         'fires: while way.demerits <= self.bound {
-            let (filled, page) = self.page(alloc, &branch)?;
+            let filled = self.page(alloc, &branch, trial)?;
             match filled {
                 Filled::Fired { demerits } => {
-                    branch = page;
+                    branch.copy_from(trial, alloc)?;
                     way.demerits += demerits;
                 }
                 Filled::Quiet => return self.arrive(left, branch, way),
@@ -403,16 +441,21 @@ impl<'a> Table<'a> {
         Ok(())
     }
 
-    // A copy of a state, with its page filled.
-    fn page(&self, alloc: Global, branch: &Branch<'a>) -> Result<(Filled, Branch<'a>), BestFault>
+    // Fills the page of a copy of a state.
+    fn page(
+        &self,
+        alloc: Global,
+        branch: &Branch<'a>,
+        trial: &mut Branch<'a>,
+    ) -> Result<Filled, BestFault>
         requires table { IsTable self.now }
         requires branch { IsBranch branch.now }
         requires params { branch.now.routine.machine.params ≡ self.now.galley.now.params }
 
-        ensures { IfOk result (λ x. FillsTo self.now.galley.now.params (place_penalties self.now.galley.now.items) branch.now x.0 x.1) }
+        ensures { IfOk result (λ f. FillsTo self.now.galley.now.params (place_penalties self.now.galley.now.items) branch.now f trial.new) }
     {
-        let mut page = branch.copy(alloc)?;
-        let filled = page.fill(alloc, &self.galley.params, self.penalties.as_slice())?;
-        Ok((filled, page))
+        trial.copy_from(branch, alloc)?;
+        let filled = trial.fill(alloc, &self.galley.params, self.penalties.as_slice())?;
+        Ok(filled)
     }
 }

@@ -8,7 +8,7 @@ ghost use Rattle.tb_best.specs.ItemsAhead.{all_ahead};
 ghost use Rattle.tb_best.specs.PlanDemerits.{plan_demerits};
 ghost use Rattle.tb_search.specs.Branches.{shown, IsBranch};
 ghost use Rattle.tb_search.specs.Continues.{Continues};
-ghost use Rattle.tb_search.specs.KeptStarts.{HasRow, HasRowAsGood, IsBetterOf, IsNoWorseWay, IsSameAt};
+ghost use Rattle.tb_search.specs.KeptStarts.{HasRow, HasRowAsGood, IsBetterOf, IsNeedlessAt, IsNoWorseWay, MayStandFor, StandsAt};
 ghost use Rattle.tb_search.specs.Starts.{rows_of, IsRated, IsStart, IsTable};
 ghost use Rattle.tb_search.specs.Ways.{marked, with_last};
 
@@ -128,15 +128,45 @@ impl Way {
     }
 }
 
-// The place of a state that is the same as this one but for the left column.
-fn place_of(starts: &[Start<'_>], branch: &Branch<'_>) -> Option<usize>
+impl Start<'_> {
+    // Whether this state may stand for another: they are the same but for the left column, no count of it is greater, and its
+    // way is no worse.
+    fn stands_for(&self, other: &Start<'_>) -> bool
+        requires mine { IsBranch self.now.branch }
+        requires others { IsBranch other.now.branch }
+        requires classes { (shown self.now.branch).classes ≡ (shown other.now.branch).classes }
+        ensures { result ≡ true → MayStandFor self.now other.now }
+    {
+        !other.way.is_better(&self.way)
+            && self.branch.counts_within(&other.branch)
+            && self.branch.is_same(&other.branch)
+    }
+}
+
+// The place of a state that may stand for this one.
+fn place_for(starts: &[Start<'_>], start: &Start<'_>) -> Option<usize>
     requires starts { AllByRecursion (λ x. IsBranch x.branch) starts.now }
-    requires classes { AllByRecursion (λ x. (shown x.branch).classes ≡ (shown branch.now).classes) starts.now }
-    requires branch { IsBranch branch.now }
-    ensures { IfSome result (λ k. IsSameAt starts.now k (shown branch.now)) }
+    requires classes { AllByRecursion (λ x. (shown x.branch).classes ≡ (shown start.now.branch).classes) starts.now }
+    requires start { IsBranch start.now.branch }
+    ensures { IfSome result (λ k. StandsAt starts.now k start.now) }
 {
-    for (k, start) in starts.iter().enumerate() {
-        if start.branch.is_same(branch) {
+    for (k, other) in starts.iter().enumerate() {
+        if other.stands_for(start) {
+            return Some(k);
+        }
+    }
+    None
+}
+
+// The place of a state for which this one may stand.
+fn needless_place(starts: &[Start<'_>], start: &Start<'_>) -> Option<usize>
+    requires starts { AllByRecursion (λ x. IsBranch x.branch) starts.now }
+    requires classes { AllByRecursion (λ x. (shown x.branch).classes ≡ (shown start.now.branch).classes) starts.now }
+    requires start { IsBranch start.now.branch }
+    ensures { IfSome result (λ k. IsNeedlessAt starts.now k start.now) }
+{
+    for (k, other) in starts.iter().enumerate() {
+        if start.stands_for(other) {
             return Some(k);
         }
     }
@@ -192,8 +222,8 @@ impl<'a> Table<'a> {
         })
     }
 
-    /// Keeps a state that has so many items ahead, or a better way to one that is kept. It fails if too many states are kept,
-    /// or if memory runs out.
+    /// Keeps a state that has so many items ahead, unless one that is kept may stand for it. One for which it may stand is left
+    /// out for it. It fails if too many states are kept, or if memory runs out.
     pub(crate) fn keep(
         &mut self,
         left: usize,
@@ -209,12 +239,29 @@ impl<'a> Table<'a> {
         ensures known { OnOk result (HasRowAsGood self.new left (shown branch.entry) way) }
         ensures first { rows_of self.old ≡ [] → OnOk result (HasRow self.new left (shown branch.entry) way) }
     {
-        match place_of(self.starts[left].as_slice(), &branch) {
+        let start = Start { branch, way };
+        match place_for(self.starts[left].as_slice(), &start) {
+            Some(_) => Ok(()),
+            None => self.insert(left, start),
+        }
+    }
+
+    // Keeps a state in place of one for which it may stand, or as one more.
+    fn insert(&mut self, left: usize, start: Start<'a>) -> Result<(), BestFault>
+        requires table { IsTable self.old }
+        requires left { left < length self.old.starts.items }
+        requires start { IsStart self.old.galley.now self.old.bound left start }
+
+        ensures table { OnOk result (IsTable self.new) }
+        ensures continues { OnOk result (Continues self.old self.new) }
+        ensures known { OnOk result (HasRow self.new left (shown start.entry.branch) start.entry.way) }
+    {
+        match needless_place(self.starts[left].as_slice(), &start) {
             Some(k) => {
-                self.starts[left][k].way.offer(way);
+                self.starts[left][k] = start;
                 Ok(())
             }
-            None => self.add(left, Start { branch, way }),
+            None => self.add(left, start),
         }
     }
 

@@ -1,4 +1,4 @@
-use Rattle.tb_best.proofs.LeftStates.{left-alike}
+use Rattle.tb_best.proofs.CountedStates.{left-alike}
 use Rattle.tb_best.proofs.laws.left_columns_are_alike.Goals as goal
 
 pub returns : goal.returns

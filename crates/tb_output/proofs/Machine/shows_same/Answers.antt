@@ -6,7 +6,7 @@ use Rattle.tb_output.proofs.Machine.shows_same.Goals as goal
 
 pub returns-then-not-numbers_same : goal.returns-then-not-numbers_same
 returns-then-not-numbers_same c =
-    (λ never. cc, λ same. c.if-not-numbers_same.ensures.1 (same.page, same.number, same.dead_cycles, same.goal, same.note_bottom, same.shrink))
+    (λ never. cc, λ same. c.if-not-numbers_same.ensures.1 (same.goal, same.note_bottom, same.shrink))
 
 pub returns-then-not-flags_same : goal.returns-then-not-flags_same
 returns-then-not-flags_same c =
@@ -27,14 +27,11 @@ returns-then-holds_same c =
         held_page = same_pages s t c.args.self.now.held_page c.args.other.now.held_page c.requires.machine.held_page c.requires.other_machine.held_page
             (ap (λ (v : MachineView). list_at s v.held_page) (sym c.self.view_is) ∙ c.same_lists.ensures.0 yes ∙ ap (λ (v : MachineView). list_at t v.held_page) c.other.view_is);
         floats = ap (λ (v : MachineView). v.pool.lists) (sym c.self.view_is) ∙ c.if-holds_same.ensures.0 refl ∙ ap (λ (v : MachineView). v.pool.lists) c.other.view_is;
-        goal = numbers.3;
+        goal = numbers.0;
         two_columns = flags.0;
         first_column = flags.1;
-        page = numbers.0;
-        number = numbers.1;
-        dead_cycles = numbers.2;
-        note_bottom = numbers.4;
-        shrink = numbers.5;
+        note_bottom = numbers.1;
+        shrink = numbers.2;
         suppress = flags.2;
       },
       λ same. c.same_lists.ensures.1

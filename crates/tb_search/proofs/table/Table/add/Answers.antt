@@ -9,7 +9,7 @@ use Rattle.tb_search.specs.Branches.{shown}
 use Rattle.tb_search.specs.AheadInCode.{items_ahead}
 use Rattle.tb_search.specs.Searched.{KnowsMore}
 use Rattle.tb_search.specs.Starts.{row_of, IsStart}
-use Rattle.tb_search.proofs.KeepLemmas.{all-with, known-with, known-last, level-starts, set-table, set-continues, set-rows}
+use Rattle.tb_search.proofs.KeepLemmas.{all-with, as-much, known-with, known-last, level-starts, set-table, set-continues, set-rows}
 use Rattle.tb_search.proofs.table.Table.add.Goals as goal
 
 pub returns-clause-table : goal.returns-clause-table
@@ -25,7 +25,8 @@ returns-clause-continues c = on_ok_weaker c.push_start.result (λ (h : c.push_st
     let t = c.args.self.now in
     let v = c.index_mut.result.now in
     set-continues t c.args.left c.requires.left c.requires.table c.push_start.new.starts _ (t.count + 1) refl v c.index_mut.ensures.value
-    (subst (λ (xs : List Start). KnowsMore (map (row_of t.galley.now c.args.left) v.items) (map (row_of t.galley.now c.args.left) xs)) (sym h) (known-with t.galley.now c.args.left v.items c.args.start))) c.push_start.ensures
+    (as-much t.galley.now (map (row_of t.galley.now c.args.left) v.items) (map (row_of t.galley.now c.args.left) c.push_start.new.starts.items)
+    (subst (λ (xs : List Start). KnowsMore (map (row_of t.galley.now c.args.left) v.items) (map (row_of t.galley.now c.args.left) xs)) (sym h) (known-with t.galley.now c.args.left v.items c.args.start)))) c.push_start.ensures
 
 pub returns-clause-known : goal.returns-clause-known
 returns-clause-known c = on_ok_weaker c.push_start.result (λ (h : c.push_start.new.starts.items ≡ c.index_mut.result.now.items ++ c.args.start ∷ []).

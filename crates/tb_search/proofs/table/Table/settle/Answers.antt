@@ -10,6 +10,7 @@ use Rattle.tb_search.specs.FilledBranches.{HasFired, IsQuiet, IsFull, IsRefused,
 use Rattle.tb_search.specs.AheadInCode.{items_ahead}
 use Rattle.tb_search.specs.Starts.{IsReached, IsStart, IsTable}
 use Rattle.tb_search.specs.Continues.{Continues, IsSearchedAsGoodBy}
+use Rattle.tb_search.proofs.ClosedLemmas.{fired-copied}
 use Rattle.tb_search.proofs.FuelLemmas.{fired-fewer}
 use Rattle.tb_search.proofs.LaterLemmas.{continues-itself}
 use Rattle.tb_search.proofs.ReachedWays.{start-of}
@@ -34,8 +35,8 @@ page-requires-clause-params c = c.fires.invariant.on.reached.params
 
 -- ---- a page fired
 
-fired : (c : goal.After-struct_told-in-Fired-1) → HasFired c.fires.self.galley.now.params (place_penalties c.fires.self.galley.now.items) c.in-Fired.demerits c.fires.branch c.in_ok-filled.page
-fired c = subst (λ f. FillsTo c.fires.self.galley.now.params (place_penalties c.fires.self.galley.now.items) c.fires.branch f c.in_ok-filled.page) c.in-Fired.is c.in_ok-filled.ensures
+fired : (c : goal.After-struct_told-in-Fired-1) → HasFired c.fires.self.galley.now.params (place_penalties c.fires.self.galley.now.items) c.in-Fired.demerits c.fires.branch c.page.new.trial
+fired c = subst (λ f. FillsTo c.fires.self.galley.now.params (place_penalties c.fires.self.galley.now.items) c.fires.branch f c.page.new.trial) c.in-Fired.is c.in_ok-filled.ensures
 
 range : (c : goal.After-struct_told-in-Fired-1) → c.fires.self.bound ≤ℤ pos 1000000000000000000000000000
 range c = (subst IsTable (sym c.fires.invariant.same) c.requires.table).range
@@ -43,12 +44,25 @@ range c = (subst IsTable (sym c.fires.invariant.same) c.requires.table).range
 within : (c : goal.After-struct_told-in-Fired-1) → c.fires.way.demerits ≤ℤ c.fires.self.bound
 within c = within-bound c.fires.way.demerits c.fires.self.bound c.fires.invariant.on.reached.low c.fires.invariant.on.high (range c) c.fires-test.true
 
+-- the state that goes on is a copy of the one after it
+copied : (c : goal.After-struct_told-in-Fired-1) → HasFired c.fires.self.galley.now.params (place_penalties c.fires.self.galley.now.items) c.in-Fired.demerits c.fires.branch c.copy_from.new.self
+copied c =
+    let copy = c.in_ok-copy_from-in-Fired.ensures in
+    fired-copied c.fires.self.galley.now.params (place_penalties c.fires.self.galley.now.items) c.in-Fired.demerits c.fires.branch c.page.new.trial c.copy_from.new.self copy.branch copy.state copy.ahead copy.params (fired c)
+
+pub copy_from-requires : goal.copy_from-requires
+copy_from-requires c =
+    let p = c.fires.self.galley.now.params in
+    let places = place_penalties c.fires.self.galley.now.items in
+    let after : HasFired p places c.in-Fired.demerits c.fires.branch c.page.new.trial = subst (λ f. FillsTo p places c.fires.branch f c.page.new.trial) c.in-Fired.is c.in_ok-filled.ensures in
+    after.branch
+
 pub overflow_add-way : goal.overflow_add-way
 overflow_add-way c =
     sum-fits c.fires.way.demerits c.in-Fired.demerits c.fires.invariant.on.reached.low (within-range c.fires.way.demerits c.fires.self.bound (pos 1000000000000000000000000000) (within c) (range c)) (fired c).low (page-few c.in-Fired.demerits (fired c).high)
 
 pub fires-smaller : goal.fires-smaller
-fires-smaller c = fired-fewer c.fires.self.galley.now.params (place_penalties c.fires.self.galley.now.items) c.in-Fired.demerits c.fires.branch c.in_ok-filled.page c.fires.invariant.on.reached.branch (fired c)
+fires-smaller c = fired-fewer c.fires.self.galley.now.params (place_penalties c.fires.self.galley.now.items) c.in-Fired.demerits c.fires.branch c.copy_from.new.self c.fires.invariant.on.reached.branch (copied c)
 
 pub fires-preserved : goal.fires-preserved
 fires-preserved c =
@@ -56,9 +70,9 @@ fires-preserved c =
     record {
       same = c.fires.invariant.same;
       on =
-          subst (λ d. IsFilledOn c.fires.self c.args.left x (record { branch = c.in_ok-filled.page; way = record { breaks = c.fires.way.breaks; demerits = d } }))
+          subst (λ d. IsFilledOn c.fires.self c.args.left x (record { branch = c.copy_from.new.self; way = record { breaks = c.fires.way.breaks; demerits = d } }))
           (sym (sum-is c.fires.way.demerits c.in-Fired.demerits c.fires.invariant.on.reached.low (within-range c.fires.way.demerits c.fires.self.bound (pos 1000000000000000000000000000) (within c) (range c)) (fired c).low (page-few c.in-Fired.demerits (fired c).high)))
-          (one-filled c.fires.self c.args.left x (record { branch = c.fires.branch; way = c.fires.way }) c.in_ok-filled.page c.in-Fired.demerits c.fires.invariant.on (within c) (fired c));
+          (one-filled c.fires.self c.args.left x (record { branch = c.fires.branch; way = c.fires.way }) c.copy_from.new.self c.in-Fired.demerits c.fires.invariant.on (within c) (copied c));
     }
 
 -- ---- no page fires
@@ -97,7 +111,7 @@ keep-requires-clause-left c = subst (λ (t : Table). c.args.left < length t.star
 pub keep-requires-clause-start : goal.keep-requires-clause-start
 keep-requires-clause-start c =
     let on = c.fires.invariant.on in
-    let full = subst (λ f. FillsTo c.fires.self.galley.now.params (place_penalties c.fires.self.galley.now.items) c.fires.branch f c.in_ok-filled.page) c.in-Full.is c.in_ok-filled.ensures in
+    let full = subst (λ f. FillsTo c.fires.self.galley.now.params (place_penalties c.fires.self.galley.now.items) c.fires.branch f c.page.new.trial) c.in-Full.is c.in_ok-filled.ensures in
     start-of c.fires.self.galley.now c.fires.self.bound c.args.left (record { branch = c.fires.branch; way = c.fires.way }) on.reached c.if-left-gt0.true (full-may c.fires.self.galley.now (shown c.fires.branch) full)
     (within-bound c.fires.way.demerits c.fires.self.bound on.reached.low on.high (subst IsTable (sym c.fires.invariant.same) c.requires.table).range c.fires-test.true)
 
@@ -120,7 +134,7 @@ returns-in-Full-clause-continues c = subst (λ (t : Table). Continues t c.fires.
 
 pub returns-in-Full-clause-searched : goal.returns-in-Full-clause-searched
 returns-in-Full-clause-searched c =
-    let full = subst (λ f. FillsTo c.fires.self.galley.now.params (place_penalties c.fires.self.galley.now.items) c.fires.branch f c.in_ok-filled.page) c.in-Full.is c.in_ok-filled.ensures in
+    let full = subst (λ f. FillsTo c.fires.self.galley.now.params (place_penalties c.fires.self.galley.now.items) c.fires.branch f c.page.new.trial) c.in-Full.is c.in_ok-filled.ensures in
     subst (λ (t : Table). IsStartSearched t.galley.now c.args.left (record { branch = c.args.branch; way = c.args.way }) c.fires.self) c.fires.invariant.same
     (filled-full c.fires.self c.args.left (record { branch = c.args.branch; way = c.args.way }) (record { branch = c.fires.branch; way = c.fires.way }) c.fires.invariant.on (let e = c.if-left-gt0.false in omega (arith, e)) full)
 
@@ -134,7 +148,7 @@ returns-in-Refused-clause-continues c = subst (λ (t : Table). Continues t c.fir
 
 pub returns-in-Refused-clause-searched : goal.returns-in-Refused-clause-searched
 returns-in-Refused-clause-searched c =
-    let refused = subst (λ f. FillsTo c.fires.self.galley.now.params (place_penalties c.fires.self.galley.now.items) c.fires.branch f c.in_ok-filled.page) c.in-Refused.is c.in_ok-filled.ensures in
+    let refused = subst (λ f. FillsTo c.fires.self.galley.now.params (place_penalties c.fires.self.galley.now.items) c.fires.branch f c.page.new.trial) c.in-Refused.is c.in_ok-filled.ensures in
     subst (λ (t : Table). IsStartSearched t.galley.now c.args.left (record { branch = c.args.branch; way = c.args.way }) c.fires.self) c.fires.invariant.same
     (filled-refused c.fires.self c.args.left (record { branch = c.args.branch; way = c.args.way }) (record { branch = c.fires.branch; way = c.fires.way }) c.fires.invariant.on refused)
 

@@ -3,17 +3,16 @@ use Rattle.std.proofs.lemmas.Result.{on_ok_weaker}
 use Rattle.tb_rate.specs.Places.{place_penalties}
 use Rattle.tb_best.specs.PlanDemerits.{unlimited_step}
 use Rattle.tb_search.specs.declared.table.Start.{Start}
-use Rattle.tb_search.specs.declared.branch.Filled.{Filled}
-use Rattle.tb_search.specs.declared.branch.Filled.TheVariants as filled
 use Rattle.tb_search.specs.Branches.{shown}
-use Rattle.tb_search.specs.FilledBranches.{HasFired, IsQuiet, IsRefused, IsRefusal, FillsTo}
-use Rattle.tb_search.specs.Starts.{IsReached, MayTake}
+use Rattle.tb_search.specs.FilledBranches.{HasFired, IsQuiet, IsFull, IsRefused, IsRefusal, FillsTo}
+use Rattle.tb_search.specs.Starts.{IsReached}
 use Rattle.tb_search.specs.Continues.{IsTakenOn}
+use Rattle.tb_search.proofs.ClosedLemmas.{fired-copied}
 use Rattle.tb_search.proofs.ExpandLemmas.{none-taken, next-taken-on, inside-now, level-now, taken-refused, taken-ended, taken-left, summed-fits, summed-high, summed-reached, summed-searched}
 use Rattle.tb_search.proofs.ReachedWays.{start-reached, end-rated}
 use Rattle.tb_search.proofs.SearchSteps.{if-both, full-may}
 use Rattle.tb_search.proofs.table.Table.step_on.Goals as goal
-use Rattle.tb_search.proofs.table.Table.step_on.Goals.{Else-not-branch, in-Quiet+else-left-eq0, in-Full}
+use Rattle.tb_search.proofs.table.Table.step_on.Goals.{Else-not-branch}
 
 -- ---- the loop
 
@@ -66,24 +65,35 @@ overflow_add-way c =
     let e = (goal.at.overflow_add-way c).Else-not-branch in
     let p = c.cut.new.self.galley.now.params in
     let places = place_penalties c.cut.new.self.galley.now.items in
-    let fired : HasFired p places c.in-Fired.demerits c.take.new.self c.in_ok-filled.page = subst (λ f. FillsTo p places c.take.new.self f c.in_ok-filled.page) c.in-Fired.is c.in_ok-filled.ensures in
-    summed-fits c.args.self.now c.args.left c.args.start c.cut.new.self (c.items.left - 1) (after e) (taken e) c.in_ok-cut.ensures.table.range c.in_ok-filled.page c.in-Fired.demerits fired
+    let fired : HasFired p places c.in-Fired.demerits c.take.new.self c.page.new.trial = subst (λ f. FillsTo p places c.take.new.self f c.page.new.trial) c.in-Fired.is c.in_ok-filled.ensures in
+    summed-fits c.args.self.now c.args.left c.args.start c.cut.new.self (c.items.left - 1) (after e) (taken e) c.in_ok-cut.ensures.table.range c.page.new.trial c.in-Fired.demerits fired
+
+pub copy-requires : goal.copy-requires
+copy-requires c =
+    let p = c.cut.new.self.galley.now.params in
+    let places = place_penalties c.cut.new.self.galley.now.items in
+    let fired : HasFired p places c.in-Fired.demerits c.take.new.self c.page.new.trial = subst (λ f. FillsTo p places c.take.new.self f c.page.new.trial) c.in-Fired.is c.in_ok-filled.ensures in
+    fired.branch
 
 pub settle-requires-clause-reached : goal.settle-requires-clause-reached
 settle-requires-clause-reached c =
     let e = (goal.at.settle-requires-clause-reached c).Else-not-branch in
     let p = c.cut.new.self.galley.now.params in
     let places = place_penalties c.cut.new.self.galley.now.items in
-    let fired : HasFired p places c.in-Fired.demerits c.take.new.self c.in_ok-filled.page = subst (λ f. FillsTo p places c.take.new.self f c.in_ok-filled.page) c.in-Fired.is c.in_ok-filled.ensures in
-    summed-reached c.args.self.now c.args.left c.args.start c.cut.new.self (c.items.left - 1) (after e) (taken e) c.in_ok-cut.ensures.table.range c.in_ok-filled.page c.in-Fired.demerits fired
+    let fired : HasFired p places c.in-Fired.demerits c.take.new.self c.page.new.trial = subst (λ f. FillsTo p places c.take.new.self f c.page.new.trial) c.in-Fired.is c.in_ok-filled.ensures in
+    let copy = c.in_ok-next-in-Fired.ensures in
+    let next : HasFired p places c.in-Fired.demerits c.take.new.self c.in_ok-next-in-Fired.next = fired-copied p places c.in-Fired.demerits c.take.new.self c.page.new.trial c.in_ok-next-in-Fired.next copy.branch copy.state copy.ahead copy.params fired in
+    summed-reached c.args.self.now c.args.left c.args.start c.cut.new.self (c.items.left - 1) (after e) (taken e) c.in_ok-cut.ensures.table.range c.in_ok-next-in-Fired.next c.in-Fired.demerits next
 
 pub settle-requires-clause-high : goal.settle-requires-clause-high
 settle-requires-clause-high c =
     let e = (goal.at.settle-requires-clause-high c).Else-not-branch in
     let p = c.cut.new.self.galley.now.params in
     let places = place_penalties c.cut.new.self.galley.now.items in
-    let fired : HasFired p places c.in-Fired.demerits c.take.new.self c.in_ok-filled.page = subst (λ f. FillsTo p places c.take.new.self f c.in_ok-filled.page) c.in-Fired.is c.in_ok-filled.ensures in
-    summed-high c.args.self.now c.args.left c.args.start c.cut.new.self (c.items.left - 1) (after e) (taken e) c.in_ok-cut.ensures.table.range c.in_ok-filled.page c.in-Fired.demerits fired
+    let fired : HasFired p places c.in-Fired.demerits c.take.new.self c.page.new.trial = subst (λ f. FillsTo p places c.take.new.self f c.page.new.trial) c.in-Fired.is c.in_ok-filled.ensures in
+    let copy = c.in_ok-next-in-Fired.ensures in
+    let next : HasFired p places c.in-Fired.demerits c.take.new.self c.in_ok-next-in-Fired.next = fired-copied p places c.in-Fired.demerits c.take.new.self c.page.new.trial c.in_ok-next-in-Fired.next copy.branch copy.state copy.ahead copy.params fired in
+    summed-high c.args.self.now c.args.left c.args.start c.cut.new.self (c.items.left - 1) (after e) (taken e) c.in_ok-cut.ensures.table.range c.in_ok-next-in-Fired.next c.in-Fired.demerits next
 
 pub settle-requires-clause-level : goal.settle-requires-clause-level
 settle-requires-clause-level c =
@@ -100,9 +110,11 @@ returns-in-Fired-clause-searched c =
     let e = (goal.at.returns-in-Fired-clause-searched c).Else-not-branch in
     let p = c.cut.new.self.galley.now.params in
     let places = place_penalties c.cut.new.self.galley.now.items in
-    let fired : HasFired p places c.in-Fired.demerits c.take.new.self c.in_ok-filled.page = subst (λ f. FillsTo p places c.take.new.self f c.in_ok-filled.page) c.in-Fired.is c.in_ok-filled.ensures in
+    let fired : HasFired p places c.in-Fired.demerits c.take.new.self c.page.new.trial = subst (λ f. FillsTo p places c.take.new.self f c.page.new.trial) c.in-Fired.is c.in_ok-filled.ensures in
+    let copy = c.in_ok-next-in-Fired.ensures in
+    let next : HasFired p places c.in-Fired.demerits c.take.new.self c.in_ok-next-in-Fired.next = fired-copied p places c.in-Fired.demerits c.take.new.self c.page.new.trial c.in_ok-next-in-Fired.next copy.branch copy.state copy.ahead copy.params fired in
     if-both c.settle.result _ _ _ c.settle.ensures.continues c.settle.ensures.searched
-    (λ on searched. summed-searched c.args.self.now c.args.left c.args.start c.cut.new.self (c.items.left - 1) (after e) (taken e) c.in_ok-cut.ensures.table.range c.in_ok-filled.page c.in-Fired.demerits fired c.settle.new.self on searched)
+    (λ on searched. summed-searched c.args.self.now c.args.left c.args.start c.cut.new.self (c.items.left - 1) (after e) (taken e) c.in_ok-cut.ensures.table.range c.in_ok-next-in-Fired.next c.in-Fired.demerits next c.settle.new.self on searched)
 
 -- ---- the run ends well
 
@@ -112,7 +124,7 @@ end-requires-clause-rated c =
     let none : c.items.left - 1 ≡ 0 = let t = c.if-left-eq0.true in omega (arith, t) in
     let p = c.cut.new.self.galley.now.params in
     let places = place_penalties c.cut.new.self.galley.now.items in
-    let quiet : IsQuiet p (shown c.take.new.self) = subst (λ f. FillsTo p places c.take.new.self f c.in_ok-filled.page) c.in-Quiet.is c.in_ok-filled.ensures in
+    let quiet : IsQuiet p (shown c.take.new.self) = subst (λ f. FillsTo p places c.take.new.self f c.page.new.trial) c.in-Quiet.is c.in_ok-filled.ensures in
     end-rated c.cut.new.self.galley.now (after e) (subst (λ n. IsReached c.cut.new.self.galley.now n (after e)) none (taken e).reached) quiet
 
 pub end-requires-clause-bounded : goal.end-requires-clause-bounded
@@ -127,7 +139,7 @@ returns-then-left-eq0-clause-searched c =
     let none : c.items.left - 1 ≡ 0 = let t = c.if-left-eq0.true in omega (arith, t) in
     let p = c.cut.new.self.galley.now.params in
     let places = place_penalties c.cut.new.self.galley.now.items in
-    let quiet : IsQuiet p (shown c.take.new.self) = subst (λ f. FillsTo p places c.take.new.self f c.in_ok-filled.page) c.in-Quiet.is c.in_ok-filled.ensures in
+    let quiet : IsQuiet p (shown c.take.new.self) = subst (λ f. FillsTo p places c.take.new.self f c.page.new.trial) c.in-Quiet.is c.in_ok-filled.ensures in
     taken-ended c.args.self.now c.args.left c.args.start c.cut.new.self (c.items.left - 1) (after e) (taken e) c.end.new.self none quiet c.end.ensures.continues c.end.ensures.best
 
 -- ---- no run goes on
@@ -140,23 +152,24 @@ returns-in-Refused-clause-searched c =
     let e = (goal.at.returns-in-Refused-clause-searched c).Else-not-branch in
     let p = c.cut.new.self.galley.now.params in
     let places = place_penalties c.cut.new.self.galley.now.items in
-    let refused : IsRefused p (shown c.take.new.self) = subst (λ f. FillsTo p places c.take.new.self f c.in_ok-filled.page) c.in-Refused.is c.in_ok-filled.ensures in
+    let refused : IsRefused p (shown c.take.new.self) = subst (λ f. FillsTo p places c.take.new.self f c.page.new.trial) c.in-Refused.is c.in_ok-filled.ensures in
     taken-refused c.args.self.now c.args.left c.args.start c.cut.new.self (c.items.left - 1) (after e) (taken e) refused
 
 -- ---- the next item
+
+pub items-preserved-else-left-eq0 : goal.items-preserved-else-left-eq0
+items-preserved-else-left-eq0 c =
+    let p = c.cut.new.self.galley.now.params in
+    let places = place_penalties c.cut.new.self.galley.now.items in
+    let quiet : IsQuiet p (shown c.take.new.self) = subst (λ f. FillsTo p places c.take.new.self f c.page.new.trial) c.in-Quiet.is c.in_ok-filled.ensures in
+    record { table = c.in_ok-cut.ensures.table; on = taken (goal.at.items-preserved-else-left-eq0 c).Else-not-branch; may = inl quiet.quiet; some = inl (let t = c.if-left-eq0.false in omega (arith, t)) }
 
 pub items-preserved : goal.items-preserved
 items-preserved c =
     let p = c.cut.new.self.galley.now.params in
     let places = place_penalties c.cut.new.self.galley.now.items in
-    let of : (f : Filled) → c.in_ok-filled.filled ≡ f → FillsTo p places c.take.new.self f c.in_ok-filled.page = λ f is. subst (λ f. FillsTo p places c.take.new.self f c.in_ok-filled.page) is c.in_ok-filled.ensures in
-    let going : MayTake c.cut.new.self.galley.now (shown c.take.new.self) × ((0 < (c.items.left - 1)) ⊎ IsRefusal (unlimited_step c.cut.new.self.galley.now.params (shown c.take.new.self))) =
-    elim c.match-filled.branch [
-      | in-Quiet+else-left-eq0 w ↦ (inl (of filled.Quiet w.in-Quiet.is).quiet, inl (let t = w.if-left-eq0.false in omega (arith, t)))
-      | in-Full w ↦ (full-may c.cut.new.self.galley.now (shown c.take.new.self) (of filled.Full w.in-Full.is), inr (of filled.Full w.in-Full.is).step)
-    ]
-    in
-    record { table = c.in_ok-cut.ensures.table; on = taken (goal.at.items-preserved c).Else-not-branch; may = going.0; some = going.1 }
+    let full : IsFull p (shown c.take.new.self) = subst (λ f. FillsTo p places c.take.new.self f c.page.new.trial) c.in-Full.is c.in_ok-filled.ensures in
+    record { table = c.in_ok-cut.ensures.table; on = taken (goal.at.items-preserved c).Else-not-branch; may = full-may c.cut.new.self.galley.now (shown c.take.new.self) full; some = inr full.step }
 
 pub returns-clause-levels : goal.returns-clause-levels
 returns-clause-levels c = c.items.invariant.on.levels

@@ -10,11 +10,11 @@ use Rattle.tb_search.proofs.table.Table.stop_behind.Goals as goal
 pub items-init : goal.items-init
 items-init c =
     let g = c.args.self.now.galley.now in
-    let copy = c.in_ok-branch.ensures in
+    let copy = c.in_ok-copy_from.ensures in
     let fewer = c.requires.fewer in
     let all : c.args.count ≡ c.args.left - (c.args.left - c.args.count) = omega (arith, fewer) in
     record {
-      reached = reached-copy g c.args.left c.args.start.now c.in_ok-branch.branch c.requires.reached copy.branch copy.state copy.ahead copy.params;
+      reached = reached-copy g c.args.left c.args.start.now c.copy_from.new.self c.requires.reached copy.branch copy.state copy.ahead copy.params;
       above = omega arith;
       below = omega arith;
       same = λ i. state_with (nodes_of_first (all i) (items_ahead g c.args.left)) (sym copy.state i);
@@ -27,7 +27,7 @@ pub items-preserved : goal.items-preserved
 items-preserved c =
     let g = c.args.self.now.galley.now in
     let i = c.items.invariant in
-    let x : Start = record { branch = c.items.branch; way = c.args.start.now.way } in
+    let x : Start = record { branch = c.items.trial; way = c.args.start.now.way } in
     let test = c.items-test.true in
     let below = i.below in
     let inside = c.requires.inside in
@@ -50,5 +50,5 @@ returns c none =
     let g = c.args.self.now.galley.now in
     let i = c.items.invariant in
     let test = c.items-test.false in
-    far-calm g.params c.items.branch.routine.machine.params (shown c.args.start.now.branch) (shown c.items.branch) (items_ahead g c.args.left) (items_ahead g c.items.behind) c.args.count (c.items.behind - (c.args.left - c.args.count)) i.same
+    far-calm g.params c.items.trial.routine.machine.params (shown c.args.start.now.branch) (shown c.items.trial) (items_ahead g c.args.left) (items_ahead g c.items.behind) c.args.count (c.items.behind - (c.args.left - c.args.count)) i.same
     (omega (arith, test)) i.reached.params (c.in_ok-line.ensures none)
