@@ -14,6 +14,7 @@ pub use same::same_lists;
 pub use signals::{CLEAR_PENALTY, FOOTNOTES, HOLD_PENALTY, PAR_PENALTY, VERT_PENALTY};
 pub use sizes::{list_extent, room_of};
 use std::marker::Model;
+use tb_param::Change;
 use tb_pool::ListId;
 use tb_scaled::Glue;
 
@@ -227,6 +228,8 @@ pub enum Act {
     /// Puts a title over both columns: a double float of class 0, which waits at the end of its list until the pair is made
     /// (ltoutput.dtx, \@topnewpage).
     Head(Float),
+    /// Sets a parameter.
+    Set(Change),
 }
 
 /// The kinds of node.

@@ -62,6 +62,7 @@ impl Act {
             (Act::Columns { two: a }, Act::Columns { two: b }) => *a == *b,
             (Act::Page(a), Act::Page(b)) => *a == *b,
             (Act::Head(a), Act::Head(b)) => a.is_same(b),
+            (Act::Set(a), Act::Set(b)) => a.is_same(b),
             _ => false,
         }
     }

@@ -1,5 +1,6 @@
 -- Parameters stay in their ranges if one is set to a value in its row's range.
 use Rattle.std.proofs.Common.{◌≡◌, ℕ, zero, suc, ℤ, pos, negsuc, Bool, true, false, ◌&&◌, List, [], ◌∷◌, map, set, Option, Some, None, Ok, bytes_eq, if◌then◌else◌, refl, ap, subst, sym, ◌∙◌}
+use Rattle.std.specs.Prelude.{slice_get, unwrap_or, codes}
 use Rattle.std.specs.Cmp.{first_so, second_so}
 use Rattle.std.proofs.lemmas.Bool.{and_from}
 use Rattle.tb_param.specs.declared.params.Params.{Params}
@@ -8,12 +9,17 @@ use Rattle.tb_param.specs.declared.Value.{Value}
 use Rattle.tb_param.specs.declared.Value.TheVariants as kinds
 use Rattle.tb_param.specs.declared.table.Form.{Form}
 use Rattle.tb_param.specs.declared.table.Form.TheVariants as forms
-use Rattle.tb_param.specs.Fields.{with_value}
+use Rattle.tb_param.specs.declared.fields.Field.{Field}
+use Rattle.tb_param.specs.declared.fields.Field.TheVariants as fields
+use Rattle.tb_param.specs.declared.changes.Change.{Change}
+use Rattle.tb_param.specs.Fields.{value_of, with_value, place}
+use Rattle.tb_param.specs.Changes.{row_of_field, is_in_range, with_whole, changed}
 use Rattle.tb_param.specs.Values.{amount_of, glue_of, choice_of, rule_of}
-use Rattle.tb_param.specs.Table.{Row, rows, row_in, row_of, value_fault, set_unless, set_by, set_to}
+use Rattle.tb_param.specs.Table.{Row, named, rows, row_in, row_of, value_fault, set_unless, set_by, set_to}
 use Rattle.tb_param.specs.Defaults.{default_params}
 use Rattle.tb_param.specs.Ranges.{is_no_fault, are_params}
-use Rattle.tb_param.proofs.AllSet.{values, place, shaped, one_set}
+use Rattle.tb_param.proofs.AllSet.{values, shaped, one_set}
+use Rattle.tb_param.proofs.ChangeLemmas.{own-row}
 
 -- whether a value is in the range of a form
 abbrev pub fits : Form → Value → Bool
@@ -258,6 +264,52 @@ by_in_range name v p q (Some r) found h all = unless_in_range name r v p q found
 -- so does `set`
 pub set_in_range : (name : List ℕ) (v : Value) (p q : Params) → set_to name v p ≡ Ok q → are_params p ≡ true → are_params q ≡ true
 set_in_range name v p q h all = by_in_range name v p q (row_of name) refl h all
+
+-- ---- a parameter that is set among the items
+
+row-at : (P : Row → Type 0) (rs : List Row) (k : ℕ) (d : Row) → AllRows P rs → P d → P (unwrap_or (slice_get rs k) d)
+row-at P [] k d all h = h
+row-at P (r ∷ rs) zero d all h = all.0
+row-at P (r ∷ rs) (suc k) d all h = row-at P rs k d all.1 h
+
+-- a value in the range of its parameter keeps all in their ranges
+pub put-in-range : (f : Field) (v : Value) (p : Params) → fits (row_of_field f).form v ≡ true → are_params p ≡ true → are_params (with_value f v p) ≡ true
+put-in-range f v p good h =
+    as_fits (with_value f v p)
+    ∙ ap (λ vs. fits_all row_forms vs) (one_set f v p)
+    ∙ set_fits row_forms (values p) (place f) (shaped f v) (subst (λ (g : Field). fits_at row_forms (place g) (shaped g v) ≡ true) (own-row f) (row-at FitsPlace rows (place f) (named (codes "textheight") fields.Textheight (forms.Dim (pos 1))) rows_fit (dim_fits (pos 1)) v good)) (sym (as_fits p) ∙ h)
+
+-- a value that a parameter has is in its range
+held-fits : (fs : List Form) (vs : List Value) (k : ℕ) (v : Value) → fits_all fs vs ≡ true → slice_get vs k ≡ Some v → fits_at fs k v ≡ true
+held-fits [] vs k v all e = refl
+held-fits (f ∷ fs) [] k v all e = cc
+held-fits (f ∷ fs) (w ∷ vs) zero v all e = let same : w ≡ v = cc in subst (λ (x : Value). fits f x ≡ true) same (first_so (fits f w) (fits_all fs vs) all)
+held-fits (f ∷ fs) (w ∷ vs) (suc k) v all e = held-fits fs vs k v (second_so (fits f w) (fits_all fs vs) all) e
+
+-- so does the value of other parameters that are in their ranges
+own-in-range : (f : Field) (p q : Params) → slice_get (values p) (place f) ≡ Some (shaped f (value_of f p)) → are_params p ≡ true → are_params q ≡ true → are_params (with_value f (value_of f p) q) ≡ true
+own-in-range f p q e hp hq =
+    as_fits (with_value f (value_of f p) q)
+    ∙ ap (λ vs. fits_all row_forms vs) (one_set f (value_of f p) q)
+    ∙ set_fits row_forms (values q) (place f) (shaped f (value_of f p)) (held-fits row_forms (values p) (place f) (shaped f (value_of f p)) (sym (as_fits p) ∙ hp) e) (sym (as_fits q) ∙ hq)
+
+whole-in-range : (p q : Params) → are_params p ≡ true → are_params q ≡ true → are_params (with_whole p q) ≡ true
+whole-in-range p q hp hq =
+    own-in-range fields.Footlimit p _ refl hp
+    (own-in-range fields.Skipfootins p _ refl hp
+    (own-in-range fields.Release p _ refl hp
+    (own-in-range fields.Maxnodes p _ refl hp
+    (own-in-range fields.Maxpages p _ refl hp
+    (own-in-range fields.Maxdeadcycles p _ refl hp
+    (own-in-range fields.Pool p q refl hp hq))))))
+
+-- setting one among the items keeps all in their ranges
+pub changed-in-range : (p : Params) (c : Change) → are_params p ≡ true → are_params (changed p c) ≡ true
+changed-in-range p c h = whole-in-range p (if is_in_range c then with_value c.field c.value p else p) h (by_test (is_in_range c) refl)
+  where
+    by_test : (t : Bool) → is_in_range c ≡ t → are_params (if t then with_value c.field c.value p else p) ≡ true
+    by_test true e = put-in-range c.field c.value p e h
+    by_test false e = h
 
 -- the defaults are in their ranges
 pub defaults_are_in_range : are_params default_params ≡ true

@@ -29,3 +29,4 @@ IsSizedAct (acts.Suppress area) = Unit {0}
 IsSizedAct (acts.Columns two) = Unit {0}
 IsSizedAct (acts.Page n) = n ≤ 1000000
 IsSizedAct (acts.Head f) = IsExtent f.height
+IsSizedAct (acts.Set c) = Unit {0}
