@@ -10,11 +10,12 @@ use Rattle.tb_text.specs.Numbers.{integer_of, dimension_of, stretch_of, fraction
 use Rattle.tb_param.specs.declared.table.Form.{Form}
 use Rattle.tb_param.specs.declared.table.Form.TheVariants as forms
 use Rattle.tb_param.specs.Table.{Row, row_for}
+use Rattle.tb_param.specs.declared.changes.SetPlace.{SetPlace}
 use Rattle.tb_galley.specs.declared.Cause.{Cause}
 use Rattle.tb_galley.specs.declared.Cause.TheVariants as causes
-use Rattle.tb_galley.specs.Words.{LineWord, header, setting, class_line, hbox, rule, skip, kern, penalty, mark, note, foot, endfoot, float, margin, newpage, clearpage, pagebreak, nopagebreak, onecolumn, twocolumn, suppressfloats, page_number, title, enlarge, end, Line, Phase, at_start, among_sets, among_items, after_two, in_foot, ended, phase_after, item_count, content_at, is_item_word, Known, known_after, word_here}
+use Rattle.tb_galley.specs.Words.{LineWord, header, setting, class_line, hbox, rule, skip, kern, penalty, mark, note, foot, endfoot, float, margin, newpage, clearpage, pagebreak, nopagebreak, onecolumn, twocolumn, suppressfloats, page_number, title, enlarge, end, Line, Phase, at_start, among_sets, among_items, after_clear, after_two, in_foot, ended, phase_after, item_count, content_at, counts_word, Known, known_after, word_here}
 use Rattle.tb_galley.specs.Fields.{Slot, name_slot, parameter_slot, dimension_slot, least_slot, range_slot, stretch_slot, fraction_slot, word_slot, places_slot, seen_slot, wrong_slot, test_slot, class_slot, slot_cause, text_cause, cause_of_read, row_cause, glue_slots, stretch_slots, shrink_slots, past_one, form_slots, row_slots, set_slots, foot_slots, suppress_slots, star_slots, word_slots, drawn_slots, rule_slots, nobreak_slots, past_six, ruled_glue_slots, below_slot, standing_slots}
-use Rattle.tb_galley.specs.Faults.{cause_rank, cause_if, causes_in, ascii_causes, is_printable, place_causes, item_causes, missing_cause, value_causes, later_causes, all_content_causes, line_causes, end_causes, causes_from}
+use Rattle.tb_galley.specs.Faults.{cause_rank, cause_if, causes_in, ascii_causes, is_printable, asked_place, may_be_set, set_causes, place_causes, item_causes, missing_cause, value_causes, later_causes, all_content_causes, line_causes, end_causes, causes_from}
 use Rattle.tb_galley.proofs.FirstFaults.{is_led}
 
 -- ---- the word and its place
@@ -24,25 +25,40 @@ is_placed [] = true
 is_placed (c ∷ []) = nat_le 3 (cause_rank c) && nat_le (cause_rank c) 15
 is_placed (c ∷ d ∷ cs) = false
 
-placed : (p : Phase) (w : Option LineWord) → is_placed (place_causes p w) ≡ true
-placed at_start None = refl
-placed at_start (Some header) = refl
-placed at_start (Some _) = refl
-placed among_sets None = refl
-placed among_sets (Some header) = refl
-placed among_sets (Some _) = refl
-placed among_items None = refl
-placed among_items (Some header) = refl
-placed among_items (Some _) = refl
-placed after_two None = refl
-placed after_two (Some header) = refl
-placed after_two (Some _) = refl
-placed in_foot None = refl
-placed in_foot (Some header) = refl
-placed in_foot (Some _) = refl
-placed ended None = refl
-placed ended (Some header) = refl
-placed ended (Some _) = refl
+set_placed : (p : Phase) (a : Option SetPlace) → is_placed (set_causes p a) ≡ true
+set_placed p None = refl
+set_placed p (Some place) = by_test (may_be_set p place)
+  where
+    by_test : (t : Bool) → is_placed (cause_if (not t) causes.SetAfterItem) ≡ true
+    by_test true = refl
+    by_test false = refl
+
+placed : (p : Phase) (a : Option SetPlace) (w : Option LineWord) → is_placed (place_causes p a w) ≡ true
+placed at_start a None = refl
+placed at_start a (Some header) = refl
+placed at_start a (Some _) = refl
+placed among_sets a None = refl
+placed among_sets a (Some header) = refl
+placed among_sets a (Some _) = refl
+placed among_items a None = refl
+placed among_items a (Some header) = refl
+placed among_items a (Some setting) = set_placed among_items a
+placed among_items a (Some _) = refl
+placed after_clear a None = refl
+placed after_clear a (Some header) = refl
+placed after_clear a (Some setting) = set_placed after_clear a
+placed after_clear a (Some _) = refl
+placed after_two a None = refl
+placed after_two a (Some header) = refl
+placed after_two a (Some setting) = set_placed after_two a
+placed after_two a (Some _) = refl
+placed in_foot a None = refl
+placed in_foot a (Some header) = refl
+placed in_foot a (Some setting) = set_placed in_foot a
+placed in_foot a (Some _) = refl
+placed ended a None = refl
+placed ended a (Some header) = refl
+placed ended a (Some _) = refl
 
 pub led_head : (a t : Bool) (xs : List Cause) → is_placed xs ≡ true → is_led ((cause_if a causes.NotAscii ++ xs) ++ cause_if t causes.Items) ≡ true
 led_head true true [] h = refl
@@ -55,9 +71,9 @@ led_head false true (c ∷ []) h = grind (arith, nat_tests)
 led_head false false (c ∷ []) h = refl
 led_head a t (c ∷ d ∷ cs) h = cc
 
-led_content_head : (a : Bool) (p : Phase) (n : ℕ) (u w : Option LineWord) → is_led ((cause_if a causes.NotAscii ++ place_causes p u) ++ item_causes n w) ≡ true
-led_content_head a p n u None = led_head a false (place_causes p u) (placed p u)
-led_content_head a p n u (Some w) = led_head a (is_item_word w && nat_le 100000 n) (place_causes p u) (placed p u)
+led_content_head : (a : Bool) (p : Phase) (s : Option SetPlace) (n : ℕ) (u w : Option LineWord) → is_led ((cause_if a causes.NotAscii ++ place_causes p s u) ++ item_causes n w) ≡ true
+led_content_head a p s n u None = led_head a false (place_causes p s u) (placed p s u)
+led_content_head a p s n u (Some w) = led_head a (counts_word n w && nat_le 100000 n) (place_causes p s u) (placed p s u)
 
 -- ---- the later fields
 
@@ -263,8 +279,8 @@ led_later k (Some w) fs = led_values (missing_cause w) (word_slots k fs w) fs (l
 led_content : (p : Phase) (k : Known) (n : ℕ) (ls : List Line) → list_all is_led (all_content_causes p k n ls) ≡ true
 led_content p k n [] = refl
 led_content p k n (l ∷ ls) =
-    and_from (is_led (ascii_causes l.head ++ place_causes p (word_here k l.word) ++ item_causes n l.word)) (list_all is_led (later_causes k (word_here k l.word) l.fields))
-    (led_content_head (not (list_all is_printable l.head)) p n (word_here k l.word) l.word) (led_later k (word_here k l.word) l.fields)
+    and_from (is_led (ascii_causes l.head ++ place_causes p (asked_place k.version l.fields) (word_here k l.word) ++ item_causes n l.word)) (list_all is_led (later_causes k (word_here k l.word) l.fields))
+    (led_content_head (not (list_all is_printable l.head)) p (asked_place k.version l.fields) n (word_here k l.word) l.word) (led_later k (word_here k l.word) l.fields)
 
 pub led_length : (t : Bool) → is_led (cause_if t causes.LineLength) ≡ true
 led_length true = refl
@@ -279,6 +295,7 @@ led_end : (p : Phase) → list_all is_led (end_causes p ∷ []) ≡ true
 led_end at_start = refl
 led_end among_sets = refl
 led_end among_items = refl
+led_end after_clear = refl
 led_end after_two = refl
 led_end in_foot = refl
 led_end ended = refl

@@ -10,7 +10,7 @@ use Rattle.tb_galley.specs.declared.Fault.{Fault}
 use Rattle.tb_galley.specs.declared.Galley.{Galley}
 use Rattle.tb_galley.specs.declared.GalleyFault.{GalleyFault}
 use Rattle.tb_galley.specs.declared.fields.At.{At}
-use Rattle.tb_galley.specs.Words.{word_passes, is_item_word}
+use Rattle.tb_galley.specs.Words.{word_passes, counts_word}
 use Rattle.tb_galley.specs.Line.{Said, line_left}
 use Rattle.tb_galley.specs.Faults.{fault}
 use Rattle.tb_galley.specs.Grammar.{grammar, spelled, input_limit}
@@ -99,7 +99,7 @@ count_by n false = omega arith
 
 follows_said : (s : State) (r : Result (Option Said) At) → Follows s (said_unless s r)
 follows_said s (Ok None) = record { lines = omega arith; count = omega arith }
-follows_said s (Ok (Some w)) = record { lines = omega arith; count = count_by s.count (word_passes is_item_word (Some w.0)) }
+follows_said s (Ok (Some w)) = record { lines = omega arith; count = count_by s.count (word_passes (counts_word s.count) (Some w.0)) }
 follows_said s (Err e) = record { lines = omega arith; count = omega arith }
 
 follows_first : (s : State) (bytes : List ℕ) (o : Option Fault) → Follows s (said_first s bytes o)

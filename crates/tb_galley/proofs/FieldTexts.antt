@@ -9,13 +9,13 @@ use Rattle.tb_text.proofs.LineTexts.{fields_of-first, fields_of-last, is_line_by
 use Rattle.tb_text.proofs.NumberTexts.{all_more}
 use Rattle.tb_galley.specs.declared.Cause.{Cause}
 use Rattle.tb_galley.specs.declared.Cause.TheVariants as causes
-use Rattle.tb_galley.specs.Words.{LineWord, Phase, line_at, content_at, word_of, Known, word_here}
+use Rattle.tb_galley.specs.Words.{LineWord, Phase, count_with, line_at, content_at, word_of, Known, word_here}
 use Rattle.tb_galley.specs.Fields.{Slot, slot_cause, word_slots}
-use Rattle.tb_galley.specs.Faults.{is_printable, cause_if, causes_in, ascii_causes, value_causes, missing_cause, place_causes, item_causes}
+use Rattle.tb_galley.specs.Faults.{is_printable, cause_if, causes_in, ascii_causes, value_causes, missing_cause, asked_place, place_causes, item_causes}
 use Rattle.tb_galley.specs.Grammar.{Draft, with_content, content_of}
 use Rattle.tb_galley.specs.FieldReader.{◌>>=◌, at_fault, settled}
 use Rattle.tb_galley.specs.Line.{first_of, said, worded_left, content_line, content_lines, line_left}
-use Rattle.tb_galley.specs.GalleyReader.{State, known_in, next_phase, count_with, said_unless, take_said}
+use Rattle.tb_galley.specs.GalleyReader.{State, known_in, next_phase, said_unless, take_said}
 use Rattle.tb_galley.proofs.FieldReads.{first_at, settle, reads}
 
 -- ---- fields and lines
@@ -102,7 +102,7 @@ pub record IsWord (k : Known) (head : List ℕ) (w : LineWord) : Type 0 where
   pub here : word_here k (Some w) ≡ Some w
 
 pub line_back : (p : Phase) (k : Known) (c n : ℕ) (head : List ℕ) (w : LineWord) (fs : List (List ℕ)) → IsWord k head w → AllFit (word_slots k fs w) fs → tail_length fs ≤ 200
-    → first_of (place_causes p (Some w)) ≡ None → first_of (item_causes c (Some w)) ≡ None
+    → first_of (place_causes p (asked_place k.version fs) (Some w)) ≡ None → first_of (item_causes c (Some w)) ≡ None
     → line_left p k c n (head ++ tail_text fs) ≡ Ok (Some (w, content_of k.version n fs w))
 unfolding line_left content_line
 line_back p k c n head w fs is_word fit short place fits =
@@ -110,9 +110,9 @@ line_back p k c n head w fs is_word fit short place fits =
     ap (λ t. if t then at_fault 0 causes.LineLength else content_lines p k c (content_at n (head ++ tail_text fs))) short_line
     ∙ ap (λ gs. content_lines p k c (if is_skipped gs then [] else line_at n gs ∷ [])) (fields_of-line head (word_slots k fs w) fs is_word.text fit)
     ∙ ap (λ t. content_lines p k c (if t then [] else line_at n (head ∷ fs) ∷ [])) is_word.content
-    ∙ ap (λ t. (if t then Ok (tt {0}) else at_fault 1 causes.NotAscii) >>= λ a. settled 1 (first_of (place_causes p (word_here k (word_of head)))) (tt {0}) >>= λ x. settled 1 (first_of (item_causes c (word_of head))) (tt {0}) >>= λ y. worded_left k (line_at n (head ∷ fs)) (word_here k (word_of head))) is_word.text.printable
-    ∙ ap (λ o. settled 1 (first_of (place_causes p (word_here k o))) (tt {0}) >>= λ x. settled 1 (first_of (item_causes c o)) (tt {0}) >>= λ y. worded_left k (line_at n (head ∷ fs)) (word_here k o)) is_word.word
-    ∙ ap (λ o. settled 1 (first_of (place_causes p o)) (tt {0}) >>= λ x. settled 1 (first_of (item_causes c (Some w))) (tt {0}) >>= λ y. worded_left k (line_at n (head ∷ fs)) o) is_word.here
+    ∙ ap (λ t. (if t then Ok (tt {0}) else at_fault 1 causes.NotAscii) >>= λ a. settled 1 (first_of (place_causes p (asked_place k.version fs) (word_here k (word_of head)))) (tt {0}) >>= λ x. settled 1 (first_of (item_causes c (word_of head))) (tt {0}) >>= λ y. worded_left k (line_at n (head ∷ fs)) (word_here k (word_of head))) is_word.text.printable
+    ∙ ap (λ o. settled 1 (first_of (place_causes p (asked_place k.version fs) (word_here k o))) (tt {0}) >>= λ x. settled 1 (first_of (item_causes c o)) (tt {0}) >>= λ y. worded_left k (line_at n (head ∷ fs)) (word_here k o)) is_word.word
+    ∙ ap (λ o. settled 1 (first_of (place_causes p (asked_place k.version fs) o)) (tt {0}) >>= λ x. settled 1 (first_of (item_causes c (Some w))) (tt {0}) >>= λ y. worded_left k (line_at n (head ∷ fs)) o) is_word.here
     ∙ ap (λ o. settled 1 o (tt {0}) >>= λ x. settled 1 (first_of (item_causes c (Some w))) (tt {0}) >>= λ y. worded_left k (line_at n (head ∷ fs)) (Some w)) place
     ∙ ap (λ o. settled 1 o (tt {0}) >>= λ y. worded_left k (line_at n (head ∷ fs)) (Some w)) fits
     ∙ ap (λ r. said w r) (reads k n fs w ∙ ap (λ o. settle o (content_of k.version n fs w)) (fit_none 2 (missing_cause w) (word_slots k fs w) fs fit))
@@ -125,6 +125,6 @@ abbrev pub state : ℕ → Phase → ℕ → Draft → State
 state n p c d = record { lines = n; phase = p; count = c; draft = d; first = None }
 
 pub step_back : (n : ℕ) (p : Phase) (c : ℕ) (d : Draft) (head : List ℕ) (w : LineWord) (fs : List (List ℕ)) → IsWord (known_in d) head w → AllFit (word_slots (known_in d) fs w) fs → tail_length fs ≤ 200
-    → first_of (place_causes p (Some w)) ≡ None → first_of (item_causes c (Some w)) ≡ None
+    → first_of (place_causes p (asked_place d.version fs) (Some w)) ≡ None → first_of (item_causes c (Some w)) ≡ None
     → take_said (state n p c d) (head ++ tail_text fs) ≡ state (n + 1) (next_phase p (Some w)) (count_with c (Some w)) (with_content d (n + 1) (content_of d.version (n + 1) fs w))
 step_back n p c d head w fs is_word fit short place fits = ap (λ r. said_unless (state n p c d) r) (line_back p (known_in d) c (n + 1) head w fs is_word fit short place fits)

@@ -1,11 +1,12 @@
 -- Lines of the most frequent kinds, by their first bytes: a word and a space, or one word alone.
-use Rattle.std.proofs.Common.{◌≡◌, ◌≤◌, ℕ, ℤ, ◌+◌, true, false, nat_lt, nat_le, ◌==◌, pos, negsuc, codes, List, [], ◌∷◌, ◌++◌, length, Option, Some, None, Result, Ok, Err, refl, ap, sym, subst, ◌∙◌, arith, if◌then◌else◌}
+use Rattle.std.proofs.Common.{◌≡◌, ◌≤◌, ℕ, ℤ, ◌+◌, Bool, true, false, not, ◌&&◌, nat_lt, nat_le, ◌==◌, pos, negsuc, codes, List, [], ◌∷◌, ◌++◌, length, Option, Some, None, Result, Ok, Err, refl, ap, sym, subst, ◌∙◌, arith, if◌then◌else◌}
 use Rattle.std.specs.Prelude.{is_some}
 use Rattle.std.proofs.lemmas.Bool.{eqb-true}
 use Rattle.std.proofs.lemmas.Bool.Decides.{nat_tests}
-use Rattle.tb_text.specs.Lines.{begins_with}
-use Rattle.std.proofs.Math.Bool.{or-true}
+use Rattle.tb_text.specs.Lines.{begins_with, fields_of}
+use Rattle.std.proofs.Math.Bool.{or-true, and-false}
 use Rattle.tb_scaled.specs.declared.Glue.{Glue}
+use Rattle.tb_param.specs.declared.changes.SetPlace.{SetPlace}
 use Rattle.tb_galley.specs.declared.Cause.{Cause}
 use Rattle.tb_galley.specs.declared.Cause.TheVariants as causes
 use Rattle.tb_galley.specs.declared.Fault.{Fault}
@@ -19,11 +20,11 @@ use Rattle.tb_galley.specs.declared.LeafKind.{LeafKind}
 use Rattle.tb_galley.specs.declared.LeafKind.TheVariants as leaves
 use Rattle.tb_galley.specs.declared.contents.Content.{Content}
 use Rattle.tb_galley.specs.declared.contents.Content.TheVariants as contents
-use Rattle.tb_galley.specs.Words.{LineWord, hbox, skip, kern, penalty, setting, foot, endfoot, newpage, clearpage, onecolumn, suppressfloats, Phase, at_start, among_sets, among_items, after_two, in_foot, ended, word_of, is_leaf_word, Known}
-use Rattle.tb_galley.specs.Faults.{place_causes, cause_if}
+use Rattle.tb_galley.specs.Words.{LineWord, hbox, skip, kern, penalty, setting, foot, endfoot, newpage, suppressfloats, Phase, at_start, among_sets, among_items, after_clear, after_two, in_foot, ended, word_of, is_leaf_word, Known}
+use Rattle.tb_galley.specs.Faults.{asked_place, place_causes, cause_if}
 use Rattle.tb_galley.specs.FieldReader.{Left, ◌>>=◌, mapped, finished, end_left, settled, at_fault, dimension_left, range_left, sized_left, glue_left, set_left, area_left, foot_left, named_class, content_left}
 use Rattle.tb_galley.specs.Line.{Said, said, first_of, content_line, line_left}
-use Rattle.tb_galley.specs.GalleyReader.{State, known_in, phase_past, item_phase, foot_phase, endfoot_phase, takes_leaf, past_word, IsBoxLine, IsLineOf, IsBareItem, with_leaf, with_bare_item, with_setting, with_foot_begun, with_foot_ended, past_said, said_first, said_unless, take_said}
+use Rattle.tb_galley.specs.GalleyReader.{State, known_in, phase_past, item_phase, foot_phase, endfoot_phase, takes_leaf, takes_setting, past_word, IsBoxLine, IsLineOf, IsBareItem, with_leaf, with_bare_item, with_setting, with_foot_begun, with_foot_ended, past_said, said_first, said_unless, take_said}
 
 -- ---- what is read to the end, as something else
 
@@ -44,6 +45,7 @@ items_left : (p : Phase) (count : ℕ) → takes_leaf p count ≡ true → first
 items_left at_start count h = cc
 items_left among_sets count h = cc
 items_left among_items count h = ap (λ t. first_of (cause_if t causes.Items)) (many count h)
+items_left after_clear count h = cc
 items_left after_two count h = cc
 items_left in_foot count h = ap (λ t. first_of (cause_if t causes.Items)) (many count h)
 items_left ended count h = cc
@@ -52,16 +54,17 @@ same_phase : (p : Phase) (count : ℕ) → takes_leaf p count ≡ true → item_
 same_phase at_start count h = cc
 same_phase among_sets count h = cc
 same_phase among_items count h = refl
+same_phase after_clear count h = cc
 same_phase after_two count h = cc
 same_phase in_foot count h = refl
 same_phase ended count h = cc
 
-leaf_placed : (p : Phase) (w : LineWord) (count : ℕ) → is_leaf_word w ≡ true → takes_leaf p count ≡ true → first_of (place_causes p (Some w)) ≡ None
-leaf_placed among_items hbox count leaf free = refl
-leaf_placed among_items w count leaf free = cc
-leaf_placed in_foot hbox count leaf free = refl
-leaf_placed in_foot w count leaf free = cc
-leaf_placed p w count leaf free = cc
+leaf_placed : (p : Phase) (a : Option SetPlace) (w : LineWord) (count : ℕ) → is_leaf_word w ≡ true → takes_leaf p count ≡ true → first_of (place_causes p a (Some w)) ≡ None
+leaf_placed among_items a hbox count leaf free = refl
+leaf_placed among_items a w count leaf free = cc
+leaf_placed in_foot a hbox count leaf free = refl
+leaf_placed in_foot a w count leaf free = cc
+leaf_placed p a w count leaf free = cc
 
 -- ---- the line
 
@@ -75,8 +78,11 @@ pub short : (bytes : List ℕ) → length bytes ≤ 255 → nat_lt 255 (length b
 short bytes h = grind (arith, nat_tests)
 
 module _ (p : Phase) (k : Known) (count n : ℕ) (rest : List ℕ) (free : takes_leaf p count ≡ true) where
-  worded : (w : LineWord) (c : Content) → first_of (place_causes p (Some w)) ≡ None → finished (content_left k n w (past_word rest)) ≡ Ok c
-      → placed (first_of (place_causes p (Some w))) (first_of (cause_if (nat_le 100000 count) causes.Items)) (said w (finished (content_left k n w (past_word rest)))) ≡ Ok (Some (w, c))
+  abbrev asked : Option SetPlace
+  asked = asked_place k.version (fields_of rest)
+
+  worded : (w : LineWord) (c : Content) → first_of (place_causes p asked (Some w)) ≡ None → finished (content_left k n w (past_word rest)) ≡ Ok c
+      → placed (first_of (place_causes p asked (Some w))) (first_of (cause_if (nat_le 100000 count) causes.Items)) (said w (finished (content_left k n w (past_word rest)))) ≡ Ok (Some (w, c))
   worded w c place read =
       ap (λ o. placed o (first_of (cause_if (nat_le 100000 count) causes.Items)) (said w (finished (content_left k n w (past_word rest))))) place
       ∙ ap (λ o. placed None o (said w (finished (content_left k n w (past_word rest))))) (items_left p count free)
@@ -86,39 +92,44 @@ module _ (p : Phase) (k : Known) (count n : ℕ) (rest : List ℕ) (free : takes
       → line_left p k count n (98 ∷ 111 ∷ 120 ∷ 32 ∷ rest) ≡ Ok (Some (hbox, contents.Plain (leaves.Hbox b.0 b.1 b.2)))
   unfolding line_left content_line content_left word_of
   box_left few b read =
-      ap (λ t. if t then at_fault 0 causes.LineLength else placed (first_of (place_causes p (Some hbox))) (first_of (cause_if (nat_le 100000 count) causes.Items)) (said hbox (finished (content_left k n hbox (past_word rest))))) (short (98 ∷ 111 ∷ 120 ∷ 32 ∷ rest) few)
-      ∙ worded hbox (contents.Plain (leaves.Hbox b.0 b.1 b.2)) (leaf_placed p hbox count refl free)
+      ap (λ t. if t then at_fault 0 causes.LineLength else placed (first_of (place_causes p asked (Some hbox))) (first_of (cause_if (nat_le 100000 count) causes.Items)) (said hbox (finished (content_left k n hbox (past_word rest))))) (short (98 ∷ 111 ∷ 120 ∷ 32 ∷ rest) few)
+      ∙ worded hbox (contents.Plain (leaves.Hbox b.0 b.1 b.2)) (leaf_placed p asked hbox count refl free)
       (finished_as (λ s. contents.Plain (leaves.Hbox s.0 s.1 s.2)) (sized_left (past_word rest)) b read)
 
   skip_left : length (103 ∷ 108 ∷ 117 ∷ 101 ∷ 32 ∷ rest) ≤ 255 → (g : Glue) → finished (glue_left causes.UnknownWord (past_word rest)) ≡ Ok g
       → line_left p k count n (103 ∷ 108 ∷ 117 ∷ 101 ∷ 32 ∷ rest) ≡ Ok (Some (skip, contents.Plain (leaves.Skip g)))
   unfolding line_left content_line content_left word_of
   skip_left few g read =
-      ap (λ t. if t then at_fault 0 causes.LineLength else placed (first_of (place_causes p (Some skip))) (first_of (cause_if (nat_le 100000 count) causes.Items)) (said skip (finished (content_left k n skip (past_word rest))))) (short (103 ∷ 108 ∷ 117 ∷ 101 ∷ 32 ∷ rest) few)
-      ∙ worded skip (contents.Plain (leaves.Skip g)) (leaf_placed p skip count refl free)
+      ap (λ t. if t then at_fault 0 causes.LineLength else placed (first_of (place_causes p asked (Some skip))) (first_of (cause_if (nat_le 100000 count) causes.Items)) (said skip (finished (content_left k n skip (past_word rest))))) (short (103 ∷ 108 ∷ 117 ∷ 101 ∷ 32 ∷ rest) few)
+      ∙ worded skip (contents.Plain (leaves.Skip g)) (leaf_placed p asked skip count refl free)
       (finished_as (λ g. contents.Plain (leaves.Skip g)) (glue_left causes.UnknownWord (past_word rest)) g read)
 
   kern_left : length (107 ∷ 101 ∷ 114 ∷ 110 ∷ 32 ∷ rest) ≤ 255 → (v : ℤ) → finished (dimension_left (past_word rest)) ≡ Ok v
       → line_left p k count n (107 ∷ 101 ∷ 114 ∷ 110 ∷ 32 ∷ rest) ≡ Ok (Some (kern, contents.Plain (leaves.Kern v)))
   unfolding line_left content_line content_left word_of
   kern_left few v read =
-      ap (λ t. if t then at_fault 0 causes.LineLength else placed (first_of (place_causes p (Some kern))) (first_of (cause_if (nat_le 100000 count) causes.Items)) (said kern (finished (content_left k n kern (past_word rest))))) (short (107 ∷ 101 ∷ 114 ∷ 110 ∷ 32 ∷ rest) few)
-      ∙ worded kern (contents.Plain (leaves.Kern v)) (leaf_placed p kern count refl free)
+      ap (λ t. if t then at_fault 0 causes.LineLength else placed (first_of (place_causes p asked (Some kern))) (first_of (cause_if (nat_le 100000 count) causes.Items)) (said kern (finished (content_left k n kern (past_word rest))))) (short (107 ∷ 101 ∷ 114 ∷ 110 ∷ 32 ∷ rest) few)
+      ∙ worded kern (contents.Plain (leaves.Kern v)) (leaf_placed p asked kern count refl free)
       (finished_as (λ w. contents.Plain (leaves.Kern w)) (dimension_left (past_word rest)) v read)
 
   penalty_left : length (112 ∷ 101 ∷ 110 ∷ 97 ∷ 108 ∷ 116 ∷ 121 ∷ 32 ∷ rest) ≤ 255 → (v : ℤ) → finished (range_left (negsuc 9999) (pos 10000) causes.Penalty (past_word rest)) ≡ Ok v
       → line_left p k count n (112 ∷ 101 ∷ 110 ∷ 97 ∷ 108 ∷ 116 ∷ 121 ∷ 32 ∷ rest) ≡ Ok (Some (penalty, contents.Plain (leaves.Penalty v)))
   unfolding line_left content_line content_left word_of
   penalty_left few v read =
-      ap (λ t. if t then at_fault 0 causes.LineLength else placed (first_of (place_causes p (Some penalty))) (first_of (cause_if (nat_le 100000 count) causes.Items)) (said penalty (finished (content_left k n penalty (past_word rest))))) (short (112 ∷ 101 ∷ 110 ∷ 97 ∷ 108 ∷ 116 ∷ 121 ∷ 32 ∷ rest) few)
-      ∙ worded penalty (contents.Plain (leaves.Penalty v)) (leaf_placed p penalty count refl free)
+      ap (λ t. if t then at_fault 0 causes.LineLength else placed (first_of (place_causes p asked (Some penalty))) (first_of (cause_if (nat_le 100000 count) causes.Items)) (said penalty (finished (content_left k n penalty (past_word rest))))) (short (112 ∷ 101 ∷ 110 ∷ 97 ∷ 108 ∷ 116 ∷ 121 ∷ 32 ∷ rest) few)
+      ∙ worded penalty (contents.Plain (leaves.Penalty v)) (leaf_placed p asked penalty count refl free)
       (finished_as (λ q. contents.Plain (leaves.Penalty q)) (range_left (negsuc 9999) (pos 10000) causes.Penalty (past_word rest)) v read)
 
-set_line_left : (k : Known) (count n : ℕ) (rest : List ℕ) → length (115 ∷ 101 ∷ 116 ∷ 32 ∷ rest) ≤ 255 → (c : Content) → finished (set_left k.version (past_word rest)) ≡ Ok c
+-- a line of `set` is none too many
+none_too_many : (count : ℕ) (t : Bool) → nat_lt count 100000 ≡ true → first_of (cause_if (t && nat_le 100000 count) causes.Items) ≡ None
+none_too_many count t h = ap (λ u. first_of (cause_if (t && u) causes.Items)) (many count h) ∙ ap (λ u. first_of (cause_if u causes.Items)) (and-false t)
+
+set_line_left : (k : Known) (count n : ℕ) (rest : List ℕ) → nat_lt count 100000 ≡ true → length (115 ∷ 101 ∷ 116 ∷ 32 ∷ rest) ≤ 255 → (c : Content) → finished (set_left k.version (past_word rest)) ≡ Ok c
     → line_left among_sets k count n (115 ∷ 101 ∷ 116 ∷ 32 ∷ rest) ≡ Ok (Some (setting, c))
 unfolding line_left content_line content_left word_of
-set_line_left k count n rest few c read =
-    ap (λ t. if t then at_fault 0 causes.LineLength else said setting (finished (content_left k n setting (past_word rest)))) (short (115 ∷ 101 ∷ 116 ∷ 32 ∷ rest) few)
+set_line_left k count n rest less few c read =
+    ap (λ t. if t then at_fault 0 causes.LineLength else placed None (first_of (cause_if (not (count == 0) && nat_le 100000 count) causes.Items)) (said setting (finished (content_left k n setting (past_word rest))))) (short (115 ∷ 101 ∷ 116 ∷ 32 ∷ rest) few)
+    ∙ ap (λ o. placed None o (said setting (finished (content_left k n setting (past_word rest))))) (none_too_many count (not (count == 0)) less)
     ∙ ap (said setting) read
 
 -- ---- the state after it
@@ -182,14 +193,20 @@ module _ (s : State) (first : s.first ≡ None) (free : takes_leaf s.phase s.cou
       stepped (112 ∷ 101 ∷ 110 ∷ 97 ∷ 108 ∷ 116 ∷ 121 ∷ 32 ∷ l.rest) penalty (leaves.Penalty v) (penalty_left s.phase (known_in s.draft) s.count (s.lines + 1) l.rest free l.few v l.read)
       (ap (λ q. record (with_leaf s (leaves.Penalty v)) { phase = q }) (same_phase s.phase s.count free)) ∙ ap (take_said s) (sym l.begins)
 
-pub set_step : (s : State) → s.first ≡ None → s.phase ≡ among_sets → (line : List ℕ) → length line ≤ 255 → (f : Field) (v : Value)
+setting_place : (p : Phase) (count : ℕ) → takes_setting p count ≡ true → (p ≡ among_sets) × (nat_lt count 100000 ≡ true)
+setting_place among_sets count h = (refl, h)
+setting_place p count h = cc
+
+pub set_step : (s : State) → s.first ≡ None → takes_setting s.phase s.count ≡ true → (line : List ℕ) → length line ≤ 255 → (f : Field) (v : Value)
     → IsLineOf (codes "set") (set_left s.draft.version) line (contents.Set f v) → with_setting s f v ≡ take_said s line
-set_step s first phase line few f v h =
+set_step s first free line few f v h =
+    let place = setting_place s.phase s.count free in
+    let phase : s.phase ≡ among_sets = place.0 in
     let l = spaced (codes "set") (set_left s.draft.version) line few (contents.Set f v) h in
     ap (λ p. record (with_setting s f v) { phase = p }) (phase ∙ ap phase_past (sym phase))
     ∙ sym (ap (take_said s) l.begins ∙ ap (said_first s (115 ∷ 101 ∷ 116 ∷ 32 ∷ l.rest)) first
     ∙ ap (λ q. said_unless s (line_left q (known_in s.draft) s.count (s.lines + 1) (115 ∷ 101 ∷ 116 ∷ 32 ∷ l.rest))) phase
-    ∙ ap (said_unless s) (set_line_left (known_in s.draft) s.count (s.lines + 1) l.rest l.few (contents.Set f v) l.read))
+    ∙ ap (said_unless s) (set_line_left (known_in s.draft) s.count (s.lines + 1) l.rest place.1 l.few (contents.Set f v) l.read))
 
 -- ---- one word alone
 
@@ -208,16 +225,6 @@ newpage_left_alone : (k : Known) (n count : ℕ) → takes_leaf among_items coun
 unfolding line_left content_line content_left word_of
 newpage_left_alone k n count free =
     ap (λ o. placed None o (said newpage (finished (content_left k n newpage (past_word []))))) (items_left among_items count free)
-
-clearpage_left_alone : (k : Known) (n count : ℕ) → takes_leaf among_items count ≡ true → line_left among_items k count n (codes "clearpage") ≡ Ok (Some (clearpage, contents.Item items.ClearPage))
-unfolding line_left content_line content_left word_of
-clearpage_left_alone k n count free =
-    ap (λ o. placed None o (said clearpage (finished (content_left k n clearpage (past_word []))))) (items_left among_items count free)
-
-onecolumn_left_alone : (k : Known) (n count : ℕ) → takes_leaf among_items count ≡ true → line_left among_items k count n (codes "onecolumn") ≡ Ok (Some (onecolumn, contents.Item items.OneColumn))
-unfolding line_left content_line content_left word_of
-onecolumn_left_alone k n count free =
-    ap (λ o. placed None o (said onecolumn (finished (content_left k n onecolumn (past_word []))))) (items_left among_items count free)
 
 suppressfloats_left_alone : (k : Known) (n count : ℕ) → takes_leaf among_items count ≡ true → line_left among_items k count n (codes "suppressfloats") ≡ Ok (Some (suppressfloats, contents.Item (items.Suppress areas.All)))
 unfolding line_left content_line content_left word_of area_left
@@ -253,10 +260,6 @@ module _ (s : State) (first : s.first ≡ None) (free : takes_leaf s.phase s.cou
   pub bare_step : (line : List ℕ) (kind : ItemKind) → s.phase ≡ among_items → IsBareItem line kind → with_bare_item s kind ≡ take_said s line
   bare_step line items.NewPage phase e =
       bare (codes "newpage") line newpage items.NewPage phase e (newpage_left_alone (known_in s.draft) (s.lines + 1) s.count (subst (λ p. takes_leaf p s.count ≡ true) phase free)) refl
-  bare_step line items.ClearPage phase e =
-      bare (codes "clearpage") line clearpage items.ClearPage phase e (clearpage_left_alone (known_in s.draft) (s.lines + 1) s.count (subst (λ p. takes_leaf p s.count ≡ true) phase free)) refl
-  bare_step line items.OneColumn phase e =
-      bare (codes "onecolumn") line onecolumn items.OneColumn phase e (onecolumn_left_alone (known_in s.draft) (s.lines + 1) s.count (subst (λ p. takes_leaf p s.count ≡ true) phase free)) refl
   bare_step line (items.Suppress areas.All) phase e =
       bare (codes "suppressfloats") line suppressfloats (items.Suppress areas.All) phase e (suppressfloats_left_alone (known_in s.draft) (s.lines + 1) s.count (subst (λ p. takes_leaf p s.count ≡ true) phase free)) refl
   bare_step line _ phase e = absurd e

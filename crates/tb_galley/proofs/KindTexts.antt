@@ -20,7 +20,7 @@ use Rattle.tb_galley.specs.declared.ItemKind.{ItemKind}
 use Rattle.tb_galley.specs.declared.ItemKind.TheVariants as items
 use Rattle.tb_galley.specs.declared.LeafKind.{LeafKind}
 use Rattle.tb_galley.specs.declared.LeafKind.TheVariants as leaves
-use Rattle.tb_galley.specs.Words.{LineWord, Known, hbox, rule, skip, kern, penalty, mark, note, foot, float, margin, newpage, clearpage, pagebreak, nopagebreak, onecolumn, twocolumn, suppressfloats, page_number, title, enlarge}
+use Rattle.tb_galley.specs.Words.{LineWord, setting, Known, hbox, rule, skip, kern, penalty, mark, note, foot, float, margin, newpage, clearpage, pagebreak, nopagebreak, onecolumn, twocolumn, suppressfloats, page_number, title, enlarge}
 use Rattle.tb_galley.specs.Fields.{name_slot, least_slot, range_slot, word_slot, word_slots, nobreak_slots, star_slots, are_places}
 use Rattle.tb_galley.specs.Faults.{is_printable}
 use Rattle.tb_galley.specs.Grammar.{read_or, is_at, content_of, places_at, has_byte}
@@ -193,6 +193,7 @@ is_single (items.Suppress area) = true
 is_single (items.Page n) = true
 is_single (items.Head f) = true
 is_single (items.Enlarge by star) = true
+is_single (items.Set c) = false
 
 abbrev pub item_word : ItemKind → LineWord
 item_word (items.Hbox name h d) = hbox
@@ -215,6 +216,7 @@ item_word (items.Suppress area) = suppressfloats
 item_word (items.Page n) = page_number
 item_word (items.Head f) = title
 item_word (items.Enlarge by star) = enlarge
+item_word (items.Set c) = setting
 
 abbrev pub item_fields : ItemKind → List (List ℕ)
 item_fields (items.Hbox name h d) = leaf_fields (leaves.Hbox name h d)
@@ -237,6 +239,7 @@ item_fields (items.Suppress area) = area_fields area
 item_fields (items.Page n) = decimal n ∷ []
 item_fields (items.Head f) = f.name ∷ signed_decimal f.height ∷ []
 item_fields (items.Enlarge by star) = signed_decimal by ∷ star_fields star
+item_fields (items.Set c) = []
 
 -- the line of an item that is no footnote
 abbrev pub item_line : ItemKind → List ℕ
@@ -340,6 +343,7 @@ on_line_kind n (items.Suppress area) = items.Suppress area
 on_line_kind n (items.Page k) = items.Page k
 on_line_kind n (items.Head f) = items.Head (record f { line = n })
 on_line_kind n (items.Enlarge by star) = items.Enlarge by star
+on_line_kind n (items.Set c) = items.Set c
 
 record ChoiceBack (first second : List ℕ) (choice : Bool) (f : List ℕ) : Type 0 where
   fit : IsFit (word_slot (first ∷ second ∷ []) causes.UnknownWord) f

@@ -15,6 +15,7 @@ use Rattle.tb_param.specs.Values.{glue_of, choice_of, rule_of}
 use Rattle.tb_param.specs.declared.fields.Field.TheVariants as fields
 use Rattle.tb_param.specs.Table.{Row, rows, rows_for, row_of}
 use Rattle.tb_param.specs.Ranges.{are_params}
+use Rattle.tb_param.specs.Changes.{row_of_field}
 use Rattle.tb_param.proofs.RangeLemmas.{AllRows}
 use Rattle.tb_param.proofs.AllSet.{all_set}
 use Rattle.tb_param.proofs.RowNames.{rows_found}
@@ -28,7 +29,7 @@ use Rattle.tb_galley.specs.declared.ItemKind.TheVariants as items
 use Rattle.tb_galley.specs.declared.Leaf.{Leaf}
 use Rattle.tb_galley.specs.declared.LeafKind.{LeafKind}
 use Rattle.tb_galley.specs.declared.LeafKind.TheVariants as leaves
-use Rattle.tb_galley.specs.Words.{header, end, Phase, at_start, among_sets, among_items, after_two, ended}
+use Rattle.tb_galley.specs.Words.{header, end, at_start, among_sets, ended, Behind, behind_nothing, behind_clear, behind_two, behind_other, phase_behind}
 use Rattle.tb_galley.specs.Faults.{fault}
 use Rattle.tb_galley.specs.Grammar.{empty_draft, grammar, spelled, input_limit}
 use Rattle.tb_galley.specs.GalleyReader.{State, start, verdict}
@@ -36,6 +37,7 @@ use Rattle.tb_galley.specs.CanonicalText.{set_lines, leaf_text, leaf_lines, item
 use Rattle.tb_text.specs.Fields.{line, and_count}
 use Rattle.tb_galley.specs.Valid.{weight_of, weight, fits_version, is_class, do_classes_rise, has_known_class, IsValid, is_version, OthersDefault}
 use Rattle.tb_galley.specs.ReadBack.{unnumbered_leaf, unnumbered_kind, unnumbered_item, unnumbered, ReadsBack}
+use Rattle.tb_galley.proofs.BehindItems.{behind_items}
 use Rattle.tb_galley.proofs.SoundLines.{drafted, fits_later}
 use Rattle.tb_galley.proofs.SameStep.{left_exact}
 use Rattle.tb_galley.proofs.FieldTexts.{tail_text, nothing_more}
@@ -45,7 +47,7 @@ use Rattle.tb_galley.proofs.ValueTexts.{value_fields, value_is, is_plain_row}
 use Rattle.tb_galley.specs.Fields.{is_class_among}
 use Rattle.tb_galley.proofs.ClassTexts.{numbers_of, class_fields, line_fields, class_is}
 use Rattle.tb_galley.proofs.ClassRuns.{numbered_classes, class_texts, same_numbers, same_classes, still_classes, classes_run}
-use Rattle.tb_galley.proofs.PrintRuns.{Runs, then_lines, to_state, word_runs, set_text, plain_rows, is_in_range, is_known_row, foot_line, set_all, HasClasses, sets_run, numbered_leaves, numbered_kind, numbered_items, leaf_line, kind_lines, takes_items, leaf_texts, item_state, item_texts, phase_past_items, takes_past, items_run}
+use Rattle.tb_galley.proofs.PrintRuns.{Runs, then_lines, to_state, word_runs, set_text, plain_rows, is_in_range, is_known_row, foot_line, set_all, HasClasses, sets_run, numbered_leaves, numbered_kind, numbered_items, leaf_line, kind_lines, leaf_texts, item_state, item_texts, none_stood, items_run}
 
 -- ---- the canonical text by its lines
 
@@ -113,6 +115,7 @@ kind_joined v (items.Foot class ls) =
     append_assoc (foot_text v class) (leaf_lines ls) (codes "endfoot\n")
     ∙ (λ i. foot_is v class i ++ leaves_joined ls (codes "endfoot" ∷ []) i)
     ∙ ended_first (foot_line v class) (joined_lines (leaf_texts ls ++ codes "endfoot" ∷ []))
+kind_joined v (items.Set c) = ap (λ t. line (codes "set " ++ (row_of_field c.field).name ++ t)) (value_is c.value)
 kind_joined v k = item_is v k refl
 
 items_joined : (v : ℕ) (is : List Item) → item_lines v is ≡ joined_lines (item_texts v is)
@@ -161,11 +164,11 @@ classes_in g = numbered_classes (sets_end g + 1) g.classes
 renumbered : Galley → Galley
 renumbered g = record { params = g.params; version = g.version; classes = classes_in g; items = numbered_items (front g + 1) g.items; end_line = front g + weight g.items + 1 }
 
-end_runs : (n : ℕ) (p : Phase) (c : ℕ) (ps : Params) (v : ℕ) (cs : List ClassLine) (e : ℕ) (is : List Item) → takes_items p ≡ true → Runs (item_state n p c ps v cs e is) (codes "end" ∷ []) (item_state (n + 1) ended c ps v cs (n + 1) is)
-end_runs n among_sets c ps v cs e is takes = word_runs n among_sets c (drafted ps v cs is None e) end [] (λ m. contents.End) refl (record { fit = tt; short = omega arith; content = λ m. refl }) refl refl
-end_runs n among_items c ps v cs e is takes = word_runs n among_items c (drafted ps v cs is None e) end [] (λ m. contents.End) refl (record { fit = tt; short = omega arith; content = λ m. refl }) refl refl
-end_runs n after_two c ps v cs e is takes = word_runs n after_two c (drafted ps v cs is None e) end [] (λ m. contents.End) refl (record { fit = tt; short = omega arith; content = λ m. refl }) refl refl
-end_runs n p c ps v cs e is takes = cc
+pub end_runs : (n : ℕ) (b : Behind) (c : ℕ) (ps : Params) (v : ℕ) (cs : List ClassLine) (e : ℕ) (is : List Item) → Runs (item_state n (phase_behind b) c ps v cs e is) (codes "end" ∷ []) (item_state (n + 1) ended c ps v cs (n + 1) is)
+end_runs n behind_nothing c ps v cs e is = word_runs n (phase_behind behind_nothing) c (drafted ps v cs is None e) end [] (λ m. contents.End) refl (record { fit = tt; short = omega arith; content = λ m. refl }) refl refl
+end_runs n behind_clear c ps v cs e is = word_runs n (phase_behind behind_clear) c (drafted ps v cs is None e) end [] (λ m. contents.End) refl (record { fit = tt; short = omega arith; content = λ m. refl }) refl refl
+end_runs n behind_two c ps v cs e is = word_runs n (phase_behind behind_two) c (drafted ps v cs is None e) end [] (λ m. contents.End) refl (record { fit = tt; short = omega arith; content = λ m. refl }) refl refl
+end_runs n behind_other c ps v cs e is = word_runs n (phase_behind behind_other) c (drafted ps v cs is None e) end [] (λ m. contents.End) refl (record { fit = tt; short = omega arith; content = λ m. refl }) refl refl
 
 -- there are three versions
 version_cases : (v : ℕ) (cs : List ClassLine) → fits_version v cs ≡ true → (v ≡ 1) ⊎ ((v ≡ 2) ⊎ (v ≡ 3))
@@ -264,9 +267,6 @@ not_long k h = grind (arith, nat_tests)
 few_items : (k : ℕ) → nat_le k 100000 ≡ true → 0 + k ≤ 100000
 few_items k h = grind (arith, nat_tests)
 
-pub still_takes : (is : List Item) → takes_items (phase_past_items among_sets is) ≡ true
-still_takes is = takes_past among_sets is refl
-
 -- version 1 has no classes
 first_version : (v : ℕ) (cs : List ClassLine) → fits_version v cs ≡ true → (v == 1) ≡ true → cs ≡ []
 first_version v [] h one = refl
@@ -295,7 +295,7 @@ galley_runs g valid =
     let begun : State = item_state 1 among_sets 0 default_params g.version [] 0 [] in
     let set : State = item_state (sets_end g) among_sets 0 g.params g.version [] 0 [] in
     let declared : State = item_state (front g) among_sets 0 g.params g.version (classes_in g) 0 [] in
-    let written : State = item_state (front g + weight g.items) (phase_past_items among_sets g.items) (0 + weight g.items) g.params g.version (classes_in g) 0 (numbered_items (front g + 1) g.items) in
+    let written : State = item_state (front g + weight g.items) (phase_behind (behind_items behind_nothing g.items)) (0 + weight g.items) g.params g.version (classes_in g) 0 (numbered_items (front g + 1) g.items) in
     let done : State = item_state (front g + weight g.items + 1) ended (0 + weight g.items) g.params g.version (classes_in g) (front g + weight g.items + 1) (numbered_items (front g + 1) g.items) in
     let which : (g.version ≡ 1) ⊎ ((g.version ≡ 2) ⊎ (g.version ≡ 3)) = version_cases g.version g.classes valid.version in
     let sets : Runs begun (map (set_text g.params) (rows_for g.version)) set =
@@ -308,9 +308,9 @@ galley_runs g valid =
     let known : list_all (λ (i : Item). has_known_class (numbers_of (classes_in g)) i.kind) g.items ≡ true =
     subst (λ ks. list_all (λ (i : Item). has_known_class ks i.kind) g.items ≡ true) (sym (same_numbers (sets_end g + 1) g.classes)) valid.feet in
     let inner : Runs declared (item_texts g.version g.items) written =
-    items_run (front g) among_sets 0 g.params g.version (classes_in g) 0 [] g.items (has_classes g valid) refl (few_items (weight g.items) few) valid.items known valid.kinds valid.words valid.heads in
+    items_run (front g) behind_nothing 0 g.params g.version (classes_in g) 0 [] g.items (has_classes g valid) (none_stood 0) (few_items (weight g.items) few) valid.items known valid.kinds valid.words valid.order in
     let last : Runs written (codes "end" ∷ []) done =
-    end_runs (front g + weight g.items) (phase_past_items among_sets g.items) (0 + weight g.items) g.params g.version (classes_in g) 0 (numbered_items (front g + 1) g.items) (still_takes g.items) in
+    end_runs (front g + weight g.items) (behind_items behind_nothing g.items) (0 + weight g.items) g.params g.version (classes_in g) 0 (numbered_items (front g + 1) g.items) in
     then_lines start begun done (header_line g.version ∷ []) (front_lines g ++ (item_texts g.version g.items ++ codes "end" ∷ [])) (header_runs g.version which)
     (then_lines begun declared done (front_lines g) (item_texts g.version g.items ++ codes "end" ∷ [])
     (then_lines begun set declared (map (set_text g.params) (rows_for g.version)) (class_texts g.classes) sets classes)

@@ -1,5 +1,5 @@
 -- The lines of the canonical text take the reader to the galley.
-use Rattle.std.proofs.Common.{if◌then◌else◌, ◌≡◌, ℕ, ◌+◌, ◌≤◌, Bool, true, false, ◌&&◌, nat_le, ◌==◌, List, [], ◌∷◌, ◌++◌, length, map, Some, None, refl, ap, sym, subst, ◌∙◌, arith, append_assoc, append-nil}
+use Rattle.std.proofs.Common.{if◌then◌else◌, ◌≡◌, ℕ, ◌+◌, ◌≤◌, Bool, true, false, ◌&&◌, nat_le, ◌==◌, List, [], ◌∷◌, ◌++◌, length, map, Option, Some, None, refl, ap, sym, subst, ◌∙◌, arith, append_assoc, append-nil}
 use Rattle.std.proofs.Math.Bool.{and-false}
 use Rattle.std.specs.Cmp.{first_so, second_so}
 use Rattle.std.proofs.lemmas.Bool.{and_from}
@@ -14,7 +14,11 @@ use Rattle.tb_param.specs.declared.params.Params.{Params}
 use Rattle.tb_param.specs.Fields.{value_of, with_value}
 use Rattle.tb_param.specs.Table.{Row, rows, row_of, is_known_in, value_fault}
 use Rattle.tb_param.specs.Ranges.{is_no_fault}
+use Rattle.tb_param.specs.declared.changes.Change.{Change}
+use Rattle.tb_param.specs.declared.changes.SetPlace.{SetPlace}
+use Rattle.tb_param.specs.Changes.{row_of_field, set_place}
 use Rattle.tb_param.proofs.RangeLemmas.{AllRows, fits}
+use Rattle.tb_param.proofs.ChangeLemmas.{own-row}
 use Rattle.tb_galley.specs.declared.Cause.TheVariants as causes
 use Rattle.tb_galley.specs.declared.contents.Content.{Content}
 use Rattle.tb_galley.specs.declared.contents.Content.TheVariants as contents
@@ -24,15 +28,18 @@ use Rattle.tb_galley.specs.declared.ItemKind.TheVariants as items
 use Rattle.tb_galley.specs.declared.Leaf.{Leaf}
 use Rattle.tb_galley.specs.declared.LeafKind.{LeafKind}
 use Rattle.tb_galley.specs.declared.LeafKind.TheVariants as leaves
-use Rattle.tb_galley.specs.Words.{LineWord, Known, word_here, header, setting, foot, endfoot, page_number, title, enlarge, Phase, at_start, among_sets, among_items, after_two, in_foot, ended, word_of, is_item_word}
+use Rattle.tb_galley.specs.Words.{LineWord, Known, word_here, header, setting, foot, endfoot, page_number, title, enlarge, Phase, among_sets, among_items, in_foot, Behind, behind_nothing, behind_clear, behind_two, behind_other, phase_behind, word_of, counts_word, count_with}
 use Rattle.tb_galley.specs.Fields.{is_class_among, word_slots}
-use Rattle.tb_galley.specs.Faults.{place_causes, item_causes, cause_if}
+use Rattle.tb_galley.specs.Faults.{asked_place, place_causes, item_causes, cause_if}
 use Rattle.tb_galley.specs.Grammar.{Draft, item_kind, with_content}
 use Rattle.tb_galley.specs.Line.{first_of}
-use Rattle.tb_galley.specs.GalleyReader.{State, known_in, next_phase, count_with, take_said}
+use Rattle.tb_galley.specs.GalleyReader.{State, known_in, next_phase, take_said}
 use Rattle.tb_galley.specs.declared.classes.ClassLine.{ClassLine}
-use Rattle.tb_galley.specs.Valid.{is_leaf, is_item, weight_of, weight, is_class, has_known_class, fits_kind, fits_word, is_two_column, may_come, do_heads_stand}
+use Rattle.tb_galley.specs.Valid.{is_leaf, is_item, weight_of, weight, is_class, has_known_class, fits_kind, fits_word, behind_after, may_set, may_come, do_items_stand}
+use Rattle.tb_galley.proofs.BehindItems.{behind_items, behind-append, is_nothing, comes-after, goes-behind, set_placed}
+use Rattle.tb_galley.proofs.SetRows.{row_found, row_plain, row_in_last, asked_is}
 use Rattle.tb_galley.proofs.SoundLines.{drafted}
+use Rattle.tb_galley.proofs.SoundSets.{counted, some_weight, some_count}
 use Rattle.tb_galley.proofs.FieldTexts.{IsText, IsWord, tail_text, line_clean, state, step_back}
 use Rattle.tb_galley.proofs.SlotTexts.{ReadsAs, spelling}
 use Rattle.tb_galley.proofs.KindTexts.{leaf_word, leaf_fields, leaf_back, is_single, item_word, item_fields, item_line, on_line_kind, item_back}
@@ -84,7 +91,7 @@ to_state s t u ls same run = record { ends = run.ends ∙ same; clean = run.clea
 
 -- a line whose fields are read as this content
 pub word_runs : (n : ℕ) (p : Phase) (c : ℕ) (d : Draft) (w : LineWord) (fs : List (List ℕ)) (says : ℕ → Content) → word_here (known_in d) (Some w) ≡ Some w → ReadsAs (known_in d) w fs says
-    → first_of (place_causes p (Some w)) ≡ None → first_of (item_causes c (Some w)) ≡ None
+    → first_of (place_causes p (asked_place d.version fs) (Some w)) ≡ None → first_of (item_causes c (Some w)) ≡ None
     → Runs (state n p c d) ((spelling w ++ tail_text fs) ∷ []) (state (n + 1) (next_phase p (Some w)) (count_with c (Some w)) (with_content d (n + 1) (says (n + 1))))
 word_runs n p c d w fs says here reads place fits = record {
   ends =
@@ -143,99 +150,75 @@ numbered_items n (i ∷ is) = record { line = n; kind = numbered_kind n i.kind }
 unfoldable pub leaf_line : LeafKind → List ℕ
 leaf_line k = spelling (leaf_word k) ++ tail_text (leaf_fields k)
 
+-- the fields of a parameter that is set among the items
+abbrev pub change_fields : Change → List (List ℕ)
+change_fields c = (row_of_field c.field).name ∷ value_fields c.value
+
+abbrev pub change_line : Change → List ℕ
+change_line c = codes "set" ++ tail_text (change_fields c)
+
 abbrev pub foot_line : ℕ → ℕ → List ℕ
 foot_line v class = codes "foot" ++ tail_text (class_fields (v == 1) class)
 
 unfoldable pub kind_lines : ℕ → ItemKind → List (List ℕ)
 kind_lines v (items.Foot class ls) = foot_line v class ∷ (map (λ (l : Leaf). leaf_line l.kind) ls ++ codes "endfoot" ∷ [])
+kind_lines v (items.Set c) = change_line c ∷ []
 kind_lines v k = item_line k ∷ []
 
 -- ---- words in their phases
 
--- items may come in the phase, and no footnote is open
-abbrev pub takes_items : Phase → Bool
-takes_items at_start = false
-takes_items among_sets = true
-takes_items among_items = true
-takes_items after_two = true
-takes_items in_foot = false
-takes_items ended = false
-
--- the phase is that directly after a change to two columns
-abbrev pub is_after_two : Phase → Bool
-is_after_two after_two = true
-is_after_two _ = false
-
--- the phase after an item outside a footnote
-abbrev pub phase_past_kind : ItemKind → Phase
-phase_past_kind items.TwoColumn = after_two
-phase_past_kind _ = among_items
-
-same_after : (k : ItemKind) → is_two_column k ≡ is_after_two (phase_past_kind k)
-same_after items.TwoColumn = refl
-same_after k = refl
-
-takes_past_kind : (k : ItemKind) → takes_items (phase_past_kind k) ≡ true
-takes_past_kind items.TwoColumn = refl
-takes_past_kind k = refl
-
 count_fits : (c : ℕ) (w : LineWord) → c + 1 ≤ 100000 → first_of (item_causes c (Some w)) ≡ None
 count_fits c w h =
     let few : nat_le 100000 c ≡ false = grind (arith, nat_tests) in
-    ap (λ t. first_of (cause_if (is_item_word w && t) causes.Items)) few ∙ ap (λ t. first_of (cause_if t causes.Items)) (and-false (is_item_word w))
+    ap (λ t. first_of (cause_if (counts_word c w && t) causes.Items)) few ∙ ap (λ t. first_of (cause_if t causes.Items)) (and-false (counts_word c w))
 
-record GoesOn (p q : Phase) (c : ℕ) (w : LineWord) : Type 0 where
-  place : first_of (place_causes p (Some w)) ≡ None
+record GoesOn (p q : Phase) (a : Option SetPlace) (c : ℕ) (w : LineWord) : Type 0 where
+  place : first_of (place_causes p a (Some w)) ≡ None
   next : next_phase p (Some w) ≡ q
   count : count_with c (Some w) ≡ c + 1
 
-single_goes : (p : Phase) (c : ℕ) (k : ItemKind) → takes_items p ≡ true → is_single k ≡ true → may_come (is_after_two p) k ≡ true → GoesOn p (phase_past_kind k) c (item_word k)
-single_goes among_sets c (items.Hbox name h d) takes single stands = cc
-single_goes among_sets c (items.Rule name h d) takes single stands = cc
-single_goes among_sets c (items.Skip g) takes single stands = cc
-single_goes among_sets c (items.Kern w) takes single stands = cc
-single_goes among_sets c (items.Penalty n) takes single stands = cc
-single_goes among_sets c (items.Foot class ls) takes single stands = cc
-single_goes among_sets c (items.Head f) takes single stands = cc
-single_goes among_sets c k takes single stands = record { place = refl; next = refl; count = refl }
-single_goes among_items c (items.Hbox name h d) takes single stands = cc
-single_goes among_items c (items.Rule name h d) takes single stands = cc
-single_goes among_items c (items.Skip g) takes single stands = cc
-single_goes among_items c (items.Kern w) takes single stands = cc
-single_goes among_items c (items.Penalty n) takes single stands = cc
-single_goes among_items c (items.Foot class ls) takes single stands = cc
-single_goes among_items c (items.Head f) takes single stands = cc
-single_goes among_items c k takes single stands = record { place = refl; next = refl; count = refl }
-single_goes after_two c (items.Hbox name h d) takes single stands = cc
-single_goes after_two c (items.Rule name h d) takes single stands = cc
-single_goes after_two c (items.Skip g) takes single stands = cc
-single_goes after_two c (items.Kern w) takes single stands = cc
-single_goes after_two c (items.Penalty n) takes single stands = cc
-single_goes after_two c (items.Foot class ls) takes single stands = cc
-single_goes after_two c k takes single stands = record { place = refl; next = refl; count = refl }
-single_goes p c k takes single stands = cc
+single_goes : (b : Behind) (a : Option SetPlace) (c : ℕ) (k : ItemKind) → is_single k ≡ true → may_come b k ≡ true → GoesOn (phase_behind b) (phase_behind (behind_after b k)) a c (item_word k)
+single_goes behind_nothing a c (items.Foot class ls) single stands = cc
+single_goes behind_nothing a c (items.Set x) single stands = cc
+single_goes behind_nothing a c (items.Head f) single stands = cc
+single_goes behind_nothing a c k single stands = record { place = refl; next = refl; count = refl }
+single_goes behind_clear a c (items.Foot class ls) single stands = cc
+single_goes behind_clear a c (items.Set x) single stands = cc
+single_goes behind_clear a c (items.Head f) single stands = cc
+single_goes behind_clear a c k single stands = record { place = refl; next = refl; count = refl }
+single_goes behind_two a c (items.Foot class ls) single stands = cc
+single_goes behind_two a c (items.Set x) single stands = cc
+single_goes behind_two a c k single stands = record { place = refl; next = refl; count = refl }
+single_goes behind_other a c (items.Foot class ls) single stands = cc
+single_goes behind_other a c (items.Set x) single stands = cc
+single_goes behind_other a c (items.Head f) single stands = cc
+single_goes behind_other a c k single stands = record { place = refl; next = refl; count = refl }
 
-leaf_goes : (p : Phase) (c : ℕ) (k : LeafKind) → takes_items p ≡ true → GoesOn p among_items c (leaf_word k)
-leaf_goes among_sets c (leaves.Hbox name h d) takes = record { place = refl; next = refl; count = refl }
-leaf_goes among_sets c k takes = record { place = refl; next = refl; count = refl }
-leaf_goes among_items c (leaves.Hbox name h d) takes = record { place = refl; next = refl; count = refl }
-leaf_goes among_items c k takes = record { place = refl; next = refl; count = refl }
-leaf_goes after_two c (leaves.Hbox name h d) takes = record { place = refl; next = refl; count = refl }
-leaf_goes after_two c k takes = record { place = refl; next = refl; count = refl }
-leaf_goes p c k takes = cc
+leaf_goes : (b : Behind) (a : Option SetPlace) (c : ℕ) (k : LeafKind) → GoesOn (phase_behind b) among_items a c (leaf_word k)
+leaf_goes behind_nothing a c (leaves.Hbox name h d) = record { place = refl; next = refl; count = refl }
+leaf_goes behind_nothing a c k = record { place = refl; next = refl; count = refl }
+leaf_goes behind_clear a c (leaves.Hbox name h d) = record { place = refl; next = refl; count = refl }
+leaf_goes behind_clear a c k = record { place = refl; next = refl; count = refl }
+leaf_goes behind_two a c (leaves.Hbox name h d) = record { place = refl; next = refl; count = refl }
+leaf_goes behind_two a c k = record { place = refl; next = refl; count = refl }
+leaf_goes behind_other a c (leaves.Hbox name h d) = record { place = refl; next = refl; count = refl }
+leaf_goes behind_other a c k = record { place = refl; next = refl; count = refl }
 
-inner_goes : (c : ℕ) (k : LeafKind) → GoesOn in_foot in_foot c (leaf_word k)
-inner_goes c (leaves.Hbox name h d) = record { place = refl; next = refl; count = refl }
-inner_goes c k = record { place = refl; next = refl; count = refl }
+inner_goes : (a : Option SetPlace) (c : ℕ) (k : LeafKind) → GoesOn in_foot in_foot a c (leaf_word k)
+inner_goes a c (leaves.Hbox name h d) = record { place = refl; next = refl; count = refl }
+inner_goes a c k = record { place = refl; next = refl; count = refl }
 
-foot_goes : (p : Phase) (c : ℕ) → takes_items p ≡ true → GoesOn p in_foot c foot
-foot_goes among_sets c takes = record { place = refl; next = refl; count = refl }
-foot_goes among_items c takes = record { place = refl; next = refl; count = refl }
-foot_goes after_two c takes = record { place = refl; next = refl; count = refl }
-foot_goes p c takes = cc
+foot_goes : (b : Behind) (a : Option SetPlace) (c : ℕ) → GoesOn (phase_behind b) in_foot a c foot
+foot_goes behind_nothing a c = record { place = refl; next = refl; count = refl }
+foot_goes behind_clear a c = record { place = refl; next = refl; count = refl }
+foot_goes behind_two a c = record { place = refl; next = refl; count = refl }
+foot_goes behind_other a c = record { place = refl; next = refl; count = refl }
+
+set_goes : (b : Behind) (a : Option SetPlace) (place : SetPlace) (c : ℕ) → a ≡ Some place → may_set b place ≡ true → 1 ≤ c → GoesOn (phase_behind b) (phase_behind b) a c setting
+set_goes b a place c asked may some = record { place = set_placed b a place asked may; next = sym (goes-behind b setting refl); count = counted c setting (some_count c some) }
 
 -- a line of an item
-goes_runs : (n : ℕ) (p q : Phase) (c : ℕ) (d : Draft) (w : LineWord) (fs : List (List ℕ)) (says : ℕ → Content) → c + 1 ≤ 100000 → word_here (known_in d) (Some w) ≡ Some w → ReadsAs (known_in d) w fs says → GoesOn p q c w
+goes_runs : (n : ℕ) (p q : Phase) (c : ℕ) (d : Draft) (w : LineWord) (fs : List (List ℕ)) (says : ℕ → Content) → c + 1 ≤ 100000 → word_here (known_in d) (Some w) ≡ Some w → ReadsAs (known_in d) w fs says → GoesOn p q (asked_place d.version fs) c w
     → Runs (state n p c d) ((spelling w ++ tail_text fs) ∷ []) (state (n + 1) q (c + 1) (with_content d (n + 1) (says (n + 1))))
 goes_runs n p q c d w fs says few here reads goes =
     to_state (state n p c d) (state (n + 1) (next_phase p (Some w)) (count_with c (Some w)) (with_content d (n + 1) (says (n + 1)))) (state (n + 1) q (c + 1) (with_content d (n + 1) (says (n + 1)))) ((spelling w ++ tail_text fs) ∷ [])
@@ -280,7 +263,7 @@ leaf_run : (n c : ℕ) (ps : Params) (v : ℕ) (cs : List ClassLine) (before : L
     → Runs (foot_state n c ps v cs before e class line so_far) (leaf_line k ∷ []) (foot_state (n + 1) (c + 1) ps v cs before e class line (so_far ++ record { line = n + 1; kind = k } ∷ []))
 unfolding leaf_line
 leaf_run n c ps v cs before e class line so_far k few good =
-    goes_runs n in_foot in_foot c (drafted ps v cs before (Some (record { line = line; class = class; leaves = so_far })) e) (leaf_word k) (leaf_fields k) (λ m. contents.Plain k) few (leaf_here (known_by v cs) k) (leaf_back (known_by v cs) k good) (inner_goes c k)
+    goes_runs n in_foot in_foot c (drafted ps v cs before (Some (record { line = line; class = class; leaves = so_far })) e) (leaf_word k) (leaf_fields k) (λ m. contents.Plain k) few (leaf_here (known_by v cs) k) (leaf_back (known_by v cs) k good) (inner_goes (asked_place v (leaf_fields k)) c k)
 
 leaves_run : (n c : ℕ) (ps : Params) (v : ℕ) (cs : List ClassLine) (before : List Item) (e class line : ℕ) (so_far ls : List Leaf) → c + length ls ≤ 100000 → list_all (λ (l : Leaf). is_leaf l.kind) ls ≡ true
     → Runs (foot_state n c ps v cs before e class line so_far) (leaf_texts ls) (foot_state (n + length ls) (c + length ls) ps v cs before e class line (so_far ++ numbered_leaves (n + 1) ls))
@@ -301,85 +284,114 @@ leaves_run n c ps v cs before e class line so_far (l ∷ ls) few good =
     (omega arith) (omega arith) (append_assoc so_far (leaf ∷ []) (numbered_leaves (n + 1 + 1) ls)))
     (leaves_run (n + 1) (c + 1) ps v cs before e class line (so_far ++ leaf ∷ []) ls (omega arith) (second_so (is_leaf l.kind) (list_all (λ (m : Leaf). is_leaf m.kind) ls) good)))
 
-foot_run : (n : ℕ) (p : Phase) (c : ℕ) (ps : Params) (v : ℕ) (cs : List ClassLine) (e : ℕ) (before : List Item) (class : ℕ) (ls : List Leaf) → HasClasses v cs → is_class_among (numbers_of cs) class ≡ true → takes_items p ≡ true → c + (length ls + 2) ≤ 100000 → list_all (λ (l : Leaf). is_leaf l.kind) ls ≡ true
-    → Runs (item_state n p c ps v cs e before) (kind_lines v (items.Foot class ls)) (item_state (n + (length ls + 2)) among_items (c + (length ls + 2)) ps v cs e (before ++ record { line = n + 1; kind = numbered_kind (n + 1) (items.Foot class ls) } ∷ []))
+foot_run : (n : ℕ) (b : Behind) (c : ℕ) (ps : Params) (v : ℕ) (cs : List ClassLine) (e : ℕ) (before : List Item) (class : ℕ) (ls : List Leaf) → HasClasses v cs → is_class_among (numbers_of cs) class ≡ true → c + (length ls + 2) ≤ 100000 → list_all (λ (l : Leaf). is_leaf l.kind) ls ≡ true
+    → Runs (item_state n (phase_behind b) c ps v cs e before) (kind_lines v (items.Foot class ls)) (item_state (n + (length ls + 2)) among_items (c + (length ls + 2)) ps v cs e (before ++ record { line = n + 1; kind = numbered_kind (n + 1) (items.Foot class ls) } ∷ []))
 unfolding kind_lines numbered_kind
-foot_run n p c ps v cs e before class ls has known takes few good =
+foot_run n b c ps v cs e before class ls has known few good =
     let after : List Item = before ++ record { line = n + 1; kind = items.Foot class (numbered_leaves (n + 1 + 1) ls) } ∷ [] in
-    let opened : Runs (item_state n p c ps v cs e before) (foot_line v class ∷ []) (foot_state (n + 1) (c + 1) ps v cs before e class (n + 1) []) =
-    goes_runs n p in_foot c (drafted ps v cs before None e) foot (class_fields (v == 1) class) (λ m. contents.Foot class) (omega arith) refl (foot_back v cs class has.good known (λ first. has.first class first known)) (foot_goes p c takes) in
+    let opened : Runs (item_state n (phase_behind b) c ps v cs e before) (foot_line v class ∷ []) (foot_state (n + 1) (c + 1) ps v cs before e class (n + 1) []) =
+    goes_runs n (phase_behind b) in_foot c (drafted ps v cs before None e) foot (class_fields (v == 1) class) (λ m. contents.Foot class) (omega arith) refl (foot_back v cs class has.good known (λ first. has.first class first known)) (foot_goes b (asked_place v (class_fields (v == 1) class)) c) in
     let inner : Runs (foot_state (n + 1) (c + 1) ps v cs before e class (n + 1) []) (leaf_texts ls) (foot_state (n + 1 + length ls) (c + 1 + length ls) ps v cs before e class (n + 1) (numbered_leaves (n + 1 + 1) ls)) =
     leaves_run (n + 1) (c + 1) ps v cs before e class (n + 1) [] ls (omega arith) good in
     let closed : Runs (foot_state (n + 1 + length ls) (c + 1 + length ls) ps v cs before e class (n + 1) (numbered_leaves (n + 1 + 1) ls)) (codes "endfoot" ∷ []) (item_state (n + 1 + length ls + 1) among_items (c + 1 + length ls + 1) ps v cs e after) =
     goes_runs (n + 1 + length ls) in_foot among_items (c + 1 + length ls) (drafted ps v cs before (Some (record { line = n + 1; class = class; leaves = numbered_leaves (n + 1 + 1) ls })) e) endfoot [] (λ m. contents.Endfoot) (omega arith) (refl)
     (record { fit = tt; short = omega arith; content = λ m. refl }) (record { place = refl; next = refl; count = refl }) in
-    to_state (item_state n p c ps v cs e before) (item_state (n + 1 + length ls + 1) among_items (c + 1 + length ls + 1) ps v cs e after) (item_state (n + (length ls + 2)) among_items (c + (length ls + 2)) ps v cs e after)
+    to_state (item_state n (phase_behind b) c ps v cs e before) (item_state (n + 1 + length ls + 1) among_items (c + 1 + length ls + 1) ps v cs e after) (item_state (n + (length ls + 2)) among_items (c + (length ls + 2)) ps v cs e after)
     (foot_line v class ∷ (leaf_texts ls ++ codes "endfoot" ∷ []))
     (same_items (n + 1 + length ls + 1) (n + (length ls + 2)) among_items (c + 1 + length ls + 1) (c + (length ls + 2)) ps v cs e after after (omega arith) (omega arith) refl)
-    (then_lines (item_state n p c ps v cs e before) (foot_state (n + 1) (c + 1) ps v cs before e class (n + 1) []) (item_state (n + 1 + length ls + 1) among_items (c + 1 + length ls + 1) ps v cs e after)
+    (then_lines (item_state n (phase_behind b) c ps v cs e before) (foot_state (n + 1) (c + 1) ps v cs before e class (n + 1) []) (item_state (n + 1 + length ls + 1) among_items (c + 1 + length ls + 1) ps v cs e after)
     (foot_line v class ∷ []) (leaf_texts ls ++ codes "endfoot" ∷ []) opened
     (then_lines (foot_state (n + 1) (c + 1) ps v cs before e class (n + 1) []) (foot_state (n + 1 + length ls) (c + 1 + length ls) ps v cs before e class (n + 1) (numbered_leaves (n + 1 + 1) ls)) (item_state (n + 1 + length ls + 1) among_items (c + 1 + length ls + 1) ps v cs e after)
     (leaf_texts ls) (codes "endfoot" ∷ []) inner closed))
 
 -- ---- items
 
-plain_run : (n : ℕ) (p : Phase) (c : ℕ) (ps : Params) (v : ℕ) (cs : List ClassLine) (e : ℕ) (before : List Item) (k : LeafKind) → takes_items p ≡ true → c + 1 ≤ 100000 → is_leaf k ≡ true
-    → Runs (item_state n p c ps v cs e before) (leaf_line k ∷ []) (item_state (n + 1) among_items (c + 1) ps v cs e (before ++ record { line = n + 1; kind = item_kind k } ∷ []))
+-- what stands before an item that comes after these, and a count of their lines
+pub record Stood (b : Behind) (c : ℕ) (before : List Item) : Type 0 where
+  pub behind : behind_items behind_nothing before ≡ b
+  pub count : is_nothing b ≡ false → 1 ≤ c
+
+pub none_stood : (c : ℕ) → Stood behind_nothing c []
+none_stood c = record { behind = refl; count = λ some. cc }
+
+same_behind : (b : Behind) (m : ℕ) (k : ItemKind) → behind_after b (numbered_kind m k) ≡ behind_after b k
+unfolding numbered_kind
+same_behind b m (items.Hbox name h d) = refl
+same_behind b m k = refl
+
+stood_more : (b : Behind) (c m : ℕ) (before : List Item) (k : ItemKind) → Stood b c before → Stood (behind_after b k) (c + weight_of k) (before ++ record { line = m; kind = numbered_kind m k } ∷ [])
+stood_more b c m before k stood =
+    let some : 1 ≤ weight_of k = some_weight k in
+    record {
+      behind = behind-append behind_nothing before (record { line = m; kind = numbered_kind m k }) ∙ ap (λ x. behind_after x (numbered_kind m k)) stood.behind ∙ same_behind b m k;
+      count = λ nothing. omega arith;
+    }
+
+plain_run : (n : ℕ) (b : Behind) (c : ℕ) (ps : Params) (v : ℕ) (cs : List ClassLine) (e : ℕ) (before : List Item) (k : LeafKind) → c + 1 ≤ 100000 → is_leaf k ≡ true
+    → Runs (item_state n (phase_behind b) c ps v cs e before) (leaf_line k ∷ []) (item_state (n + 1) among_items (c + 1) ps v cs e (before ++ record { line = n + 1; kind = item_kind k } ∷ []))
 unfolding leaf_line
-plain_run n p c ps v cs e before k takes few good =
-    goes_runs n p among_items c (drafted ps v cs before None e) (leaf_word k) (leaf_fields k) (λ m. contents.Plain k) few (leaf_here (known_by v cs) k) (leaf_back (known_by v cs) k good) (leaf_goes p c k takes)
+plain_run n b c ps v cs e before k few good =
+    goes_runs n (phase_behind b) among_items c (drafted ps v cs before None e) (leaf_word k) (leaf_fields k) (λ m. contents.Plain k) few (leaf_here (known_by v cs) k) (leaf_back (known_by v cs) k good) (leaf_goes b (asked_place v (leaf_fields k)) c k)
 
-single_run : (n : ℕ) (p : Phase) (c : ℕ) (ps : Params) (v : ℕ) (cs : List ClassLine) (e : ℕ) (before : List Item) (line : ℕ) (k : ItemKind) → takes_items p ≡ true → c + 1 ≤ 100000 → is_single k ≡ true → is_item line k ≡ true → fits_kind v k ≡ true → fits_word v k ≡ true → may_come (is_after_two p) k ≡ true
-    → Runs (item_state n p c ps v cs e before) (item_line k ∷ []) (item_state (n + 1) (phase_past_kind k) (c + 1) ps v cs e (before ++ record { line = n + 1; kind = on_line_kind (n + 1) k } ∷ []))
-single_run n p c ps v cs e before line k takes few single good kind fit stands =
-    goes_runs n p (phase_past_kind k) c (drafted ps v cs before None e) (item_word k) (item_fields k) (λ m. contents.Item (on_line_kind m k)) few (item_here (known_by v cs) k fit) (item_back (known_by v cs) line k single good kind) (single_goes p c k takes single stands)
+single_run : (n : ℕ) (b : Behind) (c : ℕ) (ps : Params) (v : ℕ) (cs : List ClassLine) (e : ℕ) (before : List Item) (line : ℕ) (k : ItemKind) → c + 1 ≤ 100000 → is_single k ≡ true → is_item line k ≡ true → fits_kind v k ≡ true → fits_word v k ≡ true → may_come b k ≡ true
+    → Runs (item_state n (phase_behind b) c ps v cs e before) (item_line k ∷ []) (item_state (n + 1) (phase_behind (behind_after b k)) (c + 1) ps v cs e (before ++ record { line = n + 1; kind = on_line_kind (n + 1) k } ∷ []))
+single_run n b c ps v cs e before line k few single good kind fit stands =
+    goes_runs n (phase_behind b) (phase_behind (behind_after b k)) c (drafted ps v cs before None e) (item_word k) (item_fields k) (λ m. contents.Item (on_line_kind m k)) few (item_here (known_by v cs) k fit) (item_back (known_by v cs) line k single good kind)
+    (single_goes b (asked_place v (item_fields k)) c k single stands)
 
-item_run : (n : ℕ) (p : Phase) (c : ℕ) (ps : Params) (v : ℕ) (cs : List ClassLine) (e : ℕ) (before : List Item) (line : ℕ) (k : ItemKind) → HasClasses v cs → has_known_class (numbers_of cs) k ≡ true → takes_items p ≡ true → c + weight_of k ≤ 100000 → is_item line k ≡ true → fits_kind v k ≡ true → fits_word v k ≡ true → may_come (is_after_two p) k ≡ true
-    → Runs (item_state n p c ps v cs e before) (kind_lines v k) (item_state (n + weight_of k) (phase_past_kind k) (c + weight_of k) ps v cs e (before ++ record { line = n + 1; kind = numbered_kind (n + 1) k } ∷ []))
+-- a parameter that is set is read back
+change_back : (v : ℕ) (cs : List ClassLine) (x : Change) → is_item 0 (items.Set x) ≡ true → (v == 3) ≡ true → ReadsAs (known_by v cs) setting (change_fields x) (λ m. contents.Set x.field x.value)
+change_back v cs x good last =
+    subst (λ f. ReadsAs (known_by v cs) setting (change_fields x) (λ m. contents.Set f x.value)) (own-row x.field)
+    (set_back (known_by v cs) (row_of_field x.field) x.value (row_found x.field) (row_in_last v x.field last) (row_plain x.field) good)
+
+change_run : (n : ℕ) (b : Behind) (c : ℕ) (ps : Params) (v : ℕ) (cs : List ClassLine) (e : ℕ) (before : List Item) (x : Change) → Stood b c before → c + 1 ≤ 100000 → is_item 0 (items.Set x) ≡ true → (v == 3) ≡ true → may_set b (set_place x.field) ≡ true
+    → Runs (item_state n (phase_behind b) c ps v cs e before) (change_line x ∷ []) (item_state (n + 1) (phase_behind b) (c + 1) ps v cs e (before ++ record { line = n + 1; kind = items.Set x } ∷ []))
+change_run n b c ps v cs e [] x stood few good last may =
+    let no : may_set behind_nothing (set_place x.field) ≡ true = subst (λ y. may_set y (set_place x.field) ≡ true) (sym stood.behind) may in cc
+change_run n b c ps v cs e (i ∷ before) x stood few good last may =
+    goes_runs n (phase_behind b) (phase_behind b) c (drafted ps v cs (i ∷ before) None e) setting (change_fields x) (λ m. contents.Set x.field x.value) few refl (change_back v cs x good last)
+    (set_goes b (asked_place v (change_fields x)) (set_place x.field) c (asked_is v x.field (value_fields x.value) last) may (stood.count (comes-after b (items.Set x) may)))
+
+item_run : (n : ℕ) (b : Behind) (c : ℕ) (ps : Params) (v : ℕ) (cs : List ClassLine) (e : ℕ) (before : List Item) (line : ℕ) (k : ItemKind) → HasClasses v cs → Stood b c before → has_known_class (numbers_of cs) k ≡ true → c + weight_of k ≤ 100000 → is_item line k ≡ true → fits_kind v k ≡ true → fits_word v k ≡ true → may_come b k ≡ true
+    → Runs (item_state n (phase_behind b) c ps v cs e before) (kind_lines v k) (item_state (n + weight_of k) (phase_behind (behind_after b k)) (c + weight_of k) ps v cs e (before ++ record { line = n + 1; kind = numbered_kind (n + 1) k } ∷ []))
 unfolding kind_lines numbered_kind leaf_line
-item_run n p c ps v cs e before line (items.Hbox name h d) has known takes few good kind fit stands = plain_run n p c ps v cs e before (leaves.Hbox name h d) takes few good
-item_run n p c ps v cs e before line (items.Rule name h d) has known takes few good kind fit stands = plain_run n p c ps v cs e before (leaves.Rule name h d) takes few good
-item_run n p c ps v cs e before line (items.Skip g) has known takes few good kind fit stands = plain_run n p c ps v cs e before (leaves.Skip g) takes few good
-item_run n p c ps v cs e before line (items.Kern w) has known takes few good kind fit stands = plain_run n p c ps v cs e before (leaves.Kern w) takes few good
-item_run n p c ps v cs e before line (items.Penalty k) has known takes few good kind fit stands = plain_run n p c ps v cs e before (leaves.Penalty k) takes few good
-item_run n p c ps v cs e before line (items.Foot class ls) has known takes few good kind fit stands = foot_run n p c ps v cs e before class ls has known takes few good
-item_run n p c ps v cs e before line k has known takes few good kind fit stands = single_run n p c ps v cs e before line k takes few refl good kind fit stands
+item_run n b c ps v cs e before line (items.Hbox name h d) has stood known few good kind fit stands = plain_run n b c ps v cs e before (leaves.Hbox name h d) few good
+item_run n b c ps v cs e before line (items.Rule name h d) has stood known few good kind fit stands = plain_run n b c ps v cs e before (leaves.Rule name h d) few good
+item_run n b c ps v cs e before line (items.Skip g) has stood known few good kind fit stands = plain_run n b c ps v cs e before (leaves.Skip g) few good
+item_run n b c ps v cs e before line (items.Kern w) has stood known few good kind fit stands = plain_run n b c ps v cs e before (leaves.Kern w) few good
+item_run n b c ps v cs e before line (items.Penalty k) has stood known few good kind fit stands = plain_run n b c ps v cs e before (leaves.Penalty k) few good
+item_run n b c ps v cs e before line (items.Foot class ls) has stood known few good kind fit stands = foot_run n b c ps v cs e before class ls has known few good
+item_run n b c ps v cs e before line (items.Set x) has stood known few good kind fit stands = change_run n b c ps v cs e before x stood few good fit stands
+item_run n b c ps v cs e before line k has stood known few good kind fit stands = single_run n b c ps v cs e before line k few refl good kind fit stands
 
 abbrev pub item_texts : ℕ → List Item → List (List ℕ)
 item_texts v [] = []
 item_texts v (i ∷ is) = kind_lines v i.kind ++ item_texts v is
 
-abbrev pub phase_past_items : Phase → List Item → Phase
-phase_past_items p [] = p
-phase_past_items p (i ∷ is) = phase_past_items (phase_past_kind i.kind) is
-
-pub takes_past : (p : Phase) (is : List Item) → takes_items p ≡ true → takes_items (phase_past_items p is) ≡ true
-takes_past p [] takes = takes
-takes_past p (i ∷ is) takes = takes_past (phase_past_kind i.kind) is (takes_past_kind i.kind)
-
-pub items_run : (n : ℕ) (p : Phase) (c : ℕ) (ps : Params) (v : ℕ) (cs : List ClassLine) (e : ℕ) (before is : List Item) → HasClasses v cs → takes_items p ≡ true → c + weight is ≤ 100000
+pub items_run : (n : ℕ) (b : Behind) (c : ℕ) (ps : Params) (v : ℕ) (cs : List ClassLine) (e : ℕ) (before is : List Item) → HasClasses v cs → Stood b c before → c + weight is ≤ 100000
     → list_all (λ (i : Item). is_item i.line i.kind) is ≡ true → list_all (λ (i : Item). has_known_class (numbers_of cs) i.kind) is ≡ true → list_all (λ (i : Item). fits_kind v i.kind) is ≡ true
-    → list_all (λ (i : Item). fits_word v i.kind) is ≡ true → do_heads_stand (is_after_two p) is ≡ true
-    → Runs (item_state n p c ps v cs e before) (item_texts v is) (item_state (n + weight is) (phase_past_items p is) (c + weight is) ps v cs e (before ++ numbered_items (n + 1) is))
+    → list_all (λ (i : Item). fits_word v i.kind) is ≡ true → do_items_stand b is ≡ true
+    → Runs (item_state n (phase_behind b) c ps v cs e before) (item_texts v is) (item_state (n + weight is) (phase_behind (behind_items b is)) (c + weight is) ps v cs e (before ++ numbered_items (n + 1) is))
 unfolding numbered_items
-items_run n p c ps v cs e before [] has takes few good known kinds fit stands =
-    to_state (item_state n p c ps v cs e before) (item_state n p c ps v cs e before) (item_state (n + 0) p (c + 0) ps v cs e (before ++ [])) []
-    (same_items n (n + 0) p c (c + 0) ps v cs e before (before ++ []) (omega arith) (omega arith) (sym (append-nil before)))
-    (no_lines (item_state n p c ps v cs e before))
-items_run n p c ps v cs e before (i ∷ is) has takes few good known kinds fit stands =
+items_run n b c ps v cs e before [] has stood few good known kinds fit stands =
+    to_state (item_state n (phase_behind b) c ps v cs e before) (item_state n (phase_behind b) c ps v cs e before) (item_state (n + 0) (phase_behind b) (c + 0) ps v cs e (before ++ [])) []
+    (same_items n (n + 0) (phase_behind b) c (c + 0) ps v cs e before (before ++ []) (omega arith) (omega arith) (sym (append-nil before)))
+    (no_lines (item_state n (phase_behind b) c ps v cs e before))
+items_run n b c ps v cs e before (i ∷ is) has stood few good known kinds fit stands =
     let k : ℕ = weight_of i.kind in
     let item : Item = record { line = n + 1; kind = numbered_kind (n + 1) i.kind } in
-    then_lines (item_state n p c ps v cs e before) (item_state (n + weight_of i.kind) (phase_past_kind i.kind) (c + weight_of i.kind) ps v cs e (before ++ item ∷ []))
-    (item_state (n + weight (i ∷ is)) (phase_past_items p (i ∷ is)) (c + weight (i ∷ is)) ps v cs e (before ++ item ∷ numbered_items (n + 1 + weight_of i.kind) is)) (kind_lines v i.kind) (item_texts v is)
-    (item_run n p c ps v cs e before i.line i.kind has (first_so (has_known_class (numbers_of cs) i.kind) (list_all (λ (j : Item). has_known_class (numbers_of cs) j.kind) is) known) takes (omega arith)
+    then_lines (item_state n (phase_behind b) c ps v cs e before) (item_state (n + weight_of i.kind) (phase_behind (behind_after b i.kind)) (c + weight_of i.kind) ps v cs e (before ++ item ∷ []))
+    (item_state (n + weight (i ∷ is)) (phase_behind (behind_items b (i ∷ is))) (c + weight (i ∷ is)) ps v cs e (before ++ item ∷ numbered_items (n + 1 + weight_of i.kind) is)) (kind_lines v i.kind) (item_texts v is)
+    (item_run n b c ps v cs e before i.line i.kind has stood (first_so (has_known_class (numbers_of cs) i.kind) (list_all (λ (j : Item). has_known_class (numbers_of cs) j.kind) is) known) (omega arith)
     (first_so (is_item i.line i.kind) (list_all (λ (j : Item). is_item j.line j.kind) is) good) (first_so (fits_kind v i.kind) (list_all (λ (j : Item). fits_kind v j.kind) is) kinds) (first_so (fits_word v i.kind) (list_all (λ (j : Item). fits_word v j.kind) is) fit)
-    (first_so (may_come (is_after_two p) i.kind) (do_heads_stand (is_two_column i.kind) is) stands))
-    (to_state (item_state (n + weight_of i.kind) (phase_past_kind i.kind) (c + weight_of i.kind) ps v cs e (before ++ item ∷ []))
-    (item_state (n + weight_of i.kind + weight is) (phase_past_items (phase_past_kind i.kind) is) (c + weight_of i.kind + weight is) ps v cs e ((before ++ item ∷ []) ++ numbered_items (n + weight_of i.kind + 1) is))
-    (item_state (n + weight (i ∷ is)) (phase_past_items p (i ∷ is)) (c + weight (i ∷ is)) ps v cs e (before ++ item ∷ numbered_items (n + 1 + weight_of i.kind) is)) (item_texts v is)
-    (same_items (n + weight_of i.kind + weight is) (n + weight (i ∷ is)) (phase_past_items (phase_past_kind i.kind) is) (c + weight_of i.kind + weight is) (c + weight (i ∷ is)) ps v cs e ((before ++ item ∷ []) ++ numbered_items (n + weight_of i.kind + 1) is) (before ++ item ∷ numbered_items (n + 1 + weight_of i.kind) is)
+    (first_so (may_come b i.kind) (do_items_stand (behind_after b i.kind) is) stands))
+    (to_state (item_state (n + weight_of i.kind) (phase_behind (behind_after b i.kind)) (c + weight_of i.kind) ps v cs e (before ++ item ∷ []))
+    (item_state (n + weight_of i.kind + weight is) (phase_behind (behind_items (behind_after b i.kind) is)) (c + weight_of i.kind + weight is) ps v cs e ((before ++ item ∷ []) ++ numbered_items (n + weight_of i.kind + 1) is))
+    (item_state (n + weight (i ∷ is)) (phase_behind (behind_items b (i ∷ is))) (c + weight (i ∷ is)) ps v cs e (before ++ item ∷ numbered_items (n + 1 + weight_of i.kind) is)) (item_texts v is)
+    (same_items (n + weight_of i.kind + weight is) (n + weight (i ∷ is)) (phase_behind (behind_items (behind_after b i.kind) is)) (c + weight_of i.kind + weight is) (c + weight (i ∷ is)) ps v cs e ((before ++ item ∷ []) ++ numbered_items (n + weight_of i.kind + 1) is) (before ++ item ∷ numbered_items (n + 1 + weight_of i.kind) is)
     (omega arith) (omega arith) (append_assoc before (item ∷ []) (numbered_items (n + weight_of i.kind + 1) is) ∙ ap (λ m. before ++ item ∷ numbered_items m is) (omega arith)))
-    (items_run (n + weight_of i.kind) (phase_past_kind i.kind) (c + weight_of i.kind) ps v cs e (before ++ item ∷ []) is has (takes_past_kind i.kind) (omega arith)
+    (items_run (n + weight_of i.kind) (behind_after b i.kind) (c + weight_of i.kind) ps v cs e (before ++ item ∷ []) is has (stood_more b c (n + 1) before i.kind stood) (omega arith)
     (second_so (is_item i.line i.kind) (list_all (λ (j : Item). is_item j.line j.kind) is) good) (second_so (has_known_class (numbers_of cs) i.kind) (list_all (λ (j : Item). has_known_class (numbers_of cs) j.kind) is) known) (second_so (fits_kind v i.kind) (list_all (λ (j : Item). fits_kind v j.kind) is) kinds)
     (second_so (fits_word v i.kind) (list_all (λ (j : Item). fits_word v j.kind) is) fit)
-    (subst (λ t. do_heads_stand t is ≡ true) (same_after i.kind) (second_so (may_come (is_after_two p) i.kind) (do_heads_stand (is_two_column i.kind) is) stands))))
+    (second_so (may_come b i.kind) (do_items_stand (behind_after b i.kind) is) stands)))

@@ -1,21 +1,24 @@
 -- The reader that goes line by line returns what the grammar says.
-use Rattle.std.proofs.Common.{◌≡◌, ℕ, ◌+◌, Bool, true, false, ◌||◌, List, [], ◌∷◌, ◌++◌, map, nat_abs, nat_lt, ◌==◌, ℤ, pos, Option, Some, None, Result, Ok, Err, if◌then◌else◌, refl, ap, ◌∙◌, sym, arith, append_assoc}
+use Rattle.std.proofs.Common.{◌≡◌, ℕ, ◌+◌, Bool, true, false, ◌||◌, List, [], ◌∷◌, ◌++◌, map, nat_abs, nat_lt, ◌==◌, ℤ, pos, Option, Some, None, Result, Ok, Err, if◌then◌else◌, refl, ap, ◌∙◌, sym, append_assoc}
 use Rattle.std.specs.List.{fold, list_any}
 use Rattle.std.proofs.lemmas.List.Sums.{fold-append}
 use Rattle.std.proofs.Math.Bool.{or-false}
 use Rattle.tb_text.specs.declared.TextFault.{TextFault}
 use Rattle.tb_text.specs.Numbers.{integer_of}
 use Rattle.tb_param.specs.Table.{Row, row_of}
+use Rattle.tb_param.specs.declared.fields.Field.{Field}
+use Rattle.tb_param.specs.declared.Value.{Value}
+use Rattle.tb_galley.specs.declared.Item.{Item}
 use Rattle.tb_galley.specs.declared.classes.ClassLine.{ClassLine}
 use Rattle.tb_galley.specs.declared.LeafKind.{LeafKind}
 use Rattle.tb_galley.specs.declared.LeafKind.TheVariants as leaves
 use Rattle.tb_galley.specs.declared.Cause.{Cause}
 use Rattle.tb_galley.specs.declared.Fault.{Fault}
-use Rattle.tb_galley.specs.Words.{LineWord, header, setting, class_line, hbox, rule, skip, kern, penalty, endfoot, known_with, with_number, number_or, number_in, first_field, Line, line_at, at_start, phase_after, phase_among, item_count, content_at, is_end_line, is_item_line, foot_open, foot_open_from, open_after, ends_two_from, is_end_word, is_item_word, is_two_word, word_passes}
+use Rattle.tb_galley.specs.Words.{LineWord, header, setting, class_line, hbox, rule, skip, kern, penalty, endfoot, known_with, with_number, number_or, number_in, first_field, Line, line_at, at_start, phase_after, phase_among, item_count, count_with, content_at, is_end_line, foot_open, foot_open_from, open_after, Behind, behind_nothing, behind_clear, behind_two, behind_other, behind_line, behind_lines, is_end_word, word_passes}
 use Rattle.tb_text.specs.Lines.{fields_of, is_skipped}
 use Rattle.tb_galley.specs.Faults.{line_causes, end_causes, causes_from}
-use Rattle.tb_galley.specs.Grammar.{Draft, OpenFoot, dimension_at, glue_at, with_class, read_or, integer_at, field_at, class_at, content_of, set_content, with_plain, with_foot, with_content, with_word, with_line, empty_draft, galley_of, content_from, galley_unless, spelled}
-use Rattle.tb_galley.specs.GalleyReader.{State, first_cause, next_phase, count_with, past_content, take_unless, take_line, start, end_by, verdict, known_in}
+use Rattle.tb_galley.specs.Grammar.{Draft, OpenFoot, dimension_at, glue_at, with_class, read_or, integer_at, field_at, class_at, content_of, value_by, set_content, with_plain, with_foot, with_set, with_content, with_word, with_line, empty_draft, galley_of, content_from, galley_unless, spelled}
+use Rattle.tb_galley.specs.GalleyReader.{State, first_cause, next_phase, past_content, take_unless, take_line, start, end_by, verdict, known_in}
 use Rattle.tb_galley.proofs.FirstFaults.{first_among, or_first, least_first}
 use Rattle.tb_galley.proofs.CauseOrder.{all_led}
 
@@ -33,49 +36,44 @@ open_append : (was : Bool) (ls : List Line) (l : Line) → foot_open_from was (l
 open_append was [] l = refl
 open_append was (m ∷ ls) l = open_append (open_after was m.word) ls l
 
-two_append : (was : Bool) (ls : List Line) (l : Line) → ends_two_from was (ls ++ l ∷ []) ≡ word_passes is_two_word l.word
-two_append was [] l = refl
-two_append was (m ∷ ls) l = two_append (word_passes is_two_word m.word) ls l
+behind_append : (b : Behind) (ls : List Line) (l : Line) → behind_lines b (ls ++ l ∷ []) ≡ behind_line (behind_lines b ls) l.word
+behind_append b [] l = refl
+behind_append b (m ∷ ls) l = behind_append (behind_line b m.word) ls l
 
-phase_step : (e o t i : Bool) (w : Option LineWord)
-    → phase_among (e || word_passes is_end_word w) (open_after o w) (word_passes is_two_word w) (i || word_passes is_item_word w) ≡ next_phase (phase_among e o t i) w
-phase_step true o t i None = refl
-phase_step true o t i (Some header) = refl
-phase_step true o t i (Some _) = refl
-phase_step false true t true None = refl
-phase_step false true t true (Some header) = refl
-phase_step false true t true (Some _) = refl
-phase_step false true t false None = refl
-phase_step false true t false (Some header) = refl
-phase_step false true t false (Some _) = refl
-phase_step false false true true None = refl
-phase_step false false true true (Some header) = refl
-phase_step false false true true (Some _) = refl
-phase_step false false false true None = refl
-phase_step false false false true (Some header) = refl
-phase_step false false false true (Some _) = refl
-phase_step false false t false None = refl
-phase_step false false t false (Some header) = refl
-phase_step false false t false (Some _) = refl
+pub phase_step : (e o : Bool) (b : Behind) (w : Option LineWord)
+    → phase_among (e || word_passes is_end_word w) (open_after o w) (behind_line b w) ≡ next_phase (phase_among e o b) w
+phase_step true o b None = refl
+phase_step true o b (Some header) = refl
+phase_step true o b (Some _) = refl
+phase_step false true b None = refl
+phase_step false true b (Some header) = refl
+phase_step false true b (Some _) = refl
+phase_step false false behind_nothing None = refl
+phase_step false false behind_nothing (Some header) = refl
+phase_step false false behind_nothing (Some _) = refl
+phase_step false false behind_clear None = refl
+phase_step false false behind_clear (Some header) = refl
+phase_step false false behind_clear (Some _) = refl
+phase_step false false behind_two None = refl
+phase_step false false behind_two (Some header) = refl
+phase_step false false behind_two (Some _) = refl
+phase_step false false behind_other None = refl
+phase_step false false behind_other (Some header) = refl
+phase_step false false behind_other (Some _) = refl
 
-phase_first : (w : Option LineWord) → phase_among (word_passes is_end_word w) (open_after false w) (word_passes is_two_word w) (word_passes is_item_word w) ≡ next_phase at_start w
+phase_first : (w : Option LineWord) → phase_among (word_passes is_end_word w) (open_after false w) (behind_line behind_nothing w) ≡ next_phase at_start w
 phase_first None = refl
 phase_first (Some header) = refl
 phase_first (Some _) = refl
 
 phase_more : (ls : List Line) (l : Line) → phase_after (ls ++ l ∷ []) ≡ next_phase (phase_after ls) l.word
-phase_more [] l = ap (λ b. phase_among b (open_after false l.word) (word_passes is_two_word l.word) (is_item_line l || false)) (or-false (is_end_line l))
-    ∙ ap (λ b. phase_among (is_end_line l) (open_after false l.word) (word_passes is_two_word l.word) b) (or-false (is_item_line l)) ∙ phase_first l.word
+phase_more [] l = ap (λ t. phase_among t (open_after false l.word) (behind_line behind_nothing l.word)) (or-false (is_end_line l)) ∙ phase_first l.word
 phase_more (m ∷ ls) l =
-    (λ i. phase_among (any_append is_end_line (m ∷ ls) l i) (open_append false (m ∷ ls) l i) (two_append false (m ∷ ls) l i) (any_append is_item_line (m ∷ ls) l i))
-    ∙ phase_step (list_any is_end_line (m ∷ ls)) (foot_open (m ∷ ls)) (ends_two_from false (m ∷ ls)) (list_any is_item_line (m ∷ ls)) l.word
-
-count_one : (n : ℕ) (t : Bool) → n + (if t then 1 else 0) ≡ (if t then n + 1 else n)
-count_one n true = refl
-count_one n false = omega arith
+    (λ i. phase_among (any_append is_end_line (m ∷ ls) l i) (open_append false (m ∷ ls) l i) (behind_append behind_nothing (m ∷ ls) l i))
+    ∙ phase_step (list_any is_end_line (m ∷ ls)) (foot_open (m ∷ ls)) (behind_lines behind_nothing (m ∷ ls)) l.word
 
 count_more : (ls : List Line) (l : Line) → item_count (ls ++ l ∷ []) ≡ count_with (item_count ls) l.word
-count_more ls l = fold-append (λ n m. n + (if is_item_line m then 1 else 0)) 0 ls (l ∷ []) ∙ count_one (item_count ls) (is_item_line l)
+count_more ls l = fold-append (λ n (m : Line). count_with n m.word) 0 ls (l ∷ [])
 
 -- ---- the reader's state after some lines, the content lines among which are shown
 
@@ -157,9 +155,13 @@ foot-known : (d : Draft) (o : Option OpenFoot) → known_in (with_foot d o) ≡ 
 foot-known d None = refl
 foot-known d (Some o) = refl
 
+added-known : (d : Draft) (n : ℕ) (field : Field) (value : Value) (is : List Item) → known_in (with_set d n field value is) ≡ known_in d
+added-known d n field value [] = refl
+added-known d n field value (i ∷ is) = refl
+
 set-known : (d : Draft) (n : ℕ) (fs : List (List ℕ)) (r : Option Row) → known_in (with_content d n (set_content fs r)) ≡ known_in d
 set-known d n fs None = refl
-set-known d n fs (Some r) = refl
+set-known d n fs (Some r) = added-known d n r.field (value_by fs r.form) d.items
 
 word-known : (d : Draft) (n : ℕ) (fs : List (List ℕ)) (w : LineWord) → known_in (with_content d n (content_of d.version n fs w)) ≡ known_with (known_in d) (Some w) fs
 word-known d n fs header = refl

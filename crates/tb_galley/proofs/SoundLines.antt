@@ -1,18 +1,14 @@
 -- A reader is sound: what it has drafted so far is in its ranges; each line of a known content keeps it so.
 use Rattle.std.proofs.Common.{◌≡◌, ℕ, zero, suc, ◌+◌, ◌≤◌, ◌<◌, Bool, true, false, ◌&&◌, ◌||◌, ◌==◌, nat_lt, nat_le, length, map, List, [], ◌∷◌, ◌++◌, Option, Some, None, refl, ap, sym, subst, ◌∙◌, ◌⊎◌, inl, inr, arith, append_assoc, length-append, append-nil}
 use Rattle.std.specs.Prelude.{is_some, is_none}
-use Rattle.std.proofs.lemmas.Bool.{eqb-true, and_from}
-use Rattle.std.specs.Cmp.{first_so, second_so}
+use Rattle.std.proofs.lemmas.Bool.{eqb-true}
 use Rattle.std.specs.List.{list_all}
 use Rattle.std.proofs.lemmas.Bool.Decides.{nat_tests}
 use Rattle.std.proofs.lemmas.List.Folds.{list_all-append}
 use Rattle.tb_param.specs.declared.params.Params.{Params}
-use Rattle.tb_param.specs.declared.fields.Field.{Field}
-use Rattle.tb_param.specs.declared.Value.{Value}
+use Rattle.tb_param.specs.declared.changes.SetPlace.{SetPlace}
 use Rattle.tb_param.specs.Ranges.{are_params}
-use Rattle.tb_param.specs.Fields.{with_value, value_of}
-use Rattle.tb_param.specs.declared.fields.Field.TheVariants as fields
-use Rattle.tb_param.specs.Table.{is_known_in, first_version}
+use Rattle.tb_param.specs.Table.{first_version}
 use Rattle.tb_galley.specs.declared.Cause.TheVariants as causes
 use Rattle.tb_galley.specs.declared.contents.Content.TheVariants as contents
 use Rattle.tb_galley.specs.declared.Item.{Item}
@@ -22,13 +18,13 @@ use Rattle.tb_galley.specs.declared.classes.ClassLine.{ClassLine}
 use Rattle.tb_galley.specs.Fields.{is_class_among}
 use Rattle.tb_galley.specs.declared.Leaf.{Leaf}
 use Rattle.tb_galley.specs.declared.LeafKind.{LeafKind}
-use Rattle.tb_galley.specs.Words.{header, setting, Phase, at_start, among_sets, among_items, after_two, in_foot, ended}
+use Rattle.tb_galley.specs.Words.{LineWord, header, Phase, at_start, among_sets, among_items, after_clear, after_two, in_foot, ended, Behind, behind_nothing, behind_word, phase_behind}
 use Rattle.tb_galley.specs.Faults.{place_causes, cause_if}
 use Rattle.tb_galley.specs.Grammar.{OpenFoot, Draft, with_item, with_plain, with_foot, with_content}
 use Rattle.tb_galley.specs.Line.{first_of}
 use Rattle.tb_galley.specs.GalleyReader.{next_phase}
-use Rattle.tb_galley.specs.Valid.{is_leaf, is_item, weight_of, weight, leaf_lines, lines_of_item, named_lines, rise_from, is_class, do_classes_rise, do_all_stand, has_known_class, fits_kind, fits_version, fits_word, OthersDefault, is_version, is_two_column, may_come, do_heads_stand}
-use Rattle.tb_galley.proofs.SuitedLines.{SetsInRange}
+use Rattle.tb_galley.specs.Valid.{is_leaf, is_item, weight_of, weight, leaf_lines, lines_of_item, named_lines, rise_from, is_class, do_classes_rise, do_all_stand, has_known_class, fits_kind, fits_version, fits_word, OthersDefault, is_version, behind_after, may_come, do_items_stand}
+use Rattle.tb_galley.proofs.BehindItems.{behind_items, behind-append, order-append, is_nothing, comes-after, StandsAt, stands_at, takes_items, goes_on, next-there}
 
 -- ---- lists that rise
 
@@ -69,28 +65,6 @@ all_more p xs x h k = list_all-append p xs (x ∷ []) ∙ hold (list_all p xs) (
     hold true false h k = k
     hold false b h k = h
 
--- ---- titles
-
--- the last item changes to two columns
-abbrev pub ends_two : Bool → List Item → Bool
-ends_two was [] = was
-ends_two was (i ∷ is) = ends_two (is_two_column i.kind) is
-
-pub two-append : (was : Bool) (is : List Item) (i : Item) → ends_two was (is ++ i ∷ []) ≡ is_two_column i.kind
-two-append was [] i = refl
-two-append was (j ∷ is) i = two-append (is_two_column j.kind) is i
-
-heads-append : (was : Bool) (is : List Item) (i : Item) → do_heads_stand was is ≡ true → may_come (ends_two was is) i.kind ≡ true → do_heads_stand was (is ++ i ∷ []) ≡ true
-heads-append was [] i h k = ap (λ t. t && true) k
-heads-append was (j ∷ is) i h k =
-    and_from (may_come was j.kind) (do_heads_stand (is_two_column j.kind) (is ++ i ∷ [])) (first_so (may_come was j.kind) (do_heads_stand (is_two_column j.kind) is) h)
-    (heads-append (is_two_column j.kind) is i (second_so (may_come was j.kind) (do_heads_stand (is_two_column j.kind) is) h) k)
-
--- directly after a change to two columns the last item is that change
-abbrev pub two_fits : Phase → List Item → Bool
-two_fits after_two is = ends_two false is
-two_fits _ is = true
-
 -- ---- a sound state
 
 abbrev open_leaves : Option OpenFoot → List Leaf
@@ -103,19 +77,21 @@ open_weight None = 0
 open_weight (Some o) = length o.leaves + 1
 
 -- a foot is open exactly in its phase
-abbrev foot_fits : Phase → Option OpenFoot → Bool
+abbrev pub foot_fits : Phase → Option OpenFoot → Bool
 foot_fits at_start o = is_none o
 foot_fits among_sets o = is_none o
 foot_fits among_items o = is_none o
+foot_fits after_clear o = is_none o
 foot_fits after_two o = is_none o
 foot_fits in_foot o = is_some o
 foot_fits ended o = is_none o
 
 -- the line that comes next; after the end that of the end
-abbrev last_line : Phase → ℕ → ℕ → ℕ
+abbrev pub last_line : Phase → ℕ → ℕ → ℕ
 last_line at_start n e = n + 1
 last_line among_sets n e = n + 1
 last_line among_items n e = n + 1
+last_line after_clear n e = n + 1
 last_line after_two n e = n + 1
 last_line in_foot n e = n + 1
 last_line ended n e = e
@@ -133,15 +109,13 @@ abbrev is_known_foot : List ℕ → Option OpenFoot → Bool
 is_known_foot ks None = true
 is_known_foot ks (Some o) = is_class_among ks o.class
 
--- before the header the version counts as 1, and there are no items
+-- before the header the version counts as 1; until the first item there are no items
 abbrev is_fresh : Phase → ℕ → List Item → Bool
 is_fresh at_start v [] = v == 1
 is_fresh at_start v (i ∷ is) = false
-is_fresh among_sets v is = true
-is_fresh among_items v is = true
-is_fresh after_two v is = true
-is_fresh in_foot v is = true
-is_fresh ended v is = true
+is_fresh among_sets v [] = true
+is_fresh among_sets v (i ∷ is) = false
+is_fresh _ v is = true
 
 -- the version knows what the draft has, and the classes of feet were declared
 pub record Classed (p : Phase) (d : Draft) : Type 0 where
@@ -154,8 +128,8 @@ pub record Classed (p : Phase) (d : Draft) : Type 0 where
   pub standing : do_all_stand d.version d.classes ≡ true
   pub feet : list_all (λ (i : Item). has_known_class (numbers d.classes) i.kind) d.items ≡ true
   pub foot : is_known_foot (numbers d.classes) d.foot ≡ true
-  pub heads : do_heads_stand false d.items ≡ true
-  pub after : two_fits p d.items ≡ true
+  pub order : do_items_stand behind_nothing d.items ≡ true
+  pub behind : StandsAt p (behind_items behind_nothing d.items)
 
 pub record Sound (n : ℕ) (p : Phase) (c : ℕ) (d : Draft) : Type 0 where
   pub params : are_params d.params ≡ true
@@ -176,6 +150,7 @@ later_line : (p : Phase) (n e : ℕ) → last_line p n e ≤ last_line p (n + 1)
 later_line at_start n e = omega arith
 later_line among_sets n e = omega arith
 later_line among_items n e = omega arith
+later_line after_clear n e = omega arith
 later_line after_two n e = omega arith
 later_line in_foot n e = omega arith
 later_line ended n e = omega arith
@@ -243,9 +218,13 @@ fresh_items : (u : ℕ) (is : List Item) (good : Item → Bool) → is_fresh at_
 fresh_items u [] good h = refl
 fresh_items u (i ∷ is) good h = cc
 
-pub header_line : (n : ℕ) (p : Phase) (c : ℕ) (d : Draft) (v : ℕ) → is_version v ≡ true → first_of (place_causes p (Some header)) ≡ None → Sound n p c d
+fresh_sets : (u v : ℕ) (is : List Item) → is_fresh at_start u is ≡ true → is_fresh among_sets v is ≡ true
+fresh_sets u v [] h = refl
+fresh_sets u v (i ∷ is) h = h
+
+pub header_line : (n : ℕ) (p : Phase) (a : Option SetPlace) (c : ℕ) (d : Draft) (v : ℕ) → is_version v ≡ true → first_of (place_causes p a (Some header)) ≡ None → Sound n p c d
     → Sound (n + 1) (next_phase p (Some header)) c (record d { version = v })
-header_line n at_start c d v some place s =
+header_line n at_start a c d v some place s =
     let next : Sound (n + 1) at_start c d = past_line n at_start c d s in
     record {
       params = next.params;
@@ -255,95 +234,26 @@ header_line n at_start c d v some place s =
         version = header_fits d.version v d.classes (fresh_version d.version d.items s.classed.fresh) some s.classed.version;
         others = header_others d.version v d.params (fresh_version d.version d.items s.classed.fresh) some s.classed.others;
         words = fresh_items d.version d.items (λ i. fits_word v i.kind) s.classed.fresh;
-        fresh = refl;
+        fresh = fresh_sets d.version v d.items s.classed.fresh;
         kinds = fresh_items d.version d.items (λ i. fits_kind v i.kind) s.classed.fresh;
         classes = s.classed.classes;
         standing = header_standing d.version v d.classes (fresh_version d.version d.items s.classed.fresh) s.classed.version;
         feet = s.classed.feet;
         foot = s.classed.foot;
-        heads = s.classed.heads;
-        after = refl;
+        order = s.classed.order;
+        behind = s.classed.behind;
       };
       weight = next.weight;
       count = next.count;
       phase = next.phase;
       lines = next.lines;
     }
-header_line n among_sets c d v some place s = cc
-header_line n among_items c d v some place s = cc
-header_line n after_two c d v some place s = cc
-header_line n in_foot c d v some place s = cc
-header_line n ended c d v some place s = cc
-
--- a version with some parameter has all those of version 1
-has-version : (field : Field) → nat_le 1 (first_version field) ≡ true
-has-version fields.Release = refl
-has-version field = refl
-
-none-lacks : (v : ℕ) (field : Field) → is_known_in v field ≡ true → nat_le 1 v ≡ false → ⊥
-none-lacks v field known lacks = apart (first_version field) (has-version field) known
-  where
-    apart : (k : ℕ) → nat_le 1 k ≡ true → nat_le k v ≡ true → ⊥
-    apart k some few = grind (arith, nat_tests)
-
--- a parameter that the version does not have stays if one that it has is set
-other-stays : (v : ℕ) (other field : Field) (value : Value) (ps : Params) → is_known_in v field ≡ true → is_known_in v other ≡ false → value_of other (with_value field value ps) ≡ value_of other ps
-other-stays v fields.Release fields.Release value ps known lacks = cc
-other-stays v fields.Release field value ps known lacks = refl
-other-stays v fields.Texttop fields.Texttop value ps known lacks = cc
-other-stays v fields.Texttop field value ps known lacks = refl
-other-stays v fields.Textbottom fields.Textbottom value ps known lacks = cc
-other-stays v fields.Textbottom field value ps known lacks = refl
-other-stays v fields.Footrule fields.Footrule value ps known lacks = cc
-other-stays v fields.Footrule field value ps known lacks = refl
-other-stays v fields.Toprule fields.Toprule value ps known lacks = cc
-other-stays v fields.Toprule field value ps known lacks = refl
-other-stays v fields.Bottomrule fields.Bottomrule value ps known lacks = cc
-other-stays v fields.Bottomrule field value ps known lacks = refl
-other-stays v fields.Dblrule fields.Dblrule value ps known lacks = cc
-other-stays v fields.Dblrule field value ps known lacks = refl
-other-stays v fields.Footdepth fields.Footdepth value ps known lacks = cc
-other-stays v fields.Footdepth field value ps known lacks = refl
-other-stays v fields.Footfill fields.Footfill value ps known lacks = cc
-other-stays v fields.Footfill field value ps known lacks = refl
-other-stays v fields.Footplace fields.Footplace value ps known lacks = cc
-other-stays v fields.Footplace field value ps known lacks = refl
-other-stays v other field value ps known lacks = absurd (none-lacks v field known lacks)
-
-set_others : (v : ℕ) (field : Field) (value : Value) (ps : Params) → is_known_in v field ≡ true → OthersDefault v ps → OthersDefault v (with_value field value ps)
-set_others v field value ps known others other lacks = other-stays v other field value ps known lacks ∙ others other lacks
-
-pub set_line : (n : ℕ) (p : Phase) (c : ℕ) (d : Draft) (field : Field) (value : Value) → first_of (place_causes p (Some setting)) ≡ None → SetsInRange field value → is_known_in d.version field ≡ true → Sound n p c d
-    → Sound (n + 1) (next_phase p (Some setting)) c (record d { params = with_value field value d.params })
-set_line n at_start c d field value place good known s = cc
-set_line n among_sets c d field value place good known s =
-    let next : Sound (n + 1) among_sets c d = past_line n among_sets c d s in
-    record {
-      params = good d.params s.params;
-      items = next.items;
-      leaves = next.leaves;
-      classed = record {
-        version = s.classed.version;
-        words = s.classed.words;
-        others = set_others d.version field value d.params known s.classed.others;
-        fresh = refl;
-        kinds = s.classed.kinds;
-        classes = s.classed.classes;
-        standing = s.classed.standing;
-        feet = s.classed.feet;
-        foot = s.classed.foot;
-        heads = s.classed.heads;
-        after = refl;
-      };
-      weight = next.weight;
-      count = next.count;
-      phase = next.phase;
-      lines = next.lines;
-    }
-set_line n among_items c d field value place good known s = cc
-set_line n after_two c d field value place good known s = cc
-set_line n in_foot c d field value place good known s = cc
-set_line n ended c d field value place good known s = cc
+header_line n among_sets a c d v some place s = cc
+header_line n among_items a c d v some place s = cc
+header_line n after_clear a c d v some place s = cc
+header_line n after_two a c d v some place s = cc
+header_line n in_foot a c d v some place s = cc
+header_line n ended a c d v some place s = cc
 
 -- ---- items
 
@@ -356,12 +266,31 @@ more_lines xs named m n (inl e) k h =
     subst (λ ns. Rises (xs ++ ns) n) (sym e) (subst (λ ns. Rises ns n) (sym (append-nil xs)) (rises_later_from 0 xs m n h (omega arith)))
 more_lines xs named m n (inr e) k h = subst (λ ns. Rises (xs ++ ns) n) (sym e) (rises_more_from 0 xs m n h k)
 
+-- ---- the phase behind an item
+
+free-behind : (b : Behind) → foot_fits (phase_behind b) None ≡ true
+free-behind behind_nothing = refl
+free-behind b = refl
+
+last-behind : (b : Behind) (n e : ℕ) → last_line (phase_behind b) n e ≡ n + 1
+last-behind behind_nothing n e = refl
+last-behind b n e = refl
+
+fresh-behind : (b : Behind) (v : ℕ) (is : List Item) → is_nothing b ≡ false → is_fresh (phase_behind b) v is ≡ true
+fresh-behind behind_nothing v is h = cc
+fresh-behind b v is h = refl
+
+next-line : (p : Phase) (n e : ℕ) → takes_items p ≡ true → last_line p n e ≡ n + 1
+next-line ended n e takes = cc
+next-line p n e takes = refl
+
 -- an item of one line, with no foot open
-pub item_line : (n c : ℕ) (ps : Params) (v : ℕ) (cs : List ClassLine) (is : List Item) (e : ℕ) (k : ItemKind) → c + 1 ≤ 100000 → is_item (n + 1) k ≡ true → weight_of k ≡ 1 → has_known_class (numbers cs) k ≡ true → fits_kind v k ≡ true → fits_word v k ≡ true → may_come (ends_two false is) k ≡ true
+item_line : (n c : ℕ) (ps : Params) (v : ℕ) (cs : List ClassLine) (is : List Item) (e : ℕ) (k : ItemKind) → c + 1 ≤ 100000 → is_item (n + 1) k ≡ true → weight_of k ≡ 1 → has_known_class (numbers cs) k ≡ true → fits_kind v k ≡ true → fits_word v k ≡ true → may_come (behind_items behind_nothing is) k ≡ true
     → (lines_of_item (n + 1) k ≡ []) ⊎ (lines_of_item (n + 1) k ≡ (n + 1) ∷ [])
-    → (p : Phase) → last_line p n e ≡ n + 1 → Sound n p c (drafted ps v cs is None e) → Sound (n + 1) among_items (c + 1) (with_item (drafted ps v cs is None e) (n + 1) k)
+    → (p : Phase) → last_line p n e ≡ n + 1 → Sound n p c (drafted ps v cs is None e) → Sound (n + 1) (phase_behind (behind_after (behind_items behind_nothing is) k)) (c + 1) (with_item (drafted ps v cs is None e) (n + 1) k)
 item_line n c ps v cs is e k fits good one known kind fit stands named p next s =
     let i : Item = record { line = n + 1; kind = k } in
+    let b : Behind = behind_after (behind_items behind_nothing is) k in
     let heavier : weight (is ++ i ∷ []) ≡ weight is + weight_of k = weight-append is i in
     let before : Rises (named_lines is) (n + 1) = subst (λ a. Rises (named_lines is) a) next (subst (λ ns. Rises ns (last_line p n e)) (append-nil (named_lines is)) s.lines) in
     let light : weight is + 0 ≤ c = s.weight in
@@ -373,47 +302,32 @@ item_line n c ps v cs is e k fits good one known kind fit stands named p next s 
         version = s.classed.version;
         words = all_more (λ (j : Item). fits_word v j.kind) is i s.classed.words fit;
         others = s.classed.others;
-        fresh = refl;
+        fresh = fresh-behind b v (is ++ i ∷ []) (comes-after (behind_items behind_nothing is) k stands);
         kinds = all_more (λ (j : Item). fits_kind v j.kind) is i s.classed.kinds kind;
         classes = s.classed.classes;
         standing = s.classed.standing;
         feet = all_more (λ (j : Item). has_known_class (numbers cs) j.kind) is i s.classed.feet known;
         foot = refl;
-        heads = heads-append false is i s.classed.heads stands;
-        after = refl;
+        order = order-append behind_nothing is i s.classed.order stands;
+        behind = subst (λ x. StandsAt (phase_behind b) x) (sym (behind-append behind_nothing is i)) (stands_at b);
       };
       weight = omega arith;
       count = fits;
-      phase = refl;
+      phase = free-behind b;
       lines =
-          subst (λ ns. Rises ns (n + 1 + 1)) (sym (append-nil (named_lines (is ++ i ∷ [])) ∙ named-append is i))
-          (more_lines (named_lines is) (lines_of_item (n + 1) k) (n + 1) (n + 1 + 1) named (omega arith) before);
+          subst (λ ns. Rises ns (last_line (phase_behind b) (n + 1) e)) (sym (append-nil (named_lines (is ++ i ∷ [])) ∙ named-append is i))
+          (subst (λ a. Rises (named_lines is ++ lines_of_item (n + 1) k) a) (sym (last-behind b (n + 1) e))
+          (more_lines (named_lines is) (lines_of_item (n + 1) k) (n + 1) (n + 1 + 1) named (omega arith) before));
     }
 
--- a state after an item that changes to two columns
-pub to_two : (n c : ℕ) (d : Draft) → ends_two false d.items ≡ true → Sound n among_items c d → Sound n after_two c d
-to_two n c d two s = record {
-  params = s.params;
-  items = s.items;
-  leaves = s.leaves;
-  classed = record {
-    version = s.classed.version;
-    words = s.classed.words;
-    others = s.classed.others;
-    fresh = refl;
-    kinds = s.classed.kinds;
-    classes = s.classed.classes;
-    standing = s.classed.standing;
-    feet = s.classed.feet;
-    foot = s.classed.foot;
-    heads = s.classed.heads;
-    after = two;
-  };
-  weight = s.weight;
-  count = s.count;
-  phase = s.phase;
-  lines = s.lines;
-}
+-- the same by the word of the line
+pub outside_line : (n c : ℕ) (ps : Params) (v : ℕ) (cs : List ClassLine) (is : List Item) (e : ℕ) (w : LineWord) (k : ItemKind) → c + 1 ≤ 100000 → is_item (n + 1) k ≡ true → weight_of k ≡ 1 → has_known_class (numbers cs) k ≡ true → fits_kind v k ≡ true → fits_word v k ≡ true
+    → may_come (behind_items behind_nothing is) k ≡ true → (lines_of_item (n + 1) k ≡ []) ⊎ (lines_of_item (n + 1) k ≡ (n + 1) ∷ []) → goes_on w ≡ true → ((b : Behind) → behind_after b k ≡ behind_word b w)
+    → (p : Phase) → takes_items p ≡ true → Sound n p c (drafted ps v cs is None e) → Sound (n + 1) (next_phase p (Some w)) (c + 1) (with_item (drafted ps v cs is None e) (n + 1) k)
+outside_line n c ps v cs is e w k fits good one known kind fit stands named goes same p takes s =
+    let b : Behind = behind_items behind_nothing is in
+    subst (λ q. Sound (n + 1) q (c + 1) (with_item (drafted ps v cs is None e) (n + 1) k)) (ap phase_behind (same b) ∙ next-there p b w takes s.classed.behind goes)
+    (item_line n c ps v cs is e k fits good one known kind fit stands named p (next-line p n e takes) s)
 
 -- a line of an open foot
 pub leaf_line : (n c : ℕ) (ps : Params) (v : ℕ) (cs : List ClassLine) (is : List Item) (o : OpenFoot) (e : ℕ) (k : LeafKind) → c + 1 ≤ 100000 → is_leaf k ≡ true → Sound n in_foot c (drafted ps v cs is (Some o) e)
@@ -426,7 +340,7 @@ leaf_line n c ps v cs is o e k fits good s =
       params = s.params;
       items = s.items;
       leaves = all_more (λ (m : Leaf). is_leaf m.kind) o.leaves l s.leaves good;
-      classed = record { version = s.classed.version; words = s.classed.words; others = s.classed.others; fresh = refl; kinds = s.classed.kinds; classes = s.classed.classes; standing = s.classed.standing; feet = s.classed.feet; foot = s.classed.foot; heads = s.classed.heads; after = refl };
+      classed = record { version = s.classed.version; words = s.classed.words; others = s.classed.others; fresh = refl; kinds = s.classed.kinds; classes = s.classed.classes; standing = s.classed.standing; feet = s.classed.feet; foot = s.classed.foot; order = s.classed.order; behind = tt };
       weight = omega arith;
       count = fits;
       phase = refl;
@@ -443,7 +357,7 @@ foot_line n c ps v cs is e class fits known p next s =
       params = s.params;
       items = s.items;
       leaves = refl;
-      classed = record { version = s.classed.version; words = s.classed.words; others = s.classed.others; fresh = refl; kinds = s.classed.kinds; classes = s.classed.classes; standing = s.classed.standing; feet = s.classed.feet; foot = known; heads = s.classed.heads; after = refl };
+      classed = record { version = s.classed.version; words = s.classed.words; others = s.classed.others; fresh = refl; kinds = s.classed.kinds; classes = s.classed.classes; standing = s.classed.standing; feet = s.classed.feet; foot = known; order = s.classed.order; behind = tt };
       weight = omega arith;
       count = fits;
       phase = refl;
@@ -470,8 +384,8 @@ endfoot_line n c ps v cs is o e fits s =
         standing = s.classed.standing;
         feet = all_more (λ (j : Item). has_known_class (numbers cs) j.kind) is i s.classed.feet s.classed.foot;
         foot = refl;
-        heads = heads-append false is i s.classed.heads refl;
-        after = refl;
+        order = order-append behind_nothing is i s.classed.order refl;
+        behind = behind-append behind_nothing is i;
       };
       weight = omega arith;
       count = fits;
@@ -487,7 +401,7 @@ end_line n c ps v cs is e p next s = record {
   params = s.params;
   items = s.items;
   leaves = s.leaves;
-  classed = record { version = s.classed.version; words = s.classed.words; others = s.classed.others; fresh = refl; kinds = s.classed.kinds; classes = s.classed.classes; standing = s.classed.standing; feet = s.classed.feet; foot = s.classed.foot; heads = s.classed.heads; after = refl };
+  classed = record { version = s.classed.version; words = s.classed.words; others = s.classed.others; fresh = refl; kinds = s.classed.kinds; classes = s.classed.classes; standing = s.classed.standing; feet = s.classed.feet; foot = s.classed.foot; order = s.classed.order; behind = tt };
   weight = s.weight;
   count = s.count;
   phase = refl;

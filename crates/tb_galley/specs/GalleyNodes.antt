@@ -11,6 +11,7 @@ use Rattle.tb_node.specs.declared.Act.{Act}
 use Rattle.tb_node.specs.declared.Act.TheVariants as acts
 use Rattle.tb_param.specs.declared.Params.{Params}
 use Rattle.tb_param.specs.Release.{has_second}
+use Rattle.tb_param.specs.Changes.{changed}
 use Rattle.tb_galley.specs.declared.Leaf.{Leaf}
 use Rattle.tb_galley.specs.declared.LeafKind.{LeafKind}
 use Rattle.tb_galley.specs.declared.LeafKind.TheVariants as leaves
@@ -104,6 +105,7 @@ item_kinds p two (items.Suppress area) = act (acts.Suppress area) ∷ []
 item_kinds p two (items.Page n) = act (acts.Page n) ∷ []
 item_kinds p two (items.Head f) = act (acts.Head f) ∷ []
 item_kinds p two (items.Enlarge by star) = enlarge_insertion p by star ∷ []
+item_kinds p two (items.Set c) = act (acts.Set c) ∷ []
 
 -- whether there are two columns after an item
 abbrev pub two_after : Bool → ItemKind → Bool
@@ -116,10 +118,20 @@ abbrev pub two_past : Bool → List Item → Bool
 two_past two [] = two
 two_past two (n ∷ ns) = two_past (two_after two n.kind) ns
 
--- the nodes of the items in order
+-- the parameters that hold after an item
+abbrev pub params_after : Params → ItemKind → Params
+params_after p (items.Set c) = changed p c
+params_after p _ = p
+
+-- and after some items
+abbrev pub params_past : Params → List Item → Params
+params_past p [] = p
+params_past p (n ∷ ns) = params_past (params_after p n.kind) ns
+
+-- the nodes of the items in order, from the parameters that hold before them
 abbrev pub item_nodes : Params → Bool → List Item → List PlainNode
 item_nodes p two [] = []
-item_nodes p two (n ∷ ns) = on_line n.line (item_kinds p two n.kind) ++ item_nodes p (two_after two n.kind) ns
+item_nodes p two (n ∷ ns) = on_line n.line (item_kinds p two n.kind) ++ item_nodes (params_after p n.kind) (two_after two n.kind) ns
 
 -- the nodes of a galley, which begins in one column: those of its items, and those of a clear
 unfoldable pub expanded : Galley → List PlainNode

@@ -35,6 +35,7 @@ unnumbered_kind (items.Suppress area) = items.Suppress area
 unnumbered_kind (items.Page n) = items.Page n
 unnumbered_kind (items.Head f) = items.Head (record f { line = 0 })
 unnumbered_kind (items.Enlarge by star) = items.Enlarge by star
+unnumbered_kind (items.Set c) = items.Set c
 
 -- an item without its line
 abbrev pub unnumbered_item : Item → Item

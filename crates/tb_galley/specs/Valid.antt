@@ -7,14 +7,18 @@ use Rattle.tb_node.specs.declared.Float.{Float}
 use Rattle.tb_node.specs.declared.Margin.{Margin}
 use Rattle.tb_node.specs.declared.Places.{Places}
 unfoldable pub use Rattle.tb_param.specs.Ranges.{are_params}
+use Rattle.tb_param.specs.Changes.{is_in_range, set_place}
 use Rattle.tb_param.specs.Defaults.{default_params}
 use Rattle.tb_param.specs.Fields.{value_of}
 use Rattle.tb_param.specs.Table.{is_within, is_dimen, is_glue, is_rule, is_known_in}
+use Rattle.tb_param.specs.declared.changes.SetPlace.{SetPlace}
+use Rattle.tb_param.specs.declared.changes.SetPlace.TheVariants as places
 use Rattle.tb_param.specs.declared.fields.Field.{Field}
 use Rattle.tb_param.specs.declared.Params.{Params}
 use Rattle.tb_param.specs.declared.Rule.{Rule}
 pub use Rattle.tb_galley.specs.Classes.{do_classes_rise}
 use Rattle.tb_galley.specs.Fields.{is_class_among}
+pub use Rattle.tb_galley.specs.Words.{Behind, behind_nothing, behind_clear, behind_two, behind_other}
 use Rattle.tb_galley.specs.declared.classes.ClassLine.{ClassLine}
 use Rattle.tb_galley.specs.declared.Leaf.{Leaf}
 use Rattle.tb_galley.specs.declared.LeafKind.{LeafKind}
@@ -74,6 +78,7 @@ is_item n (items.Suppress area) = true
 is_item n (items.Page k) = nat_le k 1000000
 is_item n (items.Head f) = (f.line == n) && is_head f
 is_item n (items.Enlarge by star) = is_dimen by
+is_item n (items.Set c) = is_in_range c
 
 -- how many lines of items an item counts for
 abbrev pub weight_of : ItemKind → ℕ
@@ -150,33 +155,51 @@ abbrev pub fits_version : ℕ → List ClassLine → Bool
 fits_version version [] = is_version version
 fits_version version (c ∷ cs) = (version == 2) || (version == 3)
 
--- a galley of version 3 alone sets the page number, and has titles and pages that are made higher
+-- a galley of version 3 alone sets the page number and other parameters among its items, and has titles and pages that are made higher
 abbrev pub fits_word : ℕ → ItemKind → Bool
 fits_word version (items.Page k) = version == 3
 fits_word version (items.Head f) = version == 3
 fits_word version (items.Enlarge by star) = version == 3
+fits_word version (items.Set c) = version == 3
 fits_word version _ = true
 
--- a change to two columns
-abbrev pub is_two_column : ItemKind → Bool
-is_two_column items.TwoColumn = true
-is_two_column _ = false
+-- what stands directly before the item after this one; a parameter that is set changes nothing
+abbrev pub behind_after : Behind → ItemKind → Behind
+behind_after b items.ClearPage = behind_clear
+behind_after b items.OneColumn = behind_clear
+behind_after b items.TwoColumn = behind_two
+behind_after b (items.Set c) = b
+behind_after b _ = behind_other
 
--- a title may come only if the item before it changed to two columns
-abbrev pub may_come : Bool → ItemKind → Bool
-may_come after (items.Head f) = after
-may_come after _ = true
+-- a title may come directly after a change to two columns
+abbrev pub may_head : Behind → Bool
+may_head behind_two = true
+may_head _ = false
 
--- each title stands directly after a change to two columns
-abbrev pub do_heads_stand : Bool → List Item → Bool
-do_heads_stand after [] = true
-do_heads_stand after (n ∷ ns) = may_come after n.kind && do_heads_stand (is_two_column n.kind) ns
+-- a parameter may be set among the items, not before them; a measure only where no float waits; one that holds for the whole galley nowhere
+abbrev pub may_set : Behind → SetPlace → Bool
+may_set behind_nothing _ = false
+may_set behind_other places.Anywhere = true
+may_set behind_other _ = false
+may_set _ places.Nowhere = false
+may_set _ _ = true
+
+-- a title, and a parameter that is set, may come here; all other items may come anywhere
+abbrev pub may_come : Behind → ItemKind → Bool
+may_come b (items.Head f) = may_head b
+may_come b (items.Set c) = may_set b (set_place c.field)
+may_come b _ = true
+
+-- each title and each parameter that is set stands where it may
+abbrev pub do_items_stand : Behind → List Item → Bool
+do_items_stand b [] = true
+do_items_stand b (n ∷ ns) = may_come b n.kind && do_items_stand (behind_after b n.kind) ns
 
 -- each parameter that a galley of the version does not have has its default
 abbrev pub OthersDefault : ℕ → Params → Type 0
 OthersDefault version p = (field : Field) → is_known_in version field ≡ false → value_of field p ≡ value_of field default_params
 
--- all values are in their ranges, the version has what the galley has, the parameters that it does not have have their defaults, classes stand where they may, each footnote's class is declared, floats and notes are as the version has them, titles stand where they may, the items are not too many, and the lines rise
+-- all values are in their ranges, the version has what the galley has, the parameters that it does not have have their defaults, classes stand where they may, each footnote's class is declared, floats and notes are as the version has them, titles and parameters that are set among the items stand where they may, the items are not too many, and the lines rise
 pub record IsValid (g : Galley) : Type 0 where
   pub params : IsTrue (are_params g.params)
   pub others : OthersDefault g.version g.params
@@ -187,6 +210,6 @@ pub record IsValid (g : Galley) : Type 0 where
   pub items : IsTrue (list_all (λ n. is_item n.line n.kind) g.items)
   pub feet : IsTrue (list_all (λ n. has_known_class (map (λ c. c.number) g.classes) n.kind) g.items)
   pub kinds : IsTrue (list_all (λ n. fits_kind g.version n.kind) g.items)
-  pub heads : IsTrue (do_heads_stand false g.items)
+  pub order : IsTrue (do_items_stand behind_nothing g.items)
   pub count : IsTrue (nat_le (weight g.items) 100000)
   pub lines : IsTrue (rise_from 0 (named_lines g.items ++ g.end_line ∷ []))

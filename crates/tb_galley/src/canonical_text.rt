@@ -1,72 +1,20 @@
 //! The canonical text of a galley.
-ghost use Rattle.std.specs.Prelude.{◌≡◌, ◌++◌, [], codes, map, filter, OnOk, IfOk, length, ◌≤◌};
+ghost use Rattle.std.specs.Prelude.{◌≡◌, ◌++◌, map, filter, OnOk, IfOk, length, ◌≤◌};
 ghost use Rattle.tb_galley.specs.Grammar.{input_limit};
 ghost use Rattle.tb_galley.specs.ReadBack.{ReadsBack};
 ghost use Rattle.tb_galley.specs.Valid.{IsValid};
 ghost use Rattle.tb_param.specs.TableRows.{row_seen};
 ghost use Rattle.tb_param.specs.Table.{is_known_in};
-ghost use Rattle.tb_galley.specs.CanonicalText.{choice_text, rule_text, value_text, set_lines, header_text, below_text, class_amounts, class_text, class_lines, printed};
+ghost use Rattle.tb_galley.specs.CanonicalText.{set_lines, header_text, below_text, class_amounts, class_text, class_lines, printed};
 ghost use Rattle.tb_text.specs.Fields.{line};
 
 use crate::glue_texts::put_glue;
 use crate::item_texts::put_items;
+use crate::value_texts::{put_rule, put_set};
 use crate::{ClassLine, Galley};
 use std::alloc::{AllocError, Global};
-use tb_param::{Choice, Field, Form, LIVE_PARAMS, Params, Rule, Value, is_known_in};
+use tb_param::{Field, Form, LIVE_PARAMS, Params, Rule, is_known_in};
 use tb_text::{put, put_amount, put_count};
-
-fn choice(choice: Choice) -> &'static [u8]
-    ensures { result.now ≡ choice_text choice }
-{
-    match choice {
-        Choice::Flush => b" flush",
-        Choice::Ragged => b" ragged",
-        Choice::On => b" on",
-        Choice::Off => b" off",
-        Choice::R2014 => b" 2014",
-        Choice::R2015 => b" 2015",
-        Choice::Keep => b" keep",
-        Choice::Drop => b" drop",
-        Choice::Above => b" above",
-        Choice::Below => b" below",
-    }
-}
-
-fn put_rule(out: &mut Vec<u8>, rule: Option<Rule>) -> Result<(), AllocError>
-    ensures { OnOk result (out.new.items ≡ out.old.items ++ rule_text rule) }
-{
-    let Some(rule) = rule else {
-        return put(out, b" none");
-    };
-    put_amount(out, rule.above)?;
-    put_amount(out, rule.height)?;
-    put_amount(out, rule.below)
-}
-
-fn put_value(out: &mut Vec<u8>, value: &Value) -> Result<(), AllocError>
-    ensures { OnOk result (out.new.items ≡ out.old.items ++ value_text value.now) }
-{
-    match value {
-        Value::Int(n) => put_amount(out, *n),
-        Value::Dim(n) => put_amount(out, *n),
-        Value::Skip(glue) => put_glue(out, glue),
-        Value::Frac(n) => {
-            put_amount(out, *n)?;
-            put(out, b"/65536")
-        }
-        Value::Word(word) => put(out, choice(*word)),
-        Value::Rule(rule) => put_rule(out, *rule),
-    }
-}
-
-fn put_set(out: &mut Vec<u8>, name: &[u8], value: &Value) -> Result<(), AllocError>
-    ensures { OnOk result (out.new.items ≡ out.old.items ++ line (codes "set " ++ name.now ++ value_text value.now)) }
-{
-    put(out, b"set ")?;
-    put(out, name)?;
-    put_value(out, value)?;
-    put(out, b"\n")
-}
 
 // A line for each of these parameters that this version of a galley has.
 fn put_sets(

@@ -1,12 +1,12 @@
 //! A galley in the making.
 ghost use Rattle.std.specs.Prelude.{◌≡◌, OnOk};
-ghost use Rattle.tb_galley.specs.Grammar.{with_content, with_foot, with_item, item_kind};
+ghost use Rattle.tb_galley.specs.Grammar.{with_content, with_foot, with_item, with_set, item_kind};
 
 use crate::contents::Content;
 use crate::{Classes, Item, ItemKind, Items, Leaf, LeafKind, Leaves};
 use std::alloc::{AllocError, Global};
 use tb_node::Name;
-use tb_param::Params;
+use tb_param::{Change, Field, Params, Value};
 use tb_scaled::Glue;
 
 /// A foot that is open: its line, its class and its leaves so far.
@@ -137,6 +137,18 @@ impl Draft {
         }
     }
 
+    /// Sets a parameter: for the whole galley before its items, else as an item.
+    #[inline(always)]
+    pub fn set(&mut self, line: u32, field: Field, value: Value) -> Result<(), AllocError>
+        ensures { OnOk result (self.new ≡ with_set self.old line field value self.old.items) }
+    {
+        if self.items.is_empty() {
+            self.params.put(field, value);
+            return Ok(());
+        }
+        self.add_item(line, ItemKind::Set(Change { field, value }))
+    }
+
     /// Adds what a line says.
     pub fn add(&mut self, alloc: Global, line: u32, content: Content) -> Result<(), AllocError>
         ensures { OnOk result (self.new ≡ with_content self.old line content) }
@@ -146,10 +158,7 @@ impl Draft {
                 self.version = version;
                 Ok(())
             }
-            Content::Set { field, value } => {
-                self.params.put(field, value);
-                Ok(())
-            }
+            Content::Set { field, value } => self.set(line, field, value),
             Content::Class(class) => self.classes.declare(class),
             Content::Plain(kind) => self.add_leaf(line, kind),
             Content::Item(kind) => self.add_item(line, kind),

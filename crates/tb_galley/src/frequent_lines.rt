@@ -4,7 +4,7 @@ ghost use Rattle.std.specs.Prelude.{◌≡◌, ◌≤◌, ◌∷◌, negsuc, pos
 ghost use Rattle.tb_text.specs.Lines.{begins_with, fields_of, is_skipped};
 ghost use Rattle.tb_galley.specs.FieldReader.{left_of, finished, dimension_left, range_left, glue_left, sized_left, set_left};
 ghost use Rattle.tb_galley.specs.declared.contents.Content.TheVariants.{Set};
-ghost use Rattle.tb_galley.specs.GalleyReader.{takes_leaf, past_word, IsBoxLine, IsLineOf, IsBareItem};
+ghost use Rattle.tb_galley.specs.GalleyReader.{takes_leaf, takes_setting, past_word, IsBoxLine, IsLineOf, IsBareItem};
 
 use crate::contents::{Content, set};
 use crate::fields::Fields;
@@ -21,6 +21,16 @@ pub(crate) fn takes_leaf(phase: Phase, count: u32) -> bool
 {
     match phase {
         Phase::Items | Phase::Inside => count < MAX_ITEMS,
+        _ => false,
+    }
+}
+
+/// Whether a line of `set` may come here before the items. After them it is looked at with more care.
+pub(crate) fn takes_setting(phase: Phase, count: u32) -> bool
+    ensures { result ≡ takes_setting phase count }
+{
+    match phase {
+        Phase::Sets => count < MAX_ITEMS,
         _ => false,
     }
 }
@@ -159,16 +169,12 @@ fn lone_penalty(rest: &[u8]) -> Option<i64>
     }
 }
 
-/// A parameter and its value, if settings may come here and the line is one.
+/// A parameter and its value, if that is what the line says.
 #[inline(always)]
-pub(crate) fn read_setting(phase: Phase, version: u8, line: &[u8]) -> Option<(Field, Value)>
+pub(crate) fn read_setting(version: u8, line: &[u8]) -> Option<(Field, Value)>
     requires { length line.now ≤ 255 }
-    ensures phase { IfSome result (λ r. phase ≡ Phase.Sets) }
-    ensures line { IfSome result (λ r. IsLineOf (codes "set") (set_left version) line.now (Set r.0 r.1)) }
+    ensures { IfSome result (λ r. IsLineOf (codes "set") (set_left version) line.now (Set r.0 r.1)) }
 {
-    let Phase::Sets = phase else {
-        return None;
-    };
     lone_setting(version, after_set(line)?)
 }
 
@@ -195,10 +201,6 @@ pub(crate) fn read_bare_item(phase: Phase, line: &[u8]) -> Option<ItemKind>
     };
     if line == b"newpage".as_slice() {
         Some(ItemKind::NewPage)
-    } else if line == b"clearpage".as_slice() {
-        Some(ItemKind::ClearPage)
-    } else if line == b"onecolumn".as_slice() {
-        Some(ItemKind::OneColumn)
     } else if line == b"suppressfloats".as_slice() {
         Some(ItemKind::Suppress(Area::All))
     } else {

@@ -4,6 +4,7 @@ ghost use Rattle.tb_galley.specs.CanonicalText.{text_if, places_text, wide_text,
 ghost use Rattle.tb_text.specs.Fields.{and_count, line};
 
 use crate::glue_texts::put_glue;
+use crate::value_texts::put_change;
 use crate::{Item, ItemKind, Leaf, LeafKind};
 use std::alloc::AllocError;
 use tb_node::{Area, Float, Margin, Name, Places};
@@ -298,6 +299,7 @@ fn put_item(out: &mut Vec<u8>, version: u8, item: &ItemKind) -> Result<(), Alloc
         ItemKind::Page(number) => put_number(out, b"page", *number),
         ItemKind::Head(head) => put_head(out, head),
         ItemKind::Enlarge { by, star } => put_enlarge(out, *by, *star),
+        ItemKind::Set(change) => put_change(out, change),
     }
 }
 

@@ -1,6 +1,7 @@
 mod classes;
 mod cuts;
 mod rules;
+mod settings;
 mod titles;
 
 use std::alloc::Global;

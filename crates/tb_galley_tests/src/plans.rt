@@ -78,3 +78,27 @@ fn puts_breaks_into_a_galley(rt: HostRuntime) -> Result<(), Fail> {
     );
     Ok(())
 }
+
+// A parameter that is set is looked past, and no break parts it from the clear before it.
+#[test]
+fn looks_past_parameters(rt: HostRuntime) -> Result<(), Fail> {
+    let text = b"galley 3
+box a 10 0
+set topskip 5
+glue 1
+clearpage
+set textheight 50
+set topskip 6
+glue 2
+box b 10 0
+end
+"
+        .as_slice();
+    let Ok(galley) = parse(rt.alloc(), text) else {
+        return Err("no galley")?;
+    };
+    assert!(rt; places(rt.alloc(), &galley)?.as_slice() == [2].as_slice());
+    let broken = with_breaks(rt.alloc(), &galley, &[2])?;
+    assert!(rt; is_break(broken.items.get(2), 4) && broken.items.len() == 9);
+    Ok(())
+}

@@ -14,7 +14,7 @@ use Rattle.tb_param.specs.declared.fields.Field.TheVariants as fields
 use Rattle.tb_galley.specs.declared.Item.{Item}
 use Rattle.tb_galley.specs.declared.ItemKind.{ItemKind}
 use Rattle.tb_galley.specs.declared.ItemKind.TheVariants as items
-use Rattle.tb_galley.specs.Valid.{is_item, is_size, weight_of, weight, lines_of_item, named_lines, rise_from, has_known_class, fits_word, fits_kind, OthersDefault, IsValid, is_two_column, may_come, do_heads_stand}
+use Rattle.tb_galley.specs.Valid.{is_item, is_size, weight_of, weight, lines_of_item, named_lines, rise_from, has_known_class, fits_word, fits_kind, OthersDefault, IsValid, Behind, behind_nothing, behind_after, may_come, do_items_stand}
 use Rattle.tb_generator.specs.GeneratedGalleys.{next_seed, made_box, made_foot, made_float, made_by, made_item, made_items, made_params, generated, tbp, htp}
 use Rattle.tb_generator.proofs.NameLemmas.{named}
 
@@ -44,7 +44,7 @@ record IsMade (k : ℕ) (i : ItemKind) : Type 0 where
   known : has_known_class [] i ≡ true
   fits : fits_word 1 i ≡ true
   kind : fits_kind 1 i ≡ true
-  stands : (after : Bool) → may_come after i ≡ true
+  stands : (b : Behind) → may_come b i ≡ true
   light : weight_of i + 2 * (k % 2) ≤ 3
   rises : (j : ℕ) (rest : List ℕ) → j < k → ((i : ℕ) → i ≤ k → rise_from i rest ≡ true) → rise_from j (lines_of_item k i ++ rest) ≡ true
 
@@ -60,14 +60,14 @@ box_made k few = record {
   known = refl;
   fits = refl;
   kind = refl;
-  stands = λ after. refl;
+  stands = λ b. refl;
   light = omega arith;
   rises = λ j rest low later. one-line j k rest low later;
 }
 
 module _ (k : ℕ) (few : k ≤ 40000) (even : k % 2 ≡ 0) where
   glue_made : IsMade k (items.Skip (glue_points 3 1 0))
-  glue_made = record { good = refl; known = refl; fits = refl; kind = refl; stands = λ after. refl; light = omega arith; rises = λ j rest low later. no-line j k rest low later }
+  glue_made = record { good = refl; known = refl; fits = refl; kind = refl; stands = λ b. refl; light = omega arith; rises = λ j rest low later. no-line j k rest low later }
 
   foot_made : IsMade k (made_foot k)
   foot_made = record {
@@ -75,7 +75,7 @@ module _ (k : ℕ) (few : k ≤ 40000) (even : k % 2 ≡ 0) where
     known = refl;
     fits = refl;
     kind = refl;
-    stands = λ after. refl;
+    stands = λ b. refl;
     light = omega arith;
     rises = λ j rest low later. one-line j k rest low later;
   }
@@ -86,7 +86,7 @@ module _ (k : ℕ) (few : k ≤ 40000) (even : k % 2 ≡ 0) where
     known = refl;
     fits = refl;
     kind = refl;
-    stands = λ after. refl;
+    stands = λ b. refl;
     light = omega arith;
     rises = λ j rest lower later. one-line j k rest lower later;
   }
@@ -125,9 +125,9 @@ kinds_fit : (m k s : ℕ) → k + m ≤ 40001 → list_all (λ (n : Item). fits_
 kinds_fit zero k s few = refl
 kinds_fit (suc m) k s few = and_from _ _ (made k (next_seed s) (omega arith)).kind (kinds_fit m (k + 1) (next_seed s) (omega arith))
 
-heads_stand : (after : Bool) (m k s : ℕ) → k + m ≤ 40001 → do_heads_stand after (made_items m k s) ≡ true
-heads_stand after zero k s few = refl
-heads_stand after (suc m) k s few = and_from _ _ ((made k (next_seed s) (omega arith)).stands after) (heads_stand (is_two_column (made_item k (next_seed s))) m (k + 1) (next_seed s) (omega arith))
+items_stand : (b : Behind) (m k s : ℕ) → k + m ≤ 40001 → do_items_stand b (made_items m k s) ≡ true
+items_stand b zero k s few = refl
+items_stand b (suc m) k s few = and_from _ _ ((made k (next_seed s) (omega arith)).stands b) (items_stand (behind_after b (made_item k (next_seed s))) m (k + 1) (next_seed s) (omega arith))
 
 items_light : (m k s : ℕ) → k + m ≤ 40001 → weight (made_items m k s) + k % 2 ≤ 2 * m + 1
 items_light zero k s few = omega arith
@@ -157,7 +157,7 @@ generated_valid n few = record {
   items = items_good n 1 n (omega arith);
   feet = feet_known n 1 n (omega arith);
   kinds = kinds_fit n 1 n (omega arith);
-  heads = heads_stand false n 1 n (omega arith);
+  order = items_stand behind_nothing n 1 n (omega arith);
   count = let light = items_light n 1 n (omega arith) in fits (weight (made_items n 1 n)) (omega (arith, light));
   lines = subst (λ z. rise_from 0 (named_lines (made_items n 1 n) ++ z ∷ []) ≡ true) last (items_rise n 1 n 0 (omega arith) (omega arith));
 }

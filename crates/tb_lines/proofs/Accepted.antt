@@ -7,24 +7,22 @@ use Rattle.std.proofs.lemmas.List.{length-reverse}
 use Rattle.std.proofs.lemmas.Bool.{true≢false, eqb-true}
 use Rattle.tb_text.specs.Lines.{lines_of}
 use Rattle.tb_text.proofs.LineTexts.{joined_lines, joined_lines-append, lines_of-joined}
-use Rattle.tb_param.specs.declared.params.Params.{Params}
 use Rattle.tb_param.specs.Defaults.{default_params}
 use Rattle.tb_galley.specs.declared.Cause.TheVariants as causes
 use Rattle.tb_galley.specs.declared.contents.Content.TheVariants as contents
 use Rattle.tb_galley.specs.declared.Galley.{Galley}
-use Rattle.tb_galley.specs.declared.Item.{Item}
 use Rattle.tb_galley.specs.declared.ItemKind.{ItemKind}
-use Rattle.tb_galley.specs.declared.Word.TheVariants.{Header as header, End as end}
-use Rattle.tb_galley.specs.declared.words.Phase.{Phase}
-use Rattle.tb_galley.specs.declared.words.Phase.TheVariants.{Start as at_start, Sets as among_sets, Items as among_items, AfterTwo as after_two, Ended as ended}
+use Rattle.tb_galley.specs.declared.Word.TheVariants.{Header as header}
+use Rattle.tb_galley.specs.declared.words.Phase.TheVariants.{Start as at_start, Sets as among_sets, Ended as ended}
+use Rattle.tb_galley.specs.Words.{behind_nothing, phase_behind}
 use Rattle.tb_galley.specs.Faults.{fault}
 use Rattle.tb_galley.specs.Grammar.{empty_draft, grammar, spelled, input_limit}
 use Rattle.tb_galley.specs.GalleyReader.{start, verdict}
 use Rattle.tb_galley.specs.Valid.{weight}
-use Rattle.tb_galley.proofs.SoundLines.{drafted}
 use Rattle.tb_galley.proofs.SameStep.{left_exact}
-use Rattle.tb_galley.proofs.PrintLaw.{still_takes, not_long}
-use Rattle.tb_galley.proofs.PrintRuns.{Runs, then_lines, word_runs, HasClasses, numbered_items, takes_items, item_state, item_texts, phase_past_items, items_run}
+use Rattle.tb_galley.proofs.BehindItems.{behind_items}
+use Rattle.tb_galley.proofs.PrintLaw.{end_runs, not_long}
+use Rattle.tb_galley.proofs.PrintRuns.{Runs, then_lines, word_runs, HasClasses, numbered_items, item_state, item_texts, none_stood, items_run}
 use Rattle.tb_lines.specs.declared.text.Item.{Item as ParItem}
 use Rattle.tb_lines.specs.declared.text.Item.TheVariants.{Word as word, Space as space, Penalty as penalty}
 use Rattle.tb_lines.specs.declared.text.LineParams.{LineParams}
@@ -52,12 +50,6 @@ header_runs =
     word_runs 0 at_start 0 empty_draft header (codes "1" ∷ []) (λ m. contents.Header 1) refl
     (record { fit = (record { text = record { printable = refl; some = omega arith }; slot = refl }, tt); short = omega arith; content = λ m. refl }) refl refl
 
-end_runs : (n : ℕ) (p : Phase) (c : ℕ) (ps : Params) (e : ℕ) (is : List Item) → takes_items p ≡ true → Runs (item_state n p c ps 1 [] e is) (codes "end" ∷ []) (item_state (n + 1) ended c ps 1 [] (n + 1) is)
-end_runs n among_sets c ps e is takes = word_runs n among_sets c (drafted ps 1 [] is None e) end [] (λ m. contents.End) refl (record { fit = tt; short = omega arith; content = λ m. refl }) refl refl
-end_runs n among_items c ps e is takes = word_runs n among_items c (drafted ps 1 [] is None e) end [] (λ m. contents.End) refl (record { fit = tt; short = omega arith; content = λ m. refl }) refl refl
-end_runs n after_two c ps e is takes = word_runs n after_two c (drafted ps 1 [] is None e) end [] (λ m. contents.End) refl (record { fit = tt; short = omega arith; content = λ m. refl }) refl refl
-end_runs n p c ps e is takes = cc
-
 -- a galley of version 1 has no class but that of its footnotes
 no_classes : HasClasses 1 []
 no_classes = record { good = refl; first = λ class one h. eqb-true class 254 (sym (or-false (class == 254)) ∙ h) }
@@ -74,14 +66,14 @@ unfolding grammar
 bare_read ks plain few =
     let is = items_of ks in
     let w : weight is ≡ length ks = plain_weight ks plain in
-    let inner : Runs (item_state 1 among_sets 0 default_params 1 [] 0 []) (item_texts 1 is) (item_state (1 + weight is) (phase_past_items among_sets is) (0 + weight is) default_params 1 [] 0 (numbered_items 2 is)) =
-    items_run 1 among_sets 0 default_params 1 [] 0 [] is no_classes refl (omega arith) (all_good ks plain) (all_known ks plain) (all_kinds ks plain) (all_words ks plain) (all_stand false ks plain) in
-    let last : Runs (item_state (1 + weight is) (phase_past_items among_sets is) (0 + weight is) default_params 1 [] 0 (numbered_items 2 is)) (codes "end" ∷ []) (item_state (1 + weight is + 1) ended (0 + weight is) default_params 1 [] (1 + weight is + 1) (numbered_items 2 is)) =
-    end_runs (1 + weight is) (phase_past_items among_sets is) (0 + weight is) default_params 0 (numbered_items 2 is) (still_takes is) in
+    let inner : Runs (item_state 1 among_sets 0 default_params 1 [] 0 []) (item_texts 1 is) (item_state (1 + weight is) (phase_behind (behind_items behind_nothing is)) (0 + weight is) default_params 1 [] 0 (numbered_items 2 is)) =
+    items_run 1 behind_nothing 0 default_params 1 [] 0 [] is no_classes (none_stood 0) (omega arith) (all_good ks plain) (all_known ks plain) (all_kinds ks plain) (all_words ks plain) (all_stand behind_nothing ks plain) in
+    let last : Runs (item_state (1 + weight is) (phase_behind (behind_items behind_nothing is)) (0 + weight is) default_params 1 [] 0 (numbered_items 2 is)) (codes "end" ∷ []) (item_state (1 + weight is + 1) ended (0 + weight is) default_params 1 [] (1 + weight is + 1) (numbered_items 2 is)) =
+    end_runs (1 + weight is) (behind_items behind_nothing is) (0 + weight is) default_params 1 [] 0 (numbered_items 2 is) in
     let runs : Runs start (bare_lines ks) (item_state (1 + weight is + 1) ended (0 + weight is) default_params 1 [] (1 + weight is + 1) (numbered_items 2 is)) =
     then_lines start (item_state 1 among_sets 0 default_params 1 [] 0 []) (item_state (1 + weight is + 1) ended (0 + weight is) default_params 1 [] (1 + weight is + 1) (numbered_items 2 is))
     (codes "galley 1" ∷ []) (item_texts 1 is ++ codes "end" ∷ []) header_runs
-    (then_lines (item_state 1 among_sets 0 default_params 1 [] 0 []) (item_state (1 + weight is) (phase_past_items among_sets is) (0 + weight is) default_params 1 [] 0 (numbered_items 2 is))
+    (then_lines (item_state 1 among_sets 0 default_params 1 [] 0 []) (item_state (1 + weight is) (phase_behind (behind_items behind_nothing is)) (0 + weight is) default_params 1 [] 0 (numbered_items 2 is))
     (item_state (1 + weight is + 1) ended (0 + weight is) default_params 1 [] (1 + weight is + 1) (numbered_items 2 is)) (item_texts 1 is) (codes "end" ∷ []) inner last) in
     let whole : List ℕ = codes "galley 1\n" ++ text_of_items ks ++ codes "end\n" in
     let l = plain_length ks plain in

@@ -6,7 +6,7 @@ use Rattle.tb_galley.specs.declared.Cause.TheVariants as causes
 use Rattle.tb_galley.specs.Faults.{is_printable, cause_if, ascii_causes}
 use Rattle.tb_galley.proofs.FirstFaults.{is_led}
 use Rattle.tb_galley.proofs.CauseOrder.{is_placed, led_head, is_late_slot, led_fields, led_values, led_length}
-use Rattle.tb_lines.specs.Words.{LineWord, header, setting, par, word, space, pen, endpar, end, Line, Phase, at_start, among_sets, among_pars, after_two, in_par, ended, phase_after, count_after, inside_after, content_at, counts_word, is_inner_word, is_full}
+use Rattle.tb_lines.specs.Words.{LineWord, header, setting, par, word, space, pen, endpar, end, Line, Phase, at_start, among_sets, among_pars, after_clear, after_two, in_par, ended, phase_after, count_after, inside_after, content_at, counts_word, is_inner_word, is_full}
 use Rattle.tb_lines.specs.declared.words.Form.TheVariants as forms
 use Rattle.tb_lines.specs.Fields.{Parameter, Form, form_of, parameter_of, form_slot, parameter_slots, set_slots, word_slots, missing_cause}
 use Rattle.tb_lines.specs.Faults.{place_causes, item_causes, later_causes, all_content_causes, line_causes, end_causes, causes_from}
@@ -23,6 +23,9 @@ placed among_sets (Some _) = refl
 placed among_pars None = refl
 placed among_pars (Some header) = refl
 placed among_pars (Some _) = refl
+placed after_clear None = refl
+placed after_clear (Some header) = refl
+placed after_clear (Some _) = refl
 placed after_two None = refl
 placed after_two (Some header) = refl
 placed after_two (Some _) = refl
@@ -80,6 +83,7 @@ led_end : (p : Phase) → list_all is_led (end_causes p ∷ []) ≡ true
 led_end at_start = refl
 led_end among_sets = refl
 led_end among_pars = refl
+led_end after_clear = refl
 led_end after_two = refl
 led_end in_par = refl
 led_end ended = refl

@@ -16,7 +16,7 @@ use Rattle.tb_param.specs.Table.{is_dimen}
 use Rattle.tb_galley.specs.declared.Item.{Item}
 use Rattle.tb_galley.specs.declared.ItemKind.{ItemKind}
 use Rattle.tb_galley.specs.declared.ItemKind.TheVariants as items
-use Rattle.tb_galley.specs.Valid.{is_size, is_item, weight_of, weight, has_known_class, fits_kind, fits_word, is_two_column, may_come, do_heads_stand}
+use Rattle.tb_galley.specs.Valid.{is_size, is_item, weight_of, weight, has_known_class, fits_kind, fits_word, Behind, behind_after, may_come, do_items_stand}
 use Rattle.tb_galley.proofs.FieldTexts.{tail_text, tail_length, length-tail_text}
 use Rattle.tb_galley.proofs.SlotTexts.{dimen_length}
 use Rattle.tb_galley.proofs.PrintRuns.{kind_lines, item_texts}
@@ -141,7 +141,7 @@ pub record IsPlain (k : ItemKind) : Type 0 where
   pub known : has_known_class [] k ≡ true
   pub kind : fits_kind 1 k ≡ true
   pub word : fits_word 1 k ≡ true
-  pub stands : (after : Bool) → may_come after k ≡ true
+  pub stands : (b : Behind) → may_come b k ≡ true
   pub one : weight_of k ≡ 1
   pub short : length (text_of_items (k ∷ [])) ≤ 100
 
@@ -161,7 +161,7 @@ glue_plain w h = record {
   known = refl;
   kind = refl;
   word = refl;
-  stands = λ after. refl;
+  stands = λ b. refl;
   one = refl;
   short =
       let l : length (signed_decimal (pos w)) ≤ 11 = dimen_length (pos w) h in
@@ -176,7 +176,7 @@ penalty_plain p h = record {
   known = refl;
   kind = refl;
   word = refl;
-  stands = λ after. refl;
+  stands = λ b. refl;
   one = refl;
   short = let l : length (signed_decimal (pos p)) ≤ 11 = dimen_length (pos p) (omega arith) in one_length (items.Penalty (pos p)) (codes "penalty") (signed_decimal (pos p) ∷ []) 100 refl (omega arith);
 }
@@ -222,7 +222,7 @@ box_plain name k s named few high deep = record {
   known = refl;
   kind = refl;
   word = refl;
-  stands = λ after. refl;
+  stands = λ b. refl;
   one = refl;
   short =
       let n = name_length name k named few in
@@ -245,9 +245,9 @@ pub all_kinds : (ks : List ItemKind) → AllByRecursion IsPlain ks → list_all 
 all_kinds [] h = refl
 all_kinds (k ∷ ks) h = and_from (fits_kind 1 k) (list_all (λ (i : Item). fits_kind 1 i.kind) (items_of ks)) h.0.kind (all_kinds ks h.1)
 
-pub all_stand : (after : Bool) (ks : List ItemKind) → AllByRecursion IsPlain ks → do_heads_stand after (items_of ks) ≡ true
-all_stand after [] h = refl
-all_stand after (k ∷ ks) h = and_from (may_come after k) (do_heads_stand (is_two_column k) (items_of ks)) (h.0.stands after) (all_stand (is_two_column k) ks h.1)
+pub all_stand : (b : Behind) (ks : List ItemKind) → AllByRecursion IsPlain ks → do_items_stand b (items_of ks) ≡ true
+all_stand b [] h = refl
+all_stand b (k ∷ ks) h = and_from (may_come b k) (do_items_stand (behind_after b k) (items_of ks)) (h.0.stands b) (all_stand (behind_after b k) ks h.1)
 
 pub all_words : (ks : List ItemKind) → AllByRecursion IsPlain ks → list_all (λ (i : Item). fits_word 1 i.kind) (items_of ks) ≡ true
 all_words [] h = refl

@@ -13,7 +13,7 @@ use Rattle.tb_galley.specs.GalleyReader.{first_cause}
 use Rattle.tb_galley.specs.FieldReader.{at_fault, settled, ◌>>=◌}
 use Rattle.tb_galley.proofs.FieldReads.{first_at, settle}
 use Rattle.tb_galley.proofs.SameStep.{on_line, first_on_line}
-use Rattle.tb_lines.specs.Words.{LineWord, Line, content_at, Phase, at_start, among_sets, among_pars, after_two, in_par, ended, counts_word, is_inner_word, is_full, word_of}
+use Rattle.tb_lines.specs.Words.{LineWord, Line, content_at, Phase, at_start, among_sets, among_pars, after_clear, after_two, in_par, ended, counts_word, is_inner_word, is_full, word_of}
 use Rattle.tb_lines.specs.Fields.{word_slots, missing_cause}
 use Rattle.tb_lines.specs.Faults.{place_causes, item_causes, later_causes, all_content_causes, line_causes}
 use Rattle.tb_lines.specs.Grammar.{content_of, inside_in, spelled_text}
@@ -61,6 +61,7 @@ no_word : (s : State) (i : Option ℕ) (head : List ℕ) (fs : List (List ℕ)) 
 no_word s i head fs at_start = refl
 no_word s i head fs among_sets = refl
 no_word s i head fs among_pars = refl
+no_word s i head fs after_clear = refl
 no_word s i head fs after_two = refl
 no_word s i head fs in_par = refl
 no_word s i head fs ended = refl

@@ -4,7 +4,7 @@ use Rattle.tb_galley.specs.declared.Cause.{Cause}
 use Rattle.tb_galley.specs.declared.Cause.TheVariants as causes
 use Rattle.tb_galley.specs.declared.Fault.{Fault}
 use Rattle.tb_galley.specs.Faults.{cause_if, ascii_causes, no_word_causes, value_causes, end_causes_by, faults_in_lines}
-use Rattle.tb_lines.specs.Words.{LineWord, header, setting, par, endpar, end, Phase, at_start, among_pars, after_two, in_par, ended, Line, content_at, phase_after, count_after, inside_after, counts_word, is_inner_word, is_full}
+use Rattle.tb_lines.specs.Words.{LineWord, header, setting, par, endpar, end, Phase, at_start, among_pars, after_clear, after_two, in_par, ended, Line, content_at, phase_after, count_after, inside_after, counts_word, is_inner_word, is_full}
 use Rattle.tb_lines.specs.Fields.{word_slots, missing_cause}
 
 -- ---- the word of a line, and its place: at field 1
@@ -20,6 +20,7 @@ word_causes in_par par = causes.NestedPar ∷ []
 word_causes in_par end = causes.UnclosedPar ∷ []
 word_causes in_par _ = []
 word_causes among_pars setting = causes.SetAfterItem ∷ []
+word_causes after_clear setting = causes.SetAfterItem ∷ []
 word_causes after_two setting = causes.SetAfterItem ∷ []
 word_causes _ setting = []
 word_causes _ par = []

@@ -4,7 +4,7 @@ use Rattle.std.specs.List.{fold}
 pub use Rattle.tb_lines.specs.declared.words.Word.{Word as LineWord}
 pub use Rattle.tb_lines.specs.declared.words.Word.TheVariants.{Lines as header, Setting as setting, Par as par, Word as word, Space as space, Pen as pen, Endpar as endpar, End as end}
 pub use Rattle.tb_galley.specs.declared.words.Phase.{Phase}
-pub use Rattle.tb_galley.specs.declared.words.Phase.TheVariants.{Start as at_start, Sets as among_sets, Items as among_pars, AfterTwo as after_two, Inside as in_par, Ended as ended}
+pub use Rattle.tb_galley.specs.declared.words.Phase.TheVariants.{Start as at_start, Sets as among_sets, Items as among_pars, AfterClear as after_clear, AfterTwo as after_two, Inside as in_par, Ended as ended}
 use Rattle.tb_text.specs.Lines.{fields_of, is_skipped}
 use Rattle.tb_galley.specs.Spelling.{Spelled, says, spelled_value}
 use Rattle.tb_galley.specs.Words.{first_field, other_fields, word_passes}

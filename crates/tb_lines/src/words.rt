@@ -126,7 +126,7 @@ pub(crate) fn place_cause(phase: Phase, word: Option<Word>) -> Option<Cause>
     match phase {
         Phase::Start => start_cause(word),
         Phase::Sets => sets_cause(word),
-        Phase::Items | Phase::AfterTwo => items_cause(word),
+        Phase::Items | Phase::AfterClear | Phase::AfterTwo => items_cause(word),
         Phase::Inside => par_cause(word),
         Phase::Ended => Some(Cause::AfterEnd),
     }

@@ -1,4 +1,4 @@
 mod WalkLemmas
 mod CopyLemmas
 mod BrokenLemmas
-pub mod TitleLemmas
+pub mod OrderLemmas

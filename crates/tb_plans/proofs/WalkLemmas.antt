@@ -31,6 +31,8 @@ module _ (p : Params) (w : Walk) (k : ℕ) (ns : List Item) where
       ap (λ t. kern_place w.kern (is_glue_next p w.two ns) ++ (if_place k t ++ places_from p w.two (past w.before) (suc k) ns)) (no-place w.before)
   past-kind line (items.Head f) h =
       ap (λ t. kern_place w.kern (is_glue_next p w.two ns) ++ (if_place k t ++ places_from p w.two (past w.before) (suc k) ns)) (no-place w.before)
+  past-kind line (items.Set c) h =
+      ap (λ t. kern_place w.kern (is_glue_next p w.two ns) ++ (if_place k t ++ places_from p w.two (past w.before) (suc k) ns)) (no-place w.before)
   past-kind line (items.Float f vert) h =
       ap (λ t. kern_place w.kern (if t then is_glue_next p w.two ns else false) ++ (if_place k (is_later w.before && false) ++ places_from p w.two (if t then past w.before else befores.Call) (suc k) ns)) h
       ∙ ap (λ t. kern_place w.kern (is_glue_next p w.two ns) ++ (if_place k t ++ places_from p w.two (past w.before) (suc k) ns)) (no-place w.before)

@@ -11,12 +11,13 @@ use Rattle.tb_galley.specs.GalleyNodes.{two_after}
 use Rattle.tb_plans.specs.declared.walk.Before.{Before}
 use Rattle.tb_plans.specs.declared.walk.Before.TheVariants as befores
 
--- an item that gives acts alone is looked past: a suppressed area, the page number, a title over both columns, and in release 2014 a wide float in two columns
+-- an item that gives acts alone is looked past: a suppressed area, the page number, a title over both columns, a parameter that is set, and in release 2014 a wide float in two columns
 abbrev pub is_looked_past : Params → Bool → ItemKind → Bool
 is_looked_past p two (items.Float f vert) = has_second p && two && f.wide
 is_looked_past p two (items.Suppress area) = true
 is_looked_past p two (items.Page n) = true
 is_looked_past p two (items.Head f) = true
+is_looked_past p two (items.Set c) = true
 is_looked_past p two _ = false
 
 -- what an item is to the place after it: nondiscardable, as also the insertion of a page that is made higher, so that glue after it is a legal breakpoint; a call of a float or of a marginal note; or neither

@@ -137,6 +137,7 @@ fn copied_kind(alloc: Global, kind: &ItemKind) -> Result<ItemKind, AllocError>
             by: *by,
             star: *star,
         },
+        ItemKind::Set(change) => ItemKind::Set(*change),
     })
 }
 

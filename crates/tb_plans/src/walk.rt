@@ -84,7 +84,7 @@ fn is_looked_past(p: &Params, two: bool, kind: &ItemKind) -> bool
 {
     match kind {
         ItemKind::Float { float, vert: _ } => p.has_second() && two && float.wide,
-        ItemKind::Suppress(_) | ItemKind::Page(_) | ItemKind::Head(_) => true,
+        ItemKind::Suppress(_) | ItemKind::Page(_) | ItemKind::Head(_) | ItemKind::Set(_) => true,
         _ => false,
     }
 }

@@ -94,12 +94,7 @@ fn finds_faults_of_rules(rt: HostRuntime) -> Result<(), Fail> {
             b"none",
         ),
         (b"galley 3\nset textbottom 1 x", 2, 4, b"WrongForm"),
-        (
-            b"galley 3\nkern 0\nset footrule none",
-            3,
-            1,
-            b"SetAfterItem",
-        ),
+        (b"galley 3\nkern 0\nset footrule none\nend", 0, 0, b"none"),
         // in earlier versions there is none of these
         (b"galley 2\nset footrule none", 2, 2, b"UnknownParameter"),
         (b"galley 1\nset footrule 2 -3 x", 2, 2, b"UnknownParameter"),

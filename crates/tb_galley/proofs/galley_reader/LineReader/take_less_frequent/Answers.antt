@@ -1,7 +1,7 @@
 use Rattle.std.proofs.Common.{◌≡◌, ◌≤◌, ◌∙◌, ap, sym, subst, length, OnOk, true, rules, FitsSigned, w64, to_z, of_z, arith}
 use Rattle.std.proofs.lemmas.Int.{to_z-of_z}
 use Rattle.tb_galley.specs.declared.LeafKind.TheVariants as leaves
-use Rattle.tb_galley.specs.GalleyReader.{takes_leaf, with_leaf}
+use Rattle.tb_galley.specs.GalleyReader.{takes_leaf, takes_setting, with_leaf}
 use Rattle.tb_galley.proofs.BareLines.{skipped_step}
 use Rattle.tb_galley.proofs.FrequentLines.{kern_step, penalty_step, bare_step, set_step}
 use Rattle.tb_galley.proofs.galley_reader.LineReader.take_less_frequent.Goals as goal
@@ -41,6 +41,8 @@ returns-in-Some-read_bare_item-clause-step c =
 
 pub returns-in-Some-read_setting-clause-step : goal.returns-in-Some-read_setting-clause-step
 returns-in-Some-read_setting-clause-step c =
+    let s = c.args.self.now in
+    let free : takes_setting s.phase s.count ≡ true = sym c.takes_setting.ensures ∙ c.if-takes_setting.true in
     let few : length c.args.line.now ≤ 255 = omega arith in
-    let setting = c.in-Some-read_setting.ensures in
-    c.take_setting.ensures.step ∙ set_step c.args.self.now c.requires.first setting.phase c.args.line.now few c.in-Some-read_setting.field c.in-Some-read_setting.value setting.line
+    subst (λ t. OnOk c.take_setting.result (c.take_setting.new.self ≡ t))
+    (set_step s c.requires.first free c.args.line.now few c.in-Some-read_setting.field c.in-Some-read_setting.value c.in-Some-read_setting.ensures) c.take_setting.ensures.step
