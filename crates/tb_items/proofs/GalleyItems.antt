@@ -1,5 +1,5 @@
 -- The items of a valid galley can be handed over.
-use Rattle.std.proofs.Common.{◌≡◌, refl, ℕ, ℤ, ◌≤◌, Bool, true, false, List, [], ◌∷◌, ◌++◌, map, arith}
+use Rattle.std.proofs.Common.{◌≡◌, refl, ℕ, ◌≤◌, Bool, true, false, List, [], ◌∷◌, ◌++◌, map, arith}
 use Rattle.std.specs.Cmp.{first_so, second_so}
 use Rattle.std.specs.Prelude.{All, IsTrue, ◌||◌, ◌==◌, nat_le}
 use Rattle.std.specs.List.{list_all, list_any}

@@ -18,6 +18,8 @@ use Rattle.tb_node.specs.Sums.{size_of}
 use Rattle.tb_node.specs.PlainNodes.{Leaf as PlainLeaf, skip, leaf_shape, matter_shape, kind_shape, PlainKind, act, blank_box, on_line, newpage_kinds, clearpage_kinds}
 use Rattle.tb_param.specs.declared.Params.{Params}
 use Rattle.tb_param.specs.Release.{has_second}
+use Rattle.tb_param.specs.Ranges.{are_params}
+use Rattle.tb_param.proofs.RangeLemmas.{changed-in-range}
 use Rattle.tb_insert.specs.declared.Class.{Class}
 use Rattle.tb_builder.specs.Contents.{node_count}
 use Rattle.tb_builder.specs.Pageable.{IsSizedKind}
@@ -26,7 +28,7 @@ use Rattle.tb_galley.specs.declared.Item.{Item}
 use Rattle.tb_galley.specs.declared.ItemKind.{ItemKind}
 use Rattle.tb_galley.specs.declared.ItemKind.TheVariants as items
 use Rattle.tb_galley.specs.declared.Galley.{Galley}
-use Rattle.tb_galley.specs.GalleyNodes.{plain_leaf, made_leaf, back_glue, enlarge_list, with_firings, item_kinds, item_nodes, two_after, expanded}
+use Rattle.tb_galley.specs.GalleyNodes.{plain_leaf, made_leaf, back_glue, enlarge_list, with_firings, item_kinds, item_nodes, two_after, params_after, expanded}
 use Rattle.tb_galley.specs.Valid.{is_size, is_float, is_margin, is_item, weight_of, weight, IsValid, is_head, is_top_alone}
 use Rattle.tb_sheet.specs.Asked.{IsSizedAct}
 use Rattle.tb_items.specs.Classes.{classes_of}
@@ -35,6 +37,7 @@ use Rattle.tb_items.specs.GalleyNodes.{IsServable, IsGalleyNode, AreGalleyNodes,
 use Rattle.tb_column.proofs.RangeLemmas.{dimension}
 use Rattle.tb_items.proofs.ItemAmounts.{size-extent, both-extents, glue-sized, margin-sized, penalty-served, strength-served, asked-served, leaves-sized}
 use Rattle.tb_items.proofs.GalleyItems.{galley-items, most}
+use Rattle.tb_items.proofs.FootParams.{foot-params}
 use Rattle.tb_items.proofs.ItemLemmas.{expanded-is}
 
 -- ---- what every galley has
@@ -130,14 +133,20 @@ module _ (cs : List Class) where
         ((tt, record { inner = enlarging-sized by star i.1; height = enlarging-size by star; split_depth = foot.enlarging_depth; split_top = foot.enlarging_top; floating = foot.enlarging_floating }, i.0), tt)
     item-are two l k v i = ((tt, tt, tt), tt)
 
-    items-are : (two : Bool) (ns : List Item) → IsTrue (list_all (λ (n : Item). is_item n.line n.kind) ns) → AreItems cs ns → All (IsGalleyNode cs) (item_nodes p two ns)
-    items-are two [] v i = All-nil (IsGalleyNode cs)
-    items-are two (n ∷ ns) v i =
-        let rest = list_all (λ (m : Item). is_item m.line m.kind) ns in
-        let after = two_after two n.kind in
-        All-append (IsGalleyNode cs) (on_line n.line (item_kinds p two n.kind)) (item_nodes p after ns)
-        (from-kinds n.line (item_kinds p two n.kind) (item-are two n.line n.kind (first_so (is_item n.line n.kind) rest v) (All-head (λ (m : Item). IsItem cs m.kind) n ns i)))
-        (items-are after ns (second_so (is_item n.line n.kind) rest v) (All-tail (λ (m : Item). IsItem cs m.kind) n ns i))
+  -- the parameters stay in their ranges from item to item
+  in-range-after : (p : Params) → IsTrue (are_params p) → (k : ItemKind) → IsTrue (are_params (params_after p k))
+  in-range-after p h (items.Set c) = changed-in-range p c h
+  in-range-after p h k = h
+
+  items-are : (p : Params) → IsTrue (are_params p) → (two : Bool) (ns : List Item) → IsTrue (list_all (λ (n : Item). is_item n.line n.kind) ns) → AreItems cs ns → All (IsGalleyNode cs) (item_nodes p two ns)
+  items-are p h two [] v i = All-nil (IsGalleyNode cs)
+  items-are p h two (n ∷ ns) v i =
+      let rest = list_all (λ (m : Item). is_item m.line m.kind) ns in
+      let after = two_after two n.kind in
+      let q = params_after p n.kind in
+      All-append (IsGalleyNode cs) (on_line n.line (item_kinds p two n.kind)) (item_nodes q after ns)
+      (from-kinds n.line (item_kinds p two n.kind) (item-are p (foot-params p h) two n.line n.kind (first_so (is_item n.line n.kind) rest v) (All-head (λ (m : Item). IsItem cs m.kind) n ns i)))
+      (items-are q (in-range-after p h n.kind) after ns (second_so (is_item n.line n.kind) rest v) (All-tail (λ (m : Item). IsItem cs m.kind) n ns i))
 
 -- ---- how many there are
 
@@ -154,14 +163,15 @@ module _ (p : Params) where
   item-few two l (items.Enlarge by false) = omega arith
   item-few two l k = omega arith
 
-  items-few : (two : Bool) (ns : List Item) → node_count (item_nodes p two ns) ≤ 6 * weight ns
-  items-few two [] = omega arith
-  items-few two (n ∷ ns) =
-      let after = two_after two n.kind in
-      let one = item-few two n.line n.kind in
-      let more = items-few after ns in
-      let e = count-append (on_line n.line (item_kinds p two n.kind)) (item_nodes p after ns) in
-      omega (arith, one, more, e)
+items-few : (p : Params) (two : Bool) (ns : List Item) → node_count (item_nodes p two ns) ≤ 6 * weight ns
+items-few p two [] = omega arith
+items-few p two (n ∷ ns) =
+    let after = two_after two n.kind in
+    let q = params_after p n.kind in
+    let one = item-few p two n.line n.kind in
+    let more = items-few q after ns in
+    let e = count-append (on_line n.line (item_kinds p two n.kind)) (item_nodes q after ns) in
+    omega (arith, one, more, e)
 
 -- ---- a galley
 
@@ -175,6 +185,6 @@ galley-nodes g foot v =
     let w = most (weight g.items) v.count in
     let e = count-append ns end in
     subst (AreGalleyNodes cs) (expanded-is g) (record {
-      nodes = All-append (IsGalleyNode cs) ns end (items-are cs g.params foot false g.items v.items (galley-items g v)) (from-kinds cs g.end_line clearpage_kinds (clear-then cs [] tt));
+      nodes = All-append (IsGalleyNode cs) ns end (items-are cs g.params v.params false g.items v.items (galley-items g v)) (from-kinds cs g.end_line clearpage_kinds (clear-then cs [] tt));
       few = omega (arith, few, w, e);
     })

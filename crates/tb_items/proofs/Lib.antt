@@ -8,6 +8,7 @@ pub mod LeftLemmas
 pub mod ItemAmounts
 pub mod GalleyClasses
 pub mod GalleyItems
+pub mod FootParams
 pub mod GalleyNodeLemmas
 pub mod HappenedLemmas
 pub mod ClosedLists

@@ -4,12 +4,13 @@ use Rattle.tb_pool.specs.Lists.{Lists}
 use Rattle.tb_node.specs.declared.Node.{Node}
 use Rattle.tb_node.specs.PlainNodes.{PlainNode, node_shape, without_acts, on_line, clearpage_kinds}
 use Rattle.tb_break.specs.Places.{last_or}
+use Rattle.tb_param.specs.declared.Params.{Params}
 use Rattle.tb_insert.specs.declared.Class.{Class}
 use Rattle.tb_galley.specs.declared.Item.{Item}
 use Rattle.tb_galley.specs.declared.ItemKind.{ItemKind}
 use Rattle.tb_galley.specs.declared.ItemKind.TheVariants as items
 use Rattle.tb_galley.specs.declared.Galley.{Galley}
-use Rattle.tb_galley.specs.GalleyNodes.{item_kinds, item_nodes, two_after}
+use Rattle.tb_galley.specs.GalleyNodes.{item_kinds, item_nodes, two_after, params_after}
 use Rattle.tb_builder.specs.declared.Builder.{Builder}
 use Rattle.tb_builder.specs.Contents.{Contents}
 use Rattle.tb_builder.specs.Contributions.{is_kern}
@@ -18,9 +19,9 @@ use Rattle.tb_items.specs.WaitingNodes.{Waits, AreItems}
 
 -- ---- what is left
 
--- the nodes of the items that are left, and those of a clear
+-- the nodes of the items that are left, from the parameters and the columns that hold before them, and those of a clear
 abbrev pub nodes_of : ItemsLeft → List PlainNode
-nodes_of l = item_nodes l.galley.now.params l.two l.items.now ++ on_line l.galley.now.end_line clearpage_kinds
+nodes_of l = item_nodes l.params l.two l.items.now ++ on_line l.galley.now.end_line clearpage_kinds
 
 -- the same; none if nothing is left
 abbrev pub nodes_left : Option ItemsLeft → List PlainNode
@@ -74,6 +75,7 @@ ends_batch (items.Suppress area) = false
 ends_batch (items.Page n) = false
 ends_batch (items.Head f) = false
 ends_batch (items.Enlarge by star) = true
+ends_batch (items.Set c) = false
 
 -- the last of the items is such an item
 abbrev pub are_ended : List Item → Bool
@@ -92,19 +94,20 @@ pub record IsHandedOver (l : ItemsLeft) (rest : Option ItemsLeft) (b : Builder) 
 
 -- ---- the next one is handed over
 
--- the nodes of the first of these items; those of the clear if there is none
-abbrev pub first_nodes : Galley → Bool → List Item → List PlainNode
-first_nodes g two [] = on_line g.end_line clearpage_kinds
-first_nodes g two (n ∷ ns) = on_line n.line (item_kinds g.params two n.kind)
+-- the nodes of the first of these items, by the parameters and the columns that hold before it; those of the clear if there is none
+abbrev pub first_nodes : Galley → Params → Bool → List Item → List PlainNode
+first_nodes g p two [] = on_line g.end_line clearpage_kinds
+first_nodes g p two (n ∷ ns) = on_line n.line (item_kinds p two n.kind)
 
 -- the nodes of the next item; those of the clear if no item is left
 abbrev pub next_nodes : ItemsLeft → List PlainNode
-next_nodes l = first_nodes l.galley.now l.two l.items.now
+next_nodes l = first_nodes l.galley.now l.params l.two l.items.now
 
 -- the items of these after this one are left
 pub record IsPastItem (l r : ItemsLeft) (n : Item) : Type 0 where
   pub galley : r.galley ≡ l.galley
   pub items : l.items.now ≡ n ∷ r.items.now
+  pub params : r.params ≡ params_after l.params n.kind
   pub two : r.two ≡ two_after l.two n.kind
 
 -- what is left after the next item; nothing after the clear

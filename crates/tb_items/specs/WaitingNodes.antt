@@ -1,5 +1,5 @@
 -- What waits at a page builder when nodes were handed to it.
-use Rattle.std.specs.Prelude.{◌≡◌, false, ℕ, ℤ, pos, Bool, true, List, [], ◌∷◌, ◌++◌, ◌≤◌, map, length, All, Some, if◌then◌else◌}
+use Rattle.std.specs.Prelude.{◌≡◌, false, ℕ, ℤ, pos, Bool, true, List, [], ◌∷◌, ◌++◌, ◌≤◌, map, length, All, if◌then◌else◌}
 use Rattle.std.specs.FinMap.{get}
 use Rattle.tb_pool.specs.Lists.{Lists, IsLive}
 use Rattle.tb_node.specs.declared.RuleOf.TheVariants as rules

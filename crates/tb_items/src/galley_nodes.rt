@@ -4,7 +4,7 @@ ghost use Rattle.std.specs.Prelude.{◌≡◌, ◌∷◌, ◌++◌, [], true, fa
 ghost use Rattle.tb_node.specs.PlainNodes.{act, on_line, newpage_kinds, clearpage_kinds};
 ghost use Rattle.tb_builder.specs.Contents.{contents_of};
 ghost use Rattle.tb_builder.specs.Ownership.{inner_of};
-ghost use Rattle.tb_galley.specs.GalleyNodes.{break_strength, with_firings, float_kinds, item_kinds, two_after, two_past, item_nodes};
+ghost use Rattle.tb_galley.specs.GalleyNodes.{break_strength, with_firings, float_kinds, item_kinds, two_after, two_past, params_after, params_past, item_nodes};
 ghost use Rattle.tb_items.specs.WaitingNodes.{CanTake, Waits, lone, IsItem, AreItems};
 
 use crate::enlarging_nodes::put_enlarging;
@@ -16,23 +16,24 @@ use tb_node::{
     Act, Area, CLEAR_PENALTY, Float, HOLD_PENALTY, Kind, Margin, Name, Node, PAR_PENALTY, RuleOf,
     VERT_PENALTY, What,
 };
-use tb_param::Params;
+use tb_param::{Change, Params};
 use tb_pool::Lists;
 use tb_scaled::{EJECT_PENALTY, Glue, INF_PENALTY, filling_glue};
 
 // Hands over the nodes of items, and returns whether there are two columns after them; `two` says whether there are two
-// before.
+// before. The parameters become those that hold after them.
 pub(crate) fn put_items(
     store: &mut Lists<Node>,
     builder: &mut Builder,
-    p: &Params,
+    p: &mut Params,
     mut two: bool,
     items: &[Item],
 ) -> Result<bool, AllocError>
     requires can { CanTake builder.old store.old }
     requires items { AreItems (contents_of builder.old store.old).classes items.now }
     ensures two { IfOk result (λ after. after ≡ two_past two items.now) }
-    ensures waits { OnOk result (Waits (item_nodes p.now two items.now) builder.old store.old builder.new store.new) }
+    ensures params { OnOk result (p.new ≡ params_past p.old items.now) }
+    ensures waits { OnOk result (Waits (item_nodes p.old two items.now) builder.old store.old builder.new store.new) }
 {
     // Most items have one node, and few have more.
     store.reserve(items.len() + items.len() / 8)?;
@@ -42,13 +43,13 @@ pub(crate) fn put_items(
     Ok(two)
 }
 
-// Hands over the nodes of an item, and returns whether there are two columns after it. Most items are boxes or glue: their
-// nodes are made here, with no call.
+// Hands over the nodes of an item, and returns whether there are two columns after it. The parameters become those that
+// hold after it. Most items are boxes or glue: their nodes are made here, with no call.
 #[inline(always)]
 fn put_next(
     store: &mut Lists<Node>,
     builder: &mut Builder,
-    p: &Params,
+    p: &mut Params,
     two: bool,
     line: u32,
     kind: &ItemKind,
@@ -56,7 +57,8 @@ fn put_next(
     requires can { CanTake builder.old store.old }
     requires item { IsItem (contents_of builder.old store.old).classes kind.now }
     ensures two { IfOk result (λ after. after ≡ two_after two kind.now) }
-    ensures waits { OnOk result (Waits (on_line line (item_kinds p.now two kind.now)) builder.old store.old builder.new store.new) }
+    ensures params { OnOk result (p.new ≡ params_after p.old kind.now) }
+    ensures waits { OnOk result (Waits (on_line line (item_kinds p.old two kind.now)) builder.old store.old builder.new store.new) }
 {
     match kind {
         ItemKind::Hbox {
@@ -73,6 +75,7 @@ fn put_next(
         }
         _ => {
             put_item(store, builder, p, two, line, kind)?;
+            change_by(p, kind);
             Ok(two_after(two, kind))
         }
     }
@@ -89,7 +92,17 @@ pub(crate) fn two_after(two: bool, kind: &ItemKind) -> bool
     }
 }
 
-/// Hands over the nodes of an item; `two` says whether there are two columns before it.
+// Makes the parameters those that hold after an item.
+pub(crate) fn change_by(p: &mut Params, kind: &ItemKind)
+    ensures { p.new ≡ params_after p.old kind.now }
+{
+    let ItemKind::Set(change) = kind else {
+        return;
+    };
+    p.change(*change);
+}
+
+/// Hands over the nodes of an item; `p` has the parameters that hold before it, and `two` says whether there are two columns.
 #[inline(never)]
 pub fn put_item(
     store: &mut Lists<Node>,
@@ -138,6 +151,7 @@ pub fn put_item(
         ItemKind::Page(number) => put_page_number(store, builder, line, *number),
         ItemKind::Head(head) => put_title(store, builder, line, head),
         ItemKind::Enlarge { by, star } => put_enlarging(store, builder, p, line, *by, *star),
+        ItemKind::Set(change) => put_change(store, builder, line, *change),
     }
 }
 
@@ -418,6 +432,20 @@ fn put_page_number(
     ensures { OnOk result (Waits (lone line (Kind.Act (Act.Page number)) ∷ []) builder.old store.old builder.new store.new) }
 {
     put_act(store, builder, line, Act::Page(number))
+}
+
+// A parameter is set.
+#[inline(never)]
+fn put_change(
+    store: &mut Lists<Node>,
+    builder: &mut Builder,
+    line: u32,
+    change: Change,
+) -> Result<(), AllocError>
+    requires can { CanTake builder.old store.old }
+    ensures { OnOk result (Waits (lone line (Kind.Act (Act.Set change)) ∷ []) builder.old store.old builder.new store.new) }
+{
+    put_act(store, builder, line, Act::Set(change))
 }
 
 // A title over both columns.

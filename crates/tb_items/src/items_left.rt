@@ -7,7 +7,7 @@ ghost use Rattle.tb_galley.specs.GalleyNodes.{item_kinds, expanded};
 ghost use Rattle.tb_items.specs.WaitingNodes.{CanTake, AreItems};
 ghost use Rattle.tb_items.specs.ItemsLeft.{nodes_of, next_nodes, are_ended, ends_batch, IsHandedOver, IsHandedNext};
 
-use crate::galley_nodes::{put_clear, put_item, put_items, two_after};
+use crate::galley_nodes::{change_by, put_clear, put_item, put_items, two_after};
 use std::alloc::AllocError;
 use tb_builder::Builder;
 use tb_galley::{Galley, Item, ItemKind};
@@ -20,6 +20,8 @@ use tb_pool::Lists;
 pub struct ItemsLeft<'a> {
     galley: &'a Galley,
     items: &'a [Item],
+    // The parameters that hold before them.
+    params: Params,
     // Whether there are two columns before them.
     two: bool,
 }
@@ -32,11 +34,13 @@ pub fn all_items(galley: &Galley) -> ItemsLeft<'_>
     ensures nodes { nodes_of result ≡ expanded galley.now }
     ensures items { result.items.now ≡ galley.now.items }
     ensures galley { result.galley.now ≡ galley.now }
+    ensures params { result.params ≡ galley.now.params }
     ensures columns { result.two ≡ false }
 {
     ItemsLeft {
         galley,
         items: galley.items.as_slice(),
+        params: galley.params,
         two: false,
     }
 }
@@ -53,6 +57,7 @@ fn ends_batch(kind: &ItemKind) -> bool
             | ItemKind::Suppress(_)
             | ItemKind::Page(_)
             | ItemKind::Head(_)
+            | ItemKind::Set(_)
     )
 }
 
@@ -112,8 +117,8 @@ impl<'a> ItemsLeft<'a> {
         ensures { IfOk result (λ rest. IsHandedOver self.now rest builder.old store.old builder.new store.new) }
     {
         let count = batch_len(self.items);
-        let p = &self.galley.params;
-        let two = put_items(store, builder, p, self.two, &self.items[..count])?;
+        let mut params = self.params;
+        let two = put_items(store, builder, &mut params, self.two, &self.items[..count])?;
         if count == self.items.len() {
             put_clear(store, builder, self.galley.end_line)?;
             return Ok(None);
@@ -121,6 +126,7 @@ impl<'a> ItemsLeft<'a> {
         Ok(Some(ItemsLeft {
             galley: self.galley,
             items: &self.items[count..],
+            params,
             two,
         }))
     }
@@ -143,11 +149,20 @@ impl<'a> ItemsLeft<'a> {
             return Ok(None);
         }
         let item = &self.items[0];
-        let p = &self.galley.params;
-        put_item(store, builder, p, self.two, item.line, &item.kind)?;
+        put_item(
+            store,
+            builder,
+            &self.params,
+            self.two,
+            item.line,
+            &item.kind,
+        )?;
+        let mut params = self.params;
+        change_by(&mut params, &item.kind);
         Ok(Some(ItemsLeft {
             galley: self.galley,
             items: &self.items[1..],
+            params,
             two: two_after(self.two, &item.kind),
         }))
     }
@@ -160,10 +175,10 @@ impl<'a> ItemsLeft<'a> {
         if self.items.is_empty() {
             return 5;
         }
-        item_count(&self.galley.params, self.two, &self.items[0])
+        item_count(&self.params, self.two, &self.items[0])
     }
 
-    /// How many nodes they have, those of footnotes and of the clear too.
+    /// How many nodes they have, those of footnotes and of the clear too. No parameter that is set among them changes how many.
     pub fn nodes(&self) -> u64
         requires { node_count (nodes_of self.now) ≤ 8388608 }
         ensures { result ≡ node_count (nodes_of self.now) }
@@ -171,7 +186,7 @@ impl<'a> ItemsLeft<'a> {
         let mut count = 5;
         let mut two = self.two;
         for item in self.items {
-            count += item_count(&self.galley.params, two, item);
+            count += item_count(&self.params, two, item);
             two = two_after(two, &item.kind);
         }
         count

@@ -13,6 +13,8 @@ use Rattle.tb_builder.specs.FiredPages.{Boxed}
 use Rattle.tb_builder.specs.Pageable.{IsGoal}
 use Rattle.tb_param.specs.declared.Params.{Params}
 use Rattle.tb_param.specs.Release.{has_second}
+use Rattle.tb_param.specs.declared.Change.{Change}
+use Rattle.tb_param.specs.Changes.{changed}
 use Rattle.tb_float.specs.declared.Entry.TheVariants as entries
 use Rattle.tb_float.specs.Lists.{live_count}
 use Rattle.tb_float.specs.declared.Part.TheVariants as parts
@@ -55,6 +57,7 @@ line_of (acts.Suppress area) = 0
 line_of (acts.Page n) = 0
 line_of (acts.Columns two) = 0
 line_of (acts.Head f) = f.line
+line_of (acts.Set c) = 0
 
 -- the list of a first column that waits, if the act changes the columns
 abbrev pub dropped_lists : Act → Option Column → List ℕ
@@ -64,6 +67,7 @@ dropped_lists (acts.Suppress area) left = []
 dropped_lists (acts.Page n) left = []
 dropped_lists (acts.Columns two) left = left_lists left
 dropped_lists (acts.Head f) left = []
+dropped_lists (acts.Set c) left = []
 
 -- a list that is not the machine's before is not its afterwards
 abbrev pub TakesNoList : MachineView → MachineView → Type 0
@@ -128,6 +132,15 @@ pub record HasNoTitleRoom (live : ℕ) (m now : MachineView) : Type 0 where
 -- the next page has this number
 abbrev pub with_page_number : ℕ → MachineView → MachineView
 with_page_number n m = record m { number = n }
+
+-- these parameters hold from now on, and the goal is the room of the column
+abbrev pub with_changed : Change → MachineView → MachineView
+with_changed c m = record m { params = changed m.params c; goal = column_room_of (changed m.params c) m.pool.lists }
+
+-- the parameters after an act
+abbrev pub params_acted : Params → Act → Params
+params_acted p (acts.Set c) = changed p c
+params_acted p _ = p
 
 -- the pool had room for this many boxes, and the machine is the next one; if no float was chosen, none is
 pub record HasTaken (boxes : ℕ) (m next now : MachineView) : Type 0 where

@@ -91,10 +91,11 @@ Leads from to step rest = (before : List PlainSent) (w : Work) → from before w
 
 -- ---- what the steps of a firing leave as it was
 
--- a step sends some more, keeps the classes and the waiting nodes, and once the page limit was met sends nothing and ships no page
+-- a step sends some more, keeps the parameters, the classes and the waiting nodes, and once the page limit was met sends nothing and ships no page
 pub record Continues (w next : Work) : Type 0 where
   pub more : List PlainSent
   pub sent : next.sent ≡ w.sent ++ more
   pub refused : w.refused ≡ true → (next.refused ≡ true) × (next.sent ≡ w.sent) × (next.state.page ≡ w.state.page)
+  pub params : next.state.params ≡ w.state.params
   pub classes : next.state.classes ≡ w.state.classes
   pub waiting : next.state.waiting ≡ w.state.waiting

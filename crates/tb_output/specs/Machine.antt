@@ -1,5 +1,5 @@
 -- The output routine's machine as contracts see it.
-use Rattle.std.specs.Prelude.{◌≡◌, ◌≤◌, ◌+◌, ℕ, suc, ℤ, pos, ◌≤ℤ◌, nat_abs, Bool, true, false, List, [], ◌∷◌, ◌++◌, map, Option, Some, None, unwrap_or, IsSome}
+use Rattle.std.specs.Prelude.{◌≡◌, ◌≤◌, ◌+◌, ℕ, suc, ℤ, pos, ◌≤ℤ◌, nat_abs, Bool, true, false, List, [], ◌∷◌, ◌++◌, map, Option, Some, None, unwrap_or, IsSome, IsTrue}
 use Rattle.std.specs.List.{AllByRecursion}
 use Rattle.tb_pool.specs.Lists.{Lists, list_at}
 use Rattle.tb_node.specs.declared.Node.{Node}
@@ -8,6 +8,7 @@ use Rattle.tb_node.specs.Sums.{size_of}
 use Rattle.tb_node.specs.Fit.{IsExtent, IsPenalty}
 use Rattle.tb_scaled.specs.Amount.{IsAmount}
 use Rattle.tb_param.specs.declared.Params.{Params}
+use Rattle.tb_param.specs.Ranges.{are_params}
 use Rattle.tb_insert.specs.declared.Class.{Class}
 use Rattle.tb_builder.specs.FiredPages.{Boxed}
 use Rattle.tb_builder.specs.Pageable.{IsGoal}
@@ -79,6 +80,7 @@ left_shown store (Some c) = Some (column_shown store c)
 -- the state of a machine, with these insertion boxes and waiting nodes
 abbrev pub state_shown : Lists Node → List Boxed → List PlainNode → MachineView → State
 state_shown store boxes waiting m = record {
+  params = m.params;
   waiting = waiting;
   classes = m.classes;
   boxes = boxes;
@@ -138,8 +140,9 @@ pub record IsPoolSize (z : ℤ) : Type 0 where
   pub low : pos 0 ≤ℤ z
   pub high : z ≤ℤ pos 4096
 
--- the parameters of the routine lie in their ranges
+-- the parameters lie in the ranges of their rows, and so those of the routine in the ranges that it requires
 pub record AreOutputParams (p : Params) : Type 0 where
+  pub all : IsTrue (are_params p)
   pub columns : AreColumnParams p
   pub floatpagefraction : IsShare p.floatpagefraction
   pub dblfloatpagefraction : IsShare p.dblfloatpagefraction

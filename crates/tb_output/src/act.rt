@@ -1,5 +1,5 @@
 //! What the routine does at an act: a float or a marginal note is taken, floats are kept out of an area, the columns
-//! change, the page number is set, or a title over both columns is taken (LaTeX, \@xfloat, \marginpar, \suppressfloats,
+//! change, the page number or a parameter is set, or a title over both columns is taken (LaTeX, \@xfloat, \marginpar, \suppressfloats,
 //! \twocolumn and \@topnewpage).
 
 ghost use Rattle.std.specs.Prelude.{◌≡◌, ◌<◌, ◌&&◌, true, false, not, pos, List, [], ◌∷◌, OnOk, OnErr, IfErr, IsErr, option_to_list};
@@ -9,21 +9,23 @@ ghost use Rattle.tb_node.specs.PlainNodes.{PlainNode};
 ghost use Rattle.tb_node.specs.Fit.{IsExtent};
 ghost use Rattle.tb_scaled.specs.Scaled.{min_ℤ};
 ghost use Rattle.tb_builder.specs.FiredPages.{Boxed};
+ghost use Rattle.tb_builder.specs.Pageable.{IsGoal};
 ghost use Rattle.tb_param.specs.Release.{has_second};
 ghost use Rattle.tb_float.specs.Lists.{live_count};
 ghost use Rattle.tb_float.specs.Pool.{HasNoMarks, with_floats_after};
-ghost use Rattle.tb_float.specs.Ranges.{IsSizedMargin};
+ghost use Rattle.tb_float.specs.Ranges.{AreFloatParams, IsSizedMargin};
+ghost use Rattle.tb_float.specs.Rooms.{column_room_of};
 ghost use Rattle.tb_output.specs.Act.{full, large_warning, suppressed, taken_head};
 ghost use Rattle.tb_sheet.specs.ApartLists.{AreNoneOf};
 ghost use Rattle.tb_output.specs.Machine.{AreOutputParams, IsMachine, machine_lists};
 ghost use Rattle.tb_sheet.specs.Asked.{IsSizedAct};
-ghost use Rattle.tb_output.specs.ActCalls.{IsActed, acted_in, line_of, TakesNoList, dropped_lists, HasTaken, HasNoRoom, clipped, taken_into, with_float, with_note, with_suppressed, with_columns, with_page_number, has_title_room, HasTakenTitle, HasNoTitleRoom};
+ghost use Rattle.tb_output.specs.ActCalls.{IsActed, acted_in, line_of, TakesNoList, dropped_lists, HasTaken, HasNoRoom, clipped, taken_into, with_float, with_note, with_suppressed, with_columns, with_page_number, with_changed, params_acted, has_title_room, HasTakenTitle, HasNoTitleRoom};
 
 use crate::Machine;
 use crate::state::no_suppress;
 use tb_float::{Full, Part, Pool, Suppress};
 use tb_node::{Act, Area, Float, Margin};
-use tb_param::Params;
+use tb_param::{Change, Params};
 use tb_pool::ListId;
 use tb_sheet::Warn;
 
@@ -44,7 +46,7 @@ impl Machine {
         ensures unchanged { OnErr result (self.new ≡ self.old) }
 
         ensures machine { (store : ListMap NodeValue) → IsMachine self.old store → IsMachine self.new store }
-        ensures params { self.new.params ≡ self.old.params }
+        ensures params { self.new.params ≡ params_acted self.old.params a }
         ensures fault { self.new.fault ≡ self.old.fault }
         ensures size { self.new.pool.size ≡ self.old.pool.size }
         ensures marks { self.new.pool.marks ≡ self.old.pool.marks }
@@ -67,6 +69,10 @@ impl Machine {
                 Ok(())
             }
             Act::Head(f) => self.take_title(f),
+            Act::Set(change) => {
+                self.set_parameter(change);
+                Ok(())
+            }
         }
     }
 
@@ -106,7 +112,7 @@ impl Machine {
     {
         let title = taken_head(&f, &self.params);
         take_above(&mut self.pool, self.two_columns && self.first_column, title)?;
-        self.goal = self.column_room();
+        self.take_room();
         Ok(())
     }
 
@@ -132,6 +138,25 @@ impl Machine {
         ensures { self.new ≡ with_page_number number self.old }
     {
         self.number = u64::from(number);
+    }
+
+    // Sets a parameter, which holds from now on; the goal becomes the room of the column.
+    fn set_parameter(&mut self, change: Change)
+        requires params { AreOutputParams self.old.params }
+        ensures set { self.new ≡ with_changed change self.old }
+        ensures goal { IsGoal self.new.goal }
+    {
+        self.params.change(change);
+        self.take_room();
+    }
+
+    // The goal becomes the room of the column.
+    fn take_room(&mut self)
+        requires { AreFloatParams self.old.params }
+        ensures room { self.new ≡ record self.old { goal = column_room_of self.old.params self.old.pool.lists } }
+        ensures goal { IsGoal self.new.goal }
+    {
+        self.goal = self.column_room();
     }
 
     // Begins one column or two, and drops a first column that waits.

@@ -1,14 +1,12 @@
 //! Whether two machines show the same, and which has the smaller counts.
 
 ghost use Rattle.std.specs.Prelude.{◌≡◌, ◌%◌, ◌↔◌, true, IsTrue};
-ghost use Rattle.tb_margin.specs.Margin.{is_on};
 ghost use Rattle.tb_output.specs.Machine.{IsMachine};
 ghost use Rattle.tb_output.specs.SameMachines.{HasCountsWithin, ShowSame};
 
 use crate::Machine;
 use tb_float::Suppress;
 use tb_node::{Node, same_lists};
-use tb_param::Choice;
 use tb_pool::Lists;
 
 impl Machine {
@@ -30,14 +28,19 @@ impl Machine {
         if !self.flags_same(other) {
             return false;
         }
-        self.pool.holds_same(&other.pool)
-            && same_lists(store, self.held_page, other_store, other.held_page)
+        if !self.pool.holds_same(&other.pool) {
+            return false;
+        }
+        if !same_lists(store, self.held_page, other_store, other.held_page) {
+            return false;
+        }
+        self.params.is_same(&other.params)
     }
 
     /// Whether this machine has shipped no more pages than another and has fired no more often since, and its marginal notes
-    /// go to the same sides.
-    pub fn counts_within(&self, other: &Machine) -> bool
-        ensures { IsTrue result ↔ HasCountsWithin self.now other.now }
+    /// go to the same sides, if they may change sides from page to page now or later.
+    pub fn counts_within(&self, other: &Machine, may_alternate: bool) -> bool
+        ensures { IsTrue result ↔ HasCountsWithin may_alternate self.now other.now }
     {
         if self.page > other.page {
             return false;
@@ -45,14 +48,14 @@ impl Machine {
         if self.dead_cycles > other.dead_cycles {
             return false;
         }
-        self.sides_same(other)
+        self.sides_same(other, may_alternate)
     }
 
-    // Whether the marginal notes of two machines with the same parameters go to the same sides.
-    fn sides_same(&self, other: &Machine) -> bool
-        ensures { IsTrue result ↔ (is_on self.now.params.mparswitch ≡ true → (self.now.number % 2) ≡ (other.now.number % 2)) }
+    // Whether the marginal notes of two machines go to the same sides, if they may change sides from page to page.
+    fn sides_same(&self, other: &Machine, may_alternate: bool) -> bool
+        ensures { IsTrue result ↔ (may_alternate ≡ true → (self.now.number % 2) ≡ (other.now.number % 2)) }
     {
-        !is_on(self.params.mparswitch) || self.number % 2 == other.number % 2
+        !may_alternate || self.number % 2 == other.number % 2
     }
 
     // Whether the numbers of two machines are the same. They differ most often.
@@ -79,10 +82,4 @@ fn same_suppress(a: Suppress, b: Suppress) -> bool
     ensures { IsTrue result ↔ (a ≡ b) }
 {
     a.all == b.all && a.top == b.top && a.bottom == b.bottom
-}
-
-fn is_on(choice: Choice) -> bool
-    ensures { result ≡ is_on choice }
-{
-    matches!(choice, Choice::On)
 }

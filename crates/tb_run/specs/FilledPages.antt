@@ -42,20 +42,24 @@ sent_happenings es = map (λ e. happenings.Sent e) es
 -- ---- the page of a step
 
 -- what is reached of the page
-abbrev pub reach_in : Params → State → Reach
-reach_in p s = reach_of (ask_for p s) s.classes s.boxes [] s.waiting
+abbrev pub reach_in : State → Reach
+reach_in s = reach_of (ask_for s) s.classes s.boxes [] s.waiting
 
 -- the state after the acts of the page, their events and records, and the place where the pool was full
-abbrev pub progress_in : Params → State → Progress
-progress_in p s = progress p (reach_in p s).reached awful_bad s
+abbrev pub progress_in : State → Progress
+progress_in s = progress (reach_in s).reached awful_bad s
+
+-- the parameters that hold after those acts, and so when the page fires
+abbrev pub params_in : State → Params
+params_in s = (progress_in s).state.params
 
 -- the page that fires in that state, if one does; it was made for what was asked before its first box, rule or insertion
-abbrev pub page_in : Params → State → Fired
-page_in p s = let q = progress_in p s in fired_of (ask_for p s) q.state.classes q.state.boxes (reach_in p s)
+abbrev pub page_in : State → Fired
+page_in s = let q = progress_in s in fired_of (ask_for s) q.state.classes q.state.boxes (reach_in s)
 
 -- what the firing of a page sends, if it is allowed
-abbrev pub sent_by : Params → State → Fired → List PlainSent
-sent_by p s f = if int_lt (pos s.dead_cycles) p.maxdeadcycles then (out p s f).sent else []
+abbrev pub sent_by : State → Fired → List PlainSent
+sent_by s f = if int_lt (pos s.dead_cycles) s.params.maxdeadcycles then (out s.params s f).sent else []
 
 -- ---- a page is filled
 
@@ -65,10 +69,9 @@ with_page s q = state_shown q.store s.boxes s.waiting q.machine
 
 -- the routine shows the state after the acts of the page, and what happened is what is noted of their events, with no lists; nothing is left if nothing was
 pub record IsFilled (wanted : Bool) (r q : Routine) (hs : List Happening) : Type 0 where
-  pub state : with_page (state_of r) q ≡ (progress_in r.machine.params (state_of r)).state
-  pub events : (store : Lists Node) → events_of store hs ≡ noted wanted (progress_in r.machine.params (state_of r)).events
+  pub state : with_page (state_of r) q ≡ (progress_in (state_of r)).state
+  pub events : (store : Lists Node) → events_of store hs ≡ noted wanted (progress_in (state_of r)).events
   pub lists : happened_lists hs ≡ []
-  pub params : q.machine.params ≡ r.machine.params
   pub left : r.left ≡ None → q.left ≡ None
 
 -- the page that the builder fired, with all that waits after it
@@ -77,13 +80,13 @@ fired_whole r page = record (fired_in r.builder r.store page) { rest = (held_in 
 
 -- a page of the step fires, and this is that page
 pub record IsPageOf (page : Page) (r q : Routine) : Type 0 where
-  pub none : (progress_in r.machine.params (state_of r)).fault ≡ None
-  pub fires : (reach_in r.machine.params (state_of r)).fires ≡ true
-  pub fired : fired_whole q page ≡ page_in r.machine.params (state_of r)
+  pub none : (progress_in (state_of r)).fault ≡ None
+  pub fires : (reach_in (state_of r)).fires ≡ true
+  pub fired : fired_whole q page ≡ page_in (state_of r)
 
 -- no page of the step fires
 abbrev pub NoneFires : Routine → Type 0
-NoneFires r = (progress_in r.machine.params (state_of r)).fault ≡ None → (reach_in r.machine.params (state_of r)).fires ≡ false
+NoneFires r = (progress_in (state_of r)).fault ≡ None → (reach_in (state_of r)).fires ≡ false
 
 -- with the page that fires, this many nodes are held
 pub record IsBoundedPage (page : Page) (q : Routine) : Type 0 where
@@ -115,7 +118,7 @@ pub record IsFiring (wanted : Bool) (r : Routine) (page : Page) (q : Routine) (h
 pub record IsFilledLast (wanted : Bool) (r : Routine) (e : Ending) (q : Routine) (hs : List Happening) : Type 0 where
   pub filled : IsFilled wanted r q hs
   pub none : NoneFires r
-  pub ended : EndsAs q (Some e) (step r.machine.params (state_of r))
+  pub ended : EndsAs q (Some e) (step (state_of r))
   pub whole : IsConsistent q
 
 -- the page that was filled fires, or the run ends before it does
@@ -134,6 +137,6 @@ is_dead o = false
 pub record HasServed (page : Page) (q : Routine) (o : Option Ending) (now : Routine) (before after : List Happening) : Type 0 where
   pub sent : List Sent
   pub grown : after ≡ before ++ sent_happenings sent
-  pub shown : events_shown now.store sent ≡ sent_by q.machine.params (state_of q) (fired_whole q page)
+  pub shown : events_shown now.store sent ≡ sent_by (state_of q) (fired_whole q page)
   pub dead : is_dead o ≡ not (int_lt (pos q.machine.dead_cycles) q.machine.params.maxdeadcycles)
-  pub ended : (es : List RunEvent) (rs : List Recorded) → EndsAs now o (firing_step q.machine.params es rs (state_of q) (fired_whole q page))
+  pub ended : (es : List RunEvent) (rs : List Recorded) → EndsAs now o (firing_step es rs (state_of q) (fired_whole q page))

@@ -96,8 +96,8 @@ EndsAs r (Some ending) (goes_on es rs s) = ⊥
 
 -- from the first routine to the second, a turn with these happenings and this ending is the step of the run
 pub record IsTurned (wanted : Bool) (r : Routine) (hs : List Happening) (o : Option Ending) (q : Routine) : Type 0 where
-  pub events : events_of q.store hs ≡ noted wanted (step_events (step r.machine.params (state_of r)))
-  pub ended : EndsAs q o (step r.machine.params (state_of r))
+  pub events : events_of q.store hs ≡ noted wanted (step_events (step (state_of r)))
+  pub ended : EndsAs q o (step (state_of r))
 
 -- the ending if more than `maxnodes` nodes are held
 abbrev pub over_limit : Params → ℕ → Option Ending

@@ -67,7 +67,6 @@ pub record HasActed (a : Act) (r q : Routine) : Type 0 where
   pub acted : (boxes : List Boxed) (waiting : List PlainNode) → HasDone boxes waiting r q (act_on r.machine.params (state_shown r.store boxes waiting r.machine) a)
   pub built : built_in q ≡ built_in r
   pub builder : q.builder ≡ r.builder
-  pub params : q.machine.params ≡ r.machine.params
   pub most : q.most ≡ r.most
   pub left : q.left ≡ r.left
 

@@ -23,6 +23,7 @@ act_notes (acts.Suppress area) = 0
 act_notes (acts.Page n) = 0
 act_notes (acts.Head f) = 0
 act_notes (acts.Columns two) = 0
+act_notes (acts.Set c) = 0
 
 -- how many marginal notes a node takes
 abbrev pub kind_notes : PlainKind → ℕ

@@ -1,5 +1,6 @@
 -- A turn in parts: the whole of it, the filling of a page, and the serving of one that was filled. No public clause cites this module.
 use Rattle.std.specs.Prelude.{◌≡◌, Bool, List, [], Option, Some, None, IfNone}
+use Rattle.tb_param.specs.declared.Params.{Params}
 use Rattle.tb_items.specs.declared.happenings.Happening.{Happening}
 use Rattle.tb_items.specs.Happenings.{happened_lists, ArePages}
 use Rattle.tb_run.specs.declared.routine.Routine.{Routine}
@@ -8,8 +9,8 @@ use Rattle.tb_run.specs.declared.routine.Filled.{Filled}
 use Rattle.tb_run.specs.declared.routine.Filled.TheVariants as filled
 use Rattle.tb_run.specs.declared.routine.Part.{Part}
 use Rattle.tb_run.specs.declared.routine.Part.TheVariants as parts
-use Rattle.tb_run.specs.Routine.{IsReady, IsTurned, IsEnded, AreHappened}
-use Rattle.tb_run.specs.FilledPages.{CanServe, IsFiring, IsFilledLast, Fills, HasServed}
+use Rattle.tb_run.specs.Routine.{state_of, IsReady, IsTurned, IsEnded, AreHappened}
+use Rattle.tb_run.specs.FilledPages.{params_in, CanServe, IsFiring, IsFilledLast, Fills, HasServed}
 
 -- a part of a turn can be done: its page is to be filled, and nothing happened yet, or it can be served
 abbrev pub CanGoOn : Part → Routine → List Happening → Type 0
@@ -33,10 +34,10 @@ HasPage wanted (parts.Serving page) r hs o q now = IsGiven o (filled.Fires page)
 
 -- ---- what is done
 
--- a turn came to its end: the routine is ready for the next one, unless the run ended, and what happened can be read
-pub record IsOver (o : Option Ending) (r q : Routine) (hs : List Happening) : Type 0 where
+-- a turn came to its end, and these parameters hold: the routine is ready for the next one, unless the run ended, and what happened can be read
+pub record IsOver (o : Option Ending) (p : Params) (q : Routine) (hs : List Happening) : Type 0 where
   pub ready : IfNone o (IsReady q)
-  pub params : q.machine.params ≡ r.machine.params
+  pub params : q.machine.params ≡ p
   pub ended : IsEnded q
   pub pages : ArePages q.store hs
   pub lists : IfNone o (AreHappened q hs)
@@ -54,6 +55,6 @@ HasFilled wanted r (Some e) later q hs = IsFilledLast wanted r e q hs
 
 -- the part was done, with this ending, and that part is left
 abbrev pub HasGoneOn : Bool → Part → Routine → List Happening → Option Ending → Part → Routine → List Happening → Type 0
-HasGoneOn wanted parts.Whole r hs o later q now = IsTurned wanted r now o q × IsOver o r q now
+HasGoneOn wanted parts.Whole r hs o later q now = IsTurned wanted r now o q × IsOver o (params_in (state_of r)) q now
 HasGoneOn wanted parts.Filling r hs o later q now = HasFilled wanted r o later q now
-HasGoneOn wanted (parts.Serving page) r hs o later q now = HasServed page r o q hs now × IsOver o r q now
+HasGoneOn wanted (parts.Serving page) r hs o later q now = HasServed page r o q hs now × IsOver o r.machine.params q now

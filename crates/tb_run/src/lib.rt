@@ -2,6 +2,7 @@
 //! machine serves it.
 #![tactic(auto)]
 
+mod asks;
 mod classes;
 mod copies;
 mod routine;

@@ -7,10 +7,9 @@ ghost use Rattle.tb_node.specs.PlainNodes.{PlainNode, plain_list};
 ghost use Rattle.tb_node.specs.Fit.{shapes};
 ghost use Rattle.tb_node.specs.Sums.{size_of};
 ghost use Rattle.tb_builder.specs.FiredPages.{Boxed};
-ghost use Rattle.tb_builder.specs.PageEvents.{NextFits, fired_room};
+ghost use Rattle.tb_builder.specs.PageEvents.{fired_room};
 ghost use Rattle.tb_builder.specs.Contents.{node_count};
 ghost use Rattle.tb_builder.specs.Contributions.{ends_in_kern};
-ghost use Rattle.tb_builder.specs.Courses.{IsSound};
 ghost use Rattle.tb_galley.specs.GalleyNodes.{expanded};
 ghost use Rattle.tb_output.specs.State.{first_state};
 ghost use Rattle.tb_sheet.specs.Asked.{IsSizedAct};
@@ -26,13 +25,13 @@ ghost use Rattle.tb_items.specs.Classes.{classes_of};
 ghost use Rattle.tb_steps.specs.Run.{held_count};
 ghost use Rattle.tb_items.specs.Happenings.{happened_lists, ArePages};
 ghost use Rattle.tb_run.specs.Routine.{built_in, state_of, IsConsistent, IsBounded, IsReady, AreHappened, IsTurned, IsEnded, over_limit, with_events};
-ghost use Rattle.tb_run.specs.FilledPages.{sent_happenings, fired_whole, IsBoundedPage, CanServe, Fills, HasServed};
-ghost use Rattle.tb_run.specs.RoutinePages.{HasComeTo, IsSupplied, Serves, HasActed, HasNotActed};
+ghost use Rattle.tb_run.specs.FilledPages.{sent_happenings, params_in, fired_whole, IsBoundedPage, CanServe, Fills, HasServed};
+ghost use Rattle.tb_run.specs.RoutinePages.{IsSupplied, Serves, HasActed, HasNotActed};
 ghost use Rattle.tb_run.specs.TurnParts.{CanGoOn, HasPage, HasGoneOn};
 
 use crate::classes::classes_of;
 use std::alloc::{AllocError, Global};
-use tb_builder::{Ask, Builder, Event, Page, new_builder};
+use tb_builder::{Builder, Event, Page, new_builder};
 use tb_galley::Galley;
 use tb_insert::Class;
 use tb_items::{Happening, ItemsLeft, all_items, close_happened, close_list, note_sent, note_try};
@@ -110,6 +109,7 @@ fn line_of(act: &Act) -> u32
         Act::Page(_) => 0,
         Act::Head(head) => head.line,
         Act::Columns { two: _ } => 0,
+        Act::Set(_) => 0,
     }
 }
 
@@ -227,7 +227,7 @@ impl<'a> Routine<'a> {
 
         ensures turned { IfOk result (λ o. IsTurned wanted self.old happened.new.items o self.new) }
         ensures ready { IfOk result (λ o. IfNone o (IsReady self.new)) }
-        ensures params { OnOk result (self.new.machine.params ≡ self.old.machine.params) }
+        ensures params { OnOk result (self.new.machine.params ≡ params_in (state_of self.old)) }
         ensures ended { OnOk result (IsEnded self.new) }
         ensures pages { OnOk result (ArePages self.new.store happened.new.items) }
         ensures lists { IfOk result (λ o. IfNone o (AreHappened self.new happened.new.items)) }
@@ -364,9 +364,9 @@ impl<'a> Routine<'a> {
         requires empty { happened.old.items ≡ [] }
         ensures { IfOk result (λ o. Fills wanted self.old o self.new happened.new.items) }
     {
+        // What is asked at the first box, rule or insertion of the page is kept; an act before that may change it.
+        let mut ask = self.machine.ask();
         'next: loop {
-            // The builder keeps what it is asked at the first box, rule or insertion; an act before that may change it.
-            let ask = self.machine.ask();
             match self.next_event(wanted, &ask)? {
                 Event::Try(tried) => note_try(happened, wanted, tried)?,
                 Event::Act(act) => {
@@ -377,6 +377,7 @@ impl<'a> Routine<'a> {
                         }));
                     }
                     self.hand_over(happened)?;
+                    ask = self.asked_again(ask);
                 }
                 Event::Fired(page) => return Ok(Filled::Fires(page)),
                 Event::Empty => {
@@ -419,19 +420,6 @@ impl<'a> Routine<'a> {
     {
         self.left = left.hand_over(&mut self.store, &mut self.builder)?;
         Ok(())
-    }
-
-    // The next event of the builder. Places that were tried are passed over unless `wanted` is set.
-    fn next_event(&mut self, wanted: bool, ask: &Ask) -> Result<Event, AllocError>
-        requires sound { IsSound self.old.builder self.old.store }
-        requires fits { NextFits (built_in self.old) ask.now }
-        requires none_held { (built_in self.old).held ≡ [] }
-        ensures { IfOk result (λ e. HasComeTo wanted e ask.now self.old self.new) }
-    {
-        if wanted {
-            return self.builder.next(&mut self.store, ask);
-        }
-        self.builder.next_without_tries(&mut self.store, ask)
     }
 
     // Does an act. A first column that it drops is closed.

@@ -1,3 +1,4 @@
+pub mod RunParams
 pub mod LedLemmas
 pub mod RunTree
 pub mod RunFolds

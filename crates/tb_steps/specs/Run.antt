@@ -49,10 +49,10 @@ progress_by later s (went s' ws rs) = after_events (map (λ w. sent (warned w)) 
 progress_by later s (full line live) = record { state = s; events = []; records = []; fault = Some (line, live) }
 
 -- the tries with their champions, and the acts one after another
-abbrev pub progress : Params → List Reached → ℤ → State → Progress
-progress p [] least s = record { state = s; events = []; records = []; fault = None }
-progress p (acted a ∷ rs) least s = progress_by (λ s'. progress p rs least s') s (act_on p s a)
-progress p (tried line b ∷ rs) least s = after_events (offered (try_of line b least) ∷ []) [] (progress p rs (min_ℤ least b.cost) s)
+abbrev pub progress : List Reached → ℤ → State → Progress
+progress [] least s = record { state = s; events = []; records = []; fault = None }
+progress (acted a ∷ rs) least s = progress_by (λ s'. progress rs least s') s (act_on s.params s a)
+progress (tried line b ∷ rs) least s = after_events (offered (try_of line b least) ∷ []) [] (progress rs (min_ℤ least b.cost) s)
 
 -- ---- what a page is made for
 
@@ -62,25 +62,25 @@ led_by later s (went s' ws rs) = later s'
 led_by later s (full line live) = s
 
 -- the state after the acts from this node on; a box, a rule or an insertion ends them
-abbrev pub led_past : Params → (State → State) → State → PlainKind → State
-led_past p later s (plain (hbox what h d)) = s
-led_past p later s (plain (rule name h d)) = s
-led_past p later s (plain m) = later s
-led_past p later s (ins i) = s
-led_past p later s (act a) = led_by later s (act_on p s a)
+abbrev pub led_past : (State → State) → State → PlainKind → State
+led_past later s (plain (hbox what h d)) = s
+led_past later s (plain (rule name h d)) = s
+led_past later s (plain m) = later s
+led_past later s (ins i) = s
+led_past later s (act a) = led_by later s (act_on s.params s a)
 
 -- the state after the acts of these nodes that come before their first box, rule or insertion
-abbrev pub led_through : Params → List PlainNode → State → State
-led_through p [] s = s
-led_through p (n ∷ ns) s = led_past p (λ s'. led_through p ns s') s n.kind
+abbrev pub led_through : List PlainNode → State → State
+led_through [] s = s
+led_through (n ∷ ns) s = led_past (λ s'. led_through ns s') s n.kind
 
 -- the state after the acts of the waiting nodes that come before their first box, rule or insertion
-abbrev pub led : Params → State → State
-led p s = led_through p s.waiting s
+abbrev pub led : State → State
+led s = led_through s.waiting s
 
 -- what the page of a state is made for: what is asked once those acts are done (TeX: The Program §987)
-abbrev pub ask_for : Params → State → Ask
-ask_for p s = ask_of p (led p s)
+abbrev pub ask_for : State → Ask
+ask_for s = let t = led s in ask_of t.params t
 
 -- ---- one page and the firing after it
 
@@ -108,27 +108,27 @@ after_firing p es rs w =
     else (if int_lt p.maxnodes (pos held) then ends events records (node_limit held) else goes_on events records w.state)
 
 -- the firing of a page in this state, after these events and records, if it is allowed
-abbrev pub firing_step : Params → List RunEvent → List Recorded → State → Fired → Step
-firing_step p es rs s f =
-    let fired = after_firing p es rs (out p s f) in
-    if int_lt (pos s.dead_cycles) p.maxdeadcycles then fired else ends es rs (dead_cycles s.dead_cycles)
+abbrev pub firing_step : List RunEvent → List Recorded → State → Fired → Step
+firing_step es rs s f =
+    let fired = after_firing s.params es rs (out s.params s f) in
+    if int_lt (pos s.dead_cycles) s.params.maxdeadcycles then fired else ends es rs (dead_cycles s.dead_cycles)
 
 -- the firing of the page that is reached, which was made for this
-abbrev pub fire : Params → Ask → Reach → Progress → Step
-fire p a w q = firing_step p q.events q.records q.state (fired_of a q.state.classes q.state.boxes w)
+abbrev pub fire : Ask → Reach → Progress → Step
+fire a w q = firing_step q.events q.records q.state (fired_of a q.state.classes q.state.boxes w)
 
 -- a step by the progress of its page: it ends at a full pool, fires, or is done when nothing fires
-abbrev pub after_progress : Params → Ask → Reach → Progress → Option (ℕ × ℕ) → Step
-after_progress p a w q None = let fired = fire p a w q in if w.fires then fired else ends q.events (q.records ++ emptied q.state.floats ∷ []) (done w.passed)
-after_progress p a w q (Some f) = ends q.events q.records (pool_full f.0 f.1)
+abbrev pub after_progress : Ask → Reach → Progress → Option (ℕ × ℕ) → Step
+after_progress a w q None = let fired = fire a w q in if w.fires then fired else ends q.events (q.records ++ emptied q.state.floats ∷ []) (done w.passed)
+after_progress a w q (Some f) = ends q.events q.records (pool_full f.0 f.1)
 
 -- a step by what its page is made for and what is reached of it
-abbrev pub step_of : Params → State → Ask → Reach → Step
-step_of p s a w = let q = progress p w.reached awful_bad s in after_progress p a w q q.fault
+abbrev pub step_of : State → Ask → Reach → Step
+step_of s a w = let q = progress w.reached awful_bad s in after_progress a w q q.fault
 
 -- one step of a run: a page and its firing
-unfoldable pub step : Params → State → Step
-step p s = step_of p s (ask_for p s) (reach_of (ask_for p s) s.classes s.boxes [] s.waiting)
+unfoldable pub step : State → Step
+step s = step_of s (ask_for s) (reach_of (ask_for s) s.classes s.boxes [] s.waiting)
 
 -- ---- the run
 
@@ -142,20 +142,20 @@ run_by later (ends es rs e) = record { events = es; records = rs; end = e }
 run_by later (goes_on es rs s) = run_after es rs (later s)
 
 -- the run from a state; each firing lowers the fuel, and a run that has enough never uses it up
-unfoldable pub run_from : Params → ℕ → State → Run
-run_from p zero s = record { events = []; records = []; end = dead_cycles s.dead_cycles }
-run_from p (suc fuel) s = run_by (λ s'. run_from p fuel s') (step p s)
+unfoldable pub run_from : ℕ → State → Run
+run_from zero s = record { events = []; records = []; end = dead_cycles s.dead_cycles }
+run_from (suc fuel) s = run_by (λ s'. run_from fuel s') (step s)
 
 -- more firings than can follow: each ships a page, or adds to the dead cycles
-abbrev pub firings_left : Params → State → ℕ
-firings_left p s = (nat_abs p.maxpages - pred s.page) * (nat_abs p.maxdeadcycles + 1) + (nat_abs p.maxdeadcycles - s.dead_cycles)
+abbrev pub firings_left : State → ℕ
+firings_left s = let p = s.params in (nat_abs p.maxpages - pred s.page) * (nat_abs p.maxdeadcycles + 1) + (nat_abs p.maxdeadcycles - s.dead_cycles)
 
 -- the run from a state, which ends at once if it holds too many nodes
-abbrev pub run_of_state : Params → State → Run
-run_of_state p s =
-    let run = run_from p (suc (firings_left p s)) s in
-    if int_lt p.maxnodes (pos (held_count s)) then record { events = []; records = []; end = node_limit (held_count s) } else run
+abbrev pub run_of_state : State → Run
+run_of_state s =
+    let run = run_from (suc (firings_left s)) s in
+    if int_lt s.params.maxnodes (pos (held_count s)) then record { events = []; records = []; end = node_limit (held_count s) } else run
 
 -- the run of a galley
 unfoldable pub run_of : Galley → Run
-run_of g = run_of_state g.params (first_state g.params (classes_of g) (expanded g))
+run_of g = run_of_state (first_state g.params (classes_of g) (expanded g))

@@ -8,6 +8,7 @@ use Rattle.tb_node.specs.declared.Float.{Float}
 use Rattle.tb_node.specs.declared.Node.{Node}
 use Rattle.tb_node.specs.declared.Act.TheVariants as acts
 use Rattle.tb_param.specs.declared.Params.{Params}
+use Rattle.tb_param.specs.declared.Change.{Change}
 use Rattle.tb_float.specs.declared.Full.{Full}
 use Rattle.tb_float.specs.Pool.{FloatPool, HasNoMarks}
 use Rattle.tb_sheet.specs.declared.Sent.{Sent}
@@ -17,12 +18,13 @@ use Rattle.tb_output.specs.Machine.{MachineView, event_lists, left_lists, machin
 use Rattle.tb_sheet.specs.StoredSheets.{sent_lists, IsPageSent}
 use Rattle.tb_pool.specs.Frame.{IsNoneOf}
 use Rattle.tb_column.specs.Notes.{AreDistinct}
-use Rattle.tb_output.specs.ActCalls.{warnings_sent, TakesNoList, clipped, taken_into, with_float, with_columns, with_page_number, HasTaken, HasNoRoom, IsActed, acted_in, has_title_room, HasTakenTitle, HasNoTitleRoom}
+use Rattle.tb_output.specs.ActCalls.{warnings_sent, TakesNoList, clipped, taken_into, with_float, with_columns, with_page_number, with_changed, HasTaken, HasNoRoom, IsActed, acted_in, has_title_room, HasTakenTitle, HasNoTitleRoom}
 use Rattle.tb_sheet.specs.ApartLists.{AreNoneOf}
 use Rattle.tb_pool.proofs.FrameLemmas.{none-front}
 use Rattle.tb_sheet.proofs.ListsApart.{apart-cons, distinct-apart}
 use Rattle.tb_output.proofs.FiringWork.BesideLemmas.{machine-with}
 use Rattle.tb_output.proofs.FiringWork.ResultLemmas.{either-way}
+use Rattle.tb_output.proofs.ColumnPages.ParamLemmas.{changed-output}
 use Rattle.tb_output.specs.State.{State}
 use Rattle.tb_builder.specs.Pageable.{IsGoal}
 use Rattle.tb_builder.specs.FiredPages.{Boxed}
@@ -94,6 +96,27 @@ machine-numbered n m store is small = record {
   first = is.first;
   last = is.last;
   numbered = omega (arith, small);
+  shrink = is.shrink;
+  pool = is.pool;
+  unmarked = is.unmarked;
+  left = is.left;
+  held_page = is.held_page;
+  held_room = is.held_room;
+  left_column = is.left_column;
+  events = is.events;
+  apart = is.apart;
+}
+
+-- ---- a parameter is set
+
+pub machine-set : (c : Change) (m : MachineView) (store : Lists Node) → IsMachine m store → IsGoal (with_changed c m).goal → IsMachine (with_changed c m) store
+machine-set c m store is goal = record {
+  params = changed-output m.params c is.params;
+  classes = is.classes;
+  goal = goal;
+  first = is.first;
+  last = is.last;
+  numbered = is.numbered;
   shrink = is.shrink;
   pool = is.pool;
   unmarked = is.unmarked;

@@ -131,14 +131,14 @@ module _ (m mid : MachineView) (s : Lists Node) (clearing : Bool) (w : FloatPool
 -- ---- turns
 
 column-by : (p : Params) (w : Work) (o : Option (List Choice)) → Continues w (Columns.float_columns_by (λ v. v) p w o)
-column-by p w None = continues-same refl refl refl refl refl
+column-by p w None = continues-same refl refl refl refl refl refl
 column-by p w (Some cs) = continues-put_out_company p cs w
 
 pub continues-column_done : (p : Params) (clearing : Bool) (w : Work) → Continues w (column_done p clearing w)
 continues-column_done p clearing w = column-by p w (company (Columns.single_wanted p w.state.floats clearing) w.state.floats.deferred)
 
 page-by : (p : Params) (w : Work) (o : Option (List Choice)) → Continues w (Pages.wide_pages_by (λ v. v) p w o)
-page-by p w None = continues-same refl refl refl refl refl
+page-by p w None = continues-same refl refl refl refl refl refl
 page-by p w (Some cs) = continues-ship_wide p cs w
 
 pub continues-wide_done : (p : Params) (clearing : Bool) (w : Work) → Continues w (wide_done p clearing w)

@@ -32,8 +32,8 @@ recorded r w l = by_refused w.refused
 
 -- a turn of the walk for the next column
 gone : (p : Params) (a : AreaPlace) (f : Float) (before rest : List Float) (w : Work) → HasLists w (FloatMoves.place_waiting parts.Deferred p (where_of a) f before rest w) (gone_to a f before rest w.state.floats)
-gone p at_top f before rest w = recorded (placed f places.Top w.state.floats (column_height_of p w.state.floats)) w _
-gone p at_bottom f before rest w = recorded (placed f places.Bottom w.state.floats (column_height_of p w.state.floats)) w _
+gone p at_top f before rest w = recorded (placed p f places.Top w.state.floats (column_height_of p w.state.floats)) w _
+gone p at_bottom f before rest w = recorded (placed p f places.Bottom w.state.floats (column_height_of p w.state.floats)) w _
 gone p deferred f before rest w = record { state = refl; put_back = refl; sent = refl; refused = refl }
 
 stays : (a : AreaPlace) (f : Float) (before : List Float) → FloatMoves.still_deferred (where_of a) f before ≡ still_before a f before
@@ -62,8 +62,8 @@ next-lists p before (f ∷ rest) w =
 -- ---- the same above both columns
 
 gone-double : (from : Part) → IsWaiting from → (p : Params) (b : Bool) (f : Float) (before rest : List Float) (w : Work) → HasLists w (FloatMoves.place_waiting from p (if b then places.Double else places.Deferred) f before rest w) (gone_double from b f before rest w.state.floats)
-gone-double parts.Deferred q p true f before rest w = recorded (placed f places.Double w.state.floats (column_height_of p w.state.floats)) w _
-gone-double parts.Second q p true f before rest w = recorded (placed f places.Double w.state.floats (column_height_of p w.state.floats)) w _
+gone-double parts.Deferred q p true f before rest w = recorded (placed p f places.Double w.state.floats (column_height_of p w.state.floats)) w _
+gone-double parts.Second q p true f before rest w = recorded (placed p f places.Double w.state.floats (column_height_of p w.state.floats)) w _
 gone-double parts.Deferred q p false f before rest w = record { state = refl; put_back = refl; sent = refl; refused = refl }
 gone-double parts.Second q p false f before rest w = record { state = refl; put_back = refl; sent = refl; refused = refl }
 gone-double from q p b f before rest w = absurd q

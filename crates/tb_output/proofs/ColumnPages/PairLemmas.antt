@@ -49,7 +49,7 @@ abbrev pub pair_rest : MachineView → Work → Work
 pair_rest m w = Pages.fill_double m.params (Pages.all_wide_pages m.params false w)
 
 continues-pair : (m : MachineView) (c : PlainColumn) (w : Work) → Continues w (pair_shipped m c w)
-continues-pair m c w = continues-then (continues-ship m.params (pair_sheet m.params w.state.floats (Pages.left_or c w.state.left_column) c) w) (continues-same refl refl refl refl refl)
+continues-pair m c w = continues-then (continues-ship m.params (pair_sheet m.params w.state.floats (Pages.left_or c w.state.left_column) c) w) (continues-same refl refl refl refl refl refl)
 
 pub continues-rest : (m : MachineView) (w : Work) → Continues w (pair_rest m w)
 continues-rest m w = continues-then (continues-all_wide_pages m.params false w) (continues-fill_double m.params (Pages.all_wide_pages m.params false w))

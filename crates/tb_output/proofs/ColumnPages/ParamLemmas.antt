@@ -1,4 +1,4 @@
--- Parameters that lie in the ranges of their rows lie in the ranges that the output routine requires.
+-- Parameters that lie in the ranges of their rows lie in the ranges that the output routine requires, and stay there if one of them is set.
 use Rattle.std.proofs.Common.{refl, ℤ, pos, Bool, arith}
 use Rattle.std.specs.Prelude.{IsTrue, negsuc}
 use Rattle.std.proofs.lemmas.Int.{ints}
@@ -7,6 +7,9 @@ use Rattle.tb_param.specs.declared.Params.{Params}
 use Rattle.tb_param.specs.Fields.{value_of}
 use Rattle.tb_param.specs.Table.{Row, rows, value_fault, is_within, out_of_range}
 use Rattle.tb_param.specs.Ranges.{is_no_fault, are_params}
+use Rattle.tb_param.specs.declared.Change.{Change}
+use Rattle.tb_param.specs.Changes.{changed}
+use Rattle.tb_param.proofs.RangeLemmas.{changed-in-range}
 use Rattle.tb_float.proofs.ParamLemmas.{all-at, in-range, dim-extent, page-share, double-page-share, margin-push}
 use Rattle.tb_column.proofs.RangeLemmas.{glue-in_range, column-params}
 use Rattle.tb_output.specs.Machine.{IsLimit, IsPoolSize, AreOutputParams}
@@ -28,6 +31,7 @@ unfolding are_params
 output-params p h =
     let test : Row → Bool = λ r. is_no_fault (value_fault r.form (value_of r.field p)) in
     record {
+      all = h;
       columns = column-params p h;
       floatpagefraction = page-share p h;
       dblfloatpagefraction = double-page-share p h;
@@ -41,3 +45,7 @@ output-params p h =
       maxpages = limit p.maxpages (all-at test rows 41 _ refl h);
       pool = size p.pool (all-at test rows 39 _ refl h);
     }
+
+-- parameters of which one is set are the routine's too
+pub changed-output : (p : Params) (c : Change) → AreOutputParams p → AreOutputParams (changed p c)
+changed-output p c ok = output-params (changed p c) (changed-in-range p c ok.all)

@@ -414,7 +414,7 @@ module _ (l : ℕ) (m mid : MachineView) (store middle : Lists Node) (vert : Boo
 -- ---- each step continues the work
 
 pub continues-none : (w : Work) → Continues w w
-continues-none w = continues-same refl refl refl refl refl
+continues-none w = continues-same refl refl refl refl refl refl
 
 pub continues-float_placed : (p : Params) (vert : Bool) (f : Float) (place : Where) (w : Work) → Continues w (float_placed p vert f place w)
 continues-float_placed p vert f place w = continues-float_goes p vert f (without_first w.state.floats) w place

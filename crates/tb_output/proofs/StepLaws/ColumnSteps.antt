@@ -29,25 +29,26 @@ use Rattle.tb_output.proofs.StepLaws.RefusedSteps.{by-sends, by-records, by-any-
 -- what is so of each float that is placed within the limits, with the lists and the column height just before, and of each column
 pub record RecordLaw (p : Params) : Type 1 where
   pub holds : Recorded → Type 0
-  pub at_place : (f : Float) (place : Where) (l : FloatLists) → (f.bang ≡ false → KeepsLimits p l f place) → holds (placed f place l (column_height_of p l))
+  pub at_place : (f : Float) (place : Where) (l : FloatLists) → (f.bang ≡ false → KeepsLimits p l f place) → holds (placed p f place l (column_height_of p l))
   pub at_output : (c : PlainColumn) → holds (output c)
 
 -- what is so of every record
 abbrev pub no_law : (p : Params) → RecordLaw p
 no_law p = record { holds = λ r. Unit {0}; at_place = λ f place l h. tt; at_output = λ c. tt }
 
--- what a firing changes by sending, recording and shipping alone; and the classes and what waits, which it leaves as they are
+-- what a firing changes by sending, recording and shipping alone; and the parameters, the classes and what waits, which it leaves as they are
 pub record Course : Type 0 where
   pub sent : List PlainSent
   pub records : List Recorded
   pub refused : Bool
   pub page : ℕ
   pub dead_cycles : ℕ
+  pub params : Params
   pub classes : List Class
   pub waiting : List PlainNode
 
 abbrev pub course : Work → Course
-course w = record { sent = w.sent; records = w.records; refused = w.refused; page = w.state.page; dead_cycles = w.state.dead_cycles; classes = w.state.classes; waiting = w.state.waiting }
+course w = record { sent = w.sent; records = w.records; refused = w.refused; page = w.state.page; dead_cycles = w.state.dead_cycles; params = w.state.params; classes = w.state.classes; waiting = w.state.waiting }
 
 -- what the steps of a column leave as it is
 pub record Frame : Type 0 where
@@ -111,12 +112,12 @@ module _ (p : Params) (law : RecordLaw p) where
 
   -- ---- floats
 
-  pub place_float-step : (place : Where) (f : Float) (left : FloatLists) (w : Work) → law.holds (placed f place w.state.floats (column_height_of p w.state.floats)) → Step w (FloatMoves.place_float p place f left w)
+  pub place_float-step : (place : Where) (f : Float) (left : FloatLists) (w : Work) → law.holds (placed p f place w.state.floats (column_height_of p w.state.floats)) → Step w (FloatMoves.place_float p place f left w)
   place_float-step place f left w h =
-      let r = placed f place w.state.floats (column_height_of p w.state.floats) in
+      let r = placed p f place w.state.floats (column_height_of p w.state.floats) in
       in_turn (step_if w (FloatMoves.is_placed place) (records_also r w) w (records_one r w h) (still refl refl)) (still refl refl)
 
-  pub place_waiting-step : (from : Part) (place : Where) (f : Float) (before rest : List Float) (w : Work) → law.holds (placed f place w.state.floats (column_height_of p w.state.floats)) → Step w (FloatMoves.place_waiting from p place f before rest w)
+  pub place_waiting-step : (from : Part) (place : Where) (f : Float) (before rest : List Float) (w : Work) → law.holds (placed p f place w.state.floats (column_height_of p w.state.floats)) → Step w (FloatMoves.place_waiting from p place f before rest w)
   place_waiting-step from place f before rest w h =
       let l : FloatLists = with_floats_of from (before ++ rest) w.state.floats in
       step_if w (FloatMoves.is_placed place) (FloatMoves.place_float p place f l w) w (place_float-step place f l w h) (still refl refl)

@@ -91,7 +91,7 @@ module _ (p : Params) (law : RecordLaw p) where
       by_places true = afterwards {j = 0} {k = 1} {b = a} (changes refl) (warns_one (warnings.Ht f.name) a)
       by_places false = quiet (changes refl)
 
-  pub float_goes-step : (vert : Bool) (f : Float) (left : FloatLists) (w : Work) (place : Where) → law.holds (placed f place w.state.floats (column_height_of p w.state.floats)) → Step 1 w (Text.float_goes p vert f left w place)
+  pub float_goes-step : (vert : Bool) (f : Float) (left : FloatLists) (w : Work) (place : Where) → law.holds (placed p f place w.state.floats (column_height_of p w.state.floats)) → Step 1 w (Text.float_goes p vert f left w place)
   float_goes-step vert f left w places.Here h =
       let a = FloatMoves.place_float p places.Here f left w in
       afterwards {j = 1} {k = 0} {b = Text.puts_interline p f.nobreak a} (interline-step f.nobreak w a (quiet (by_columns (place_float-step p law places.Here f left w h)))) (changes refl)

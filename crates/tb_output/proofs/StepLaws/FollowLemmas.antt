@@ -129,7 +129,7 @@ module _ (P : Float → Type 0) where
       l = FloatMoves.joined_to place f left
 
       r : Recorded
-      r = placed f place w.state.floats (column_height_of p w.state.floats)
+      r = placed p f place w.state.floats (column_height_of p w.state.floats)
 
       counted : waiting_floats l ≤ waiting_floats w.state.floats
       counted = let j : waiting_floats (FloatMoves.joined_to place f left) ≤ waiting_floats left + 1 = joined-count place f left in at-most (waiting_floats w.state.floats) (waiting_floats left + 1) (waiting_floats l) h j

@@ -26,9 +26,9 @@ use Rattle.tb_output.proofs.StepLaws.RefusedSteps.{unless-stopped, by-records, b
 use Rattle.tb_output.proofs.StepLaws.ColumnSteps.{RecordLaw, no_law, course, ColumnStep, still, in_turn, records_one, ships_one, place_next-step, place_double-step, ship_wide-step, wide_pages-step, all_wide_pages-step, ship_pair-step, put_out_company-step, float_columns-step}
 use Rattle.tb_output.proofs.StepLaws.FiringSteps.{FiringStep, by_columns, warns_one, changes, fewer, afterwards, put_out_text-step, defer-step, float_goes-step, note_goes-step, first_goes-step, clear_wide-step, output_by-step, next_goal-step}
 
--- what is sent, the refusal, the page, the classes and what waits are as they were
-pub continues-same : {w next : Work} → next.sent ≡ w.sent → next.refused ≡ w.refused → next.state.page ≡ w.state.page → next.state.classes ≡ w.state.classes → next.state.waiting ≡ w.state.waiting → Continues w next
-continues-same {w} {next} s r q c n = record { more = []; sent = s ∙ sym (append-nil w.sent); refused = λ h. (r ∙ h, s, q); classes = c; waiting = n }
+-- what is sent, the refusal, the page, the parameters, the classes and what waits are as they were
+pub continues-same : {w next : Work} → next.sent ≡ w.sent → next.refused ≡ w.refused → next.state.page ≡ w.state.page → next.state.params ≡ w.state.params → next.state.classes ≡ w.state.classes → next.state.waiting ≡ w.state.waiting → Continues w next
+continues-same {w} {next} s r q p c n = record { more = []; sent = s ∙ sym (append-nil w.sent); refused = λ h. (r ∙ h, s, q); params = p; classes = c; waiting = n }
 
 pub continues-then : {a b c : Work} → Continues a b → Continues b c → Continues a c
 continues-then {a} {b} {c} x y = record {
@@ -38,6 +38,7 @@ continues-then {a} {b} {c} x y = record {
       let k : (b.refused ≡ true) × (b.sent ≡ a.sent) × (b.state.page ≡ a.state.page) = x.refused h in
       let l : (c.refused ≡ true) × (c.sent ≡ b.sent) × (c.state.page ≡ b.state.page) = y.refused k.0 in
       (l.0, l.1 ∙ k.1, l.2 ∙ k.2);
+  params = y.params ∙ x.params;
   classes = y.classes ∙ x.classes;
   waiting = y.waiting ∙ x.waiting;
 }
@@ -51,22 +52,22 @@ unrefused : {X : Type 0} {t : Bool} → t ≡ false → t ≡ true → X
 unrefused r h = absurd (grind (arith, r, h))
 
 pub continues-puts : (ns : List PlainNode) (w : Work) → Continues w (puts ns w)
-continues-puts ns w = continues-same refl refl refl refl refl
+continues-puts ns w = continues-same refl refl refl refl refl refl
 
 pub continues-sends : (e : PlainSent) (w : Work) → Continues w (sends e w)
-continues-sends e w = unless-stopped (Continues w) w (record w { sent = w.sent ++ e ∷ [] }) (λ r. continues-same refl refl refl refl refl) (λ r. record { more = e ∷ []; sent = refl; refused = λ h. unrefused r h; classes = refl; waiting = refl })
+continues-sends e w = unless-stopped (Continues w) w (record w { sent = w.sent ++ e ∷ [] }) (λ r. continues-same refl refl refl refl refl refl) (λ r. record { more = e ∷ []; sent = refl; refused = λ h. unrefused r h; params = refl; classes = refl; waiting = refl })
 
 pub continues-records : (r : Recorded) (w : Work) → Continues w (records_also r w)
-continues-records r w = by-records (Continues w) r w (continues-same refl refl refl refl refl) (continues-same refl refl refl refl refl)
+continues-records r w = by-records (Continues w) r w (continues-same refl refl refl refl refl refl) (continues-same refl refl refl refl refl refl)
 
 pub continues-ship : (p : Params) (sheet : PlainSheet) (w : Work) → Continues w (Pages.ship p sheet w)
 continues-ship p sheet w =
-    by-ship (Continues w) p sheet w (λ r. continues-same refl refl refl refl refl)
-    (λ r. record { more = []; sent = sym (append-nil w.sent); refused = λ h. unrefused r h; classes = refl; waiting = refl })
-    (λ r e. record { more = shipped w.state.number sheet ∷ []; sent = refl; refused = λ k. unrefused r k; classes = refl; waiting = refl })
+    by-ship (Continues w) p sheet w (λ r. continues-same refl refl refl refl refl refl)
+    (λ r. record { more = []; sent = sym (append-nil w.sent); refused = λ h. unrefused r h; params = refl; classes = refl; waiting = refl })
+    (λ r e. record { more = shipped w.state.number sheet ∷ []; sent = refl; refused = λ k. unrefused r k; params = refl; classes = refl; waiting = refl })
 
 continues-course : {w next : Work} → course next ≡ course w → Continues w next
-continues-course c = continues-same (ap (λ x. x.sent) c) (ap (λ x. x.refused) c) (ap (λ x. x.page) c) (ap (λ x. x.classes) c) (ap (λ x. x.waiting) c)
+continues-course c = continues-same (ap (λ x. x.sent) c) (ap (λ x. x.refused) c) (ap (λ x. x.page) c) (ap (λ x. x.params) c) (ap (λ x. x.classes) c) (ap (λ x. x.waiting) c)
 
 pub column-continues : {p : Params} {law : RecordLaw p} {a b : Work} → ColumnStep p law a b → Continues a b
 column-continues (still c f) = continues-course c
@@ -118,7 +119,7 @@ pub continues-ship_pair : (p : Params) (c : PlainColumn) (w : Work) → Continue
 continues-ship_pair p c w = column-continues (ship_pair-step p (no_law p) c w)
 
 pub continues-after_column : (w : Work) → Continues w (Pages.after_column w)
-continues-after_column w = continues-same refl refl refl refl refl
+continues-after_column w = continues-same refl refl refl refl refl refl
 
 pub continues-put_out_text : (p : Params) (body : List PlainNode) (w : Work) → Continues w (Columns.put_out_text p body w)
 continues-put_out_text p body w = continues (put_out_text-step p (no_law p) body w)
@@ -138,10 +139,10 @@ continues-fill_column p w = continues-place_next p [] w.state.floats.deferred w
 -- ---- floats and notes in the text
 
 pub continues-puts_interline : (p : Params) (nobreak : Bool) (w : Work) → Continues w (Text.puts_interline p nobreak w)
-continues-puts_interline p nobreak w = continues-same refl refl refl refl refl
+continues-puts_interline p nobreak w = continues-same refl refl refl refl refl refl
 
 pub continues-list_back : (p : Params) (ns : List PlainNode) (w : Work) → Continues w (Text.list_back p ns w)
-continues-list_back p ns w = continues-same refl refl refl refl refl
+continues-list_back p ns w = continues-same refl refl refl refl refl refl
 
 pub continues-defer : (p : Params) (f : Float) (left : FloatLists) (w : Work) → Continues w (Text.defer p f left w)
 continues-defer p f left w = continues (defer-step p (no_law p) f left w)
@@ -161,7 +162,7 @@ pub continues-clear_wide : (p : Params) (w : Work) → Continues w (Clear.clear_
 continues-clear_wide p w = continues (clear_wide-step p (no_law p) w)
 
 pub continues-clear_rest : (w : Work) → Continues w (Clear.clear_rest w)
-continues-clear_rest w = continues_if w (has_floats w.state.floats.deferred || has_floats w.state.floats.second) (puts Clear.clear_again w) w (continues-puts Clear.clear_again w) (continues-same refl refl refl refl refl)
+continues-clear_rest w = continues_if w (has_floats w.state.floats.deferred || has_floats w.state.floats.second) (puts Clear.clear_again w) w (continues-puts Clear.clear_again w) (continues-same refl refl refl refl refl refl)
 
 -- ---- a firing
 

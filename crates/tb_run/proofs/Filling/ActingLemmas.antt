@@ -28,7 +28,7 @@ pub dropped-all : (P : ℕ → Type 0) (a : Act) (m : MachineView) → AllByRecu
 dropped-all P (acts.Columns two) m h = all-front P (left_lists m.left_column) (event_lists m.events) h.1
 dropped-all P a m h = tt
 
-module _ (r : Routine) (m : MachineView) (a : Act) (whole : IsConsistent r) (machine : (store : Lists Node) → IsMachine r.machine store → IsMachine m store) (fault : m.fault ≡ r.machine.fault) (params : m.params ≡ r.machine.params) (takes : TakesNoList r.machine m)
+module _ (r : Routine) (m : MachineView) (a : Act) (whole : IsConsistent r) (machine : (store : Lists Node) → IsMachine r.machine store → IsMachine m store) (fault : m.fault ≡ r.machine.fault) (takes : TakesNoList r.machine m)
     (dropped : (store : Lists Node) → IsMachine r.machine store → AreNoneOf (dropped_lists a r.machine.left_column) (machine_lists m))
     (acted : (store : Lists Node) (boxes : List Boxed) (waiting : List PlainNode) → IsActed store boxes waiting r.machine m (acted_in store boxes waiting r.machine a)) where
   -- the dropped list is live, and none of the builder's or the machine's
@@ -70,7 +70,6 @@ module _ (r : Routine) (m : MachineView) (a : Act) (whole : IsConsistent r) (mac
       acted = λ boxes waiting. done-by new boxes waiting (shown.state boxes waiting) (acted_in r.store boxes waiting r.machine a) (acted r.store boxes waiting);
       built = closed-contents r.builder r.store new (dropped_lists a r.machine.left_column) whole.builder others dropped-free;
       builder = refl;
-      params = params;
       most = refl;
       left = refl;
     }

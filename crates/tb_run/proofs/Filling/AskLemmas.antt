@@ -40,6 +40,35 @@ pub pruned-freezes : (t : ℤ) (ns : List PlainNode) → freezes (pruned_nodes t
 pruned-freezes t [] = refl
 pruned-freezes t (n ∷ ns) = pruned-freezes-kind t ns (pruned-freezes t ns) n.line n.kind
 
+quiet-kind : (t u : ℤ) (ns : List PlainNode) → (freezes ns ≡ false → pruned_nodes t ns ≡ pruned_nodes u ns) → (l : ℕ) (k : PlainKind) → (let n : PlainNode = record { line = l; kind = k } in freezes (n ∷ ns) ≡ false → pruned_nodes t (n ∷ ns) ≡ pruned_nodes u (n ∷ ns))
+quiet-kind t u ns ih l (plain (hbox w h d)) f = absurd (true≢false f)
+quiet-kind t u ns ih l (plain (rule w h d)) f = absurd (true≢false f)
+quiet-kind t u ns ih l (plain (skip g)) f = ih f
+quiet-kind t u ns ih l (plain (kerned g)) f = ih f
+quiet-kind t u ns ih l (plain (pen q)) f = ih f
+quiet-kind t u ns ih l (ins i) f = absurd (true≢false f)
+quiet-kind t u ns ih l k f = ap (λ xs. record { line = l; kind = k } ∷ xs) (ih f)
+
+-- nodes that begin no page are pruned to the same for every top skip
+pub pruned-quiet : (t u : ℤ) (ns : List PlainNode) → freezes ns ≡ false → pruned_nodes t ns ≡ pruned_nodes u ns
+pruned-quiet t u [] f = refl
+pruned-quiet t u (n ∷ ns) f = quiet-kind t u ns (pruned-quiet t u ns) n.line n.kind f
+
+behind-kind : (t : ℤ) (ns more : List PlainNode) → (freezes ns ≡ false → pruned_nodes t (ns ++ more) ≡ pruned_nodes t ns ++ pruned_nodes t more) → (l : ℕ) (k : PlainKind)
+    → (let n : PlainNode = record { line = l; kind = k } in freezes (n ∷ ns) ≡ false → pruned_nodes t (n ∷ ns ++ more) ≡ pruned_nodes t (n ∷ ns) ++ pruned_nodes t more)
+behind-kind t ns more ih l (plain (hbox w h d)) f = absurd (true≢false f)
+behind-kind t ns more ih l (plain (rule w h d)) f = absurd (true≢false f)
+behind-kind t ns more ih l (plain (skip g)) f = ih f
+behind-kind t ns more ih l (plain (kerned g)) f = ih f
+behind-kind t ns more ih l (plain (pen q)) f = ih f
+behind-kind t ns more ih l (ins i) f = absurd (true≢false f)
+behind-kind t ns more ih l k f = ap (λ xs. record { line = l; kind = k } ∷ xs) (ih f)
+
+-- what stands behind them is pruned by itself
+pub pruned-behind : (t : ℤ) (ns more : List PlainNode) → freezes ns ≡ false → pruned_nodes t (ns ++ more) ≡ pruned_nodes t ns ++ pruned_nodes t more
+pruned-behind t [] more f = refl
+pruned-behind t (n ∷ ns) more f = behind-kind t ns more (pruned-behind t ns more) n.line n.kind f
+
 -- ---- a page of marks, notes and whatsits
 
 loose-begins-kind : (ns : List PlainNode) → freezes ns ≡ false → (l : ℕ) (k : PlainKind) → is_loose k ≡ true → (let n : PlainNode = record { line = l; kind = k } in freezes (n ∷ ns) ≡ false)

@@ -11,7 +11,6 @@ use Rattle.tb_node.specs.declared.Kind.TheVariants as kinds
 use Rattle.tb_node.specs.declared.Node.{Node}
 use Rattle.tb_node.specs.PlainNodes.{plain_of, plain_kind, PlainNode}
 use Rattle.tb_node.specs.Sums.{size_of}
-use Rattle.tb_param.specs.declared.Params.{Params}
 use Rattle.tb_builder.specs.declared.Ask.{Ask}
 use Rattle.tb_builder.specs.declared.Builder.{Builder}
 use Rattle.tb_builder.specs.declared.Event.{Event}
@@ -19,13 +18,13 @@ use Rattle.tb_builder.specs.declared.Event.TheVariants as events
 use Rattle.tb_builder.specs.declared.Page.{Page}
 use Rattle.tb_builder.specs.FiredPages.{Boxed, Fired}
 use Rattle.tb_builder.specs.Contents.{Contents, contents_of, node_count, box_count}
-use Rattle.tb_builder.specs.SizedContents.{fired_count, AreBoxesOf}
+use Rattle.tb_builder.specs.SizedContents.{IsSizedAsk, fired_count, AreBoxesOf}
 use Rattle.tb_pool.specs.Frame.{IsNoneOf}
 use Rattle.tb_items.specs.ItemsLeft.{IsOpen}
 use Rattle.tb_builder.specs.PageEvents.{IsGivenOut, TellsRoom}
 use Rattle.tb_builder.specs.PageProgress.{page_fired, ComesToPage, IsNextOfPage}
 use Rattle.tb_builder.specs.Ownership.{ids_of, KeepsOthers}
-use Rattle.tb_builder.specs.Pageable.{IsSizedBox, IsGoal}
+use Rattle.tb_builder.specs.Pageable.{IsSizedBox}
 use Rattle.tb_builder.specs.LegalPlaces.{NoActs}
 use Rattle.tb_builder.specs.Courses.{IsSound, IsPageSoFar}
 use Rattle.tb_builder.proofs.Ownership.StoreSized.{list-back, list-length, boxes_of}
@@ -55,7 +54,7 @@ use Rattle.tb_run.proofs.Turns.CountedLemmas.{leaves-count}
 use Rattle.tb_run.proofs.Filling.ComingLemmas.{start, fires-progress, fires-is, fires-state, fires-page}
 use Rattle.tb_run.proofs.Filling.ComingPages.{fired-mild, fired-few, fired-notes, fired-served}
 use Rattle.tb_run.proofs.Filling.AskLemmas.{stopped-begun}
-use Rattle.tb_run.proofs.Filling.FillingLemmas.{state_now, IsUnderway, next-is, next-whole, next-state, next-params, next-taken}
+use Rattle.tb_run.proofs.Filling.FillingLemmas.{state_now, IsUnderway, next-is, next-whole, next-state, next-taken}
 
 -- ---- nodes of a page
 
@@ -82,28 +81,25 @@ reach-within : (n : ℕ) (z : ℤ) → IsWithin (reach_where n) z → IsReach z
 reach-within n z h = let l = h.low in let u = h.high in record { low = omega (arith, ints, l); high = omega (arith, ints, u) }
 
 -- what waits and what is in boxes is of no account to a firing
-pub firing-same : (p : Params) (es : List RunEvent) (rs : List Recorded) (store : Lists Node) (bs cs : List Boxed) (ns ms : List PlainNode) (m : MachineView) (f : Fired)
-    → firing_step p es rs (state_shown store bs ns m) f ≡ firing_step p es rs (state_shown store cs ms m) f
+pub firing-same : (es : List RunEvent) (rs : List Recorded) (store : Lists Node) (bs cs : List Boxed) (ns ms : List PlainNode) (m : MachineView) (f : Fired)
+    → firing_step es rs (state_shown store bs ns m) f ≡ firing_step es rs (state_shown store cs ms m) f
 unfolding out
-firing-same p es rs store bs cs ns ms m f = refl
+firing-same es rs store bs cs ns ms m f = refl
 
 page-same : (store : Lists Node) (bs cs : List Boxed) (ns ms : List PlainNode) (m : MachineView) (f : Fired) → IsServedPage (state_shown store bs ns m) f → IsServedPage (state_shown store cs ms m) f
 page-same store bs cs ns ms m f h = record { body = h.body; text = h.text; back = h.back; rest = h.rest; boxes = h.boxes; boxes_of = h.boxes_of; held = h.held; entries = h.entries; notes = h.notes; bottom = h.bottom }
 
-module _ (wanted : Bool) (r q d : Routine) (hs : List Happening) (ready : IsReady r) (h : IsUnderway wanted r q hs) (ask : Ask) (asked : ask ≡ ask_for r.machine.params (state_of r))
+module _ (wanted : Bool) (r q d : Routine) (now : Ask) (hs : List Happening) (ready : IsReady r) (h : IsUnderway wanted r q now hs) (ask : Ask) (asked : ask ≡ ask_for (state_of r))
     (e : Event) (of_page : IsNextOfPage e (held_in q) ask (held_in d) d.store) (sound : IsSound d.builder d.store) (keeps : KeepsOthers (ids_of q.builder) q.store (ids_of d.builder) d.store) (same : d.machine ≡ q.machine) (most : d.most ≡ q.most) (d_left : d.left ≡ q.left) (kept : (built_in d).classes ≡ (built_in q).classes)
     (page : Page) (is : e ≡ events.Fired page) (given : IsGivenOut e q.store (ids_of d.builder) d.store) (told : TellsRoom e d.builder d.store) (open_so : q.builder.stopped ≡ true → (before : List PlainNode) → IsOpen d.left (before ++ (built_in d).waiting)) where
-  abbrev p : Params
-  p = r.machine.params
-
   abbrev s : State
   s = state_of r
 
-  fires : ComesToPage page (start p s) (held_in q) (ask_for p s) (held_in d) d.store
-  fires = next-is wanted r q d hs ready h ask asked e of_page sound keeps same most d_left kept (events.Fired page) is
+  fires : ComesToPage page (start s) (held_in q) (ask_for s) (held_in d) d.store
+  fires = next-is wanted r q d now hs ready h ask asked e of_page sound keeps same most d_left kept (events.Fired page) is
 
   abbrev f : Fired
-  f = page_fired (start p s) (ask_for p s)
+  f = page_fired (start s) (ask_for s)
 
   left : IsGivenOut (events.Fired page) q.store (ids_of d.builder) d.store
   left = subst (λ x. IsGivenOut x q.store (ids_of d.builder) d.store) is given
@@ -112,13 +108,10 @@ module _ (wanted : Bool) (r q d : Routine) (hs : List Happening) (ready : IsRead
   few = let a = ready.settled.bounded.held in let b = ready.settled.bounded.few in omega (arith, a, b)
 
   whole : IsConsistent d
-  whole = next-whole wanted r q d hs ready h ask asked e of_page sound keeps same most d_left kept
-
-  params-now : d.machine.params ≡ p
-  params-now = next-params wanted r q d hs ready h ask asked e of_page sound keeps same most d_left kept
+  whole = next-whole wanted r q d now hs ready h ask asked e of_page sound keeps same most d_left kept
 
   t-now : state_now r d ≡ state_now r q
-  t-now = next-state wanted r q d hs ready h ask asked e of_page sound keeps same most d_left kept
+  t-now = next-state wanted r q d now hs ready h ask asked e of_page sound keeps same most d_left kept
 
   of-boxes : AreBoxesOf s.classes s.boxes
   of-boxes = subst (λ (c : Contents). AreBoxesOf c.classes s.boxes) ready.settled.between (boxes_of r.store r.builder.boxes)
@@ -141,15 +134,15 @@ module _ (wanted : Bool) (r q d : Routine) (hs : List Happening) (ready : IsRead
   set = ready.settled
 
   -- the page was begun
-  goal : IsGoal (ask_for p s).goal
-  goal = by_frozen q.builder.frozen refl
+  asked-sized : IsSizedAsk (ask_for s)
+  asked-sized = by_frozen q.builder.frozen refl
     where
-      by_frozen : (o : Option (ℤ × ℤ)) → q.builder.frozen ≡ o → IsGoal (ask_for p s).goal
+      by_frozen : (o : Option (ℤ × ℤ)) → q.builder.frozen ≡ o → IsSizedAsk (ask_for s)
       by_frozen None none = absurd (stopped-begun q.builder q.store h.whole.builder fires.stopped none)
-      by_frozen (Some x) k = h.asked.goal x k
+      by_frozen (Some x) k = h.asked.sized x k
 
   served : IsServedPage (state_now r q) f
-  served = fired-served p s set.params set.classes goal set.served few h.rs (held_in q) (state_now r q) h.coming fires.stopped (page-quiet q.builder q.store h.whole.builder fires.stopped) of-boxes
+  served = fired-served s set.classes asked-sized set.served few h.rs (held_in q) (state_now r q) h.coming fires.stopped (page-quiet q.builder q.store h.whole.builder fires.stopped) of-boxes
 
   served-now : IsServedPage (state_of d) (fired_whole d page)
   served-now = page-same d.store s.boxes (held_in d).boxes s.waiting (held_in d).waiting d.machine (fired_whole d page)
@@ -158,13 +151,13 @@ module _ (wanted : Bool) (r q d : Routine) (hs : List Happening) (ready : IsRead
   -- no more marginal notes have no place yet
   notes-now : notes_left ((fired_whole d page).held ++ (fired_whole d page).rest) (state_of d) ≤ notes_left s.waiting s
   notes-now =
-      let a = fired-notes p s set.params set.classes goal set.served few h.rs (held_in q) (state_now r q) h.coming fires.stopped (page-quiet q.builder q.store h.whole.builder fires.stopped) of-boxes in
+      let a = fired-notes s set.classes asked-sized set.served few h.rs (held_in q) (state_now r q) h.coming fires.stopped (page-quiet q.builder q.store h.whole.builder fires.stopped) of-boxes in
       let b = ap (λ (x : Fired). notes_waiting (x.held ++ x.rest)) fired-same in
       let e = ap (λ (t : State). notes_taken t.floats.current) t-now in
       omega (arith, a, b, e)
 
   counted : fired_count f ≤ node_count s.waiting + 1 + box_count s.boxes
-  counted = fired-few p s set.params set.classes goal set.served few h.rs (held_in q) (state_now r q) h.coming fires.stopped (page-quiet q.builder q.store h.whole.builder fires.stopped) of-boxes
+  counted = fired-few s set.classes asked-sized set.served few h.rs (held_in q) (state_now r q) h.coming fires.stopped (page-quiet q.builder q.store h.whole.builder fires.stopped) of-boxes
 
   held-same : node_count (state_of d).held_page ≡ node_count s.held_page
   held-same = ap (λ (t : State). node_count t.held_page) t-now ∙ ap node_count h.coming.keeps.held
@@ -191,7 +184,7 @@ module _ (wanted : Bool) (r q d : Routine) (hs : List Happening) (ready : IsRead
   can-fire = record {
     awaits = record { page = ap (λ (c : Contents). c.page) fires.after; frozen = ap (λ (c : Contents). c.frozen) fires.after };
     classes = ap (λ (c : Contents). c.classes) fires.after ∙ h.coming.come.stays.classes ∙ sym classes-now;
-    penalty = subst (λ z. hold_penalty ≤ℤ z) (sym fires.page.penalty) (fired-mild p s set.params set.classes goal set.served few h.rs (held_in q) (state_now r q) h.coming fires.stopped (page-quiet q.builder q.store h.whole.builder fires.stopped) of-boxes);
+    penalty = subst (λ z. hold_penalty ≤ℤ z) (sym fires.page.penalty) (fired-mild s set.classes asked-sized set.served few h.rs (held_in q) (state_now r q) h.coming fires.stopped (page-quiet q.builder q.store h.whole.builder fires.stopped) of-boxes);
     shrink = fires.page.amount;
     note_bottom = reach-within (notes_left ((fired_whole d page).held ++ (fired_whole d page).rest) (state_of d)) d.machine.note_bottom served-now.bottom;
     body = record {
@@ -215,26 +208,25 @@ module _ (wanted : Bool) (r q d : Routine) (hs : List Happening) (ready : IsRead
 
   pub filled-fires : IsFiring wanted r page d hs
   filled-fires =
-      let all = fires-progress p s h.rs (held_in q) (state_now r q) h.coming fires.stopped in
+      let all = fires-progress s h.rs (held_in q) (state_now r q) h.coming fires.stopped in
       record {
         filled = record {
-          state = t-now ∙ sym (fires-state p s h.rs (held_in q) (state_now r q) h.coming fires.stopped);
+          state = t-now ∙ sym (fires-state s h.rs (held_in q) (state_now r q) h.coming fires.stopped);
           events = λ store. h.quiet.events store ∙ ap (λ (x : Progress). noted wanted x.events) (sym all);
           lists = h.quiet.lists;
-          params = params-now;
           left = λ none. d_left ∙ h.left none;
         };
         fires = record {
           none = ap (λ (x : Progress). x.fault) all ∙ h.coming.none;
-          fires = fires-is p s h.rs (held_in q) (state_now r q) h.coming fires.stopped;
-          fired = fired-same ∙ sym (fires-page p s h.rs (held_in q) (state_now r q) h.coming fires.stopped);
+          fires = fires-is s h.rs (held_in q) (state_now r q) h.coming fires.stopped;
+          fired = fired-same ∙ sym (fires-page s h.rs (held_in q) (state_now r q) h.coming fires.stopped);
         };
         can = record {
           whole = whole;
           can = can-fire;
           room = subst (λ x. TellsRoom x d.builder d.store) is told ∙ ap size_of (shapes-held (list_at d.store) (list_at d.store page.body));
-          taken = next-taken wanted r q d hs ready h ask asked e of_page sound keeps same most d_left kept;
-          params = subst AreRunnable (sym params-now) set.params;
+          taken = next-taken wanted r q d now hs ready h ask asked e of_page sound keeps same most d_left kept;
+          params = subst (λ (t : State). AreRunnable t.params) (sym t-now) h.coming.runs;
           classes = subst AreRunClasses (sym classes-now) set.classes;
           served = served-now;
           bounded = bounded;

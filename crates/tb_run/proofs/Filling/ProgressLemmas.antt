@@ -2,7 +2,6 @@
 use Rattle.std.proofs.Common.{◌≡◌, refl, sym, ◌∙◌, ap, ℕ, ℤ, List, [], ◌∷◌, ◌++◌, map, Some, None, append_assoc, append-nil}
 use Rattle.tb_scaled.specs.Scaled.{min_ℤ, awful_bad}
 use Rattle.tb_node.specs.declared.Act.{Act}
-use Rattle.tb_param.specs.declared.Params.{Params}
 use Rattle.tb_break.specs.Best.{Breakpoint, least_cost}
 use Rattle.tb_break.proofs.BestLemmas.{least-append}
 use Rattle.tb_builder.specs.Reach.{Reached, acted, tried, try_of, breakpoints}
@@ -30,41 +29,41 @@ events-after : (es fs : List RunEvent) (rs qs : List Recorded) (q : Progress) �
 events-after es fs rs qs q = λ i. record q { events = sym (append_assoc es fs q.events) i; records = sym (append_assoc rs qs q.records) i }
 
 -- after these, the rest goes on from their state
-pub progress-append : (p : Params) (rs more : List Reached) (least : ℤ) (s : State) → (progress p rs least s).fault ≡ None
-    → progress p (rs ++ more) least s ≡ after_events (progress p rs least s).events (progress p rs least s).records (progress p more (least_after rs least) (progress p rs least s).state)
-progress-append p [] more least s none = refl
-progress-append p (acted a ∷ rs) more least s none = by_act (act_on p s a) (λ s' h. progress-append p rs more least s' h) none
+pub progress-append : (rs more : List Reached) (least : ℤ) (s : State) → (progress rs least s).fault ≡ None
+    → progress (rs ++ more) least s ≡ after_events (progress rs least s).events (progress rs least s).records (progress more (least_after rs least) (progress rs least s).state)
+progress-append [] more least s none = refl
+progress-append (acted a ∷ rs) more least s none = by_act (act_on s.params s a) (λ s' h. progress-append rs more least s' h) none
   where
-    by_act : (o : Acted) → ((s' : State) → (progress p rs least s').fault ≡ None → progress p (rs ++ more) least s' ≡ after_events (progress p rs least s').events (progress p rs least s').records (progress p more (least_after rs least) (progress p rs least s').state))
-        → (progress_by (λ s'. progress p rs least s') s o).fault ≡ None
-        → progress_by (λ s'. progress p (rs ++ more) least s') s o
-        ≡ after_events (progress_by (λ s'. progress p rs least s') s o).events (progress_by (λ s'. progress p rs least s') s o).records (progress p more (least_after rs least) (progress_by (λ s'. progress p rs least s') s o).state)
+    by_act : (o : Acted) → ((s' : State) → (progress rs least s').fault ≡ None → progress (rs ++ more) least s' ≡ after_events (progress rs least s').events (progress rs least s').records (progress more (least_after rs least) (progress rs least s').state))
+        → (progress_by (λ s'. progress rs least s') s o).fault ≡ None
+        → progress_by (λ s'. progress (rs ++ more) least s') s o
+        ≡ after_events (progress_by (λ s'. progress rs least s') s o).events (progress_by (λ s'. progress rs least s') s o).records (progress more (least_after rs least) (progress_by (λ s'. progress rs least s') s o).state)
     by_act (went s' ws qs) later h =
         ap (after_events (map (λ w. sent (warned w)) ws) qs) (later s' h)
-        ∙ events-after (map (λ w. sent (warned w)) ws) (progress p rs least s').events qs (progress p rs least s').records (progress p more (least_after rs least) (progress p rs least s').state)
+        ∙ events-after (map (λ w. sent (warned w)) ws) (progress rs least s').events qs (progress rs least s').records (progress more (least_after rs least) (progress rs least s').state)
     by_act (full line live) later h = cc
-progress-append p (tried line b ∷ rs) more least s none =
-    ap (after_events (offered (try_of line b least) ∷ []) []) (progress-append p rs more (min_ℤ least b.cost) s none)
-    ∙ events-after (offered (try_of line b least) ∷ []) (progress p rs (min_ℤ least b.cost) s).events [] (progress p rs (min_ℤ least b.cost) s).records (progress p more (least_after rs (min_ℤ least b.cost)) (progress p rs (min_ℤ least b.cost) s).state)
+progress-append (tried line b ∷ rs) more least s none =
+    ap (after_events (offered (try_of line b least) ∷ []) []) (progress-append rs more (min_ℤ least b.cost) s none)
+    ∙ events-after (offered (try_of line b least) ∷ []) (progress rs (min_ℤ least b.cost) s).events [] (progress rs (min_ℤ least b.cost) s).records (progress more (least_after rs (min_ℤ least b.cost)) (progress rs (min_ℤ least b.cost) s).state)
 
 -- ---- one more
 
-module _ (p : Params) (rs : List Reached) (s : State) (none : (progress p rs awful_bad s).fault ≡ None) where
+module _ (rs : List Reached) (s : State) (none : (progress rs awful_bad s).fault ≡ None) where
   abbrev q : Progress
-  q = progress p rs awful_bad s
+  q = progress rs awful_bad s
 
   -- a place was tried
-  pub progress-tried : (line : ℕ) (b : Breakpoint) → progress p (rs ++ tried line b ∷ []) awful_bad s ≡ record { state = q.state; events = q.events ++ offered (try_of line b (least_cost (breakpoints rs))) ∷ []; records = q.records; fault = None }
+  pub progress-tried : (line : ℕ) (b : Breakpoint) → progress (rs ++ tried line b ∷ []) awful_bad s ≡ record { state = q.state; events = q.events ++ offered (try_of line b (least_cost (breakpoints rs))) ∷ []; records = q.records; fault = None }
   progress-tried line b =
-      progress-append p rs (tried line b ∷ []) awful_bad s none
+      progress-append rs (tried line b ∷ []) awful_bad s none
       ∙ (λ i. record { state = q.state; events = q.events ++ offered (try_of line b (least-is rs i)) ∷ []; records = append-nil q.records i; fault = None })
 
   -- an act was done, or found no room
-  pub progress-acted : (a : Act) → progress p (rs ++ acted a ∷ []) awful_bad s ≡ after_events q.events q.records (progress_by (λ t. progress p [] (least_after rs awful_bad) t) q.state (act_on p q.state a))
-  progress-acted a = progress-append p rs (acted a ∷ []) awful_bad s none
+  pub progress-acted : (a : Act) → progress (rs ++ acted a ∷ []) awful_bad s ≡ after_events q.events q.records (progress_by (λ t. progress [] (least_after rs awful_bad) t) q.state (act_on q.state.params q.state a))
+  progress-acted a = progress-append rs (acted a ∷ []) awful_bad s none
 
-  pub progress-stuck : (a : Act) (more : List Reached) (line live : ℕ) → act_on p q.state a ≡ full line live → progress p (rs ++ acted a ∷ more) awful_bad s ≡ record { state = q.state; events = q.events; records = q.records; fault = Some (line, live) }
+  pub progress-stuck : (a : Act) (more : List Reached) (line live : ℕ) → act_on q.state.params q.state a ≡ full line live → progress (rs ++ acted a ∷ more) awful_bad s ≡ record { state = q.state; events = q.events; records = q.records; fault = Some (line, live) }
   progress-stuck a more line live e =
-      progress-append p rs (acted a ∷ more) awful_bad s none
-      ∙ ap (λ o. after_events q.events q.records (progress_by (λ t. progress p more (least_after rs awful_bad) t) q.state o)) e
+      progress-append rs (acted a ∷ more) awful_bad s none
+      ∙ ap (λ o. after_events q.events q.records (progress_by (λ t. progress more (least_after rs awful_bad) t) q.state o)) e
       ∙ (λ i. record { state = q.state; events = append-nil q.events i; records = append-nil q.records i; fault = Some (line, live) })

@@ -1,5 +1,5 @@
 -- Nothing waits any more while items are left: some are handed over, and the page goes on.
-use Rattle.std.proofs.Common.{◌≡◌, refl, sym, subst, ◌∙◌, ap, ◌<◌, Bool, true, false, List, ◌++◌, length, Option, None, Some, append_assoc, arith}
+use Rattle.std.proofs.Common.{◌≡◌, refl, sym, subst, ◌∙◌, ap, ◌<◌, ℤ, Bool, true, false, List, ◌++◌, length, Option, None, Some, append_assoc, arith}
 use Rattle.tb_node.specs.PlainNodes.{PlainNode}
 use Rattle.tb_builder.specs.declared.Ask.{Ask}
 use Rattle.tb_builder.specs.declared.Event.{Event}
@@ -10,8 +10,7 @@ use Rattle.tb_builder.specs.PageCalls.{IsNext}
 use Rattle.tb_builder.specs.PageEvents.{NextIs, EmptyIs, KeepsBoxes}
 use Rattle.tb_builder.specs.PageProgress.{HasCome}
 use Rattle.tb_builder.proofs.Events.PagingLemmas.{calls_left}
-use Rattle.tb_param.specs.declared.Params.{Params}
-use Rattle.tb_output.specs.State.{State, ask_of}
+use Rattle.tb_output.specs.State.{State}
 use Rattle.tb_output.specs.Machine.{MachineView, state_shown}
 use Rattle.tb_items.specs.declared.happenings.Happening.{Happening}
 use Rattle.tb_items.specs.declared.items_left.ItemsLeft.{ItemsLeft}
@@ -21,24 +20,22 @@ use Rattle.tb_run.specs.Routine.{built_in, held_in, state_of, IsReady}
 use Rattle.tb_run.specs.RoutinePages.{HasComeTo, IsSupplied}
 use Rattle.tb_run.proofs.Turns.WholeLemmas.{built-shown}
 use Rattle.tb_items.proofs.MoreEvents.{IsOpenPage, ahead-supplied, laid-supplied, come-supplied, open-supplied, may-take}
+use Rattle.tb_run.proofs.Filling.ComingPages.{sized-asked}
 use Rattle.tb_run.proofs.Filling.ComingLemmas.{IsComing, start, coming-same}
-use Rattle.tb_run.proofs.Filling.FillingLemmas.{IsUnderway, state_now, left_of_page, turns_left}
+use Rattle.tb_run.proofs.Filling.FillingLemmas.{IsAskedFor, IsUnderway, state_now, left_of_page, turns_left}
 use Rattle.tb_run.proofs.Filling.MoreLemmas.{IsOpenFor}
 use Rattle.tb_run.proofs.Filling.PassingLemmas.{IsLastCall, last-call}
-use Rattle.tb_run.proofs.Filling.AskedCalls.{goal-behind, end-agrees}
-use Rattle.tb_steps.specs.Run.{led_through, led, ask_for}
+use Rattle.tb_run.proofs.Filling.AskedCalls.{asks, begun-behind, asked-behind, sized-behind, end-agrees}
+use Rattle.tb_steps.specs.Run.{led_through, ask_for}
 
 -- a call that found nothing more: with nothing behind, all is on the page
-module _ (wanted : Bool) (r b d : Routine) (hs : List Happening) (u : IsUnderway wanted r b hs) (n : IsNext b.builder b.store (ask_for r.machine.params (state_of r)) events.Empty d.builder d.store) (same : d.machine ≡ b.machine) (most : d.most ≡ b.most)
+module _ (wanted : Bool) (r b d : Routine) (due : Ask) (hs : List Happening) (u : IsUnderway wanted r b due hs) (n : IsNext b.builder b.store (ask_for (state_of r)) events.Empty d.builder d.store) (same : d.machine ≡ b.machine) (most : d.most ≡ b.most)
     (l : ItemsLeft) (some : b.left ≡ Some l) where
-  abbrev p : Params
-  p = r.machine.params
-
   abbrev s : State
   s = state_of r
 
   abbrev ask : Ask
-  ask = ask_for p s
+  ask = ask_for s
 
   abbrev more : List PlainNode
   more = nodes_of l
@@ -78,10 +75,10 @@ module _ (wanted : Bool) (r b d : Routine) (hs : List Happening) (u : IsUnderway
     built-now : built_in now ≡ record (built_in d) { waiting = sup.nodes }
     built-now = sup.contents ∙ ap (λ ns. record (built_in d) { waiting = ns ++ sup.nodes }) event.0.waiting
 
-    come-now : HasCome (start p s) u.rs (held_in now) ask
+    come-now : HasCome (start s) u.rs (held_in now) ask
     come-now =
-        subst (λ c. HasCome (start p s) u.rs c ask) (sym held-now)
-        (come-supplied (built_in b) (built_in d) ask more ends.ends event.1 event.0 (start p s) u.rs going (subst (λ c. HasCome (start p s) u.rs c ask) held-before u.coming.come))
+        subst (λ c. HasCome (start s) u.rs c ask) (sym held-now)
+        (come-supplied (built_in b) (built_in d) ask more ends.ends event.1 event.0 (start s) u.rs going (subst (λ c. HasCome (start s) u.rs c ask) held-before u.coming.come))
 
     laid-now : laid (held_in now) ask ≡ laid (held_in b) ask
     laid-now = ap (λ c. laid c ask) held-now ∙ laid-supplied (built_in b) (built_in d) ask more ends.ends event.1 event.0 ∙ sym (ap (λ c. laid c ask) held-before)
@@ -96,25 +93,37 @@ module _ (wanted : Bool) (r b d : Routine) (hs : List Happening) (u : IsUnderway
         by_left None h = tt
         by_left (Some x) h = subst (λ c. IsOpenPage c ask) (sym built-now) (open-supplied (built_in b) (built_in d) ask more ends.ends event.1 event.0 sup.nodes h)
 
-    -- the acts that are still to come are those of the nodes that were left
-    later-now : now.builder.frozen ≡ None → ask ≡ ask_of p (led_through p (held_in now).waiting (state_now r now))
-    later-now none =
-        end-agrees p (state_now r b) (led p s) (nodes_left b.left) b.builder d.builder b.store d.store events.Empty n u.whole.builder u.asked.later going refl (sym (ap (λ (c : Contents). c.frozen) sup.contents) ∙ none)
-        ∙ ap (λ o. ask_of p (led_through p (nodes_left o) (state_now r b))) some
-        ∙ (λ i. ask_of p (led_through p (sym held-now i).waiting (sym state-same i)))
+    abbrev t : State
+    t = state_now r b
 
-    pub underway-supplied : IsUnderway wanted r now hs
+    frozen-before : (o : Option (ℤ × ℤ)) → now.builder.frozen ≡ o → d.builder.frozen ≡ o
+    frozen-before o k = sym (ap (λ (c : Contents). c.frozen) sup.contents) ∙ k
+
+    asked-now : IsAskedFor r now due
+    asked-now = record {
+      agrees = record {
+        begun = λ f k. begun-behind t due ask (nodes_left b.left) b.builder b.store u.asked.agrees d.builder d.store events.Empty u.whole.builder n f (frozen-before (Some f) k);
+        asked = λ none. asked-behind t due ask (nodes_left b.left) b.builder b.store u.asked.agrees d.builder d.store events.Empty u.whole.builder n going (frozen-before None none) ∙ ap asks (sym state-same);
+        -- the acts that are still to come are those of the nodes that were left
+        later = λ none.
+            end-agrees t due ask (nodes_left b.left) b.builder b.store u.asked.agrees d.builder d.store events.Empty u.whole.builder n going refl (frozen-before None none)
+            ∙ ap (λ o. asks (led_through (nodes_left o) t)) some
+            ∙ (λ i. asks (led_through (sym held-now i).waiting (sym state-same i)));
+      };
+      sized = λ f k. sized-behind t due ask (nodes_left b.left) b.builder b.store u.asked.agrees d.builder d.store events.Empty u.whole.builder n (sized-asked t u.coming.runs u.whole.machine.goal) u.asked.sized f (frozen-before (Some f) k);
+    }
+
+    pub underway-supplied : IsUnderway wanted r now due hs
     underway-supplied = record {
       rs = u.rs;
-      coming = subst (IsComing p s u.rs (held_in now)) (sym state-same) (coming-same p s u.rs (held_in b) (held_in now) (state_now r b) u.coming come-now laid-now);
+      coming = subst (IsComing s u.rs (held_in now)) (sym state-same) (coming-same s u.rs (held_in b) (held_in now) (state_now r b) u.coming come-now laid-now);
       quiet = u.quiet;
       whole = sup.whole;
       taken = ap (λ (m : MachineView). m.events) (sup.machine ∙ same) ∙ u.taken;
-      params = ap (λ (m : MachineView). m.params) (sup.machine ∙ same) ∙ u.params;
       most = sup.most ∙ most ∙ u.most;
       left = λ none. let no : Some l ≡ None = sym some ∙ u.left none in cc;
       ends = ends-now;
-      asked = record { later = later-now; goal = λ f k. goal-behind p (state_now r b) (led p s) (nodes_left b.left) b.builder d.builder b.store d.store events.Empty n u.whole.builder u.asked.later u.whole.machine.goal u.asked.goal f (sym (ap (λ (c : Contents). c.frozen) sup.contents) ∙ k) };
+      asked = asked-now;
     }
 
     -- as much of the page is left
@@ -126,23 +135,23 @@ module _ (wanted : Bool) (r b d : Routine) (hs : List Happening) (u : IsUnderway
         ∙ sym (ap (λ (c : Contents). calls_left c.stopped (length (reach_ahead c ask).reached)) held-before)
 
 -- the same after places that were passed over
-module _ (wanted : Bool) (r d : Routine) (hs : List Happening) (ready : IsReady r) (ask : Ask) (asked : ask ≡ ask_for r.machine.params (state_of r)) (e : Event) (q : Routine) (h : IsUnderway wanted r q hs) (c : HasComeTo wanted e ask q d) (is : e ≡ events.Empty) (l : ItemsLeft) (some : d.left ≡ Some l) where
-  abbrev last : IsLastCall wanted r ask e d hs (left_of_page r q)
-  last = last-call wanted r d hs ready ask asked e q h c
+module _ (wanted : Bool) (r d : Routine) (due : Ask) (hs : List Happening) (ready : IsReady r) (ask : Ask) (asked : ask ≡ ask_for (state_of r)) (e : Event) (q : Routine) (h : IsUnderway wanted r q due hs) (c : HasComeTo wanted e ask q d) (is : e ≡ events.Empty) (l : ItemsLeft) (some : d.left ≡ Some l) where
+  abbrev last : IsLastCall wanted r due ask e d hs (left_of_page r q)
+  last = last-call wanted r d due hs ready ask asked e q h c
 
-  next : IsNext last.before.builder last.before.store (ask_for r.machine.params (state_of r)) events.Empty d.builder d.store
+  next : IsNext last.before.builder last.before.store (ask_for (state_of r)) events.Empty d.builder d.store
   next = subst (λ a. IsNext last.before.builder last.before.store a events.Empty d.builder d.store) asked (subst (λ v. IsNext last.before.builder last.before.store ask v d.builder d.store) is last.next)
 
   pub come-takes : ends_in_kern (built_in d).page ≡ false
-  come-takes = takes-more wanted r last.before d hs last.underway next last.machine last.most l (sym last.left ∙ some)
+  come-takes = takes-more wanted r last.before d due hs last.underway next last.machine last.most l (sym last.left ∙ some)
 
   module _ (now : Routine) (sup : IsSupplied l d now) where
-    pub come-supplied-so : IsUnderway wanted r now hs
-    come-supplied-so = underway-supplied wanted r last.before d hs last.underway next last.machine last.most l (sym last.left ∙ some) now sup
+    pub come-supplied-so : IsUnderway wanted r now due hs
+    come-supplied-so = underway-supplied wanted r last.before d due hs last.underway next last.machine last.most l (sym last.left ∙ some) now sup
 
     pub come-fewer-left : turns_left r now < turns_left r q
     come-fewer-left =
-        let same = page-left wanted r last.before d hs last.underway next last.machine last.most l (sym last.left ∙ some) now sup in
+        let same = page-left wanted r last.before d due hs last.underway next last.machine last.most l (sym last.left ∙ some) now sup in
         let k = last.fewer in
         let f = sup.fewer in
         let g = ap pieces_left (sym c.left ∙ some) in

@@ -54,7 +54,7 @@ ship-eases p sheet w = by-any-ship (Eases w) p sheet w (eases-same w) (record { 
 
 pub placed-eases : (p : Params) (place : Where) (f : Float) (left : FloatLists) (w : Work) → Eases w (FloatMoves.place_float p place f left w)
 placed-eases p place f left w =
-    let r = records_also (placed f place w.state.floats (column_height_of p w.state.floats)) w in
+    let r = records_also (placed p f place w.state.floats (column_height_of p w.state.floats)) w in
     let c : Work = if FloatMoves.is_placed place then r else w in
     eases-then w c (FloatMoves.place_float p place f left w) (eases-if w (FloatMoves.is_placed place) r w (records-eases _ w) (eases-same w)) (floats-eases (FloatMoves.joined_to place f left) c)
 

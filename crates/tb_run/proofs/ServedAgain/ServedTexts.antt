@@ -108,7 +108,7 @@ records-bare r w = bare-if w w.refused w (record w { records = w.records ++ r âˆ
 
 placed-bare : (p : Params) (place : Where) (f : Float) (left : FloatLists) (w : Work) â†’ Bare w (FloatMoves.place_float p place f left w)
 placed-bare p place f left w =
-    let r = records_also (placed f place w.state.floats (column_height_of p w.state.floats)) w in
+    let r = records_also (placed p f place w.state.floats (column_height_of p w.state.floats)) w in
     let c : Work = if FloatMoves.is_placed place then r else w in
     let h = bare-if w (FloatMoves.is_placed place) r w (records-bare _ w) (record { back = refl; held = refl; boxes = refl }) in
     record { back = h.back; held = h.held; boxes = h.boxes }

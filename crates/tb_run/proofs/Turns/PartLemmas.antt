@@ -2,6 +2,7 @@
 use Rattle.std.proofs.Common.{◌≡◌, refl, subst, ◌∙◌, ap, Bool, List, Option, Some}
 use Rattle.std.specs.Prelude.{Result, Ok, Err, IfOk, OnOk, IfNone, ◌≢◌}
 use Rattle.tb_builder.specs.declared.Page.{Page}
+use Rattle.tb_output.specs.State.{State}
 use Rattle.tb_items.specs.declared.happenings.Happening.{Happening}
 use Rattle.tb_items.specs.Happenings.{ArePages}
 use Rattle.tb_run.specs.declared.routine.Routine.{Routine}
@@ -18,20 +19,20 @@ use Rattle.tb_run.proofs.Turns.TurnLemmas.{last-turned, last-pages, last-ended, 
 pub ends-part : (wanted : Bool) (part : Part) (r : Routine) (hs : List Happening) (e : Ending) (q : Routine) (now : List Happening)
     → HasPage wanted part r hs (filled.Ends e) q now → HasGoneOn wanted part r hs (Some e) part q now
 ends-part wanted parts.Whole r hs e q now h =
-    (last-turned wanted r q e now h, record { ready = tt; params = h.filled.params; ended = last-ended wanted r q e now h; pages = last-pages wanted r q e now h; lists = tt })
+    (last-turned wanted r q e now h, record { ready = tt; params = ap (λ (t : State). t.params) h.filled.state; ended = last-ended wanted r q e now h; pages = last-pages wanted r q e now h; lists = tt })
 ends-part wanted parts.Filling r hs e q now h = h
 ends-part wanted (parts.Serving page) r hs e q now h = let e : filled.Ends e ≡ filled.Fires page = h.page in cc
 
 same-page : (a b : Page) → filled.Fires a ≡ filled.Fires b → a ≡ b
 same-page a b e = cc
 
-module _ (wanted : Bool) (part : Part) (r : Routine) (hs : List Happening) (page : Page) (q : Routine) (now : List Happening) (later : Part) (d : Routine) (after : List Happening) (o : Option Ending) (served : HasServed page q o d now after) (over : IsOver o q d after) where
+module _ (wanted : Bool) (part : Part) (r : Routine) (hs : List Happening) (page : Page) (q : Routine) (now : List Happening) (later : Part) (d : Routine) (after : List Happening) (o : Option Ending) (served : HasServed page q o d now after) (over : IsOver o q.machine.params d after) where
   -- the page was served
   serves-part : HasPage wanted part r hs (filled.Fires page) q now → part ≢ parts.Filling → HasGoneOn wanted part r hs o later d after
   serves-part h n = serves part h n
     where
       serves : (x : Part) → HasPage wanted x r hs (filled.Fires page) q now → x ≢ parts.Filling → HasGoneOn wanted x r hs o later d after
-      serves parts.Whole h n = (served-turned wanted r q page now h o d after served, record { ready = over.ready; params = over.params ∙ h.filled.params; ended = over.ended; pages = over.pages; lists = over.lists })
+      serves parts.Whole h n = (served-turned wanted r q page now h o d after served, record { ready = over.ready; params = over.params ∙ ap (λ (t : State). t.params) h.filled.state; ended = over.ended; pages = over.pages; lists = over.lists })
       serves parts.Filling h n = absurd (n refl)
       serves (parts.Serving p) h n = (
         subst (λ x. HasServed x r o d hs after) (same-page page p h.page) (subst (λ x. HasServed page x o d hs after) h.routine (subst (λ x. HasServed page q o d x after) h.happened served)),

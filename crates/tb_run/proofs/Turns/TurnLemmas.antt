@@ -62,27 +62,27 @@ quiet-pages store (happenings.Sent (sents.Ship page sheet) ∷ hs) e = absurd (s
 
 -- ---- the run ends before a page fires
 
-module _ (p : Params) (s : State) where
+module _ (s : State) where
   abbrev whole-page : Progress
-  whole-page = progress_in p s
+  whole-page = progress_in s
 
-  events-unfired : (t : Bool) (x : Step) → t ≡ false → step_events (if t then x else ends whole-page.events (whole-page.records ++ emptied whole-page.state.floats ∷ []) (done (reach_in p s).passed)) ≡ whole-page.events
+  events-unfired : (t : Bool) (x : Step) → t ≡ false → step_events (if t then x else ends whole-page.events (whole-page.records ++ emptied whole-page.state.floats ∷ []) (done (reach_in s).passed)) ≡ whole-page.events
   events-unfired true x e = absurd (true≢false e)
   events-unfired false x e = refl
 
-  events-by-fault : (o : Option (ℕ × ℕ)) → (o ≡ None → (reach_in p s).fires ≡ false) → step_events (after_progress p (ask_for p s) (reach_in p s) whole-page o) ≡ whole-page.events
-  events-by-fault None f = events-unfired (reach_in p s).fires (fire p (ask_for p s) (reach_in p s) whole-page) (f refl)
+  events-by-fault : (o : Option (ℕ × ℕ)) → (o ≡ None → (reach_in s).fires ≡ false) → step_events (after_progress (ask_for s) (reach_in s) whole-page o) ≡ whole-page.events
+  events-by-fault None f = events-unfired (reach_in s).fires (fire (ask_for s) (reach_in s) whole-page) (f refl)
   events-by-fault (Some x) f = refl
 
   -- the events of the step are those of its page
-  last-events : (whole-page.fault ≡ None → (reach_in p s).fires ≡ false) → step_events (step p s) ≡ whole-page.events
+  last-events : (whole-page.fault ≡ None → (reach_in s).fires ≡ false) → step_events (step s) ≡ whole-page.events
   unfolding step
   last-events none = events-by-fault whole-page.fault none
 
 module _ (wanted : Bool) (r q : Routine) (e : Ending) (hs : List Happening) (h : IsFilledLast wanted r e q hs) where
   pub last-turned : IsTurned wanted r hs (Some e) q
   last-turned = record {
-    events = h.filled.events q.store ∙ ap (noted wanted) (sym (last-events r.machine.params (state_of r) h.none));
+    events = h.filled.events q.store ∙ ap (noted wanted) (sym (last-events (state_of r) h.none));
     ended = h.ended;
   }
 
@@ -120,7 +120,7 @@ module _ (es : List RunEvent) (rs : List Recorded) (q d : Routine) (page : Page)
   w = work_of q page
 
   abbrev st : Step
-  st = firing_step p es rs (state_of q) (fired_whole q page)
+  st = firing_step es rs (state_of q) (fired_whole q page)
 
   -- if the firing was allowed
   alive-is : pos q.machine.dead_cycles <ℤ p.maxdeadcycles → st ≡ after_firing p es rs w
@@ -177,7 +177,7 @@ module _ (q d : Routine) (page : Page) (taken : q.machine.events ≡ []) where
 
   -- whether it was allowed, and what was sent
   record IsAllowed (o : Option Ending) : Type 0 where
-    pub sent : events_shown d.store d.machine.events ≡ sent_by q.machine.params (state_of q) (fired_whole q page)
+    pub sent : events_shown d.store d.machine.events ≡ sent_by (state_of q) (fired_whole q page)
     pub dead : is_dead o ≡ not (int_lt (pos q.machine.dead_cycles) most)
 
   allowed : (o : Option Ending) → is_dead o ≡ false → pos q.machine.dead_cycles <ℤ most → events_shown d.store d.machine.events ≡ events_shown q.store q.machine.events ++ own → IsAllowed o
@@ -277,9 +277,9 @@ module _ (q d : Routine) (page : Page) (o : Option Ending) (hs new : List Happen
 
 -- ---- both are the step of the run
 
-module _ (p : Params) (es : List RunEvent) (rs : List Recorded) (s : State) (f : Fired) where
+module _ (es : List RunEvent) (rs : List Recorded) (s : State) (f : Fired) where
   abbrev fired-work : Work
-  fired-work = out p s f
+  fired-work = out s.params s f
 
   abbrev all-events : List RunEvent
   all-events = es ++ map sent fired-work.sent
@@ -291,41 +291,37 @@ module _ (p : Params) (es : List RunEvent) (rs : List Recorded) (s : State) (f :
   events-by-held true = refl
   events-by-held false = refl
 
-  events-by-refused : (t : Bool) → step_events (if t then ends all-events all-records (page_limit (pred fired-work.state.page)) else (if int_lt p.maxnodes (pos (held_count fired-work.state)) then ends all-events all-records (node_limit (held_count fired-work.state)) else goes_on all-events all-records fired-work.state)) ≡ all-events
+  events-by-refused : (t : Bool) → step_events (if t then ends all-events all-records (page_limit (pred fired-work.state.page)) else (if int_lt s.params.maxnodes (pos (held_count fired-work.state)) then ends all-events all-records (node_limit (held_count fired-work.state)) else goes_on all-events all-records fired-work.state)) ≡ all-events
   events-by-refused true = refl
-  events-by-refused false = events-by-held (int_lt p.maxnodes (pos (held_count fired-work.state)))
+  events-by-refused false = events-by-held (int_lt s.params.maxnodes (pos (held_count fired-work.state)))
 
-  events-by-alive : (t : Bool) → step_events (if t then after_firing p es rs fired-work else ends es rs (dead_cycles s.dead_cycles)) ≡ es ++ map sent (if t then fired-work.sent else [])
+  events-by-alive : (t : Bool) → step_events (if t then after_firing s.params es rs fired-work else ends es rs (dead_cycles s.dead_cycles)) ≡ es ++ map sent (if t then fired-work.sent else [])
   events-by-alive true = events-by-refused fired-work.refused
   events-by-alive false = sym (append-nil es)
 
   -- the events of a firing after others
-  pub firing-events : step_events (firing_step p es rs s f) ≡ es ++ map sent (sent_by p s f)
-  firing-events = events-by-alive (int_lt (pos s.dead_cycles) p.maxdeadcycles)
+  pub firing-events : step_events (firing_step es rs s f) ≡ es ++ map sent (sent_by s f)
+  firing-events = events-by-alive (int_lt (pos s.dead_cycles) s.params.maxdeadcycles)
 
 module _ (wanted : Bool) (r q : Routine) (page : Page) (hs : List Happening) (h : IsFiring wanted r page q hs) where
-  abbrev start-params : Params
-  start-params = r.machine.params
-
   abbrev start-state : State
   start-state = state_of r
 
   abbrev done-so-far : Progress
-  done-so-far = progress_in start-params start-state
+  done-so-far = progress_in start-state
 
   -- the step is the firing of the page
-  pub step-is : step start-params start-state ≡ firing_step q.machine.params done-so-far.events done-so-far.records (state_of q) (fired_whole q page)
+  pub step-is : step start-state ≡ firing_step done-so-far.events done-so-far.records (state_of q) (fired_whole q page)
   unfolding step
   step-is =
-      ap (after_progress start-params (ask_for start-params start-state) (reach_in start-params start-state) done-so-far) h.fires.none
-      ∙ then-step (reach_in start-params start-state).fires (fire start-params (ask_for start-params start-state) (reach_in start-params start-state) done-so-far) _ h.fires.fires
-      ∙ (λ i. firing_step start-params done-so-far.events done-so-far.records (sym h.filled.state i) (sym h.fires.fired i))
-      ∙ firing-same start-params done-so-far.events done-so-far.records q.store start-state.boxes (held_in q).boxes start-state.waiting (held_in q).waiting q.machine (fired_whole q page)
-      ∙ ap (λ x. firing_step x done-so-far.events done-so-far.records (state_of q) (fired_whole q page)) (sym h.filled.params)
+      ap (after_progress (ask_for start-state) (reach_in start-state) done-so-far) h.fires.none
+      ∙ then-step (reach_in start-state).fires (fire (ask_for start-state) (reach_in start-state) done-so-far) _ h.fires.fires
+      ∙ (λ i. firing_step done-so-far.events done-so-far.records (sym h.filled.state i) (sym h.fires.fired i))
+      ∙ firing-same done-so-far.events done-so-far.records q.store start-state.boxes (held_in q).boxes start-state.waiting (held_in q).waiting q.machine (fired_whole q page)
 
   pub served-turned : (o : Option Ending) (now : Routine) (new : List Happening) → HasServed page q o now hs new → IsTurned wanted r new o now
   served-turned o now new k =
-      let own = sent_by q.machine.params (state_of q) (fired_whole q page) in
+      let own = sent_by (state_of q) (fired_whole q page) in
       record {
         events =
             ap (events_of now.store) k.grown
@@ -333,6 +329,6 @@ module _ (wanted : Bool) (r q : Routine) (page : Page) (hs : List Happening) (h 
             ∙ (λ i. h.filled.events now.store i ++ (sent-events now.store k.sent ∙ ap (map sent) k.shown) i)
             ∙ ap (λ xs. noted wanted done-so-far.events ++ xs) (sym (noted-sent wanted own))
             ∙ sym (noted-append wanted done-so-far.events (map sent own))
-            ∙ ap (noted wanted) (sym (firing-events q.machine.params done-so-far.events done-so-far.records (state_of q) (fired_whole q page)) ∙ ap step_events (sym step-is));
+            ∙ ap (noted wanted) (sym (firing-events done-so-far.events done-so-far.records (state_of q) (fired_whole q page)) ∙ ap step_events (sym step-is));
         ended = subst (EndsAs now o) (sym step-is) (k.ended done-so-far.events done-so-far.records);
       }

@@ -4,12 +4,13 @@ use Rattle.tb_pool.specs.Lists.{Lists}
 use Rattle.tb_node.specs.declared.Node.{Node}
 use Rattle.tb_node.specs.PlainNodes.{PlainNode}
 use Rattle.tb_builder.specs.FiredPages.{Boxed}
+use Rattle.tb_builder.specs.Pageable.{IsGoal}
 use Rattle.tb_sheet.specs.ApartLists.{AreNoneOf}
 use Rattle.tb_sheet.specs.Asked.{IsSizedAct}
 use Rattle.tb_output.specs.Machine.{MachineView, IsMachine, machine_lists, state_shown}
 use Rattle.tb_output.specs.Act.{full}
-use Rattle.tb_output.specs.ActCalls.{IsActed, acted_in, line_of, dropped_lists}
-use Rattle.tb_output.proofs.Acts.ActingLemmas.{float-stands, float-takes, columns-drop, machine-numbered, title-stands, title-takes, title-acted, title-full}
+use Rattle.tb_output.specs.ActCalls.{IsActed, acted_in, line_of, dropped_lists, params_acted}
+use Rattle.tb_output.proofs.Acts.ActingLemmas.{float-stands, float-takes, columns-drop, machine-numbered, machine-set, title-stands, title-takes, title-acted, title-full}
 use Rattle.tb_output.proofs.FiringWork.ResultLemmas.{ok-map, err-map}
 use Rattle.tb_output.proofs.Machine.act.Goals as goal
 
@@ -57,3 +58,16 @@ pub returns-in-Head-clause-full : goal.returns-in-Head-clause-full
 returns-in-Head-clause-full c =
     subst (λ a. IfErr c.take_title.result (λ e. (store : Lists Node) (boxes : List Boxed) (waiting : List PlainNode) → acted_in store boxes waiting c.args.self.now a ≡ full (line_of a) e.live)) (sym c.in-Head.is)
     (err-map c.take_title.result _ _ (λ e h store boxes waiting. title-full c.args.self.now c.take_title.new.self c.in-Head.f c.requires.pool store boxes waiting e.live h) c.take_title.ensures.err)
+
+pub returns-in-Set-clause-acted : goal.returns-in-Set-clause-acted
+returns-in-Set-clause-acted c = λ store boxes waiting.
+    subst (λ a. IsActed store boxes waiting c.args.self.now c.set_parameter.new.self (acted_in store boxes waiting c.args.self.now a)) (sym c.in-Set.is)
+    (record { state = ap (state_shown store boxes waiting) c.set_parameter.ensures.set; sent = ap (λ (m : MachineView). m.events) c.set_parameter.ensures.set ∙ sym (append-nil c.args.self.now.events) })
+
+pub returns-in-Set-clause-machine : goal.returns-in-Set-clause-machine
+returns-in-Set-clause-machine c = λ store is.
+    subst (λ m. IsMachine m store) (sym c.set_parameter.ensures.set)
+    (machine-set c.in-Set.change c.args.self.now store is (subst (λ (m : MachineView). IsGoal m.goal) c.set_parameter.ensures.set c.set_parameter.ensures.goal))
+
+pub returns-in-Set-clause-params : goal.returns-in-Set-clause-params
+returns-in-Set-clause-params c = ap (λ (m : MachineView). m.params) c.set_parameter.ensures.set ∙ ap (params_acted c.args.self.now.params) (sym c.in-Set.is)

@@ -10,7 +10,7 @@ pub returns-then-count-self : goal.returns-then-count-self
 returns-then-count-self c =
     let l = c.args.self.now in
     handed-all l c.args.builder.now c.args.store.now c.put_clear.new.builder c.put_clear.new.store c.batch_len-count.result (omega arith)
-    (waits-then (item_nodes l.galley.now.params l.two (take c.batch_len-count.result l.items.now)) (on_line l.galley.now.end_line clearpage_kinds) c.args.builder.now c.args.store.now c.put_items.new.builder c.put_items.new.store c.put_clear.new.builder c.put_clear.new.store c.in_ok-two.ensures.waits c.in_ok-put_clear.ensures)
+    (waits-then (item_nodes l.params l.two (take c.batch_len-count.result l.items.now)) (on_line l.galley.now.end_line clearpage_kinds) c.args.builder.now c.args.store.now c.put_items.new.builder c.put_items.new.store c.put_clear.new.builder c.put_clear.new.store c.in_ok-two.ensures.waits c.in_ok-put_clear.ensures)
 
 pub returns : goal.returns
 returns c =
@@ -20,4 +20,4 @@ returns c =
     let other = c.if-count-self.false in
     let less : k < length is = omega (arith, within, other) in
     let e = length-drop k is in
-    handed-some c.args.self.now c.args.builder.now c.args.store.now c.put_items.new.builder c.put_items.new.store k within (c.batch_len-count.ensures.ended less) c.in_ok-two.ensures.waits _ refl (take_all (length is - k) (drop k is) (omega (arith, e))) c.in_ok-two.ensures.two
+    handed-some c.args.self.now c.args.builder.now c.args.store.now c.put_items.new.builder c.put_items.new.store k within (c.batch_len-count.ensures.ended less) c.in_ok-two.ensures.waits _ refl (take_all (length is - k) (drop k is) (omega (arith, e))) c.in_ok-two.ensures.params c.in_ok-two.ensures.two

@@ -6,4 +6,4 @@ use Rattle.tb_items.proofs.items_left.ItemsLeft.nodes.Given as goal
 
 -- with the nodes of the items from here on they are all
 abbrev pub invariant-loop-item : goal.invariant-loop-item
-invariant-loop-item l = l.count + node_count (item_nodes l.fn.self.galley.now.params l.two (drop l.item-index l.fn.self.items.now)) ≡ node_count (nodes_of l.fn.self)
+invariant-loop-item l = l.count + node_count (item_nodes l.fn.self.params l.two (drop l.item-index l.fn.self.items.now)) ≡ node_count (nodes_of l.fn.self)

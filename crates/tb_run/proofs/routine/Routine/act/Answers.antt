@@ -23,17 +23,17 @@ close_list-requires c =
     let r = c.args.self.now in
     let e = c.in_ok-act.ensures in
     let is : c.in-Some.list ∷ [] ≡ _ = c.in-Some.ensures in
-    (subst (AllByRecursion (IsLive r.store)) (sym is) (dropped-live r c.act.new.self c.args.act c.requires.whole e.machine e.fault e.params e.lists e.dropped e.acted)).0
+    (subst (AllByRecursion (IsLive r.store)) (sym is) (dropped-live r c.act.new.self c.args.act c.requires.whole e.machine e.fault e.lists e.dropped e.acted)).0
 
 pub returns-in-Some-clause-ok : goal.returns-in-Some-clause-ok
 returns-in-Some-clause-ok c =
     let r = c.args.self.now in
     let e = c.in_ok-act.ensures in
-    has-acted r c.act.new.self c.args.act c.requires.whole e.machine e.fault e.params e.lists e.dropped e.acted c.close_list.new.store
+    has-acted r c.act.new.self c.args.act c.requires.whole e.machine e.fault e.lists e.dropped e.acted c.close_list.new.store
     (λ q none. let is : c.in-Some.list ∷ [] ≡ _ = c.in-Some.ensures in c.close_list.ensures.others q (λ x. (subst (IsNoneOf q) (sym is) none).0 (sym x)))
 
 pub returns-in_default-clause-ok : goal.returns-in_default-clause-ok
 returns-in_default-clause-ok c =
     let r = c.args.self.now in
     let e = c.in_ok-act.ensures in
-    has-acted r c.act.new.self c.args.act c.requires.whole e.machine e.fault e.params e.lists e.dropped e.acted r.store (λ q none. refl)
+    has-acted r c.act.new.self c.args.act c.requires.whole e.machine e.fault e.lists e.dropped e.acted r.store (λ q none. refl)
