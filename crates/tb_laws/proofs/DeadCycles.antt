@@ -23,10 +23,12 @@ pub mod HighStates
 pub mod HighFirings
 pub mod ValidPenalties
 pub mod CyclePages
-pub mod CycleStarts
 pub mod RaiseBounds
+pub mod BetweenClears
 pub mod LowGoing
 pub mod HighPages
 pub mod HighGoing
+pub mod CycleGoing
 pub mod CycleRuns
+pub mod CycleStarts
 pub mod CycleBound

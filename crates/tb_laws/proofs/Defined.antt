@@ -1,3 +1,2 @@
 -- A run is defined for every galley, in reading order.
-pub mod RunParams
 pub mod FuelLemmas

@@ -1,18 +1,17 @@
 -- Galleys with page breaks put in: each is valid, and its run ships the boxes, floats and notes of the galley without them.
 use Rattle.std.proofs.Common.{◌≡◌, refl, sym, ◌∙◌, ap, subst, ℕ, suc, ◌+◌, ℤ, pos, Bool, true, false, List, [], ◌∷◌, ◌++◌, map, length}
-use Rattle.std.specs.Prelude.{neg_ℤ, ◌==◌, ◌&&◌, not, IsTrue, IsPermutation, filter, nat_le, if◌then◌else◌}
+use Rattle.std.specs.Prelude.{neg_ℤ, ◌==◌, ◌&&◌, not, IsTrue, IsPermutation, filter, if◌then◌else◌}
 use Rattle.std.specs.List.{list_all}
 use Rattle.tb_galley.specs.declared.Item.{Item}
 use Rattle.tb_galley.specs.declared.ItemKind.{ItemKind}
 use Rattle.tb_galley.specs.declared.ItemKind.TheVariants as items
 use Rattle.tb_galley.specs.declared.Galley.{Galley}
 use Rattle.tb_galley.specs.GalleyNodes.{two_after}
-use Rattle.tb_galley.specs.Valid.{IsValid, is_item, has_known_class, fits_kind, weight, lines_of_item, named_lines, rise_from, fits_word}
+use Rattle.tb_galley.specs.Valid.{IsValid, is_item, has_known_class, fits_kind, lines_of_item, named_lines, rise_from, fits_word}
 use Rattle.tb_report.specs.declared.Totals.{Totals}
 use Rattle.tb_steps.specs.Run.{Run, run_of}
 use Rattle.tb_plans.specs.Plans.{break_before, broken, with_breaks}
-use Rattle.tb_laws.specs.Totals.{totals_of}
-use Rattle.tb_laws.specs.Laws.{lines_by, foot_line, text_line, note_line, float_of, galley_floats, as_taken, taken_floats, float_lines, is_in, shipped_boxes, shipped_floats, shipped_nodes, node_lines, note_lines_of, ShipsOnce, HasTotals, KeepsClassOrder, EndsDone, EachShipsOnce, TotalsAreKept, ClassesKeepOrder, LimitsHold, WithinLimits}
+use Rattle.tb_laws.specs.Laws.{lines_by, foot_line, text_line, note_line, float_of, galley_floats, as_taken, taken_floats, float_lines, is_in, shipped_boxes, shipped_floats, shipped_nodes, node_lines, note_lines_of, ShipsOnce, HasTotals, KeepsClassOrder, EachShipsOnce, TotalsAreKept, ClassesKeepOrder, LimitsHold}
 use Rattle.tb_laws.specs.PlanLaws.{TakesBreaks, BreaksKeepValid, BreaksShipOnce, BreaksKeepTotals, BreaksKeepOrder, BreaksKeepLimits}
 
 -- ---- what is gathered of items does not see the breaks
@@ -62,7 +61,7 @@ all-broken f holds k (n ∷ ns) (b ∷ bs) = by (all-broken f holds (suc k) ns b
     by here later true = ap (λ t. t && (f n && list_all f (broken (suc k) ns bs))) (holds n) ∙ ap (λ t. f n && t) here
     by here later false = ap (λ t. f n && t) later
 
--- ---- a galley with breaks is valid, if its items are not too many and its titles stand where they may
+-- ---- a galley with breaks is valid, if its items are not too many and stand where they may
 
 plans-are-valid : (g : Galley) (plan : List ℕ) → IsValid g → TakesBreaks g plan → IsValid (with_breaks g plan)
 plans-are-valid g plan v takes = record {
@@ -75,7 +74,7 @@ plans-are-valid g plan v takes = record {
   items = subst IsTrue (sym (all-broken (λ n. is_item n.line n.kind) (λ n. refl) 0 g.items plan)) v.items;
   feet = subst IsTrue (sym (all-broken (λ n. has_known_class (map (λ c. c.number) g.classes) n.kind) (λ n. refl) 0 g.items plan)) v.feet;
   kinds = subst IsTrue (sym (all-broken (λ n. fits_kind g.version n.kind) (λ n. refl) 0 g.items plan)) v.kinds;
-  heads = takes.1;
+  order = takes.1;
   count = takes.0;
   lines = subst (λ l. IsTrue (rise_from 0 (l ++ g.end_line ∷ []))) (sym (named-broken 0 g.items plan)) v.lines;
 }

@@ -1,8 +1,9 @@
 -- How many floats without the mark `!` an area holds at any moment of a run.
-use Rattle.std.specs.Prelude.{ℕ, pos, ◌+◌, ◌≤ℤ◌, List, [], ◌∷◌, if◌then◌else◌}
+use Rattle.std.specs.Prelude.{ℕ, pos, ◌+◌, ◌≤ℤ◌, List, [], ◌∷◌, IsTrue, if◌then◌else◌}
 use Rattle.std.specs.List.{AllByRecursion}
 use Rattle.tb_node.specs.declared.Float.{Float}
 use Rattle.tb_param.specs.declared.Params.{Params}
+use Rattle.tb_param.specs.Ranges.{are_params}
 use Rattle.tb_galley.specs.declared.Galley.{Galley}
 use Rattle.tb_galley.specs.Valid.{IsValid}
 use Rattle.tb_float.specs.Lists.{FloatLists}
@@ -22,12 +23,13 @@ pub record HoldsNumbers (p : Params) (l : FloatLists) : Type 0 where
   pub double : pos (unmarked l.double) ≤ℤ p.dbltopnumber
   pub text : pos (unmarked l.here + unmarked l.top + unmarked l.bottom) ≤ℤ p.totalnumber
 
--- this is so just before and just after a float is placed, and at a change of columns; only a float that is placed makes an area hold more
-abbrev pub KeepsNumbers : Params → Recorded → Type 0
-KeepsNumbers p (placed f place l height) = HoldsNumbers p l × HoldsNumbers p (joined_to place f l)
-KeepsNumbers p (output c) = Unit {0}
-KeepsNumbers p (emptied l) = HoldsNumbers p l
+-- this is so just before and just after a float is placed, by the parameters that hold then, and only a float that is placed makes an area hold
+-- more; at a change of columns, and where a measure is set, it is so whatever numbers the areas have
+abbrev pub KeepsNumbers : Recorded → Type 0
+KeepsNumbers (placed p f place l height) = HoldsNumbers p l × HoldsNumbers p (joined_to place f l)
+KeepsNumbers (output c) = Unit {0}
+KeepsNumbers (emptied l) = (p : Params) → IsTrue (are_params p) → HoldsNumbers p l
 
 -- at no moment of the run of a valid galley does an area hold more floats without `!` than its number, whatever the run's end
 abbrev pub NumbersHold : Type 0
-NumbersHold = (g : Galley) → IsValid g → AllByRecursion (KeepsNumbers g.params) (run_of g).records
+NumbersHold = (g : Galley) → IsValid g → AllByRecursion KeepsNumbers (run_of g).records

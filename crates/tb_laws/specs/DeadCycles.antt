@@ -7,7 +7,7 @@ use Rattle.tb_galley.specs.declared.Galley.{Galley}
 use Rattle.tb_galley.specs.Valid.{IsValid}
 use Rattle.tb_steps.specs.Run.{End, done, pool_full, dead_cycles, page_limit, node_limit, run_of}
 
--- 1 for an item that can bring firings without a page: a float, a title among them, a marginal note, a page that is made higher, a clear, a change of columns
+-- 1 for an item that can bring firings without a page: a float, a title among them, a marginal note, a page that is made higher, a clear, a change of columns; a parameter that is set brings none
 abbrev pub cycling_count : ItemKind → ℕ
 cycling_count (items.Float f vert) = 1
 cycling_count (items.Head f) = 1

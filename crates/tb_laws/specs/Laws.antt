@@ -150,7 +150,7 @@ holds_float line c = is_in (node_lines float_lines_of c.nodes) line
 abbrev pub is_past : ℕ → ℕ → ℕ → List Recorded → Bool
 is_past line n k [] = false
 is_past line n k (output c ∷ rs) = if holds_float line c then nat_lt (n + 1) (k + 1) else is_past line n (k + 1) rs
-is_past line n k (placed f place l height ∷ rs) = is_past line n k rs
+is_past line n k (placed p f place l height ∷ rs) = is_past line n k rs
 is_past line n k (emptied l ∷ rs) = is_past line n k rs
 
 -- a float is placed in the text
@@ -162,7 +162,7 @@ is_here _ = false
 abbrev pub is_carried_from : ℕ → ℕ → List Recorded → List Recorded → Bool
 is_carried_from line n all [] = false
 is_carried_from line n all (output c ∷ rs) = is_carried_from line (n + 1) all rs
-is_carried_from line n all (placed f place l height ∷ rs) =
+is_carried_from line n all (placed p f place l height ∷ rs) =
     ((f.line == line) && is_here place && is_past line n 0 all) || is_carried_from line n all rs
 is_carried_from line n all (emptied l ∷ rs) = is_carried_from line n all rs
 
@@ -208,17 +208,17 @@ PlacedWithin p f l height places.Double = WithinArea (double_taken p l) (fractio
 PlacedWithin p f l height places.Page = Unit {0}
 PlacedWithin p f l height places.Deferred = Unit {0}
 
--- a float without `!` was placed within its limits; nothing is required of other records
-abbrev pub KeepsLimits : Params → Recorded → Type 0
-KeepsLimits p (placed f place l height) = IsTrue (not f.bang) → PlacedWithin p f l height place
-KeepsLimits p (output c) = Unit {0}
-KeepsLimits p (emptied l) = Unit {0}
+-- a float without `!` was placed within its limits, by the parameters that held when it was placed; nothing is required of other records
+abbrev pub KeepsLimits : Recorded → Type 0
+KeepsLimits (placed p f place l height) = IsTrue (not f.bang) → PlacedWithin p f l height place
+KeepsLimits (output c) = Unit {0}
+KeepsLimits (emptied l) = Unit {0}
 
--- ---- the lists at a change of columns and at the end
+-- ---- the lists at a change of columns, where a measure is set, and at the end
 
--- at a change of columns, or at the end of a run that ends well, all float lists are empty; nothing is required of other records
+-- at a change of columns, where an item sets a measure, or at the end of a run that ends well, all float lists are empty; nothing is required of other records
 abbrev pub IsEmptied : Recorded → Type 0
-IsEmptied (placed f place l height) = Unit {0}
+IsEmptied (placed p f place l height) = Unit {0}
 IsEmptied (output c) = Unit {0}
 IsEmptied (emptied l) = l ≡ no_floats
 
@@ -248,13 +248,13 @@ TotalsAreKept = (g : Galley) → IsValid g → EndsDone (run_of g).end → HasTo
 abbrev pub ClassesKeepOrder : Type 0
 ClassesKeepOrder = (g : Galley) → IsValid g → EndsDone (run_of g).end → KeepsClassOrder g.params (run_of g) (taken_floats false g.items)
 
--- no record of the run places a float without `!` past the limits of its list
-abbrev pub WithinLimits : Params → Run → Type 0
-WithinLimits p r = AllByRecursion (KeepsLimits p) r.records
+-- no record of the run places a float without `!` past the limits of its list, as they are when it is placed
+abbrev pub WithinLimits : Run → Type 0
+WithinLimits r = AllByRecursion KeepsLimits r.records
 
 -- no run places a float without the mark `!` past the limits of its list
 abbrev pub LimitsHold : Type 0
-LimitsHold = (g : Galley) → WithinLimits g.params (run_of g)
+LimitsHold = (g : Galley) → WithinLimits (run_of g)
 
 -- the DVI file of a valid galley whose run ends well lists the placements of the run
 abbrev pub FilesListTheirPages : Type 0
@@ -262,11 +262,12 @@ FilesListTheirPages = (g : Galley) → IsValid g → EndsDone (run_of g).end →
 
 -- the laws of the run of a galley that ended well with these totals: each box, rule, float and note ships once, and the
 -- totals are the galley's; floats of one kind keep their order, but for those that a break carried; no area takes a float
--- past its limits; all float lists are empty at each change of columns and at the end; its DVI file lists its placements
+-- past its limits; all float lists are empty at each change of columns, at each measure that is set, and at the end; its
+-- DVI file lists its placements
 pub record KeepsLaws (g : Galley) (t : Totals) : Type 0 where
   pub ships_once : ShipsOnce g (run_of g)
   pub totals : HasTotals g t
   pub class_order : KeepsClassOrder g.params (run_of g) (taken_floats false g.items)
-  pub area_limits : WithinLimits g.params (run_of g)
+  pub area_limits : WithinLimits (run_of g)
   pub empty_lists : AllByRecursion IsEmptied (run_of g).records
   pub dvi_file : FileListsPages g

@@ -1,7 +1,7 @@
 -- What holds of the pages of a galley whatever page breaks are put into it: each law speaks of the galley without them.
-use Rattle.std.specs.Prelude.{◌≡◌, ℕ, true, false, nat_le, IsTrue, List}
+use Rattle.std.specs.Prelude.{ℕ, false, nat_le, IsTrue, List}
 use Rattle.tb_galley.specs.declared.Galley.{Galley}
-use Rattle.tb_galley.specs.Valid.{IsValid, weight, do_heads_stand}
+use Rattle.tb_galley.specs.Valid.{IsValid, weight, behind_nothing, do_items_stand}
 use Rattle.tb_steps.specs.Run.{run_of}
 use Rattle.tb_laws.specs.Totals.{totals_of}
 use Rattle.tb_laws.specs.Laws.{ShipsOnce, HasTotals, KeepsClassOrder, WithinLimits, EndsDone, taken_floats}
@@ -11,17 +11,17 @@ use Rattle.tb_plans.specs.Plans.{IsPlan, with_breaks}
 abbrev pub FewItems : Galley → List ℕ → Type 0
 FewItems g plan = IsTrue (nat_le (weight (with_breaks g plan).items) 100000)
 
--- no break stands between a change to two columns and its title
-abbrev pub HeadsStand : Galley → List ℕ → Type 0
-HeadsStand g plan = IsTrue (do_heads_stand false (with_breaks g plan).items)
+-- no break stands between a clear or a change of columns and what must stand directly behind it: a title, or a measure that is set
+abbrev pub ItemsStand : Galley → List ℕ → Type 0
+ItemsStand g plan = IsTrue (do_items_stand behind_nothing (with_breaks g plan).items)
 
--- the galley may have the breaks: its items are not too many then, and its titles stand where they may
+-- the galley may have the breaks: its items are not too many then, and its titles and the parameters that its items set stand where they may
 abbrev pub TakesBreaks : Galley → List ℕ → Type 0
-TakesBreaks g plan = FewItems g plan × HeadsStand g plan
+TakesBreaks g plan = FewItems g plan × ItemsStand g plan
 
--- a plan leaves the titles where they may stand
-abbrev pub PlansKeepTitles : Type 0
-PlansKeepTitles = (g : Galley) (plan : List ℕ) → IsValid g → IsPlan g plan → HeadsStand g plan
+-- a plan leaves the titles and the parameters that items set where they may stand
+abbrev pub PlansKeepOrder : Type 0
+PlansKeepOrder = (g : Galley) (plan : List ℕ) → IsValid g → IsPlan g plan → ItemsStand g plan
 
 -- it is valid where the galley is
 abbrev pub BreaksKeepValid : Type 0
@@ -41,4 +41,4 @@ BreaksKeepOrder = (g : Galley) (plan : List ℕ) → IsValid g → TakesBreaks g
 
 -- no area takes a float past its limits
 abbrev pub BreaksKeepLimits : Type 0
-BreaksKeepLimits = (g : Galley) (plan : List ℕ) → WithinLimits g.params (run_of (with_breaks g plan))
+BreaksKeepLimits = (g : Galley) (plan : List ℕ) → WithinLimits (run_of (with_breaks g plan))

@@ -3,7 +3,7 @@
 ghost use Rattle.tb_laws.specs.AreaNumbers.{NumbersHold};
 ghost use Rattle.tb_laws.specs.DeadCycles.{DeadCyclesAreFew};
 ghost use Rattle.tb_laws.specs.Firings.{BoundsAgree, EndsHaveReasons};
-ghost use Rattle.tb_laws.specs.PlanLaws.{BreaksKeepLimits, BreaksKeepOrder, BreaksKeepTotals, BreaksKeepValid, BreaksShipOnce, PlansKeepTitles};
+ghost use Rattle.tb_laws.specs.PlanLaws.{BreaksKeepLimits, BreaksKeepOrder, BreaksKeepTotals, BreaksKeepValid, BreaksShipOnce, PlansKeepOrder};
 ghost use Rattle.tb_laws.specs.Laws.{ClassesKeepOrder, EachShipsOnce, FilesListTheirPages, LimitsHold, ListsAreEmptied, TotalsAreKept};
 
 /// The run of a galley is defined: each firing ships a page or adds to the dead cycles, so the bound on the firings, with
@@ -16,21 +16,21 @@ pub fn runs_are_defined()
 /// Floats keep the limits, however the run of a valid galley ends. When a float without the mark `!` is placed at the top,
 /// at the bottom or above both columns, fewer floats are there than may be, and these with their separators and its height
 /// are less than the area's share. When one is placed in the text, at the top or at the bottom, these three together have
-/// fewer floats than `totalnumber`.
+/// fewer floats than `totalnumber`. The limits are those of the parameters that hold when the float is placed.
 pub fn floats_keep_the_limits()
     ensures { LimitsHold }
 {}
 
 /// No area overflows, however the run of a valid galley ends: at no moment are more floats without the mark `!` at the top,
 /// at the bottom or above both columns than `topnumber`, `bottomnumber` or `dbltopnumber`, nor in the text, at the top and
-/// at the bottom together more than `totalnumber`. It is said of the lists just before and after each float is placed,
-/// since nothing else adds to an area.
+/// at the bottom together more than `totalnumber`, by the parameters that hold then. It is said of the lists just before
+/// and after each float is placed, since nothing else adds to an area; where items set these numbers nothing is in an area.
 pub fn areas_keep_their_numbers()
     ensures { NumbersHold }
 {}
 
-/// The float lists are emptied: all seven are empty at each change of columns, however the run of a valid galley ends, and
-/// at its end if it ends well.
+/// The float lists are emptied: all seven are empty at each change of columns and at each item that sets a measure, however
+/// the run of a valid galley ends, and at its end if it ends well.
 pub fn lists_are_emptied()
     ensures { ListsAreEmptied }
 {}
@@ -64,10 +64,11 @@ pub fn dvi_files_list_their_pages()
 {}
 
 /// Page breaks that are put into a valid galley leave it valid, if it has then no more items than a galley may have and none
-/// stands between `twocolumn` and its `head`. Those of a plan do not stand there.
+/// stands between `twocolumn` and its `head`, or between a clear or a change of columns and a measure that is set behind it.
+/// Those of a plan do not stand there.
 pub fn breaks_keep_valid()
     ensures valid { BreaksKeepValid }
-    ensures titles { PlansKeepTitles }
+    ensures order { PlansKeepOrder }
 {}
 
 /// Whatever page breaks are put into a valid galley, if its run ends well then each box, rule, float and marginal note of

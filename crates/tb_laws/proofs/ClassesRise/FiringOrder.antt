@@ -316,16 +316,16 @@ module _ (k : FloatKind) (Known : ℕ → Type 0) (takes past : List ℕ) (old :
       height = column_height_of p w.state.floats
 
       top-ordered : HasNone f l.deferred → HasNone f l.here → HasNone f l.bottom → Ordered k Known takes past old text (FloatMoves.place_float p places.Top f left w)
-      top-ordered a b c = recorded-ordered text (placed f places.Top l height) (record left { top = l.top ++ f ∷ [] }) w w_ok
-          (to_top k Known text takes (past ++ sent_lines k w.sent) (old ++ w.records) l w.state.two_columns w.state.first_column w.state.left_column f es current h height l a b c)
+      top-ordered a b c = recorded-ordered text (placed p f places.Top l height) (record left { top = l.top ++ f ∷ [] }) w w_ok
+          (to_top k Known text takes (past ++ sent_lines k w.sent) (old ++ w.records) l w.state.two_columns w.state.first_column w.state.left_column f es current h p height l a b c)
 
       bottom-ordered : HasNone f l.deferred → Ordered k Known takes past old text (FloatMoves.place_float p places.Bottom f left w)
-      bottom-ordered a = recorded-ordered text (placed f places.Bottom l height) (record left { bottom = l.bottom ++ f ∷ [] }) w w_ok
-          (to_bottom k Known text takes (past ++ sent_lines k w.sent) (old ++ w.records) l w.state.two_columns w.state.first_column w.state.left_column f es current h height l a)
+      bottom-ordered a = recorded-ordered text (placed p f places.Bottom l height) (record left { bottom = l.bottom ++ f ∷ [] }) w w_ok
+          (to_bottom k Known text takes (past ++ sent_lines k w.sent) (old ++ w.records) l w.state.two_columns w.state.first_column w.state.left_column f es current h p height l a)
 
       here-ordered : HasNone f l.deferred → HasNone f l.bottom → Ordered k Known takes past old (text ++ line_if (is_of k f.class f.line) f.line) (FloatMoves.place_float p places.Here f left w)
-      here-ordered a b = recorded-ordered (text ++ line_if (is_of k f.class f.line) f.line) (placed f places.Here l height) (record left { here = l.here ++ f ∷ [] }) w w_ok
-          (to_here k Known text takes (past ++ sent_lines k w.sent) (old ++ w.records) l w.state.two_columns w.state.first_column w.state.left_column f es current h height l a b)
+      here-ordered a b = recorded-ordered (text ++ line_if (is_of k f.class f.line) f.line) (placed p f places.Here l height) (record left { here = l.here ++ f ∷ [] }) w w_ok
+          (to_here k Known text takes (past ++ sent_lines k w.sent) (old ++ w.records) l w.state.two_columns w.state.first_column w.state.left_column f es current h p height l a b)
 
       deferred-ordered : (g : Float) → g.class ≡ f.class → g.line ≡ f.line → Ordered k Known takes past old text (FloatMoves.place_float p places.Deferred g left w)
       deferred-ordered g c n = to_deferred k Known text takes (past ++ sent_lines k w.sent) (old ++ w.records) l w.state.two_columns w.state.first_column w.state.left_column f es current h g c n

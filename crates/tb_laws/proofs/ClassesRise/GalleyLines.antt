@@ -17,8 +17,8 @@ use Rattle.tb_galley.specs.declared.Item.{Item}
 use Rattle.tb_galley.specs.declared.ItemKind.{ItemKind}
 use Rattle.tb_galley.specs.declared.ItemKind.TheVariants as items
 use Rattle.tb_galley.specs.declared.Galley.{Galley}
-use Rattle.tb_galley.specs.GalleyNodes.{plain_leaf, with_firings, enlarge_list, two_after, item_kinds, item_nodes, expanded}
-use Rattle.tb_galley.specs.Valid.{is_item, leaf_lines, lines_of_item, named_lines, rise_from, IsValid, is_head, is_top_alone, is_size, is_two_column, may_come, do_heads_stand}
+use Rattle.tb_galley.specs.GalleyNodes.{plain_leaf, with_firings, enlarge_list, two_after, params_after, item_kinds, item_nodes, expanded}
+use Rattle.tb_galley.specs.Valid.{is_item, leaf_lines, lines_of_item, named_lines, rise_from, IsValid, is_head, is_top_alone, is_size, Behind, behind_nothing, behind_after, may_head, may_come, do_items_stand}
 use Rattle.tb_float.specs.Lists.{no_floats}
 use Rattle.tb_output.specs.State.{first_state, void_boxes}
 use Rattle.tb_insert.specs.declared.Class.{Class}
@@ -83,19 +83,19 @@ item-feet k p two n d = (tt, tt)
 items-lines : (k : FloatKind) (p : Params) (two : Bool) (ns : List Item) → class_lines k (item_nodes p two ns) ≡ []
 items-lines k p two [] = refl
 items-lines k p two (n ∷ ns) =
-    let after = item_nodes p (two_after two n.kind) ns in
-    lines-append k (on_line n.line (item_kinds p two n.kind)) after ∙ ap (λ l. l ++ class_lines k after) (item-lines k p two n.line n.kind) ∙ items-lines k p (two_after two n.kind) ns
+    let after = item_nodes (params_after p n.kind) (two_after two n.kind) ns in
+    lines-append k (on_line n.line (item_kinds p two n.kind)) after ∙ ap (λ l. l ++ class_lines k after) (item-lines k p two n.line n.kind) ∙ items-lines k (params_after p n.kind) (two_after two n.kind) ns
 
 items-takes : (k : FloatKind) (p : Params) (two : Bool) (ns : List Item) → take_lines k (item_nodes p two ns) ≡ float_lines k (galley_floats ns)
 items-takes k p two [] = refl
 items-takes k p two (n ∷ ns) =
-    let after = item_nodes p (two_after two n.kind) ns in
-    takes-append k (on_line n.line (item_kinds p two n.kind)) after ∙ ap (λ l. l ++ take_lines k after) (item-takes k p two n.line n.kind) ∙ ap (λ l. float_lines k (float_of n.kind) ++ l) (items-takes k p (two_after two n.kind) ns)
+    let after = item_nodes (params_after p n.kind) (two_after two n.kind) ns in
+    takes-append k (on_line n.line (item_kinds p two n.kind)) after ∙ ap (λ l. l ++ take_lines k after) (item-takes k p two n.line n.kind) ∙ ap (λ l. float_lines k (float_of n.kind) ++ l) (items-takes k (params_after p n.kind) (two_after two n.kind) ns)
     ∙ sym (floats-append k (float_of n.kind) (galley_floats ns))
 
 items-feet : (k : FloatKind) (p : Params) (two : Bool) (ns : List Item) → HoldFloatless k (item_nodes p two ns)
 items-feet k p two [] = tt
-items-feet k p two (n ∷ ns) = all-join (λ (x : PlainNode). HoldsFloatless k x.kind) (on_line n.line (item_kinds p two n.kind)) (item_nodes p (two_after two n.kind) ns) (item-feet k p two n.line n.kind) (items-feet k p (two_after two n.kind) ns)
+items-feet k p two (n ∷ ns) = all-join (λ (x : PlainNode). HoldsFloatless k x.kind) (on_line n.line (item_kinds p two n.kind)) (item_nodes (params_after p n.kind) (two_after two n.kind) ns) (item-feet k p two n.line n.kind) (items-feet k (params_after p n.kind) (two_after two n.kind) ns)
 
 galley-lines : (k : FloatKind) (g : Galley) → class_lines k (expanded g) ≡ []
 unfolding expanded
@@ -258,12 +258,16 @@ floats-among has d (f ∷ fs) = (
 
 -- ---- what is taken suits a kind at the start
 
--- behind a change to two columns there are two
-two-columns : (two : Bool) (d : ItemKind) → is_two_column d ≡ true → two_after two d ≡ true
-two-columns two items.TwoColumn e = refl
-two-columns two d e = absurd (true≢false (sym e))
+-- behind a change to two columns, and parameters that are set there, there are two
+abbrev HasTwo : Behind → Bool → Type 0
+HasTwo b two = may_head b ≡ true → two ≡ true
 
-item-suits : (k : FloatKind) (p : Params) (two after : Bool) (n : ℕ) (d : ItemKind) (ys : List Act) → (after ≡ true → two ≡ true) → IsTrue (may_come after d) → IsTrue (is_item n d)
+two-columns : (b : Behind) (two : Bool) (d : ItemKind) → HasTwo b two → HasTwo (behind_after b d) (two_after two d)
+two-columns b two items.TwoColumn h e = refl
+two-columns b two (items.Set c) h e = h e
+two-columns b two d h e = absurd (true≢false (sym e))
+
+item-suits : (k : FloatKind) (p : Params) (two : Bool) (after : Behind) (n : ℕ) (d : ItemKind) (ys : List Act) → HasTwo after two → IsTrue (may_come after d) → IsTrue (is_item n d)
     → AllByRecursion (λ f. is_of k f.class f.line ≡ true → IsOnSide k.side f.wide) (map (as_taken two) (float_of d)) → Suits k (two_after two d) ys → Suits k two (deeds (on_line n (item_kinds p two d)) ++ ys)
 item-suits k p two after n (items.Float x vert) ys t c v f s = by_taking (has_second p && two && x.wide)
   where
@@ -285,21 +289,21 @@ item-suits k p two after n (items.Head x) ys t c v f s = (λ e. subst (IsOnSide 
         (and_parts (x.class == 0) x.wide d.0).1
 item-suits k p two after n d ys t c v f s = s
 
-items-suit : (k : FloatKind) (p : Params) (two after : Bool) (ns : List Item) → (after ≡ true → two ≡ true) → IsTrue (do_heads_stand after ns) → IsTrue (list_all (λ n. is_item n.line n.kind) ns)
+items-suit : (k : FloatKind) (p : Params) (two : Bool) (after : Behind) (ns : List Item) → HasTwo after two → IsTrue (do_items_stand after ns) → IsTrue (list_all (λ n. is_item n.line n.kind) ns)
     → AllByRecursion (λ f. is_of k f.class f.line ≡ true → IsOnSide k.side f.wide) (taken_floats two ns) → Suits k two (deeds (item_nodes p two ns))
 items-suit k p two after [] t c v h = tt
 items-suit k p two after (n ∷ ns) t c v h =
-    let behind = item_nodes p (two_after two n.kind) ns in
+    let behind = item_nodes (params_after p n.kind) (two_after two n.kind) ns in
     let here = map (as_taken two) (float_of n.kind) in
     let later = taken_floats (two_after two n.kind) ns in
-    let stands = and_parts (may_come after n.kind) (do_heads_stand (is_two_column n.kind) ns) c in
+    let stands = and_parts (may_come after n.kind) (do_items_stand (behind_after after n.kind) ns) c in
     let valid = and_parts (is_item n.line n.kind) (list_all (λ n. is_item n.line n.kind) ns) v in
     subst (Suits k two) (sym (deeds-append (on_line n.line (item_kinds p two n.kind)) behind))
     (item-suits k p two after n.line n.kind (deeds behind) t stands.0 valid.0 (all-front (λ f. is_of k f.class f.line ≡ true → IsOnSide k.side f.wide) here later h)
-    (items-suit k p (two_after two n.kind) (is_two_column n.kind) ns (two-columns two n.kind) stands.1 valid.1 (all-back (λ f. is_of k f.class f.line ≡ true → IsOnSide k.side f.wide) here later h)))
+    (items-suit k (params_after p n.kind) (two_after two n.kind) (behind_after after n.kind) ns (two-columns after two n.kind t) stands.1 valid.1 (all-back (λ f. is_of k f.class f.line ≡ true → IsOnSide k.side f.wide) here later h)))
 
 pub galley-suits : (g : Galley) (k : FloatKind) → IsValid g → AllByRecursion (λ f. is_of k f.class f.line ≡ true → IsOnSide k.side f.wide) (taken_floats false g.items) → Suits k false (deeds (expanded g))
 unfolding expanded
 galley-suits g k v h =
     subst (Suits k false) (sym (deeds-append (item_nodes g.params false g.items) (on_line g.end_line clearpage_kinds) ∙ append-nil (deeds (item_nodes g.params false g.items))))
-    (items-suit k g.params false false g.items (λ e. e) v.heads v.items h)
+    (items-suit k g.params false behind_nothing g.items (λ e. e) v.order v.items h)

@@ -104,20 +104,20 @@ rises-before Known Excused a b (x ∷ xs) l r (inr i) (inr j) = either (rises-be
 
 abbrev pub outputs : List Recorded → ℕ
 outputs [] = 0
-outputs (placed f place l height ∷ rs) = outputs rs
+outputs (placed p f place l height ∷ rs) = outputs rs
 outputs (output c ∷ rs) = suc (outputs rs)
 outputs (emptied l ∷ rs) = outputs rs
 
 -- no column of the records has the float
 abbrev pub HoldsNot : ℕ → Recorded → Type 0
-HoldsNot n (placed f place l height) = Unit {0}
+HoldsNot n (placed p f place l height) = Unit {0}
 HoldsNot n (output c) = holds_float n c ≡ false
 HoldsNot n (emptied l) = Unit {0}
 
 some-output : (rs : List Recorded) → HasOutput rs → 0 < outputs rs
 some-output [] h = absurd h
-some-output (placed f place l height ∷ rs) (inl h) = absurd h
-some-output (placed f place l height ∷ rs) (inr h) = some-output rs h
+some-output (placed p f place l height ∷ rs) (inl h) = absurd h
+some-output (placed p f place l height ∷ rs) (inr h) = some-output rs h
 some-output (output c ∷ rs) h = omega arith
 some-output (emptied l ∷ rs) (inl h) = absurd h
 some-output (emptied l ∷ rs) (inr h) = some-output rs h
@@ -125,7 +125,7 @@ some-output (emptied l ∷ rs) (inr h) = some-output rs h
 -- the first column that has the float comes behind these columns
 pub past-front : (n m j : ℕ) (front : List Recorded) (c : PlainColumn) (back : List Recorded) → AllByRecursion (HoldsNot n) front → holds_float n c ≡ true → m < j + outputs front → IsTrue (is_past n m j (front ++ output c ∷ back))
 past-front n m j [] c back none there l = subst (λ t. IsTrue (if t then nat_lt (m + 1) (j + 1) else is_past n m (j + 1) back)) (sym there) (grind (arith, l))
-past-front n m j (placed f place x height ∷ rs) c back none there l = past-front n m j rs c back none.1 there l
+past-front n m j (placed p f place x height ∷ rs) c back none there l = past-front n m j rs c back none.1 there l
 past-front n m j (output d ∷ rs) c back none there l = subst (λ t. IsTrue (if t then nat_lt (m + 1) (j + 1) else is_past n m (j + 1) (rs ++ output c ∷ back))) (sym none.0) (past-front n m (j + 1) rs c back none.1 there (omega arith))
 past-front n m j (emptied x ∷ rs) c back none there l = past-front n m j rs c back none.1 there l
 
@@ -136,12 +136,12 @@ late-carried k n j total all (output c ∷ rs) back e h (inl i) = absurd i.0
 late-carried k n j total all (output c ∷ rs) back e h (inr i) = late-carried k n (j + 1) total all rs back (omega arith) h i
 late-carried k n j total all (emptied l ∷ rs) back e h (inl i) = absurd i.0
 late-carried k n j total all (emptied l ∷ rs) back e h (inr i) = late-carried k n j total all rs back e h i
-late-carried k n j total all (placed f place l height ∷ rs) back e h (inr i) = or_right ((f.line == n) && is_here place && is_past n j 0 all) (is_carried_from n j all (rs ++ back)) (late-carried k n j total all rs back e h i)
-late-carried k n j total all (placed f place l height ∷ rs) back e h (inl i) = or_left ((f.line == n) && is_here place && is_past n j 0 all) (is_carried_from n j all (rs ++ back)) (by_place place i.0)
+late-carried k n j total all (placed p f place l height ∷ rs) back e h (inr i) = or_right ((f.line == n) && is_here place && is_past n j 0 all) (is_carried_from n j all (rs ++ back)) (late-carried k n j total all rs back e h i)
+late-carried k n j total all (placed p f place l height ∷ rs) back e h (inl i) = or_left ((f.line == n) && is_here place && is_past n j 0 all) (is_carried_from n j all (rs ++ back)) (by_place place i.0)
   where
     below : j < total
     below = let a : 0 < outputs rs = some-output rs i.1 in omega (arith, e)
 
-    by_place : (place : Where) → IsPlacing k n (placed f place l height) → IsTrue ((f.line == n) && is_here place && is_past n j 0 all)
+    by_place : (place : Where) → IsPlacing k n (placed p f place l height) → IsTrue ((f.line == n) && is_here place && is_past n j 0 all)
     by_place places.Here p = and_from ((f.line == n) && true) (is_past n j 0 all) (and_from (f.line == n) true (is-same f.line n p.1) refl) (h j below)
     by_place place p = absurd p

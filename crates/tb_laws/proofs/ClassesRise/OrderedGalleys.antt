@@ -1,13 +1,12 @@
 -- The floats of a valid galley keep the order of their class, but for those that a break carried.
 use Rattle.std.proofs.Common.{◌≡◌, refl, sym, ◌∙◌, ap, subst, ℕ, ◌<◌, ◌≢◌, ◌==◌, ◌⊎◌, inl, inr, ◌||◌, Bool, true, false, List, [], ◌∷◌, ◌++◌, append_assoc, arith}
-use Rattle.std.specs.Prelude.{int_le, IsTrue, not, map, if◌then◌else◌}
+use Rattle.std.specs.Prelude.{IsTrue, not, map, if◌then◌else◌}
 use Rattle.std.specs.Bool.{beq}
 use Rattle.std.specs.List.{AllByRecursion}
 use Rattle.std.proofs.lemmas.Bool.{and_parts, eqb-true, or_left, or_right}
 use Rattle.std.proofs.lemmas.List.Sorted.{All-permutation}
 use Rattle.std.proofs.lemmas.List.Elements.{All-from_recursion, recursion_from_All}
 use Rattle.tb_break.proofs.EachLemmas.{all-front, all-back, all-map}
-use Rattle.tb_scaled.specs.Scaled.{eject_penalty}
 use Rattle.tb_node.specs.declared.Float.{Float}
 use Rattle.tb_galley.specs.declared.Galley.{Galley}
 use Rattle.tb_galley.specs.declared.Item.{Item}
@@ -31,7 +30,6 @@ use Rattle.tb_laws.proofs.ClassesRise.OutOrder.{IsOnSide, Suits}
 use Rattle.tb_laws.proofs.NothingLost.ClosingStarts.{start-closing}
 use Rattle.tb_laws.proofs.NothingLost.ShippedRuns.{lists-emptied}
 use Rattle.tb_laws.proofs.OnceEach.ShippedOnce.{ships-once}
-use Rattle.tb_laws.proofs.DeadCycles.ValidPenalties.{interline-calm}
 use Rattle.tb_laws.proofs.NothingLost.ClassLemmas.{valid-differ, valid-fit}
 use Rattle.tb_laws.proofs.ClassesRise.OrderedRuns.{RunOrder, run-order}
 use Rattle.tb_laws.proofs.ClassesRise.FloatlessNodes.{events_lines}
@@ -115,7 +113,7 @@ module _ (g : Galley) (valid : IsValid g) (r : Run) (has : ℕ → Bool) (d : Si
 
   front-lacks : (k n : ℕ) → has n ≡ true → IsOfClass g (of_kind has d k) n → (rs : List Recorded) → ((j : ℕ) → AllByRecursion (IsOfClass g (of_kind has d j)) (record_lines (of_kind has d j) rs)) → IsMissing n (record_lines (of_kind has d k) rs) → AllByRecursion (HoldsNot n) rs
   front-lacks k n t i [] known missing = tt
-  front-lacks k n t i (placed f place l height ∷ rs) known missing = (tt, front-lacks k n t i rs known missing)
+  front-lacks k n t i (placed p f place l height ∷ rs) known missing = (tt, front-lacks k n t i rs known missing)
   front-lacks k n t i (emptied l ∷ rs) known missing = (tt, front-lacks k n t i rs known missing)
   front-lacks k n t i (output c ∷ rs) known missing = (
     column-lacks k n t i c (λ j. all-front (IsOfClass g (of_kind has d j)) (class_lines (of_kind has d j) c.nodes) (record_lines (of_kind has d j) rs) (known j)) (all-front (λ y. y ≢ n) (class_lines (of_kind has d k) c.nodes) (record_lines (of_kind has d k) rs) missing),
@@ -221,9 +219,9 @@ module _ (g : Galley) (r : Run) (IsIn : Float → Type 0) (pair : (f h : Float) 
 -- ---- whole runs
 
 -- a run that is done and records empty lists alone has shipped each class in order
-galley-order : (g : Galley) → IsValid g → int_le g.params.interlinepenalty eject_penalty ≡ false → (k : FloatKind) → IsReleased k g.params → Suits k false (deeds (expanded g)) → EndsDone (run_of g).end → AllByRecursion IsEmptied (run_of g).records → RunOrder k (IsOfClass g k) (events_lines k (run_of g).events) (run_of g).records
-galley-order g valid calm k released suits =
-    run-order k (IsOfClass g k) g.params released calm [] [] (galley-is g) (start-kept g (valid-differ g valid) (valid-fit g valid)) (start-closing g (valid-fit g valid)) (start-order g k valid suits)
+galley-order : (g : Galley) → IsValid g → (k : FloatKind) → IsReleased k g.params → Suits k false (deeds (expanded g)) → EndsDone (run_of g).end → AllByRecursion IsEmptied (run_of g).records → RunOrder k (IsOfClass g k) (events_lines k (run_of g).events) (run_of g).records
+galley-order g valid k released suits =
+    run-order k (IsOfClass g k) [] [] (galley-is g) (start-kept g valid.params (valid-differ g valid) (valid-fit g valid)) (start-closing g valid.order (valid-fit g valid)) released (start-order g k valid suits)
 
 -- the kind of a class and a width of a galley
 abbrev galley_kind : Galley → Bool → ℕ → FloatKind
@@ -285,5 +283,5 @@ classes-keep-order g valid done =
         let both = and_parts (f.class == h.class) (not (has_second g.params) || beq f.wide h.wide) e in
         let u = same-width (has_second g.params) f h both.1 b.width in
         pair-order g valid (run_of g) (has_width (has_second g.params) f.wide (taken_floats false g.items)) (side_of (has_second g.params) f.wide)
-        (λ k. galley-order g valid (interline-calm g.params valid.params) (galley_kind g f.wide k) (side-new (has_second g.params) f.wide) (kind-suits g valid f.wide k) done (lists-emptied g valid))
+        (λ k. galley-order g valid (galley_kind g f.wide k) (side-new (has_second g.params) f.wide) (kind-suits g valid f.wide k) done (lists-emptied g valid))
         f h l a.width u (a.known f.wide a.width) (b.known f.wide u) a.ships b.ships (eqb-true f.class h.class both.0)

@@ -1,5 +1,5 @@
 -- A run keeps the order of a class: from firing to firing, if the lists are empty at each change of columns.
-use Rattle.std.proofs.Common.{◌≡◌, refl, sym, ◌∙◌, ap, subst, ℕ, ◌+◌, ◌<◌, ◌⊎◌, inl, inr, Bool, true, false, List, [], ◌∷◌, ◌++◌, map, take, Option, None, append_assoc, append-nil}
+use Rattle.std.proofs.Common.{◌≡◌, refl, sym, ◌∙◌, ap, subst, ℕ, ◌<◌, ◌⊎◌, inl, inr, Bool, true, false, List, [], ◌∷◌, ◌++◌, map, take, Option, None, append_assoc, append-nil}
 use Rattle.std.specs.Prelude.{ℤ, int_le, ◌&&◌, if◌then◌else◌}
 use Rattle.std.specs.List.{AllByRecursion}
 use Rattle.std.proofs.lemmas.Bool.{and_parts, true≢false}
@@ -9,6 +9,9 @@ use Rattle.tb_node.specs.declared.Act.{Act}
 use Rattle.tb_node.specs.PlainNodes.{PlainNode}
 use Rattle.tb_param.specs.declared.Params.{Params}
 use Rattle.tb_param.specs.Release.{has_second}
+use Rattle.tb_param.specs.declared.SetPlace.{SetPlace}
+use Rattle.tb_param.specs.declared.SetPlace.TheVariants as set_places
+use Rattle.tb_param.specs.Changes.{set_place}
 use Rattle.tb_break.specs.PageTop.{pruned_nodes}
 use Rattle.tb_insert.specs.Account.{Frozen, labelled}
 use Rattle.tb_builder.specs.Reach.{Reached}
@@ -20,8 +23,10 @@ use Rattle.tb_float.specs.declared.Entry.TheVariants as entries
 use Rattle.tb_float.specs.Lists.{FloatLists, floats_among, no_floats}
 use Rattle.tb_column.specs.Column.{PlainColumn}
 use Rattle.tb_output.specs.State.{State, Work, Recorded, emptied}
-use Rattle.tb_output.specs.Act.{lists_with_taken, taken_float, taken_head, lists_with_head, with_head}
+use Rattle.tb_output.specs.Act.{lists_with_taken, taken_float, taken_head, lists_with_head, with_head, set_records}
 use Rattle.tb_output.specs.Output
+use Rattle.tb_output.proofs.KeptParams.{out-keeps-params}
+use Rattle.tb_laws.proofs.DeadCycles.ValidPenalties.{interline-calm}
 use Rattle.tb_sheet.specs.Asked
 use Rattle.tb_laws.proofs.NothingLost.StateWeights.{ColumnsFit, class_numbers, first-left}
 use Rattle.tb_laws.proofs.NothingLost.WorkWeights.{Careful}
@@ -44,7 +49,7 @@ use Rattle.tb_laws.proofs.NothingLost.ClosingRuns.{page-after, closed-page, fire
 use Rattle.tb_node.specs.declared.Float.{Float}
 use Rattle.tb_laws.proofs.ClassesRise.OutOrder.{IsOnSide, Suits, InOrder, FiresInOrder, out-order}
 use Rattle.tb_steps.specs.Run.{Run, Step, ends, goes_on, ask_for}
-use Rattle.tb_steps.proofs.RunTree.{ActMove, PageMoves, fired_at, served_at, WholePage, StepIs, RunIs, takes_float, takes_note, sets_flag, changes_columns, sets_number, takes_title, shows_try, does_act, rests, moves, fires_on, is_done, runs_out, starts_too_full, ends_so, goes_on_so}
+use Rattle.tb_steps.proofs.RunTree.{ActMove, PageMoves, fired_at, served_at, WholePage, StepIs, RunIs, takes_float, takes_note, sets_flag, changes_columns, sets_number, takes_title, sets_parameter, shows_try, does_act, rests, moves, fires_on, is_done, runs_out, starts_too_full, ends_so, goes_on_so}
 use Rattle.tb_steps.proofs.RunFolds.{PageLaw, page-holds}
 use Rattle.tb_sheet.specs.declared.Warn.{Warn}
 use Rattle.tb_items.specs.RunEvents.{RunEvent, sent}
@@ -304,6 +309,11 @@ module _ (k : FloatKind) (Known : ℕ → Type 0) (p : Params) (r : IsReleased k
   )
   act-order takes ds rs (sets_flag {s = s} area) h u m = (subst (λ x. StateOrder takes x s) (sym (append-nil rs)) h, u)
   act-order takes ds rs (sets_number {s = s} n) h u m = (subst (λ x. StateOrder takes x s) (sym (append-nil rs)) h, u)
+  act-order takes ds rs (sets_parameter {s = s} c) h u m = (by_place (set_place c.field), u)
+    where
+      by_place : (x : SetPlace) → Order k Known text takes past (rs ++ set_records x s.floats) s.floats s.two_columns s.first_column s.left_column
+      by_place set_places.AfterClear = order-quietly k Known text past takes rs (emptied s.floats ∷ []) s.floats s.two_columns s.first_column s.left_column (tt, tt) h
+      by_place x = subst (λ x. StateOrder takes x s) (sym (append-nil rs)) h
   act-order takes ds rs (takes_title {s = s} f room) h u m = (subst (λ x. StateOrder takes x (with_head p s (taken_head p f))) (sym (append-nil rs)) (titled takes rs s (taken_head p f) (head-room p s room) u.0 h), u.1)
   act-order takes ds rs (changes_columns {s = s} two) h u m = (
     order-quietly k Known text past takes rs (emptied s.floats ∷ []) s.floats two true None (tt, tt)
@@ -311,27 +321,38 @@ module _ (k : FloatKind) (Known : ℕ → Type 0) (p : Params) (r : IsReleased k
     u,
   )
 
+-- an act keeps the release
+act-released : (k : FloatKind) {s t : State} {a : Act} {ws : List Warn} {rs : List Recorded} → ActMove s.params s a t ws rs → IsReleased k s.params → IsReleased k t.params
+act-released k (takes_float f room) r = r
+act-released k m r = r
+
+module _ (k : FloatKind) (Known : ℕ → Type 0) (text past : List ℕ) where
+  -- the class in order in a state of the release, if these lines are still to be taken
+  abbrev NowOrder : List ℕ → List Recorded → State → Type 0
+  NowOrder takes rs s = Order k Known text takes past rs s.floats s.two_columns s.first_column s.left_column
+
   -- the acts that are reached take the floats that were to be taken
-  page-order : (takes : List ℕ) (all : List Act) (rs : List Recorded) {reached qs : List Reached} {s t : State} {es : List RunEvent} {more : List Recorded} → PageMoves p reached s es more qs t → AllByRecursion IsEmptied more
-      → StateOrder (acts_lines k (acted_of reached) ++ takes) rs s → Suits k s.two_columns (acted_of reached ++ all) → StateOrder (acts_lines k (acted_of qs) ++ takes) (rs ++ more) t × Suits k t.two_columns (acted_of qs ++ all)
-  page-order takes all rs (rests {rs = qs} {s = s}) e h u = (subst (λ x. StateOrder (acts_lines k (acted_of qs) ++ takes) x s) (sym (append-nil rs)) h, u)
-  page-order takes all rs (moves (shows_try line b least qs) x) e h u = page-order takes all rs x e h u
-  page-order takes all rs (moves {ls = ls} {u = t} {more = later} (does_act {s = s} {records = more} a qs m) x) e h u =
-      let y = act-order (acts_lines k (acted_of qs) ++ takes) (acted_of qs ++ all) rs m (subst (λ y. StateOrder y rs s) (append_assoc (act_lines k a) (acts_lines k (acted_of qs)) takes) h) u (all-front IsEmptied more later e) in
-      let z = page-order takes all (rs ++ more) x (all-back IsEmptied more later e) y.0 y.1 in
-      (subst (λ l. StateOrder (acts_lines k (acted_of ls) ++ takes) l t) (append_assoc rs more later) z.0, z.1)
+  page-order : (takes : List ℕ) (all : List Act) (rs : List Recorded) {reached qs : List Reached} {s t : State} {es : List RunEvent} {more : List Recorded} → PageMoves reached s es more qs t → AllByRecursion IsEmptied more
+      → IsReleased k s.params → NowOrder (acts_lines k (acted_of reached) ++ takes) rs s → Suits k s.two_columns (acted_of reached ++ all)
+      → IsReleased k t.params × NowOrder (acts_lines k (acted_of qs) ++ takes) (rs ++ more) t × Suits k t.two_columns (acted_of qs ++ all)
+  page-order takes all rs (rests {rs = qs} {s = s}) e r h u = (r, subst (λ x. NowOrder (acts_lines k (acted_of qs) ++ takes) x s) (sym (append-nil rs)) h, u)
+  page-order takes all rs (moves (shows_try line b least qs) x) e r h u = page-order takes all rs x e r h u
+  page-order takes all rs (moves {ls = ls} {u = t} {more = later} (does_act {s = s} {records = more} a qs m) x) e r h u =
+      let y = act-order k Known s.params r text past (acts_lines k (acted_of qs) ++ takes) (acted_of qs ++ all) rs m (subst (λ y. NowOrder y rs s) (append_assoc (act_lines k a) (acts_lines k (acted_of qs)) takes) h) u (all-front IsEmptied more later e) in
+      let z = page-order takes all (rs ++ more) x (all-back IsEmptied more later e) (act-released k m r) y.0 y.1 in
+      (z.0, subst (λ l. NowOrder (acts_lines k (acted_of ls) ++ takes) l t) (append_assoc rs more later) z.1, z.2)
 
 -- what is reached ships nothing
-abbrev lineless : FloatKind → (p : Params) → PageLaw p
-lineless k p = record {
+abbrev lineless : FloatKind → PageLaw
+lineless k = record {
   shows = record { holds = λ es rs. events_lines k es ≡ []; none = refl; both = λ es fs rs qs a b. events-lines-append k es fs ∙ (λ i. a i ++ b i) };
   holds = λ rs s. Unit {0};
   tries = λ line b least rs s h. (refl, tt);
   acts = λ s t a ws records rs m h. (warnings-lines k ws, tt);
 }
 
-page-lines : (k : FloatKind) {p : Params} {rs qs : List Reached} {s t : State} {es : List RunEvent} {records : List Recorded} → PageMoves p rs s es records qs t → events_lines k es ≡ []
-page-lines k {p = p} x = (page-holds (lineless k p) x tt).0
+page-lines : (k : FloatKind) {rs qs : List Reached} {s t : State} {es : List RunEvent} {records : List Recorded} → PageMoves rs s es records qs t → events_lines k es ≡ []
+page-lines k x = (page-holds (lineless k) x tt).0
 
 -- ---- a page and its firing
 
@@ -344,37 +365,37 @@ abbrev pub StepOrder : FloatKind → (ℕ → Type 0) → List ℕ → List Reco
 StepOrder k Known past old (goes_on es rs t) = AllByRecursion IsEmptied rs → InOrder k Known (past ++ events_lines k es) (old ++ rs) t
 StepOrder k Known past old (ends es rs e) = EndsDone e → AllByRecursion IsEmptied rs → RunOrder k Known (past ++ events_lines k es) (old ++ rs)
 
-module _ (k : FloatKind) (Known : ℕ → Type 0) (p : Params) (released : IsReleased k p) (calm : int_le p.interlinepenalty eject_penalty ≡ false) (past : List ℕ) (old : List Recorded) (s : State) (kept : Kept s) (closing : Closing p s) (h : InOrder k Known past old s) where
-  page_cut : CutAt [] (pruned_nodes p.topskip s.waiting) (page_of p s)
-  page_cut = cut nothing_weighs p calm s kept
+module _ (k : FloatKind) (Known : ℕ → Type 0) (past : List ℕ) (old : List Recorded) (s : State) (kept : Kept s) (closing : Closing s) (released : IsReleased k s.params) (h : InOrder k Known past old s) where
+  page_cut : CutAt [] (pruned_nodes (ask_for s).top_skip s.waiting) (page_of s)
+  page_cut = cut nothing_weighs s kept
 
-  stands : PageStands kept.placed.held (page_break (page_of p s)).place (page_of p s)
-  stands = cut_stands nothing_weighs p calm s kept
+  stands : PageStands kept.placed.held (page_break (page_of s)).place (page_of s)
+  stands = cut_stands nothing_weighs s kept
 
   -- the state after the acts of the page
-  module _ (t : State) (after : After nothing_weighs (acted_weight nothing_weighs (page_of p s).reached) s t) (z : Frozen) where
+  module _ (t : State) (after : After nothing_weighs (acted_weight nothing_weighs (page_of s).reached) s t) (z : Frozen) where
     abbrev fired : Fired
-    fired = fired_by (labelled z (take (page_break (page_of p s)).place (page_of p s).passed)) t.boxes (page_of p s)
+    fired = fired_by (labelled z (take (page_break (page_of s)).place (page_of s).passed)) t.boxes (page_of s)
 
-    insertions : AllIns (class_numbers s.classes) (held_insertions (labelled z (take (page_break (page_of p s)).place (page_of p s).passed)))
-    insertions = held-ins (class_numbers s.classes) (labelled z (take (page_break (page_of p s)).place (page_of p s).passed)) (labelled-class (class_numbers s.classes) z [] [] (take (page_break (page_of p s)).place (page_of p s).passed) tt (cut_feet nothing_weighs p calm s kept).0)
+    insertions : AllIns (class_numbers s.classes) (held_insertions (labelled z (take (page_break (page_of s)).place (page_of s).passed)))
+    insertions = held-ins (class_numbers s.classes) (labelled z (take (page_break (page_of s)).place (page_of s).passed)) (labelled-class (class_numbers s.classes) z [] [] (take (page_break (page_of s)).place (page_of s).passed) tt (cut_feet nothing_weighs s kept).0)
 
-    lines : FiredLines k s.waiting (page_of p s) (fired_by (labelled z (take (page_break (page_of p s)).place (page_of p s).passed)) t.boxes (page_of p s))
-    lines = fired-lines k p.topskip s.waiting (page_of p s) page_cut h.early h.feet (class_numbers s.classes) z t.boxes (subst (BoxesFloatless k) (sym after.boxes) h.boxes) insertions
+    lines : FiredLines k s.waiting (page_of s) (fired_by (labelled z (take (page_break (page_of s)).place (page_of s).passed)) t.boxes (page_of s))
+    lines = fired-lines k (ask_for s).top_skip s.waiting (page_of s) page_cut h.early h.feet (class_numbers s.classes) z t.boxes (subst (BoxesFloatless k) (sym after.boxes) h.boxes) insertions
 
     free : kept.placed.held ≡ false → t.held_page ≡ []
     free e = after.held ∙ kept.placed.free e
 
-    careful : Careful floats_count t.held_page (fired_by (labelled z (take (page_break (page_of p s)).place (page_of p s).passed)) t.boxes (page_of p s))
-    careful = page-careful floats_count kept.placed.held (labelled z (take (page_break (page_of p s)).place (page_of p s).passed)) t.boxes (page_of p s) t.held_page free stands
+    careful : Careful floats_count t.held_page (fired_by (labelled z (take (page_break (page_of s)).place (page_of s).passed)) t.boxes (page_of s))
+    careful = page-careful floats_count kept.placed.held (labelled z (take (page_break (page_of s)).place (page_of s).passed)) t.boxes (page_of s) t.held_page free stands
 
-    cleared_free : int_le eject_penalty (penalty_at (from_break (page_of p s))) ≡ false → Output.is_int (penalty_at (from_break (page_of p s))) Asked.clear_penalty ≡ true → class_lines k t.held_page ≡ []
-    cleared_free x y = ap (class_lines k) (free (clear-frees kept.placed.held _ _ (penalty_at (from_break (page_of p s))) x y stands.rest))
+    cleared_free : int_le eject_penalty (penalty_at (from_break (page_of s))) ≡ false → Output.is_int (penalty_at (from_break (page_of s))) Asked.clear_penalty ≡ true → class_lines k t.held_page ≡ []
+    cleared_free x y = ap (class_lines k) (free (clear-frees kept.placed.held _ _ (penalty_at (from_break (page_of s))) x y stands.rest))
 
-    fires-in-order : (rs : List Recorded) → Order k Known (class_lines k s.held_page ++ class_lines k s.waiting) (take_lines k (fired_by (labelled z (take (page_break (page_of p s)).place (page_of p s).passed)) t.boxes (page_of p s)).rest) past rs t.floats t.two_columns t.first_column t.left_column
-        → Suits k t.two_columns (deeds (fired_by (labelled z (take (page_break (page_of p s)).place (page_of p s).passed)) t.boxes (page_of p s)).rest) → FiresInOrder k Known past rs t (fired_by (labelled z (take (page_break (page_of p s)).place (page_of p s).passed)) t.boxes (page_of p s))
+    fires-in-order : (rs : List Recorded) → Order k Known (class_lines k s.held_page ++ class_lines k s.waiting) (take_lines k (fired_by (labelled z (take (page_break (page_of s)).place (page_of s).passed)) t.boxes (page_of s)).rest) past rs t.floats t.two_columns t.first_column t.left_column
+        → Suits k t.two_columns (deeds (fired_by (labelled z (take (page_break (page_of s)).place (page_of s).passed)) t.boxes (page_of s)).rest) → FiresInOrder k Known past rs t (fired_by (labelled z (take (page_break (page_of s)).place (page_of s).passed)) t.boxes (page_of s))
     fires-in-order rs o suits =
-        let f = fired_by (labelled z (take (page_break (page_of p s)).place (page_of p s).passed)) t.boxes (page_of p s) in
+        let f = fired_by (labelled z (take (page_break (page_of s)).place (page_of s).passed)) t.boxes (page_of s) in
         record {
           ordered = subst (λ x. Order k Known x (take_lines k f.rest) past rs t.floats t.two_columns t.first_column t.left_column) (ap (λ ns. class_lines k ns ++ class_lines k s.waiting) (sym after.held) ∙ ap (λ l. class_lines k t.held_page ++ l) lines.text) o;
           held = subst (AreLight k) (sym after.held) h.held;
@@ -392,53 +413,63 @@ module _ (k : FloatKind) (Known : ℕ → Type 0) (p : Params) (released : IsRel
           suits = suits;
         }
 
-  module _ {t : State} {es : List RunEvent} {rs : List Recorded} (x : WholePage p s es rs t) where
-    after_acts : After nothing_weighs (acted_weight nothing_weighs (page_of p s).reached) s t
-    after_acts = whole-adds nothing_weighs p calm s kept (nothing-fits s.left_column (acted_of (page_of p s).reached)) x
+  module _ {t : State} {es : List RunEvent} {rs : List Recorded} (x : WholePage s es rs t) where
+    after_acts : After nothing_weighs (acted_weight nothing_weighs (page_of s).reached) s t
+    after_acts = whole-adds nothing_weighs s kept (nothing-fits s.left_column (acted_of (page_of s).reached)) x
 
-    ordered : AllByRecursion IsEmptied rs → (takes : List ℕ) (all : List Act) → take_lines k s.waiting ≡ acts_lines k (acted_of (page_of p s).reached) ++ takes → deeds s.waiting ≡ acted_of (page_of p s).reached ++ all
-        → Order k Known (class_lines k s.held_page ++ class_lines k s.waiting) takes past (old ++ rs) t.floats t.two_columns t.first_column t.left_column × Suits k t.two_columns all
+    ordered : AllByRecursion IsEmptied rs → (takes : List ℕ) (all : List Act) → take_lines k s.waiting ≡ acts_lines k (acted_of (page_of s).reached) ++ takes → deeds s.waiting ≡ acted_of (page_of s).reached ++ all
+        → IsReleased k t.params × Order k Known (class_lines k s.held_page ++ class_lines k s.waiting) takes past (old ++ rs) t.floats t.two_columns t.first_column t.left_column × Suits k t.two_columns all
     ordered e takes all same deeds_same =
-        page-order k Known p released (class_lines k s.held_page ++ class_lines k s.waiting) past takes all old x e
+        page-order k Known (class_lines k s.held_page ++ class_lines k s.waiting) past takes all old x e released
         (subst (λ x. Order k Known (class_lines k s.held_page ++ class_lines k s.waiting) x past old s.floats s.two_columns s.first_column s.left_column) same h.ordered) (subst (Suits k s.two_columns) deeds_same h.suits)
 
-    in_order : (served_at p s t).refused ≡ false → AllByRecursion IsEmptied rs → InOrder k Known (past ++ sent_lines k (served_at p s t).sent) ((old ++ rs) ++ (served_at p s t).records) (served_at p s t).state
+    in_order : (served_at s t).refused ≡ false → AllByRecursion IsEmptied rs → InOrder k Known (past ++ sent_lines k (served_at s t).sent) ((old ++ rs) ++ (served_at s t).records) (served_at s t).state
     in_order r e =
-        let z = frozen_for (ask_for p s) t.classes t.boxes in
-        out-order k Known past (old ++ rs) p released calm t (fired_at p s t)
-        (let y = ordered e _ _ (lines t after_acts z).takes (lines t after_acts z).does in fires-in-order t after_acts z (old ++ rs) y.0 y.1) r
-        (fired_closes p calm s kept closing t (page-after p calm s kept closing x) (closed-page p calm s kept closing x) z).1
+        let z = frozen_for (ask_for s) t.classes t.boxes in
+        let y = ordered e _ _ (lines t after_acts z).takes (lines t after_acts z).does in
+        out-order k Known past (old ++ rs) t.params y.0 (interline-calm t.params after_acts.ranges) t (fired_at s t)
+        (fires-in-order t after_acts z (old ++ rs) y.1 y.2) r
+        (fired_closes s kept closing t (page-after s kept closing x) (closed-page s kept closing x) z).1
 
     goes : (c : Work) → (AllByRecursion IsEmptied rs → InOrder k Known (past ++ sent_lines k c.sent) ((old ++ rs) ++ c.records) c.state) → AllByRecursion IsEmptied (rs ++ c.records) → InOrder k Known (past ++ events_lines k (es ++ map sent c.sent)) (old ++ (rs ++ c.records)) c.state
     goes c i e =
         subst (λ x. InOrder k Known (past ++ x) (old ++ (rs ++ c.records)) c.state) (sym (events-lines-append k es (map sent c.sent) ∙ ap (λ l. l ++ events_lines k (map sent c.sent)) (page-lines k x) ∙ sent-events-lines k c.sent))
         (subst (λ x. InOrder k Known (past ++ sent_lines k c.sent) x c.state) (append_assoc old rs c.records) (i (all-front IsEmptied rs c.records e)))
 
-    done_order : (page_of p s).fires ≡ false → AllByRecursion IsEmptied (rs ++ emptied t.floats ∷ []) → RunOrder k Known (past ++ events_lines k es) (old ++ (rs ++ emptied t.floats ∷ []))
+    done_order : (page_of s).fires ≡ false → AllByRecursion IsEmptied (rs ++ emptied t.floats ∷ []) → RunOrder k Known (past ++ events_lines k es) (old ++ (rs ++ emptied t.floats ∷ []))
     done_order u e =
-        let y = ordered (all-front IsEmptied rs (emptied t.floats ∷ []) e) [] (deeds (page_of p s).beyond) (all-taken k p.topskip s.waiting (page_of p s) page_cut h.early h.feet (page_cut.ended u)) (all-done k p.topskip s.waiting (page_of p s) page_cut h.early h.feet) in
-        let o = order-quietly k Known (class_lines k s.held_page ++ class_lines k s.waiting) past [] (old ++ rs) (emptied t.floats ∷ []) t.floats t.two_columns t.first_column t.left_column (tt, tt) y.0 in
+        let y = ordered (all-front IsEmptied rs (emptied t.floats ∷ []) e) [] (deeds (page_of s).beyond) (all-taken k (ask_for s).top_skip s.waiting (page_of s) page_cut h.early h.feet (page_cut.ended u)) (all-done k (ask_for s).top_skip s.waiting (page_of s) page_cut h.early h.feet) in
+        let o = order-quietly k Known (class_lines k s.held_page ++ class_lines k s.waiting) past [] (old ++ rs) (emptied t.floats ∷ []) t.floats t.two_columns t.first_column t.left_column (tt, tt) y.1 in
         subst (λ x. RunOrder k Known (past ++ events_lines k es) x) (append_assoc old rs (emptied t.floats ∷ []))
         (subst (λ x. RunOrder k Known x ((old ++ rs) ++ emptied t.floats ∷ [])) (sym (append-nil past) ∙ ap (λ l. past ++ l) (sym (page-lines k x))) (record { order = rises-front Known _ past _ o.order; known = o.known }))
 
   -- a step keeps the class in order, and at the end all is in order that has shipped
-  step-order : {x : Step} → StepIs p s x → StepOrder k Known past old x
-  step-order (fires_on {t = t} x f r) = goes x (served_at p s t) (in_order x r)
+  step-order : {x : Step} → StepIs s x → StepOrder k Known past old x
+  step-order (fires_on {t = t} x f r) = goes x (served_at s t) (in_order x r)
   step-order (is_done x u) = λ d e. done_order x u e
   step-order x = λ d e. absurd d
 
 -- ---- a run
 
+-- a step keeps the release
+page-released : (k : FloatKind) {rs qs : List Reached} {s t : State} {es : List RunEvent} {records : List Recorded} → PageMoves rs s es records qs t → IsReleased k s.params → IsReleased k t.params
+page-released k rests r = r
+page-released k (moves (shows_try line b least qs) x) r = page-released k x r
+page-released k (moves (does_act a qs m) x) r = page-released k x (act-released k m r)
+
+step-released : (k : FloatKind) {s t : State} {es : List RunEvent} {rs : List Recorded} → StepIs s (goes_on es rs t) → IsReleased k s.params → IsReleased k t.params
+step-released k {s = s} (fires_on {t = t} x f u) r = subst (IsReleased k) (sym (out-keeps-params t.params t (fired_at s t))) (page-released k x r)
+
 -- a run that is done and records empty lists alone has shipped the class in order
-pub run-order : (k : FloatKind) (Known : ℕ → Type 0) (p : Params) → IsReleased k p → int_le p.interlinepenalty eject_penalty ≡ false → (past : List ℕ) (old : List Recorded) {s : State} {r : Run} → RunIs p s r → Kept s → Closing p s → InOrder k Known past old s
+pub run-order : (k : FloatKind) (Known : ℕ → Type 0) (past : List ℕ) (old : List Recorded) {s : State} {r : Run} → RunIs s r → Kept s → Closing s → IsReleased k s.params → InOrder k Known past old s
     → EndsDone r.end → AllByRecursion IsEmptied r.records → RunOrder k Known (past ++ events_lines k r.events) (old ++ r.records)
-run-order k Known p released calm past old (runs_out s) kept closing h d m = absurd d
-run-order k Known p released calm past old (starts_too_full s) kept closing h d m = absurd d
-run-order k Known p released calm past old (ends_so {s = s} x) kept closing h d m = step-order k Known p released calm past old s kept closing h x d m
-run-order k Known p released calm past old (goes_on_so {s = s} {t = t} {es = es} {rs = rs} {r = r} x y) kept closing h d m =
-    let w = weighs nothing_weighs p calm s kept (nothing-fits s.left_column (acted_of (page_of p s).reached)) x in
-    let c = steps-close p calm s kept closing x in
-    let o = step-order k Known p released calm past old s kept closing h x in
+run-order k Known past old (runs_out s) kept closing released h d m = absurd d
+run-order k Known past old (starts_too_full s) kept closing released h d m = absurd d
+run-order k Known past old (ends_so {s = s} x) kept closing released h d m = step-order k Known past old s kept closing released h x d m
+run-order k Known past old (goes_on_so {s = s} {t = t} {es = es} {rs = rs} {r = r} x y) kept closing released h d m =
+    let w = weighs nothing_weighs s kept (nothing-fits s.left_column (acted_of (page_of s).reached)) x in
+    let c = steps-close s kept closing x in
+    let o = step-order k Known past old s kept closing released h x in
     subst (λ l. RunOrder k Known (past ++ events_lines k (es ++ r.events)) l) (append_assoc old rs r.records)
     (subst (λ l. RunOrder k Known l ((old ++ rs) ++ r.records)) (append_assoc past (events_lines k es) (events_lines k r.events) ∙ ap (λ l. past ++ l) (sym (events-lines-append k es r.events)))
-    (run-order k Known p released calm (past ++ events_lines k es) (old ++ rs) y w.0 c.1 (o (all-front IsEmptied rs r.records m)) d (all-back IsEmptied rs r.records m)))
+    (run-order k Known (past ++ events_lines k es) (old ++ rs) y w.0 c.1 (step-released k x released) (o (all-front IsEmptied rs r.records m)) d (all-back IsEmptied rs r.records m)))

@@ -50,6 +50,7 @@ Suits k t (acts.Suppress area ∷ ds) = Suits k t ds
 Suits k t (acts.Page n ∷ ds) = Suits k t ds
 Suits k t (acts.Head f ∷ ds) = (is_of k f.class f.line ≡ true → IsOnSide k.side true) × Suits k t ds
 Suits k t (acts.Columns now ∷ ds) = Suits k now ds
+Suits k t (acts.Set c ∷ ds) = Suits k t ds
 
 -- ---- the invariant between firings
 

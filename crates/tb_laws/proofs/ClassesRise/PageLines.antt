@@ -23,6 +23,7 @@ act_lines k (acts.Suppress area) = []
 act_lines k (acts.Page n) = []
 act_lines k (acts.Head f) = line_if (is_of k f.class f.line) f.line
 act_lines k (acts.Columns two) = []
+act_lines k (acts.Set c) = []
 
 abbrev pub acts_lines : FloatKind → List Act → List ℕ
 acts_lines k [] = []

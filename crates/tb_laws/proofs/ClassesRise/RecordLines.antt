@@ -10,7 +10,7 @@ use Rattle.tb_laws.proofs.ClassesRise.ClassLines.{FloatKind, is_of, class_lines}
 -- ---- columns
 
 abbrev pub column_lines : FloatKind → Recorded → List ℕ
-column_lines k (placed f place l height) = []
+column_lines k (placed p f place l height) = []
 column_lines k (output c) = class_lines k c.nodes
 column_lines k (emptied l) = []
 
@@ -31,17 +31,17 @@ records-more k rs r = records-append k rs (r ∷ []) ∙ ap (λ l. record_lines 
 
 -- the record is of a float of this class and line, placed in the text
 abbrev pub IsPlacing : FloatKind → ℕ → Recorded → Type 0
-IsPlacing k n (placed f places.Here l height) = ((is_of k f.class f.line) ≡ true) × (f.line ≡ n)
-IsPlacing k n (placed f places.Top l height) = ⊥
-IsPlacing k n (placed f places.Bottom l height) = ⊥
-IsPlacing k n (placed f places.Page l height) = ⊥
-IsPlacing k n (placed f places.Double l height) = ⊥
-IsPlacing k n (placed f places.Deferred l height) = ⊥
+IsPlacing k n (placed p f places.Here l height) = ((is_of k f.class f.line) ≡ true) × (f.line ≡ n)
+IsPlacing k n (placed p f places.Top l height) = ⊥
+IsPlacing k n (placed p f places.Bottom l height) = ⊥
+IsPlacing k n (placed p f places.Page l height) = ⊥
+IsPlacing k n (placed p f places.Double l height) = ⊥
+IsPlacing k n (placed p f places.Deferred l height) = ⊥
 IsPlacing k n (output c) = ⊥
 IsPlacing k n (emptied l) = ⊥
 
 abbrev pub IsOutput : Recorded → Type 0
-IsOutput (placed f place l height) = ⊥
+IsOutput (placed p f place l height) = ⊥
 IsOutput (output c) = Unit {0}
 IsOutput (emptied l) = ⊥
 

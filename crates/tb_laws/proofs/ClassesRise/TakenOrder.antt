@@ -3,6 +3,7 @@ use Rattle.std.proofs.Common.{◌≡◌, refl, sym, ◌∙◌, ap, subst, ℕ, �
 use Rattle.std.specs.List.{AllByRecursion}
 use Rattle.tb_break.proofs.EachLemmas.{all-front, all-back, all-join, all-map, all-both}
 use Rattle.tb_node.specs.declared.Float.{Float}
+use Rattle.tb_param.specs.declared.Params.{Params}
 use Rattle.tb_node.specs.declared.Where.TheVariants as places
 use Rattle.tb_float.specs.declared.Entry.{Entry}
 use Rattle.tb_float.specs.declared.Entry.TheVariants as entries
@@ -146,14 +147,14 @@ module _ (k : FloatKind) (Known : ℕ → Type 0) (text takes before : List ℕ)
       held_more n (inl late) = inl (late-more k n rs more late)
       held_more n (inr fresh) = inr fresh
 
-  pub to_bottom : (height : ℤ) (seen : FloatLists) → HasNone f l.deferred → Order k Known text takes before (rs ++ placed f places.Bottom seen height ∷ []) (record l { current = es; bottom = l.bottom ++ f ∷ [] }) two first column
-  to_bottom height seen none =
-      goes_behind (record l { current = es; bottom = l.bottom ++ f ∷ [] }) (placed f places.Bottom seen height ∷ []) (tt, tt) refl refl refl
+  pub to_bottom : (p : Params) (height : ℤ) (seen : FloatLists) → HasNone f l.deferred → Order k Known text takes before (rs ++ placed p f places.Bottom seen height ∷ []) (record l { current = es; bottom = l.bottom ++ f ∷ [] }) two first column
+  to_bottom p height seen none =
+      goes_behind (record l { current = es; bottom = l.bottom ++ f ∷ [] }) (placed p f places.Bottom seen height ∷ []) (tt, tt) refl refl refl
       (areas-lines k l.top (l.bottom ++ f ∷ []) l.deferred
       ∙ ap (λ y. (float_lines k l.top ++ y) ++ float_lines k l.deferred) (floats-append k l.bottom (f ∷ []) ∙ ap (λ y. float_lines k l.bottom ++ y) (append-nil this))
       ∙ past-one (float_lines k l.top) (float_lines k l.bottom) (float_lines k l.deferred) this (passes k f l.deferred none)
       ∙ ap (λ y. y ++ this) (sym (areas-lines k l.top l.bottom l.deferred)))
-      (text_quiet (placed f places.Bottom seen height ∷ []) (tt, tt)) (all-join (IsBehind k text) l.bottom (f ∷ []) h.bottom (this_behind, tt)) behind_deferred
+      (text_quiet (placed p f places.Bottom seen height ∷ []) (tt, tt)) (all-join (IsBehind k text) l.bottom (f ∷ []) h.bottom (this_behind, tt)) behind_deferred
 
   pub to_deferred : (g : Float) → g.class ≡ f.class → g.line ≡ f.line → Order k Known text takes before rs (record l { current = es; deferred = l.deferred ++ g ∷ [] }) two first column
   to_deferred g c n =
@@ -167,8 +168,8 @@ module _ (k : FloatKind) (Known : ℕ → Type 0) (text takes before : List ℕ)
       ∙ ap (λ y. y ++ this) (sym (areas-lines k l.top l.bottom l.deferred)))
       (text_quiet [] tt) h.bottom (all-join (IsBehind k text) l.deferred (g ∷ []) behind_deferred ((λ e. subst (IsAbove text) (sym n) (this_behind (sym same_kind ∙ e))), tt)))
 
-  pub to_top : (height : ℤ) (seen : FloatLists) → HasNone f l.deferred → HasNone f l.here → HasNone f l.bottom → Order k Known text takes before (rs ++ placed f places.Top seen height ∷ []) (record l { current = es; top = l.top ++ f ∷ [] }) two first column
-  to_top height seen none_deferred none_here none_bottom =
+  pub to_top : (p : Params) (height : ℤ) (seen : FloatLists) → HasNone f l.deferred → HasNone f l.here → HasNone f l.bottom → Order k Known text takes before (rs ++ placed p f places.Top seen height ∷ []) (record l { current = es; top = l.top ++ f ∷ [] }) two first column
+  to_top p height seen none_deferred none_here none_bottom =
       goes_behind (record l { current = es; top = l.top ++ f ∷ [] }) more (tt, tt) refl refl refl
       (areas-lines k (l.top ++ f ∷ []) l.bottom l.deferred
       ∙ ap (λ y. (y ++ float_lines k l.bottom) ++ float_lines k l.deferred) top_lines
@@ -178,7 +179,7 @@ module _ (k : FloatKind) (Known : ℕ → Type 0) (text takes before : List ℕ)
       (top_text k (rs ++ more) before l column f none_here text this_behind (text_quiet more (tt, tt)))) h.bottom behind_deferred
     where
       more : List Recorded
-      more = placed f places.Top seen height ∷ []
+      more = placed p f places.Top seen height ∷ []
 
       top_lines : float_lines k (l.top ++ f ∷ []) ≡ float_lines k l.top ++ line_if (is_of k f.class f.line) f.line
       top_lines = floats-append k l.top (f ∷ []) ∙ ap (λ y. float_lines k l.top ++ y) (append-nil (line_if (is_of k f.class f.line) f.line))
@@ -212,9 +213,9 @@ module _ (k : FloatKind) (Known : ℕ → Type 0) (text takes before : List ℕ)
         t,
       )
 
-  module _ (height : ℤ) (seen : FloatLists) (none_deferred : HasNone f l.deferred) (none_bottom : HasNone f l.bottom) where
+  module _ (p : Params) (height : ℤ) (seen : FloatLists) (none_deferred : HasNone f l.deferred) (none_bottom : HasNone f l.bottom) where
     abbrev placing : Recorded
-    placing = placed f places.Here seen height
+    placing = placed p f places.Here seen height
 
     abbrev with_this : List Recorded
     with_this = rs ++ placing ∷ []

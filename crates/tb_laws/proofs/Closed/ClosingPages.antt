@@ -5,13 +5,16 @@ use Rattle.tb_scaled.specs.Scaled.{inf_penalty}
 use Rattle.tb_node.specs.declared.Act.{Act}
 use Rattle.tb_node.specs.declared.Act.TheVariants as acts
 use Rattle.tb_node.specs.PlainNodes.{hbox, rule, pen, PlainKind, plain, ins, act, PlainNode, without_acts}
+use Rattle.tb_param.specs.declared.SetPlace.{SetPlace}
+use Rattle.tb_param.specs.declared.SetPlace.TheVariants as set_places
+use Rattle.tb_param.specs.Changes.{set_place}
 use Rattle.tb_break.specs.PageTop.{pruned_nodes}
 use Rattle.tb_builder.specs.Reach.{Reach}
 use Rattle.tb_builder.specs.FiredPages.{with_spent_break, penalty_at}
 use Rattle.tb_builder.proofs.Cutting.CutLemmas.{AllCalm, ActFree, FirstFree, AllFree, CutAt, acts_of, acted_of, acts-free}
 use Rattle.tb_laws.proofs.Closed.Sorts.{Sort, kind_sort, sorts, pen_sort, pen-sorts, Stands, none, light, blank, real, silent, pause, hold, serve, clear, odd}
 use Rattle.tb_laws.proofs.Closed.SortLemmas.{free-drop}
-use Rattle.tb_laws.proofs.Closed.Closings.{Ways, turned, owed_after, ways_all, never, Token, quiet, heavy, taking, changing, serving, clearing, Closes, closes-any, Quiet, Harmless, quiet-between, harmless-between, Passed, owed_all, done_all, closes-after, Still, nothing-came, sort_token, act_token, ins_token, kind_token, tokens, tokens-append, calm-passed, free-harmless, still-quiet}
+use Rattle.tb_laws.proofs.Closed.Closings.{Ways, turned, owed_after, ways_all, never, Token, quiet, heavy, taking, changing, measuring, serving, clearing, Closes, closes-any, Quiet, Harmless, quiet-between, harmless-between, Passed, owed_all, done_all, closes-after, Still, nothing-came, sort_token, set_token, act_token, ins_token, kind_token, tokens, tokens-append, calm-passed, free-harmless, still-quiet}
 use Rattle.tb_laws.proofs.PageBreaks.PausedPages.{calm-acts}
 
 -- ---- the top of a page
@@ -22,6 +25,7 @@ behind quiet xs ys h z n o c = h z n o c
 behind heavy xs ys h z n o c = h z n false c
 behind (taking wide) xs ys h z n o c = h z (owed_after z wide n) false c
 behind (changing two) xs ys h z n o c = (c.0, h (turned z two) n o c.1)
+behind measuring xs ys h z n o c = (c.0, h z n o c.1)
 behind serving xs ys h z zero o c = absurd c
 behind serving xs ys h z (suc n) o c = h z n false c
 behind clearing xs ys h z zero o c = h z zero true c
@@ -49,7 +53,13 @@ pruned-closes t (x ∷ ns) b z n o s c = node-pruned t ns (λ b z n o s c. prune
 
 -- ---- the acts of a page
 
--- a change of columns comes only if nothing came
+-- only a parameter that may be set anywhere is set if something came
+abbrev pub SetCloses : Bool → SetPlace → Type 0
+SetCloses o set_places.Anywhere = Unit {0}
+SetCloses o set_places.AfterClear = o ≡ true
+SetCloses o set_places.Nowhere = o ≡ true
+
+-- a change of columns comes only if nothing came, and so does the setting of a measure
 abbrev pub ActsClose : Bool → List Act → Type 0
 ActsClose o [] = Unit {0}
 ActsClose o (acts.Take f ∷ ds) = ActsClose false ds
@@ -58,6 +68,7 @@ ActsClose o (acts.Suppress area ∷ ds) = ActsClose o ds
 ActsClose o (acts.Page n ∷ ds) = ActsClose o ds
 ActsClose o (acts.Head f ∷ ds) = ActsClose false ds
 ActsClose o (acts.Columns two ∷ ds) = (o ≡ true) × ActsClose o ds
+ActsClose o (acts.Set c ∷ ds) = SetCloses o (set_place c.field) × ActsClose o ds
 
 -- each float and note that is taken is owed a firing
 abbrev pub owed_acts : Ways → ℕ → List Act → ℕ
@@ -68,6 +79,7 @@ owed_acts z n (acts.Suppress area ∷ ds) = owed_acts z n ds
 owed_acts z n (acts.Page number ∷ ds) = owed_acts z n ds
 owed_acts z n (acts.Head f ∷ ds) = owed_acts z n ds
 owed_acts z n (acts.Columns two ∷ ds) = owed_acts (turned z two) n ds
+owed_acts z n (acts.Set c ∷ ds) = owed_acts z n ds
 
 -- how floats are taken after the acts
 abbrev pub ways_acts : Ways → List Act → Ways
@@ -78,6 +90,7 @@ ways_acts z (acts.Suppress area ∷ ds) = ways_acts z ds
 ways_acts z (acts.Page n ∷ ds) = ways_acts z ds
 ways_acts z (acts.Head f ∷ ds) = ways_acts z ds
 ways_acts z (acts.Columns two ∷ ds) = ways_acts (turned z two) ds
+ways_acts z (acts.Set c ∷ ds) = ways_acts z ds
 
 abbrev pub AllStill : List Act → Type 0
 AllStill = AllByRecursion (λ a. Still (act_token a))
@@ -90,6 +103,10 @@ ins-owed : (t : Bool) (z : Ways) (n : ℕ) (xs : List Token) → owed_all z n (i
 ins-owed true z n xs = refl
 ins-owed false z n xs = refl
 
+set-owed : (x : SetPlace) (z : Ways) (n : ℕ) (xs : List Token) → owed_all z n (set_token x ∷ xs) ≡ owed_all z n xs
+set-owed set_places.Anywhere z n xs = refl
+set-owed x z n xs = refl
+
 node-owed : (z : Ways) (n : ℕ) (k : PlainKind) (ns : List PlainNode) → ((z : Ways) (n : ℕ) → owed_all z n (tokens ns) ≡ owed_acts z n (acts_of ns)) → (l : ℕ) → owed_all z n (kind_token k ∷ tokens ns) ≡ owed_acts z n (acts_of (record { line = l; kind = k } ∷ ns))
 node-owed z n (plain m) ns h l = sort-owed (kind_sort (plain m)) z n (tokens ns) ∙ h z n
 node-owed z n (ins i) ns h l = ins-owed (i.class == 255) z n (tokens ns) ∙ h z n
@@ -99,6 +116,7 @@ node-owed z n (act (acts.Suppress area)) ns h l = h z n
 node-owed z n (act (acts.Page number)) ns h l = h z n
 node-owed z n (act (acts.Head f)) ns h l = h z n
 node-owed z n (act (acts.Columns two)) ns h l = h (turned z two) n
+node-owed z n (act (acts.Set c)) ns h l = set-owed (set_place c.field) z n (tokens ns) ∙ h z n
 
 all-owed : (z : Ways) (n : ℕ) (ns : List PlainNode) → owed_all z n (tokens ns) ≡ owed_acts z n (acts_of ns)
 all-owed z n [] = refl
@@ -112,15 +130,24 @@ ins-ways : (t : Bool) (z : Ways) (xs : List Token) → ways_all z (ins_token t �
 ins-ways true z xs = refl
 ins-ways false z xs = refl
 
+set-ways : (x : SetPlace) (z : Ways) (xs : List Token) → ways_all z (set_token x ∷ xs) ≡ ways_all z xs
+set-ways set_places.Anywhere z xs = refl
+set-ways x z xs = refl
+
 node-ways : (z : Ways) (k : PlainKind) (ns : List PlainNode) → ((z : Ways) → ways_all z (tokens ns) ≡ ways_acts z (acts_of ns)) → (l : ℕ) → ways_all z (kind_token k ∷ tokens ns) ≡ ways_acts z (acts_of (record { line = l; kind = k } ∷ ns))
 node-ways z (plain m) ns h l = sort-ways (kind_sort (plain m)) z (tokens ns) ∙ h z
 node-ways z (ins i) ns h l = ins-ways (i.class == 255) z (tokens ns) ∙ h z
 node-ways z (act (acts.Columns two)) ns h l = h (turned z two)
+node-ways z (act (acts.Set c)) ns h l = set-ways (set_place c.field) z (tokens ns) ∙ h z
 node-ways z k ns h l = h z
 
 all-ways : (z : Ways) (ns : List PlainNode) → ways_all z (tokens ns) ≡ ways_acts z (acts_of ns)
 all-ways z [] = refl
 all-ways z (x ∷ ns) = node-ways z x.kind ns (λ z. all-ways z ns) x.line
+
+set-weaker : (x : SetPlace) → SetCloses false x → SetCloses true x
+set-weaker set_places.Anywhere h = tt
+set-weaker x h = refl
 
 weaker : (ds : List Act) → ActsClose false ds → ActsClose true ds
 weaker [] h = tt
@@ -130,6 +157,7 @@ weaker (acts.Suppress area ∷ ds) h = weaker ds h
 weaker (acts.Page n ∷ ds) h = weaker ds h
 weaker (acts.Head f ∷ ds) h = h
 weaker (acts.Columns two ∷ ds) h = never h.0
+weaker (acts.Set c ∷ ds) h = (set-weaker (set_place c.field) h.0, weaker ds h.1)
 
 acts-any : (o : Bool) (ds : List Act) → ActsClose false ds → ActsClose o ds
 acts-any true ds h = weaker ds h
@@ -147,6 +175,10 @@ ins-acts : (t : Bool) (xs : List Token) (ds : List Act) → ((z : Ways) (n : ℕ
 ins-acts true xs ds h z n o c = h z n o c
 ins-acts false xs ds h z n o c = acts-any o ds (h z n false c)
 
+set-acts : (x : SetPlace) (xs : List Token) (ds : List Act) → ((z : Ways) (n : ℕ) (o : Bool) → Closes z n o xs → ActsClose o ds) → (z : Ways) (n : ℕ) (o : Bool) → Closes z n o (set_token x ∷ xs) → SetCloses o x × ActsClose o ds
+set-acts set_places.Anywhere xs ds h z n o c = (tt, h z n o c)
+set-acts x xs ds h z n o c = (c.0, h z n o c.1)
+
 node-acts : (k : PlainKind) (l : ℕ) (ns : List PlainNode) (xs : List Token) → ((z : Ways) (n : ℕ) (o : Bool) → Closes z n o xs → ActsClose o (acts_of ns)) → (z : Ways) (n : ℕ) (o : Bool) → Passed (kind_token k) → Closes z n o (kind_token k ∷ xs) → ActsClose o (acts_of (record { line = l; kind = k } ∷ ns))
 node-acts (plain m) l ns xs h z n o p c = sort-acts (kind_sort (plain m)) xs (acts_of ns) h z n o p c
 node-acts (ins i) l ns xs h z n o p c = ins-acts (i.class == 255) xs (acts_of ns) h z n o c
@@ -156,6 +188,7 @@ node-acts (act (acts.Suppress area)) l ns xs h z n o p c = h z n o c
 node-acts (act (acts.Page number)) l ns xs h z n o p c = h z n o c
 node-acts (act (acts.Head f)) l ns xs h z n o p c = h z n false c
 node-acts (act (acts.Columns two)) l ns xs h z n o p c = (c.0, h (turned z two) n o c.1)
+node-acts (act (acts.Set c)) l ns xs h z n o p d = set-acts (set_place c.field) xs (acts_of ns) h z n o d
 
 front-acts : (ns : List PlainNode) (ys : List Token) (z : Ways) (n : ℕ) (o : Bool) → AllByRecursion Passed (tokens ns) → Closes z n o (tokens ns ++ ys) → ActsClose o (acts_of ns)
 front-acts [] ys z n o p c = tt

@@ -42,14 +42,14 @@ abbrev pub HereKept : State → Type 0
 HereKept s = (s.floats.here ≡ []) ⊎ (HasReal (sorts s.held_page) ⊎ RealFirst (sorts s.waiting))
 
 -- how floats are taken in a state
-abbrev pub ways_of : Params → State → Ways
-ways_of p s = record { second = has_second p; two = s.two_columns }
+abbrev pub ways_of : State → Ways
+ways_of s = record { second = has_second s.params; two = s.two_columns }
 
 -- what waits closes: so many firings are owed, at least as many as floats and notes wait to be served; and if nothing came since a clear nothing is kept
-pub record Closing (p : Params) (s : State) : Type 0 where
+pub record Closing (s : State) : Type 0 where
   pub owed : ℕ
   pub done : Bool
-  pub closes : Closes (ways_of p s) owed done (tokens s.waiting)
+  pub closes : Closes (ways_of s) owed done (tokens s.waiting)
   pub items : entry_items s.floats.current ≤ owed
   pub single : Single s
   pub here : HereKept s

@@ -5,6 +5,9 @@ use Rattle.std.specs.List.{AllByRecursion}
 use Rattle.tb_node.specs.declared.Act.{Act}
 use Rattle.tb_node.specs.declared.Act.TheVariants as acts
 use Rattle.tb_node.specs.PlainNodes.{PlainKind, plain, ins, act, PlainNode, without_acts}
+use Rattle.tb_param.specs.declared.SetPlace.{SetPlace}
+use Rattle.tb_param.specs.declared.SetPlace.TheVariants as set_places
+use Rattle.tb_param.specs.Changes.{set_place}
 use Rattle.tb_builder.proofs.Cutting.CutLemmas.{Calm, AllCalm, AllFree}
 use Rattle.tb_laws.proofs.Closed.Sorts.{Sort, kind_sort, sorts, Steady, light, blank, real, silent, pause, hold, serve, clear, odd, CalmSort, kind-calm, kind-steady}
 
@@ -23,22 +26,24 @@ turned z two = record { second = z.second; two = two }
 abbrev pub owed_after : Ways → Bool → ℕ → ℕ
 owed_after z wide n = if wide && (z.second && z.two) then n else suc n
 
--- a node that ships nothing of the galley, one that has to ship, the taking of a float, wide or not, or of a note, a change of columns, the firing for a float or note, and a clear
+-- a node that ships nothing of the galley, one that has to ship, the taking of a float, wide or not, or of a note, a change of columns, the setting of a measure, the firing for a float or note, and a clear
 pub data Token : Type 0 where
   quiet : Token
   heavy : Token
   taking : Bool → Token
   changing : Bool → Token
+  measuring : Token
   serving : Token
   clearing : Token
 
--- a walk over what waits: so many firings are owed, and the flag says that nothing that has to ship came since a clear; a clear comes when none is owed, a change of columns and the list's end when nothing came
+-- a walk over what waits: so many firings are owed, and the flag says that nothing that has to ship came since a clear; a clear comes when none is owed, a change of columns, the setting of a measure and the list's end when nothing came
 abbrev pub Closes : Ways → ℕ → Bool → List Token → Type 0
 Closes z n o [] = o ≡ true
 Closes z n o (quiet ∷ xs) = Closes z n o xs
 Closes z n o (heavy ∷ xs) = Closes z n false xs
 Closes z n o (taking wide ∷ xs) = Closes z (owed_after z wide n) false xs
 Closes z n o (changing two ∷ xs) = (o ≡ true) × Closes (turned z two) n o xs
+Closes z n o (measuring ∷ xs) = (o ≡ true) × Closes z n o xs
 Closes z zero o (serving ∷ xs) = ⊥
 Closes z (suc n) o (serving ∷ xs) = Closes z n false xs
 Closes z zero o (clearing ∷ xs) = Closes z zero true xs
@@ -54,6 +59,7 @@ weaker z n (quiet ∷ xs) h = weaker z n xs h
 weaker z n (heavy ∷ xs) h = h
 weaker z n (taking wide ∷ xs) h = h
 weaker z n (changing two ∷ xs) h = never h.0
+weaker z n (measuring ∷ xs) h = never h.0
 weaker z zero (serving ∷ xs) h = absurd h
 weaker z (suc n) (serving ∷ xs) h = h
 weaker z zero (clearing ∷ xs) h = h
@@ -70,6 +76,7 @@ Quiet quiet = Unit {0}
 Quiet heavy = ⊥
 Quiet (taking wide) = ⊥
 Quiet (changing two) = ⊥
+Quiet measuring = ⊥
 Quiet serving = ⊥
 Quiet clearing = ⊥
 
@@ -78,6 +85,7 @@ Harmless quiet = Unit {0}
 Harmless heavy = Unit {0}
 Harmless (taking wide) = ⊥
 Harmless (changing two) = ⊥
+Harmless measuring = ⊥
 Harmless serving = ⊥
 Harmless clearing = ⊥
 
@@ -87,6 +95,7 @@ quiet-between z n o (quiet ∷ xs) ys q h = quiet-between z n o xs ys q.1 h
 quiet-between z n o (heavy ∷ xs) ys q h = absurd q.0
 quiet-between z n o (taking wide ∷ xs) ys q h = absurd q.0
 quiet-between z n o (changing two ∷ xs) ys q h = absurd q.0
+quiet-between z n o (measuring ∷ xs) ys q h = absurd q.0
 quiet-between z n o (serving ∷ xs) ys q h = absurd q.0
 quiet-between z n o (clearing ∷ xs) ys q h = absurd q.0
 
@@ -96,6 +105,7 @@ harmless-between z n o (quiet ∷ xs) ys q h = harmless-between z n o xs ys q.1 
 harmless-between z n o (heavy ∷ xs) ys q h = harmless-between z n false xs ys q.1 h
 harmless-between z n o (taking wide ∷ xs) ys q h = absurd q.0
 harmless-between z n o (changing two ∷ xs) ys q h = absurd q.0
+harmless-between z n o (measuring ∷ xs) ys q h = absurd q.0
 harmless-between z n o (serving ∷ xs) ys q h = absurd q.0
 harmless-between z n o (clearing ∷ xs) ys q h = absurd q.0
 
@@ -106,6 +116,7 @@ Passed quiet = Unit {0}
 Passed heavy = Unit {0}
 Passed (taking wide) = Unit {0}
 Passed (changing two) = Unit {0}
+Passed measuring = Unit {0}
 Passed serving = ⊥
 Passed clearing = ⊥
 
@@ -116,6 +127,7 @@ owed_all z n (quiet ∷ xs) = owed_all z n xs
 owed_all z n (heavy ∷ xs) = owed_all z n xs
 owed_all z n (taking wide ∷ xs) = owed_all z (owed_after z wide n) xs
 owed_all z n (changing two ∷ xs) = owed_all (turned z two) n xs
+owed_all z n (measuring ∷ xs) = owed_all z n xs
 owed_all z n (serving ∷ xs) = owed_all z n xs
 owed_all z n (clearing ∷ xs) = owed_all z n xs
 
@@ -126,6 +138,7 @@ ways_all z (quiet ∷ xs) = ways_all z xs
 ways_all z (heavy ∷ xs) = ways_all z xs
 ways_all z (taking wide ∷ xs) = ways_all z xs
 ways_all z (changing two ∷ xs) = ways_all (turned z two) xs
+ways_all z (measuring ∷ xs) = ways_all z xs
 ways_all z (serving ∷ xs) = ways_all z xs
 ways_all z (clearing ∷ xs) = ways_all z xs
 
@@ -135,6 +148,7 @@ done_all o (quiet ∷ xs) = done_all o xs
 done_all o (heavy ∷ xs) = done_all false xs
 done_all o (taking wide ∷ xs) = done_all false xs
 done_all o (changing two ∷ xs) = done_all o xs
+done_all o (measuring ∷ xs) = done_all o xs
 done_all o (serving ∷ xs) = done_all false xs
 done_all o (clearing ∷ xs) = done_all true xs
 
@@ -144,6 +158,7 @@ closes-after (quiet ∷ xs) ys z n o c h = closes-after xs ys z n o c.1 h
 closes-after (heavy ∷ xs) ys z n o c h = closes-after xs ys z n false c.1 h
 closes-after (taking wide ∷ xs) ys z n o c h = closes-after xs ys z (owed_after z wide n) false c.1 h
 closes-after (changing two ∷ xs) ys z n o c h = closes-after xs ys (turned z two) n o c.1 h.1
+closes-after (measuring ∷ xs) ys z n o c h = closes-after xs ys z n o c.1 h.1
 closes-after (serving ∷ xs) ys z n o c h = absurd c.0
 closes-after (clearing ∷ xs) ys z n o c h = absurd c.0
 
@@ -153,6 +168,7 @@ Still quiet = Unit {0}
 Still heavy = ⊥
 Still (taking wide) = ⊥
 Still (changing two) = Unit {0}
+Still measuring = Unit {0}
 Still serving = ⊥
 Still clearing = ⊥
 
@@ -162,6 +178,7 @@ came (quiet ∷ xs) c e = came xs c.1 e
 came (heavy ∷ xs) c e = came xs c.1 e
 came (taking wide ∷ xs) c e = came xs c.1 e
 came (changing two ∷ xs) c e = came xs c.1 e
+came (measuring ∷ xs) c e = came xs c.1 e
 came (serving ∷ xs) c e = absurd c.0
 came (clearing ∷ xs) c e = absurd c.0
 
@@ -172,6 +189,7 @@ nothing-came (quiet ∷ xs) o c e = let h = nothing-came xs o c.1 e in (h.0, (tt
 nothing-came (heavy ∷ xs) o c e = absurd (came xs c.1 e)
 nothing-came (taking wide ∷ xs) o c e = absurd (came xs c.1 e)
 nothing-came (changing two ∷ xs) o c e = let h = nothing-came xs o c.1 e in (h.0, (tt, h.1))
+nothing-came (measuring ∷ xs) o c e = let h = nothing-came xs o c.1 e in (h.0, (tt, h.1))
 nothing-came (serving ∷ xs) o c e = absurd c.0
 nothing-came (clearing ∷ xs) o c e = absurd c.0
 
@@ -188,6 +206,12 @@ sort_token serve = serving
 sort_token clear = clearing
 sort_token odd = heavy
 
+-- a parameter that may be set anywhere is set quietly; any other only where nothing came
+abbrev pub set_token : SetPlace → Token
+set_token set_places.Anywhere = quiet
+set_token set_places.AfterClear = measuring
+set_token set_places.Nowhere = measuring
+
 abbrev pub act_token : Act → Token
 act_token (acts.Take f) = taking f.wide
 act_token (acts.TakeMargin m) = taking false
@@ -195,6 +219,7 @@ act_token (acts.Suppress area) = quiet
 act_token (acts.Page n) = quiet
 act_token (acts.Head f) = heavy
 act_token (acts.Columns two) = changing two
+act_token (acts.Set c) = set_token (set_place c.field)
 
 -- what makes a page higher ships nothing, and any other insertion has to ship
 abbrev pub ins_token : Bool → Token
@@ -220,8 +245,13 @@ sort-passed real c = tt
 sort-passed silent c = tt
 sort-passed s c = absurd c
 
+set-passed : (x : SetPlace) → Passed (set_token x)
+set-passed set_places.Anywhere = tt
+set-passed x = tt
+
 act-passed : (a : Act) → Passed (act_token a)
 act-passed (acts.Take f) = tt
+act-passed (acts.Set c) = set-passed (set_place c.field)
 act-passed a = tt
 
 ins-passed : (t : Bool) → Passed (ins_token t)

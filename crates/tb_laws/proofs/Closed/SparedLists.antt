@@ -112,7 +112,7 @@ yes-no s t e = never (sym e ∙ t)
 
 -- the work when a placement was recorded, and when the float has moved
 abbrev pub noted : Params → Where → Float → Work → Bool → Work
-noted p place f w t = if t then w else record w { records = w.records ++ placed f place w.state.floats (column_height_of p w.state.floats) ∷ [] }
+noted p place f w t = if t then w else record w { records = w.records ++ placed p f place w.state.floats (column_height_of p w.state.floats) ∷ [] }
 
 abbrev pub moved : Params → Where → Float → FloatLists → Work → Bool → Work
 moved p place f left w t = record (noted p place f w t) { state = record (noted p place f w t).state { floats = FloatMoves.joined_to place f left } }

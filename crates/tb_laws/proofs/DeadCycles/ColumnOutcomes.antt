@@ -48,7 +48,7 @@ placed-column : (p : Params) (place : Where) (f : Float) (left : FloatLists) (w 
 placed-column p place f left w = by_record (FloatMoves.is_placed place)
   where
     r : Recorded
-    r = placed f place w.state.floats (column_height_of p w.state.floats)
+    r = placed p f place w.state.floats (column_height_of p w.state.floats)
 
     by_record : (t : Bool) → SameColumn w (with_floats (FloatMoves.joined_to place f left) (if t then records_also r w else w))
     by_record true = ap (λ s. s.first_column) (records-column r w).0
@@ -109,7 +109,7 @@ fill-keeps {p} (places_next a f before rest w c e i) = by_record (FloatMoves.is_
     l = record w.state.floats { deferred = before ++ rest }
 
     r : Recorded
-    r = placed f (Area.where_of a) w.state.floats (column_height_of p w.state.floats)
+    r = placed p f (Area.where_of a) w.state.floats (column_height_of p w.state.floats)
 
     by_record : (t : Bool) → FillKeeps w (with_floats (FloatMoves.joined_to (Area.where_of a) f l) (if t then records_also r w else w))
     by_record true = let k = (records-column r w).0 in record { column = ap (λ s. s.first_column) k; double = joined-single (Area.where_of a) f l (area-single a); cycles = ap (λ s. s.dead_cycles) k }

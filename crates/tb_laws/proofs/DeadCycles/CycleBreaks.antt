@@ -141,7 +141,7 @@ module _ (p : Params) (m : ℕ) (f : Fired) (held : AllInserted f.held) (w : Wor
       → ((bs : List PlainNode) → AllByRecursion Idle (sorts bs) → Again again (sorts w.put_back ++ (sorts bs ++ sorts f.rest)))
       → Holds p after again kind → PhaseHolds after phase → (phase ≡ ending → 1 ≤ again) → FloatsFit p w.state
       → wait_cost w.put_back + wait_cost f.rest + 2 * way_floats w.state.floats + credit kind ≤ m + 2 * again
-      → w.state.dead_cycles + (wait_cost w.put_back + wait_cost f.rest) + 2 * way_floats w.state.floats + credit kind + phase_cost phase ≤ m + 2 + 2 * again
+      → w.state.dead_cycles + (wait_cost w.put_back + wait_cost f.rest) + 2 * way_floats w.state.floats + credit kind + phase_cost phase ≤ m + 3 + 2 * again
       → Bounded p m after
   finish again kind phase region holds at coming floats weight bound = record {
     again = again;
@@ -153,7 +153,7 @@ module _ (p : Params) (m : ℕ) (f : Fired) (held : AllInserted f.held) (w : Wor
     coming = coming;
     floats = fits-same p w.state after goal.floats goal.columns floats;
     weight = sums (wait_cost after.waiting) (wait_cost w.put_back + wait_cost f.rest) (way_floats after.floats) (way_floats w.state.floats) (credit kind) (m + 2 * again) wait-total (ap way_floats goal.floats) weight;
-    bound = sums-with (wait_cost after.waiting) (wait_cost w.put_back + wait_cost f.rest) (way_floats after.floats) (way_floats w.state.floats) (credit kind) (m + 2 + 2 * again) after.dead_cycles w.state.dead_cycles (phase_cost phase) wait-total (ap way_floats goal.floats) goal.cycles bound;
+    bound = sums-with (wait_cost after.waiting) (wait_cost w.put_back + wait_cost f.rest) (way_floats after.floats) (way_floats w.state.floats) (credit kind) (m + 3 + 2 * again) after.dead_cycles w.state.dead_cycles (phase_cost phase) wait-total (ap way_floats goal.floats) goal.cycles bound;
   }
     where
       sums : (a b x y c r : ℕ) → a ≡ b → x ≡ y → b + 2 * y + c ≤ r → a + 2 * x + c ≤ r
@@ -170,7 +170,7 @@ module _ (p : Params) (m : ℕ) (f : Fired) (held : AllInserted f.held) (w : Wor
       → Bounded p m after
   finish-shipped again kind region holds floats dead weight = finish again kind starting region holds tt (λ e. cc) floats weight (sums w.state.dead_cycles (wait_cost w.put_back + wait_cost f.rest) (way_floats w.state.floats) (credit kind) again dead weight)
     where
-      sums : (d b y c a : ℕ) → d ≡ 0 → b + 2 * y + c ≤ m + 2 * a → d + b + 2 * y + c + 2 ≤ m + 2 + 2 * a
+      sums : (d b y c a : ℕ) → d ≡ 0 → b + 2 * y + c ≤ m + 2 * a → d + b + 2 * y + c + 2 ≤ m + 3 + 2 * a
       sums d b y c a h k = omega arith
 
 -- ---- small facts

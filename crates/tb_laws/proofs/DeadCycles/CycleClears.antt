@@ -35,7 +35,7 @@ left-of (suc a) = inr (omega arith)
 module _ (p : Params) (m : ℕ) (s : State) (total a : ℕ) (kind : Kind) (phase : Phase) (f : Fired) (calm : int_le p.interlinepenalty eject_penalty ≡ false)
     (holds : Holds p s a kind) (at : PhaseHolds s phase) (floats : FloatsFit p s)
     (weight : total + 2 * way_floats s.floats + credit kind ≤ m + 2 * a)
-    (bound : s.dead_cycles + total + 2 * way_floats s.floats + credit kind + phase_cost phase ≤ m + 2 + 2 * a)
+    (bound : s.dead_cycles + total + 2 * way_floats s.floats + credit kind + phase_cost phase ≤ m + 3 + 2 * a)
     (well : FiresWell p s total a kind phase f)
     (special : int_le eject_penalty f.penalty ≡ false) (clears : Output.is_int f.penalty Asked.clear_penalty ≡ true) where
   abbrev w0 : Work
@@ -120,12 +120,12 @@ module _ (p : Params) (m : ℕ) (s : State) (total a : ℕ) (kind : Kind) (phase
   n-kept : (head : Notes) (notes : List Notes) → s.two_columns ≡ true → s.first_column ≡ true → n.state.first_column ≡ false → n.state.dead_cycles ≡ s.dead_cycles + 1 → (k : Kind) → Holds p n-done (suc d) k → NoteSums (credit k) → Bounded p m n-done
   n-kept head notes t c first e k h l = by_phase phase refl at
     where
-      sums : (b r y y' c k d' e' : ℕ) → b ≡ 3 → r + 3 ≤ total → 2 * y + c + 2 * a ≤ 2 * y' + k + 2 * suc d → d' ≡ e' + 1 → e' + total + 2 * y' + k + 2 ≤ m + 2 + 2 * a → d' + (b + r) + 2 * y + c + 1 ≤ m + 2 + 2 * suc d
+      sums : (b r y y' c k d' e' : ℕ) → b ≡ 3 → r + 3 ≤ total → 2 * y + c + 2 * a ≤ 2 * y' + k + 2 * suc d → d' ≡ e' + 1 → e' + total + 2 * y' + k + 2 ≤ m + 3 + 2 * a → d' + (b + r) + 2 * y + c + 1 ≤ m + 3 + 2 * suc d
       sums b r y y' c k d' e' i j l o u = omega arith
 
       by_phase : (x : Phase) → x ≡ phase → PhaseHolds s x → Bounded p m n-done
       by_phase starting g i = finish p m f well.held n (suc d) k second n-region h (record { columns = n-goal.columns ∙ q-out.columns ∙ t; first = n-goal.first ∙ first }) (λ e. cc) (n-fits head notes) (n-weight (credit k) l)
-          (sums (wait_cost n.put_back) (wait_cost f.rest) (way_floats n.state.floats) (way_floats s.floats) (credit k) (credit kind) n.state.dead_cycles s.dead_cycles n-cost cost l e (subst (λ (y : Phase). s.dead_cycles + total + 2 * way_floats s.floats + credit kind + phase_cost y ≤ m + 2 + 2 * a) (sym g) bound))
+          (sums (wait_cost n.put_back) (wait_cost f.rest) (way_floats n.state.floats) (way_floats s.floats) (credit k) (credit kind) n.state.dead_cycles s.dead_cycles n-cost cost l e (subst (λ (y : Phase). s.dead_cycles + total + 2 * way_floats s.floats + credit kind + phase_cost y ≤ m + 3 + 2 * a) (sym g) bound))
       by_phase second g i = true-false s.first_column c i.first
       by_phase ending g i = true-false s.first_column c i.0.first
 

@@ -32,7 +32,7 @@ use Rattle.tb_laws.proofs.DeadCycles.CycleBreaks.{ordinary-again, FiresWell, fit
 module _ (p : Params) (m : ℕ) (s : State) (total a : ℕ) (kind : Kind) (phase : Phase) (f : Fired) (calm : int_le p.interlinepenalty eject_penalty ≡ false)
     (holds : Holds p s a kind) (at : PhaseHolds s phase) (floats : FloatsFit p s)
     (weight : total + 2 * way_floats s.floats + credit kind ≤ m + 2 * a)
-    (bound : s.dead_cycles + total + 2 * way_floats s.floats + credit kind + phase_cost phase ≤ m + 2 + 2 * a)
+    (bound : s.dead_cycles + total + 2 * way_floats s.floats + credit kind + phase_cost phase ≤ m + 3 + 2 * a)
     (well : FiresWell p s total a kind phase f) where
   abbrev w0 : Work
   w0 = begun (Output.after_page s f)
@@ -63,12 +63,12 @@ module _ (p : Params) (m : ℕ) (s : State) (total a : ℕ) (kind : Kind) (phase
       let g = goal-out p f.penalty w in
       finish p m f well.held w 0 closed phase (λ bs i. tt) refl (same-phase h (after p m f well.held w) (g.columns ∙ q.columns) (g.first ∙ q.first)) (λ e. true-false (int_le eject_penalty f.penalty) (well.ending e) h) q.fits
       (sums (wait_cost w.put_back) (wait_cost f.rest) (way_floats w.state.floats) (way_floats s.floats) (credit kind) (sort_cost x) q.back (cost-of x e) one q.way (ap (λ n. m + 2 * n) z) weight)
-      (sums-with (wait_cost w.put_back) (wait_cost f.rest) (way_floats w.state.floats) (way_floats s.floats) (credit kind) (sort_cost x) w.state.dead_cycles s.dead_cycles (phase_cost phase) q.back (cost-of x e) one q.way (ap (λ n. m + 2 + 2 * n) z) q.cycles bound)
+      (sums-with (wait_cost w.put_back) (wait_cost f.rest) (way_floats w.state.floats) (way_floats s.floats) (credit kind) (sort_cost x) w.state.dead_cycles s.dead_cycles (phase_cost phase) q.back (cost-of x e) one q.way (ap (λ n. m + 3 + 2 * n) z) q.cycles bound)
     where
       sums : (b r y y' c o : ℕ) → b ≡ 0 → r + o ≤ total → o ≡ 1 → y ≤ y' → m + 2 * a ≡ m + 2 * 0 → total + 2 * y' + c ≤ m + 2 * a → b + r + 2 * y + 0 ≤ m + 2 * 0
       sums b r y y' c o i j k l n q = omega arith
 
-      sums-with : (b r y y' c o d d' h : ℕ) → b ≡ 0 → r + o ≤ total → o ≡ 1 → y ≤ y' → m + 2 + 2 * a ≡ m + 2 + 2 * 0 → d ≡ d' + 1 → d' + total + 2 * y' + c + h ≤ m + 2 + 2 * a → d + (b + r) + 2 * y + 0 + h ≤ m + 2 + 2 * 0
+      sums-with : (b r y y' c o d d' h : ℕ) → b ≡ 0 → r + o ≤ total → o ≡ 1 → y ≤ y' → m + 3 + 2 * a ≡ m + 3 + 2 * 0 → d ≡ d' + 1 → d' + total + 2 * y' + c + h ≤ m + 3 + 2 * a → d + (b + r) + 2 * y + 0 + h ≤ m + 3 + 2 * 0
       sums-with b r y y' c o d d' h i j k l n q t = omega arith
 
   begun-fits : (t : State) → t.floats ≡ s.floats → t.two_columns ≡ s.two_columns → FloatsFit p t
@@ -282,13 +282,13 @@ module _ (p : Params) (m : ℕ) (s : State) (total a : ℕ) (kind : Kind) (phase
       sums : (b r y y' c c' x : ℕ) → b ≡ 0 → r + x ≤ total → 2 * y + c ≤ 2 * y' + c' → total + 2 * y' + c' ≤ m + 2 * a → b + r + 2 * y + c ≤ m + 2 * a
       sums b r y y' c c' x i j k l = omega arith
 
-      sums-with : (b r y y' c c' x d d' : ℕ) → b ≡ 0 → r + x ≤ total → 2 * y + c ≤ 2 * y' + c' → d ≡ d' + 1 → d' + total + 2 * y' + c' + 2 ≤ m + 2 + 2 * a → d + (b + r) + 2 * y + c + 1 ≤ m + 2 + 2 * a
+      sums-with : (b r y y' c c' x d d' : ℕ) → b ≡ 0 → r + x ≤ total → 2 * y + c ≤ 2 * y' + c' → d ≡ d' + 1 → d' + total + 2 * y' + c' + 2 ≤ m + 3 + 2 * a → d + (b + r) + 2 * y + c + 1 ≤ m + 3 + 2 * a
       sums-with b r y y' c c' x d d' i j k n q = omega arith
 
       by_phase : (x : Phase) → x ≡ phase → PhaseHolds s x → Bounded p m done
       by_phase starting e i = finish p m f well.held o a k second (o-region r) h is_second (λ e. cc) o-fits
           (sums (wait_cost o.put_back) (wait_cost f.rest) (way_floats o.state.floats) (way_floats s.floats) (credit k) (credit kind) (sort_cost (pen_sort f.penalty)) o-cost well.cost l weight)
-          (sums-with (wait_cost o.put_back) (wait_cost f.rest) (way_floats o.state.floats) (way_floats s.floats) (credit k) (credit kind) (sort_cost (pen_sort f.penalty)) o.state.dead_cycles s.dead_cycles o-cost well.cost l d (subst (λ (y : Phase). s.dead_cycles + total + 2 * way_floats s.floats + credit kind + phase_cost y ≤ m + 2 + 2 * a) (sym e) bound))
+          (sums-with (wait_cost o.put_back) (wait_cost f.rest) (way_floats o.state.floats) (way_floats s.floats) (credit k) (credit kind) (sort_cost (pen_sort f.penalty)) o.state.dead_cycles s.dead_cycles o-cost well.cost l d (subst (λ (y : Phase). s.dead_cycles + total + 2 * way_floats s.floats + credit kind + phase_cost y ≤ m + 3 + 2 * a) (sym e) bound))
       by_phase second e i = true-false s.first_column c i.first
       by_phase ending e i = true-false s.first_column c i.0.first
 

@@ -1,7 +1,6 @@
--- A run begins with four firings without a page for each float, note, clear, change of columns and page that is made higher at most, and so never meets a limit that has room for them.
-use Rattle.std.proofs.Common.{◌≡◌, refl, sym, ap, subst, ℕ, zero, suc, ℤ, pos, ◌+◌, ◌*◌, ◌≤◌, ◌==◌, Bool, true, false, List, [], ◌∷◌, ◌++◌, map, None, arith}
-use Rattle.std.specs.Prelude.{◌≤ℤ◌, int_lt, int_le, ◌&&◌, if◌then◌else◌}
-use Rattle.std.proofs.lemmas.Int.{ints}
+-- A run begins with four firings without a page for each float, note, clear, change of columns and page that is made higher at most.
+use Rattle.std.proofs.Common.{◌≡◌, refl, sym, ap, subst, ℕ, zero, suc, ℤ, ◌+◌, ◌*◌, ◌≤◌, ◌==◌, inl, inr, Bool, true, false, List, [], ◌∷◌, ◌++◌, map, None, arith}
+use Rattle.std.specs.Prelude.{int_le, ◌&&◌, if◌then◌else◌}
 use Rattle.tb_scaled.specs.Scaled.{eject_penalty}
 use Rattle.tb_node.specs.declared.Act.{Act}
 use Rattle.tb_node.specs.declared.Act.TheVariants as acts
@@ -12,7 +11,8 @@ use Rattle.tb_galley.specs.declared.Item.{Item}
 use Rattle.tb_galley.specs.declared.ItemKind.{ItemKind}
 use Rattle.tb_galley.specs.declared.ItemKind.TheVariants as items
 use Rattle.tb_galley.specs.declared.Galley.{Galley}
-use Rattle.tb_galley.specs.GalleyNodes.{plain_leaf, with_firings, item_kinds, two_after, item_nodes, expanded}
+use Rattle.tb_galley.specs.GalleyNodes.{plain_leaf, with_firings, item_kinds, two_after, params_after, item_nodes, expanded}
+use Rattle.tb_galley.specs.Valid.{IsValid}
 use Rattle.tb_insert.specs.declared.Class.{Class}
 use Rattle.tb_builder.specs.FiredPages.{box_content}
 use Rattle.tb_output.specs.State.{State, void_boxes, first_state}
@@ -20,22 +20,19 @@ use Rattle.tb_laws.proofs.NothingLost.StateWeights.{class_numbers}
 use Rattle.tb_laws.proofs.Closed.Sorts.{pen_sort}
 use Rattle.tb_laws.proofs.DeadCycles.WaitCosts.{sort_cost, wait_cost, cost-append}
 use Rattle.tb_laws.proofs.DeadCycles.RaiseCounts.{list_raises, raises, content_raises, box_raises, state_raises, raises-append}
-use Rattle.tb_laws.proofs.DeadCycles.RaiseBounds.{Spends}
 use Rattle.tb_laws.proofs.DeadCycles.EndedLemmas.{Ended, ended-both, free-ended}
 use Rattle.tb_float.specs.Lists.{wide_part}
 use Rattle.tb_laws.proofs.StepLaws.SideLemmas.{no-sides}
 use Rattle.tb_laws.proofs.DeadCycles.CycleStates.{closed, starting, FloatsFit, Bounded}
-use Rattle.tb_steps.specs.Run.{End, dead_cycles, node_limit, run_from, run_of, firings_left, held_count, step}
 use Rattle.tb_items.specs.Classes.{classes_of}
 use Rattle.tb_laws.proofs.DeadCycles.SpacedLemmas.{Spaced, spaced-any, spaced-both, free-alone}
 use Rattle.tb_laws.proofs.DeadCycles.HighStates.{cleared, BoundedHigh}
-use Rattle.tb_laws.specs.Firings.{HasReason}
-use Rattle.tb_laws.specs.DeadCycles.{cycling_count, cycling_items, HasRoomForCycles, EndsWithinCycles}
-use Rattle.tb_laws.proofs.Defined.FuelLemmas.{run-reason}
-use Rattle.tb_laws.proofs.NothingLost.StartLemmas.{ItemFits, ItemsFit, NumbersDiffer, start-kept}
-use Rattle.tb_laws.proofs.NothingLost.RunWeights.{page_of, Kept}
-use Rattle.tb_laws.proofs.DeadCycles.CycleRuns.{ChangesEmpty, Cycled, StepStays, RunCycles, run-cycles, Goes}
-use Rattle.tb_builder.proofs.Cutting.CutLemmas.{acted_of}
+use Rattle.tb_laws.specs.DeadCycles.{cycling_count, cycling_items}
+use Rattle.tb_laws.proofs.NothingLost.StartLemmas.{ItemFits, ItemsFit, start-kept}
+use Rattle.tb_laws.proofs.NothingLost.ClosingStarts.{start-closing}
+use Rattle.tb_laws.proofs.NothingLost.ClassLemmas.{valid-differ, valid-fit}
+use Rattle.tb_laws.proofs.DeadCycles.CycleGoing.{Bound, skip-fits, skip-high}
+use Rattle.tb_laws.proofs.DeadCycles.CycleRuns.{Cycled}
 use Rattle.tb_laws.proofs.StepLaws.BreakSorts.{at-ordinary}
 
 -- ---- what the items cost
@@ -83,10 +80,11 @@ items-cost : (ks : List ℕ) (p : Params) (two : Bool) (ns : List Item) → Item
 items-cost ks p two [] f = omega arith
 items-cost ks p two (n ∷ ns) f =
     let after = two_after two n.kind in
-    let a : full_cost (on_line n.line (item_kinds p two n.kind) ++ item_nodes p after ns) ≡ full_cost (on_line n.line (item_kinds p two n.kind)) + full_cost (item_nodes p after ns) = full-append (on_line n.line (item_kinds p two n.kind)) (item_nodes p after ns) in
+    let later = params_after p n.kind in
+    let a : full_cost (on_line n.line (item_kinds p two n.kind) ++ item_nodes later after ns) ≡ full_cost (on_line n.line (item_kinds p two n.kind)) + full_cost (item_nodes later after ns) = full-append (on_line n.line (item_kinds p two n.kind)) (item_nodes later after ns) in
     let b : full_cost (on_line n.line (item_kinds p two n.kind)) ≤ 4 * cycling_count n.kind = item-cost ks p two n.line n.kind f.0 in
-    let c : full_cost (item_nodes p after ns) ≤ 4 * cycling_items ns = items-cost ks p after ns f.1 in
-    sums (full_cost (item_nodes p two (n ∷ ns))) (full_cost (on_line n.line (item_kinds p two n.kind))) (full_cost (item_nodes p after ns)) (cycling_count n.kind) (cycling_items ns) a b c
+    let c : full_cost (item_nodes later after ns) ≤ 4 * cycling_items ns = items-cost ks later after ns f.1 in
+    sums (full_cost (item_nodes p two (n ∷ ns))) (full_cost (on_line n.line (item_kinds p two n.kind))) (full_cost (item_nodes later after ns)) (cycling_count n.kind) (cycling_items ns) a b c
   where
     sums : (x y z i j : ℕ) → x ≡ y + z → y ≤ 4 * i → z ≤ 4 * j → x ≤ 4 * (i + j)
     sums x y z i j a b c = omega arith
@@ -138,7 +136,7 @@ item-ended ks p two line k f = free-item p two line k (item-cost ks p two line k
 items-ended : (ks : List ℕ) (p : Params) (two : Bool) (ns : List Item) → ItemsFit ks ns → Ended false (item_nodes p two ns)
 items-ended ks p two [] f = tt
 items-ended ks p two (n ∷ ns) f =
-    ended-both false (on_line n.line (item_kinds p two n.kind)) (item_nodes p (two_after two n.kind) ns) (item-ended ks p two n.line n.kind f.0) (items-ended ks p (two_after two n.kind) ns f.1)
+    ended-both false (on_line n.line (item_kinds p two n.kind)) (item_nodes (params_after p n.kind) (two_after two n.kind) ns) (item-ended ks p two n.line n.kind f.0) (items-ended ks (params_after p n.kind) (two_after two n.kind) ns f.1)
 
 start-ended : (g : Galley) → ItemsFit (numbers g) g.items → Ended false (expanded g)
 unfolding expanded
@@ -174,7 +172,7 @@ item-spaced ks p two line k f = light-item p two line k (item-cost ks p two line
 items-spaced : (ks : List ℕ) (p : Params) (two : Bool) (ns : List Item) → ItemsFit ks ns → Spaced false (item_nodes p two ns)
 items-spaced ks p two [] f = tt
 items-spaced ks p two (n ∷ ns) f =
-    spaced-both false (on_line n.line (item_kinds p two n.kind)) (item_nodes p (two_after two n.kind) ns) (item-spaced ks p two n.line n.kind f.0) (items-spaced ks p (two_after two n.kind) ns f.1)
+    spaced-both false (on_line n.line (item_kinds p two n.kind)) (item_nodes (params_after p n.kind) (two_after two n.kind) ns) (item-spaced ks p two n.line n.kind f.0) (items-spaced ks (params_after p n.kind) (two_after two n.kind) ns f.1)
 
 start-spaced : (g : Galley) → ItemsFit (numbers g) g.items → Spaced true (expanded g)
 unfolding expanded
@@ -193,11 +191,14 @@ void-raises (c ∷ cs) = by_number (c.number == 255) (void-raises cs)
     by_number true h = refl
     by_number false h = h
 
-module _ (g : Galley) (calm : int_le g.params.interlinepenalty eject_penalty ≡ false) (differ : NumbersDiffer (classes_of g)) (items_fit : ItemsFit (numbers g) g.items) where
+module _ (g : Galley) (valid : IsValid g) where
+  items_fit : ItemsFit (numbers g) g.items
+  items_fit = valid-fit g valid
+
   abbrev pub most : ℕ
   most = 4 * cycling_items g.items + 3
 
-  abbrev pub first : State
+  abbrev first : State
   first = first_state g.params (classes_of g) (expanded g)
 
   -- no float is anywhere
@@ -236,11 +237,8 @@ module _ (g : Galley) (calm : int_le g.params.interlinepenalty eject_penalty ≡
       sums : (x : ℕ) → x + 2 * 0 + 0 ≤ x + 2 * 0
       sums x = omega arith
 
-      sums-with : (x : ℕ) → 0 + x + 2 * 0 + 0 + 2 ≤ x + 2 + 2 * 0
+      sums-with : (x : ℕ) → 0 + x + 2 * 0 + 0 + 2 ≤ x + 3 + 2 * 0
       sums-with x = omega arith
-
-  pub low-start : Spends (Bounded g.params) most first
-  low-start = record { most = wait_cost (expanded g); bounded = low-bounded; room = start-room }
 
   high-bounded : BoundedHigh g.params (wait_cost (expanded g)) first
   high-bounded = record {
@@ -250,7 +248,6 @@ module _ (g : Galley) (calm : int_le g.params.interlinepenalty eject_penalty ≡
     holds = refl;
     coming = λ e. cc;
     floats = start-floats;
-    spaced = start-spaced g items_fit;
     weight = sums (wait_cost (expanded g));
     bound = sums-with (wait_cost (expanded g));
   }
@@ -261,30 +258,18 @@ module _ (g : Galley) (calm : int_le g.params.interlinepenalty eject_penalty ≡
       sums-with : (x : ℕ) → 0 + x + 2 * 0 + 2 ≤ x + 3 + 3 * 0
       sums-with x = omega arith
 
-  pub high-start : Spends (BoundedHigh g.params) most first
-  high-start = record { most = wait_cost (expanded g); bounded = high-bounded; room = start-room }
-
-  -- a run that has a reason to end for its dead cycles had as many as there may be, and those were few
-  no-reason : (e : End) → HasReason g.params e → RunCycles (most + 3) e → HasRoomForCycles g → EndsWithinCycles e
-  no-reason (dead_cycles n) h k c = no-room (cycling_items g.items) n g.params.maxdeadcycles c h k
+  start-bound : Bound (wait_cost (expanded g)) first
+  start-bound = by_skip (int_le g.params.topskip g.params.textheight) refl
     where
-      no-room : (i n : ℕ) (d : ℤ) → pos (4 * i + 16) ≤ℤ d → d ≤ℤ pos n → n ≤ 4 * i + 3 + 3 → ⊥
-      no-room i n d a b e = let h : 4 * i + 16 ≤ n = grind (arith, ints, a, b) in omega arith
-  no-reason e h k c = tt
+      by_skip : (x : Bool) → int_le g.params.topskip g.params.textheight ≡ x → Bound (wait_cost (expanded g)) first
+      by_skip true e = inl (skip-fits g.params.topskip g.params.textheight e, low-bounded)
+      by_skip false e = inr (skip-high g.params.topskip g.params.textheight e, high-bounded)
 
-  -- with a bound that each firing keeps, and an invariant by which the columns change only when no float is on the way, the run does not end for its dead cycles
-  module _ (B : State → Type 0) (few : (s : State) → B s → s.dead_cycles ≤ most + 3) (goes : Goes g.params B) (start : B first)
-      (I : State → Type 0) (empties : (s : State) → Kept s → I s → ChangesEmpty g.params s (acted_of (page_of g.params s).reached)) (keeps : (s : State) → Kept s → I s → StepStays I (step g.params s)) (begins : I first) where
-    pub not-cycles : HasRoomForCycles g → EndsWithinCycles (run_of g).end
-    unfolding run_of
-    not-cycles c = by_nodes (int_lt g.params.maxnodes (pos (held_count first)))
-      where
-        cycled : Cycled g.params calm B (most + 3) few goes first
-        cycled = record { kept = start-kept g differ items_fit; bounded = start; ended = start-ended g items_fit }
-
-        run : EndsWithinCycles (run_from g.params (suc (firings_left g.params first)) first).end
-        run = no-reason (run_from g.params (suc (firings_left g.params first)) first).end (run-reason g.params (suc (firings_left g.params first)) first (omega arith) (omega arith)) (run-cycles g.params calm B (most + 3) few goes I (λ s x i. empties s x.kept i) (λ s x i. keeps s x.kept i) (suc (firings_left g.params first)) first cycled begins) c
-
-        by_nodes : (t : Bool) → EndsWithinCycles (if t then record { events = []; records = []; end = node_limit (held_count first) } else run_from g.params (suc (firings_left g.params first)) first).end
-        by_nodes true = tt
-        by_nodes false = run
+  pub start-cycled : Cycled most first
+  start-cycled = record {
+    kept = start-kept g valid.params (valid-differ g valid) items_fit;
+    closing = start-closing g valid.order items_fit;
+    bounded = record { most = wait_cost (expanded g); bounded = start-bound; room = start-room };
+    ended = start-ended g items_fit;
+    spaced = start-spaced g items_fit;
+  }

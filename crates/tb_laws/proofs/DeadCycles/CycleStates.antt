@@ -116,7 +116,7 @@ pub record Bounded (p : Params) (m : ℕ) (s : State) : Type 0 where
   pub coming : phase ≡ ending → 1 ≤ again
   pub floats : FloatsFit p s
   pub weight : wait_cost s.waiting + 2 * way_floats s.floats + credit kind ≤ m + 2 * again
-  pub bound : s.dead_cycles + wait_cost s.waiting + 2 * way_floats s.floats + credit kind + phase_cost phase ≤ m + 2 + 2 * again
+  pub bound : s.dead_cycles + wait_cost s.waiting + 2 * way_floats s.floats + credit kind + phase_cost phase ≤ m + 3 + 2 * again
 
 -- ---- the goal of the next page
 

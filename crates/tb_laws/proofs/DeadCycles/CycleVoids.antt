@@ -81,7 +81,7 @@ back-again false false n ys a = let e : n ≡ n + 0 + 0 = omega arith in subst (
 module _ (p : Params) (m : ℕ) (s : State) (total a : ℕ) (kind : Kind) (phase : Phase) (f : Fired) (calm : int_le p.interlinepenalty eject_penalty ≡ false)
     (holds : Holds p s a kind) (at : PhaseHolds s phase) (floats : FloatsFit p s)
     (weight : total + 2 * way_floats s.floats + credit kind ≤ m + 2 * a)
-    (bound : s.dead_cycles + total + 2 * way_floats s.floats + credit kind + phase_cost phase ≤ m + 2 + 2 * a)
+    (bound : s.dead_cycles + total + 2 * way_floats s.floats + credit kind + phase_cost phase ≤ m + 3 + 2 * a)
     (well : FiresWell p s total a kind phase f)
     (special : int_le eject_penalty f.penalty ≡ false) (clears : Output.is_int f.penalty Asked.clear_penalty ≡ true) (void : standing_notes (footnotes (record s { boxes = f.boxes })) ≡ []) where
   abbrev w0 : Work
@@ -193,7 +193,7 @@ module _ (p : Params) (m : ℕ) (s : State) (total a : ℕ) (kind : Kind) (phase
   v-quiet : (j : Phase) → PhaseHolds v-done j → (j ≡ ending → 1 ≤ later) → v.state.dead_cycles ≡ s.dead_cycles + 1 → (k : Kind) → Holds p v-done later k → Sums (credit k) → 2 * way_floats v.state.floats + credit k + 2 * a + (3 * bit c.half + 3 * bit c.rest) + phase_cost j + 1 ≤ 2 * way_floats s.floats + credit kind + 2 * later + 3 + phase_cost phase → Bounded p m v-done
   v-quiet j g y e k h l u = finish p m f well.held v later k j v-region h g y v-fits (v-weight (credit k) l) (sums (wait_cost v.put_back) (wait_cost f.rest) (way_floats v.state.floats) (way_floats s.floats) (credit k) (credit kind) (3 * bit c.half + 3 * bit c.rest) later v.state.dead_cycles s.dead_cycles (phase_cost j) (phase_cost phase) v-cost (cost p m s total a kind phase f calm holds at floats weight bound well special clears) u e bound)
     where
-      sums : (b r y y' k i n l x x' q q' : ℕ) → b ≡ n → r + 3 ≤ total → 2 * y + k + 2 * a + n + q + 1 ≤ 2 * y' + i + 2 * l + 3 + q' → x ≡ x' + 1 → x' + total + 2 * y' + i + q' ≤ m + 2 + 2 * a → x + (b + r) + 2 * y + k + q ≤ m + 2 + 2 * l
+      sums : (b r y y' k i n l x x' q q' : ℕ) → b ≡ n → r + 3 ≤ total → 2 * y + k + 2 * a + n + q + 1 ≤ 2 * y' + i + 2 * l + 3 + q' → x ≡ x' + 1 → x' + total + 2 * y' + i + q' ≤ m + 3 + 2 * a → x + (b + r) + 2 * y + k + q ≤ m + 3 + 2 * l
       sums b r y y' k i n l x x' q q' h1 h2 h3 h4 h5 = omega arith
 
   -- ---- the cases
@@ -428,7 +428,7 @@ module _ (p : Params) (m : ℕ) (s : State) (total a : ℕ) (kind : Kind) (phase
       quiet : (j : Phase) → PhaseHolds v-done j → (j ≡ ending → 1 ≤ later) → bit c.half + phase_cost j ≤ 2 → v.state.dead_cycles ≡ s.dead_cycles + 1 → Bounded p (m + 4) v-done
       quiet j g y l e = finish p (m + 4) f well.held v later any j v-region tt g y v-fits paid (sums (wait_cost v.put_back) (wait_cost f.rest) (way_floats v.state.floats) (way_floats s.floats) (credit kind) (bit c.half) (bit c.rest) v.state.dead_cycles s.dead_cycles (phase_cost j) (phase_cost phase) v-cost (cost p m s total a kind phase f calm holds at floats weight bound well special clears) v-least most bound not-ending l (bit-most c.rest) e)
         where
-          sums : (b r y y' k h t x x' q q' : ℕ) → b ≡ 3 * h + 3 * t → r + 3 ≤ total → y ≤ y' → a ≤ d + 1 → x' + total + 2 * y' + k + q' ≤ m + 2 + 2 * a → 1 ≤ q' → h + q ≤ 2 → t ≤ 1 → x ≡ x' + 1 → x + (b + r) + 2 * y + 2 + q ≤ m + 4 + 2 + 2 * (d + h + t)
+          sums : (b r y y' k h t x x' q q' : ℕ) → b ≡ 3 * h + 3 * t → r + 3 ≤ total → y ≤ y' → a ≤ d + 1 → x' + total + 2 * y' + k + q' ≤ m + 3 + 2 * a → 1 ≤ q' → h + q ≤ 2 → t ≤ 1 → x ≡ x' + 1 → x + (b + r) + 2 * y + 2 + q ≤ m + 4 + 3 + 2 * (d + h + t)
           sums b r y y' k h t x x' q q' i1 i2 i3 i4 i5 i6 i7 i8 i9 = omega arith
 
       by_cycles : (j : Phase) → PhaseHolds v-done j → (j ≡ ending → 1 ≤ later) → bit c.half + phase_cost j ≤ 2 → (v.state.dead_cycles ≡ s.dead_cycles + 1) ⊎ (v.state.dead_cycles ≡ 0) → Bounded p (m + 4) v-done
@@ -445,7 +445,7 @@ module _ (p : Params) (m : ℕ) (s : State) (total a : ℕ) (kind : Kind) (phase
 module _ (p : Params) (m : ℕ) (s : State) (total a : ℕ) (kind : Kind) (phase : Phase) (f : Fired) (calm : int_le p.interlinepenalty eject_penalty ≡ false)
     (holds : Holds p s a kind) (at : PhaseHolds s phase) (floats : FloatsFit p s)
     (weight : total + 2 * way_floats s.floats + credit kind ≤ m + 2 * a)
-    (bound : s.dead_cycles + total + 2 * way_floats s.floats + credit kind + phase_cost phase ≤ m + 2 + 2 * a)
+    (bound : s.dead_cycles + total + 2 * way_floats s.floats + credit kind + phase_cost phase ≤ m + 3 + 2 * a)
     (well : FiresWell p s total a kind phase f) where
   abbrev started : Work
   started = begun (Output.after_page s f)

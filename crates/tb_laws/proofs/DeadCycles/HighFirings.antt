@@ -17,7 +17,7 @@ use Rattle.tb_sheet.specs.Asked
 use Rattle.tb_laws.proofs.Closed.Sorts.{Sort, hold, serve, clear, pen_sort, sorts}
 use Rattle.tb_laws.proofs.DeadCycles.AgainLemmas.{Again, Idle, left_after}
 use Rattle.tb_laws.proofs.DeadCycles.WaitCosts.{sort_cost, wait_cost}
-use Rattle.tb_laws.proofs.DeadCycles.SpacedLemmas.{Spaced, spaced-true, spaced-both, free-alone}
+use Rattle.tb_laws.proofs.DeadCycles.SpacedLemmas.{Spaced, spaced-both, free-alone}
 use Rattle.tb_output.proofs.StepLaws.FollowLemmas.{waiting_floats}
 use Rattle.tb_laws.proofs.DeadCycles.ColumnOutcomes.{IsKept, last-out, first-out, last-ships, first-kept}
 use Rattle.tb_laws.proofs.DeadCycles.ClearOutcomes.{NoneWait, Fits, How, ClearOut}
@@ -30,26 +30,14 @@ use Rattle.tb_laws.proofs.DeadCycles.CycleVoids.{bit, half_nodes, rest_nodes, c,
 use Rattle.tb_laws.proofs.DeadCycles.RaiseCounts.{box_raises}
 use Rattle.tb_laws.proofs.DeadCycles.RaiseFirings.{Drops}
 use Rattle.tb_laws.proofs.DeadCycles.EndedLemmas.{Ended}
-use Rattle.tb_laws.proofs.DeadCycles.CycleEnds.{out-ended}
-use Rattle.tb_laws.proofs.DeadCycles.HighStates.{Stage, loose, guarded, cleared, right, last, stage_cost, Guarded, StageHolds, phase_of, phase-holds, BoundedHigh, spaced-free, spaced-back, finish-high, shipped-high}
+use Rattle.tb_laws.proofs.DeadCycles.CycleEnds.{half-spaced, rest-spaced, out-ended, out-spaced}
+use Rattle.tb_laws.proofs.DeadCycles.HighStates.{Stage, loose, guarded, cleared, right, last, stage_cost, Guarded, StageHolds, phase_of, phase-holds, BoundedHigh, spaced-back, finish-high, shipped-high}
 
--- what is known of the page that fires: all that is known of any, how the clears after it are spaced, and that a page that is guarded breaks at a clear without footnotes only if it is raised
+-- what is known of the page that fires: all that is known of any, how the clears after it are spaced if it is a clear, and that a page that is guarded breaks at a clear without footnotes only if it is raised
 pub record FiresHigh (p : Params) (s : State) (total n : ℕ) (stage : Stage) (f : Fired) : Type 0 where
   pub well : FiresWell p s total n any (phase_of stage) f
-  pub spaced : Spaced true f.rest
   pub behind : Output.is_int f.penalty Asked.clear_penalty ≡ true → Spaced false f.rest
   pub guard : stage ≡ guarded → Output.is_int f.penalty Asked.clear_penalty ≡ true → standing_notes (footnotes (record s { boxes = f.boxes })) ≡ [] → box_raises f.boxes ≡ 0 → ⊥
-
-again-spaced : (b : Bool) → Spaced b Clear.clear_again
-again-spaced b = (tt, (λ h. cc, (tt, (tt, (λ h. refl, tt)))))
-
-half-spaced : (t : Bool) → Spaced false (half_nodes t)
-half-spaced true = (tt, again-spaced false)
-half-spaced false = tt
-
-rest-spaced : (t : Bool) → Spaced false (rest_nodes t)
-rest-spaced true = again-spaced false
-rest-spaced false = tt
 
 -- a stage at which a first column, or the only one, is made
 abbrev IsFirst : State → Type 0
@@ -94,14 +82,14 @@ module _ (p : Params) (m : ℕ) (s : State) (total a : ℕ) (stage : Stage) (f :
       sums : (d t y : ℕ) → t + 2 * y + 2 ≤ d + t + 2 * y + 4 + 2 * a
       sums d t y = omega arith
 
-  big-bound : s.dead_cycles + total + 2 * way_floats s.floats + 2 + phase_cost (phase_of stage) ≤ big + 2 + 2 * a
+  big-bound : s.dead_cycles + total + 2 * way_floats s.floats + 2 + phase_cost (phase_of stage) ≤ big + 3 + 2 * a
   big-bound = sums s.dead_cycles total (way_floats s.floats) (phase_cost (phase_of stage)) (most stage)
     where
       most : (x : Stage) → phase_cost (phase_of x) ≤ 2
       most loose = omega arith
       most x = omega arith
 
-      sums : (d t y h : ℕ) → h ≤ 2 → d + t + 2 * y + 2 + h ≤ d + t + 2 * y + 4 + 2 + 2 * a
+      sums : (d t y h : ℕ) → h ≤ 2 → d + t + 2 * y + 2 + h ≤ d + t + 2 * y + 4 + 3 + 2 * a
       sums d t y h i = omega arith
 
   well : FiresWell p s total a any (phase_of stage) f
@@ -122,7 +110,7 @@ module _ (p : Params) (m : ℕ) (s : State) (total a : ℕ) (stage : Stage) (f :
       sums-with b r y y' o d d' u v i j k l n q t c = omega arith
 
       go : (t : Stage) → StageHolds p (after p m f well.held w) 0 t → (t ≡ last → 1 ≤ 0) → stage_cost t ≤ stage_cost stage → BoundedHigh p m (after p m f well.held w)
-      go t g i l = finish-high p m f well.held w 0 t (λ bs i. tt) g i q.fits (spaced-free p m f well.held w true q.back fires.spaced)
+      go t g i l = finish-high p m f well.held w 0 t (λ bs i. tt) g i q.fits
           (sums (wait_cost w.put_back) (wait_cost f.rest) (way_floats w.state.floats) (way_floats s.floats) (sort_cost x) q.back paid one q.way weight z)
           (sums-with (wait_cost w.put_back) (wait_cost f.rest) (way_floats w.state.floats) (way_floats s.floats) (sort_cost x) w.state.dead_cycles s.dead_cycles (stage_cost t) (stage_cost stage) q.back paid one q.way q.cycles l bound z)
 
@@ -144,7 +132,7 @@ module _ (p : Params) (m : ℕ) (s : State) (total a : ℕ) (stage : Stage) (f :
 
   -- ---- a page is out, or the first of two columns is kept
 
-  module _ (w : Work) (again : ℕ) (region : (bs : List PlainNode) → AllByRecursion Idle (sorts bs) → Again again (sorts w.put_back ++ (sorts bs ++ sorts f.rest))) (fits : FloatsFit p w.state) (spaced : Spaced true (after p m f well.held w).waiting)
+  module _ (w : Work) (again : ℕ) (region : (bs : List PlainNode) → AllByRecursion Idle (sorts bs) → Again again (sorts w.put_back ++ (sorts bs ++ sorts f.rest))) (fits : FloatsFit p w.state)
       (paid : wait_cost w.put_back + wait_cost f.rest + 2 * way_floats w.state.floats + 3 * a ≤ total + 2 * way_floats s.floats + 3 * again) where
     by-weight : wait_cost w.put_back + wait_cost f.rest + 2 * way_floats w.state.floats ≤ m + 3 * again
     by-weight = sums (wait_cost w.put_back + wait_cost f.rest) (way_floats w.state.floats) (way_floats s.floats) paid weight
@@ -153,10 +141,10 @@ module _ (p : Params) (m : ℕ) (s : State) (total a : ℕ) (stage : Stage) (f :
         sums b y y' h i = omega arith
 
     out-by : w.state.dead_cycles ≡ 0 → BoundedHigh p m (after p m f well.held w)
-    out-by d = shipped-high p m f well.held w again region fits spaced d by-weight
+    out-by d = shipped-high p m f well.held w again region fits d by-weight
 
     lower-by : (t : Stage) → StageHolds p (after p m f well.held w) again t → (t ≡ last → 1 ≤ again) → w.state.dead_cycles ≡ s.dead_cycles + 1 → stage_cost t + 1 ≤ stage_cost stage → BoundedHigh p m (after p m f well.held w)
-    lower-by t h i d l = finish-high p m f well.held w again t region h i fits spaced by-weight (sums (wait_cost w.put_back + wait_cost f.rest) (way_floats w.state.floats) (way_floats s.floats) w.state.dead_cycles s.dead_cycles (stage_cost t) (stage_cost stage) paid d l bound)
+    lower-by t h i d l = finish-high p m f well.held w again t region h i fits by-weight (sums (wait_cost w.put_back + wait_cost f.rest) (way_floats w.state.floats) (way_floats s.floats) w.state.dead_cycles s.dead_cycles (stage_cost t) (stage_cost stage) paid d l bound)
       where
         sums : (b y y' d d' u v : ℕ) → b + 2 * y + 3 * a ≤ total + 2 * y' + 3 * again → d ≡ d' + 1 → u + 1 ≤ v → d' + total + 2 * y' + v ≤ m + 3 + 3 * a → d + b + 2 * y + u ≤ m + 3 + 3 * again
         sums b y y' d d' u v h i j k = omega arith
@@ -181,9 +169,6 @@ module _ (p : Params) (m : ℕ) (s : State) (total a : ℕ) (stage : Stage) (f :
     o-free : wait_cost o.put_back ≡ 0
     o-free = o-cost p big s total a any (phase_of stage) f calm tt at floats big-weight big-bound well
 
-    o-spaced : Spaced true (after p m f well.held o).waiting
-    o-spaced = spaced-free p m f well.held o true o-free fires.spaced
-
     o-paid : wait_cost o.put_back + wait_cost f.rest + 2 * way_floats o.state.floats + 3 * a ≤ total + 2 * way_floats s.floats + 3 * a
     o-paid = sums (wait_cost o.put_back) (wait_cost f.rest) (way_floats o.state.floats) (way_floats s.floats) (sort_cost (pen_sort f.penalty)) o-free well.cost (o-way p big s total a any (phase_of stage) f calm tt at floats big-weight big-bound well 0 0 (zeros (waiting_floats o.state.floats) (waiting_floats s.floats) (out-fit p big s total a any (phase_of stage) f calm tt at floats big-weight big-bound well).floats))
       where
@@ -194,14 +179,14 @@ module _ (p : Params) (m : ℕ) (s : State) (total a : ℕ) (stage : Stage) (f :
         sums b r y y' x h i j = omega arith
 
     shipped-column : (s.two_columns ≡ false) ⊎ (s.first_column ≡ false) → Result o
-    shipped-column l r = out-by o a o-again o-fit o-spaced o-paid ((last-out (Fits p) p f.body w0 l).cycles r)
+    shipped-column l r = out-by o a o-again o-fit o-paid ((last-out (Fits p) p f.body w0 l).cycles r)
 
     first-column : s.two_columns ≡ true → s.first_column ≡ true → Result o
     first-column t c r = by_out ((first-out (Fits p) p f.body w0 t c).by r)
       where
         by_out : ((o.state.dead_cycles ≡ 0) × (waiting_floats o.state.floats + 1 ≤ waiting_floats s.floats)) ⊎ ((o.state.first_column ≡ false) × (o.state.floats.double ≡ s.floats.double) × (waiting_floats o.state.floats + (length s.floats.top + length s.floats.bottom) ≤ waiting_floats s.floats) × (o.state.dead_cycles ≡ s.dead_cycles + 1)) → BoundedHigh p m (after p m f well.held o)
-        by_out (inl x) = out-by o a o-again o-fit o-spaced o-paid x.0
-        by_out (inr x) = kept-by o a o-again o-fit o-spaced o-paid t c (out-fit p big s total a any (phase_of stage) f calm tt at floats big-weight big-bound well).columns x.0 x.3
+        by_out (inl x) = out-by o a o-again o-fit o-paid x.0
+        by_out (inr x) = kept-by o a o-again o-fit o-paid t c (out-fit p big s total a any (phase_of stage) f calm tt at floats big-weight big-bound well).columns x.0 x.3
 
     at-ordinary : Result (Columns.ordinary p f.body w0)
     at-ordinary = by_columns s.two_columns s.first_column refl refl
@@ -247,9 +232,6 @@ module _ (p : Params) (m : ℕ) (s : State) (total a : ℕ) (stage : Stage) (f :
         fits : FloatsFit p (n head notes).state
         fits = n-fits p big s total a any (phase_of stage) f calm tt at floats big-weight big-bound well special clears head notes
 
-        spaced : Spaced true (after p m f well.held (n head notes)).waiting
-        spaced = spaced-true false (after p m f well.held (n head notes)).waiting (spaced-back p m f well.held (n head notes) (subst (λ (ns : List PlainNode). Spaced false (ns ++ Clear.clear_again)) (sym (q-out p big s total a any (phase_of stage) f calm tt at floats big-weight big-bound well special clears).back) (again-spaced false)) f-spaced)
-
         paid : wait_cost (n head notes).put_back + wait_cost f.rest + 2 * way_floats (n head notes).state.floats + 3 * a ≤ total + 2 * way_floats s.floats + 3 * suc d
         paid = sums (wait_cost (n head notes).put_back) (wait_cost f.rest) (way_floats (n head notes).state.floats) (way_floats s.floats) (n-cost p big s total a any (phase_of stage) f calm tt at floats big-weight big-bound well special clears) f-cost (q-least p big s total a any (phase_of stage) f calm tt at floats big-weight big-bound well special clears) most
           where
@@ -257,12 +239,12 @@ module _ (p : Params) (m : ℕ) (s : State) (total a : ℕ) (stage : Stage) (f :
             sums b r y y' h i j k = omega arith
 
         shipped : (s.two_columns ≡ false) ⊎ (s.first_column ≡ false) → BoundedHigh p m (after p m f well.held (n head notes))
-        shipped l = out-by (n head notes) (suc d) region fits spaced paid (last-ships (Fits p) p (Columns.text_of p w0.state (f.body ++ made (skip filling_glue) ∷ [])) (Columns.without_column_floats w0) l r)
+        shipped l = out-by (n head notes) (suc d) region fits paid (last-ships (Fits p) p (Columns.text_of p w0.state (f.body ++ made (skip filling_glue) ∷ [])) (Columns.without_column_floats w0) l r)
 
         kept : s.two_columns ≡ true → s.first_column ≡ true → BoundedHigh p m (after p m f well.held (n head notes))
         kept t c =
             let k : IsKept (Fits p) p (Columns.without_column_floats w0) q = first-kept (Fits p) p (Columns.text_of p w0.state (f.body ++ made (skip filling_glue) ∷ [])) (Columns.without_column_floats w0) t c in
-            kept-by (n head notes) (suc d) region fits spaced paid t c (q-out p big s total a any (phase_of stage) f calm tt at floats big-weight big-bound well special clears).columns k.first k.cycles
+            kept-by (n head notes) (suc d) region fits paid t c (q-out p big s total a any (phase_of stage) f calm tt at floats big-weight big-bound well special clears).columns k.first k.cycles
 
         by_columns : (t c : Bool) → s.two_columns ≡ t → s.first_column ≡ c → BoundedHigh p m (after p m f well.held (n head notes))
         by_columns false c i j = shipped (inl i)
@@ -309,15 +291,15 @@ module _ (p : Params) (m : ℕ) (s : State) (total a : ℕ) (stage : Stage) (f :
           sums b r y y' h t i j l n = omega arith
 
       shipped : v.state.dead_cycles ≡ 0 → BoundedHigh p m v-done
-      shipped e = out-by v again region fits (spaced-true false v-done.waiting spaced) paid e
+      shipped e = out-by v again region fits paid e
 
       lowered : (t : Stage) → StageHolds p v-done again t → (t ≡ last → 1 ≤ again) → v.state.dead_cycles ≡ s.dead_cycles + 1 → stage_cost t + 1 ≤ stage_cost stage → BoundedHigh p m v-done
-      lowered t h i e l = lower-by v again region fits (spaced-true false v-done.waiting spaced) paid t h i e l
+      lowered t h i e l = lower-by v again region fits paid t h i e l
 
       -- a clear of an item pays for any stage
       item-paid : a ≡ 0 → (t : Stage) → StageHolds p v-done again t → (t ≡ last → 1 ≤ again) → v.state.dead_cycles ≡ s.dead_cycles + 1 → stage_cost t ≤ 2 → BoundedHigh p m v-done
-      item-paid z t h i e l = finish-high p m f well.held v again t region h i fits (spaced-true false v-done.waiting spaced)
-          (by-weight v again region fits (spaced-true false v-done.waiting spaced) paid)
+      item-paid z t h i e l = finish-high p m f well.held v again t region h i fits
+          (by-weight v again region fits paid)
           (sums (wait_cost v.put_back) (wait_cost f.rest) (way_floats v.state.floats) (way_floats s.floats) (bit k.half) (bit k.rest) v.state.dead_cycles s.dead_cycles (stage_cost t) (stage_cost stage) back f-cost least e l bound z)
         where
           sums : (b r y y' h t d1 d0 u w : ℕ) → b ≡ 3 * h + 3 * t → r + 3 ≤ total → y ≤ y' → d1 ≡ d0 + 1 → u ≤ 2 → d0 + total + 2 * y' + w ≤ m + 3 + 3 * a → a ≡ 0 → d1 + (b + r) + 2 * y + u ≤ m + 3 + 3 * (d + h + t)
@@ -401,8 +383,8 @@ module _ (p : Params) (m : ℕ) (s : State) (total a : ℕ) (stage : Stage) (f :
 
       -- with four firings more nothing need be known of it
       at-dropped : v.refused ≡ false → BoundedHigh p (m + 4) (Output.waiting_again f (Output.next_goal p f.penalty v)).state
-      at-dropped r = finish-high p (m + 4) f well.held v again loose region tt (λ e. cc) fits (spaced-true false v-done.waiting spaced)
-          (more (wait_cost v.put_back + wait_cost f.rest + 2 * way_floats v.state.floats) again (by-weight v again region fits (spaced-true false v-done.waiting spaced) paid))
+      at-dropped r = finish-high p (m + 4) f well.held v again loose region tt (λ e. cc) fits
+          (more (wait_cost v.put_back + wait_cost f.rest + 2 * way_floats v.state.floats) again (by-weight v again region fits paid))
           (sums (wait_cost v.put_back + wait_cost f.rest) (way_floats v.state.floats) (way_floats s.floats) again v.state.dead_cycles s.dead_cycles (stage_cost stage) paid (one-more v.state.dead_cycles s.dead_cycles (cycles r)) bound)
         where
           more : (x g : ℕ) → x ≤ m + 3 * g → x ≤ m + 4 + 3 * g
@@ -439,3 +421,7 @@ module _ (p : Params) (m : ℕ) (s : State) (total a : ℕ) (stage : Stage) (f :
   -- each clear that waits comes after a flat box again
   pub high-ended : Ended false f.rest → Ended false (Output.out p s f).state.waiting
   high-ended r = out-ended p big s total a any (phase_of stage) f calm tt at floats big-weight big-bound well r
+
+  -- and after a node that lasts at the top of a page
+  pub high-spaced : Spaced true f.rest → Spaced true (Output.out p s f).state.waiting
+  high-spaced r = out-spaced p big s total a any (phase_of stage) f calm tt at floats big-weight big-bound well r fires.behind

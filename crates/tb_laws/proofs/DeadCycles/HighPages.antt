@@ -1,28 +1,27 @@
 -- What is known of the page that fires if the top skip is higher than a page: before a clear it breaks at its top glue, if a mark, note or whatsit comes first.
-use Rattle.std.proofs.Common.{◌≡◌, refl, sym, ◌∙◌, ap, subst, ℕ, zero, suc, ℤ, pos, ◌+◌, ◌≤◌, Bool, true, false, List, [], ◌∷◌, ◌++◌, take, drop, length, length-append, arith}
+use Rattle.std.proofs.Common.{◌≡◌, refl, sym, ◌∙◌, ap, subst, ℕ, zero, suc, ℤ, pos, ◌+◌, ◌≤◌, true, false, List, [], ◌∷◌, ◌++◌, take, drop, length, length-append, arith}
 use Rattle.std.specs.Prelude.{◌≤ℤ◌, ◌<ℤ◌}
 use Rattle.std.proofs.lemmas.Int.{ints}
 use Rattle.std.proofs.lemmas.List.{append_assoc}
 use Rattle.tb_node.specs.declared.What.TheVariants as what
 use Rattle.tb_node.specs.PlainNodes.{skip, pen, PlainKind, plain, ins, act, PlainNode, without_acts, without_insertions}
 use Rattle.tb_break.specs.PageTop.{pruned_nodes, top_glue}
-use Rattle.tb_param.specs.declared.Params.{Params}
 use Rattle.tb_insert.specs.Account.{Frozen, Labelled, labelled_from, labelled_with}
 use Rattle.tb_builder.specs.Reach.{Reach}
-use Rattle.tb_builder.specs.FiredPages.{penalty_at, with_spent_break}
+use Rattle.tb_builder.specs.FiredPages.{penalty_at}
 use Rattle.tb_builder.proofs.Cutting.CutLemmas.{acts_of}
 use Rattle.tb_laws.proofs.PageBreaks.FittingFired.{flat_box, break_at}
 use Rattle.tb_laws.proofs.PageBreaks.GuardedPages.{HasFirst, TopShape, pruned-shape, high-breaks}
 use Rattle.tb_column.specs.Column.{standing_notes}
 use Rattle.tb_output.specs.State.{State, footnotes}
-use Rattle.tb_steps.specs.Run.{ask_for}
+use Rattle.tb_steps.specs.Run.{led, ask_for}
 use Rattle.tb_output.specs.Output
 use Rattle.tb_sheet.specs.Asked
 use Rattle.tb_laws.proofs.Closed.Sorts.{sorts}
 use Rattle.tb_laws.proofs.Closed.SortLemmas.{take-drop}
 use Rattle.tb_laws.proofs.DeadCycles.AgainLemmas.{Again}
 use Rattle.tb_laws.proofs.DeadCycles.EndedLemmas.{Ended}
-use Rattle.tb_laws.proofs.DeadCycles.SpacedLemmas.{Spaced, spaced-pruned, spaced-acts, spaced-behind, spaced-spent, spaced-clear}
+use Rattle.tb_laws.proofs.DeadCycles.SpacedLemmas.{Spaced, spaced-pruned}
 use Rattle.tb_laws.proofs.Closed.ClearPages.{OneFlat}
 use Rattle.tb_laws.proofs.NothingLost.RunWeights.{Kept}
 use Rattle.tb_laws.proofs.DeadCycles.RaiseCounts.{box_raises}
@@ -83,81 +82,71 @@ take-most (suc i) (x ∷ xs) = let h : length (take i xs) ≤ i = take-most i xs
 
 -- ---- the page
 
-module _ (p : Params) (s : State) (kept : Kept s) (ended : Ended false s.waiting) where
-  -- how the clears behind the page are spaced
-  laid-spaced : (b : Bool) → Spaced b s.waiting → Spaced b (take (k p s kept ended) (w p s kept ended).passed ++ (drop (k p s kept ended) (w p s kept ended).passed ++ (w p s kept ended).beyond))
-  laid-spaced b h =
-      let x = cut p s kept ended in
-      subst (Spaced b) (ap (λ ns. ns ++ (w p s kept ended).beyond) (sym x.passed) ∙ take-drop (k p s kept ended) (w p s kept ended).passed (w p s kept ended).beyond)
-      (spaced-acts b x.front (w p s kept ended).beyond (subst (Spaced b) x.whole (spaced-pruned p.topskip b s.waiting h)))
-
-  pub rest-spaced : Spaced true s.waiting → Spaced true (with_spent_break (drop (k p s kept ended) (w p s kept ended).passed ++ (w p s kept ended).beyond))
-  rest-spaced h = spaced-spent true (drop (k p s kept ended) (w p s kept ended).passed ++ (w p s kept ended).beyond) (spaced-behind true (take (k p s kept ended) (w p s kept ended).passed) (drop (k p s kept ended) (w p s kept ended).passed ++ (w p s kept ended).beyond) (laid-spaced true h))
-
-  pub behind-spaced : Spaced true s.waiting → Output.is_int (penalty_at (drop (k p s kept ended) (w p s kept ended).passed ++ (w p s kept ended).beyond)) Asked.clear_penalty ≡ true → Spaced false (with_spent_break (drop (k p s kept ended) (w p s kept ended).passed ++ (w p s kept ended).beyond))
-  behind-spaced h c = spaced-clear true (drop (k p s kept ended) (w p s kept ended).passed ++ (w p s kept ended).beyond) c (spaced-behind true (take (k p s kept ended) (w p s kept ended).passed) (drop (k p s kept ended) (w p s kept ended).passed ++ (w p s kept ended).beyond) (laid-spaced true h))
-
+module _ (s : State) (kept : Kept s) (ended : Ended false s.waiting) where
   -- a page whose first clear has a lasting node before it does not break there without footnotes, unless it is raised
-  module _ (deep : pos 0 ≤ℤ p.maxdepth) (base : pos 0 ≤ℤ p.textheight) (high : p.textheight <ℤ p.topskip) (n : ℕ) (again : Again (suc n) (sorts s.waiting)) (goal : s.goal ≡ p.textheight) (spaced : Spaced false s.waiting)
-      (z : Frozen) (clears : Output.is_int (page p s kept ended s refl refl refl z).penalty Asked.clear_penalty ≡ true) (void : standing_notes (footnotes (record s { boxes = (page p s kept ended s refl refl refl z).boxes })) ≡ []) (none : box_raises (page p s kept ended s refl refl refl z).boxes ≡ 0) where
+  module _ (deep : pos 0 ≤ℤ s.params.maxdepth) (base : pos 0 ≤ℤ s.params.textheight) (high : s.params.textheight <ℤ s.params.topskip) (n : ℕ) (again : Again (suc n) (sorts s.waiting)) (goal : s.goal ≡ s.params.textheight) (spaced : Spaced false s.waiting)
+      (z : Frozen) (clears : Output.is_int (page s kept ended s refl refl refl z).penalty Asked.clear_penalty ≡ true) (void : standing_notes (footnotes (record s { boxes = (page s kept ended s refl refl refl z).boxes })) ≡ []) (none : box_raises (page s kept ended s refl refl refl z).boxes ≡ 0) where
     abbrev r : Reach
-    r = w p s kept ended
+    r = w s kept ended
 
     abbrev i : ℕ
-    i = k p s kept ended
+    i = k s kept ended
 
     abbrev before : List PlainNode
-    before = take (k p s kept ended) (w p s kept ended).passed
+    before = take (k s kept ended) (w s kept ended).passed
 
     abbrev behind : List PlainNode
-    behind = drop (k p s kept ended) (w p s kept ended).passed ++ (w p s kept ended).beyond
+    behind = drop (k s kept ended) (w s kept ended).passed ++ (w s kept ended).beyond
 
     -- no act and no insertion comes before the clear, so what was laid out is the page and the rest
-    laid : pruned_nodes p.topskip s.waiting ≡ before ++ behind
+    laid : pruned_nodes (ask_for s).top_skip s.waiting ≡ before ++ behind
     laid =
-        let x = cut p s kept ended in
-        let e : without_acts x.front ≡ x.front = actless x.front (sym x.acts ∙ none-reached p s kept ended n again) in
+        let x = cut s kept ended in
+        let e : without_acts x.front ≡ x.front = actless x.front (sym x.acts ∙ none-reached s kept ended n again) in
         x.whole ∙ ap (λ ns. ns ++ r.beyond) (sym e ∙ sym x.passed) ∙ take-drop i r.passed r.beyond
 
     one : OneFlat (without_insertions before)
-    one = flat p s kept ended s refl refl refl z clears
+    one = flat s kept ended s refl refl refl z clears
 
     at : AtClear behind
     at = at-clear behind clears
 
     body : before ≡ one.front ++ flat_box one.line what.Blank ∷ []
-    body = sym (insertless z [] [] before (none-there p s kept ended s refl refl refl z void none)) ∙ one.whole
+    body = sym (insertless z [] [] before (none-there s kept ended s refl refl refl z void none)) ∙ one.whole
 
-    whole : pruned_nodes p.topskip s.waiting ≡ one.front ++ flat_box one.line what.Blank ∷ break_at at.line Asked.clear_penalty ∷ at.tail
+    whole : pruned_nodes (ask_for s).top_skip s.waiting ≡ one.front ++ flat_box one.line what.Blank ∷ break_at at.line Asked.clear_penalty ∷ at.tail
     whole = laid ∙ ap (λ ns. before ++ ns) at.whole ∙ ap (λ ns. ns ++ break_at at.line Asked.clear_penalty ∷ at.tail) body ∙ append_assoc one.front (flat_box one.line what.Blank ∷ []) (break_at at.line Asked.clear_penalty ∷ at.tail)
 
-    top : TopShape p.topskip one.front
-    top = pruned-shape p.topskip one.line what.Blank (break_at at.line Asked.clear_penalty ∷ at.tail) s.waiting one.front one.topmost whole
+    top : TopShape (ask_for s).top_skip one.front
+    top = pruned-shape (ask_for s).top_skip one.line what.Blank (break_at at.line Asked.clear_penalty ∷ at.tail) s.waiting one.front one.topmost whole
 
     abbrev glue_top : PlainNode
-    glue_top = record { line = top.line; kind = plain (skip (top_glue p.topskip (pos 0))) }
+    glue_top = record { line = top.line; kind = plain (skip (top_glue (ask_for s).top_skip (pos 0))) }
 
-    shaped : pruned_nodes p.topskip s.waiting ≡ top.lasting ++ record { line = top.line; kind = plain (skip (top_glue p.topskip (pos 0))) } ∷ flat_box one.line what.Blank ∷ break_at at.line Asked.clear_penalty ∷ at.tail
-    shaped = whole ∙ ap (λ ns. ns ++ flat_box one.line what.Blank ∷ break_at at.line Asked.clear_penalty ∷ at.tail) top.whole ∙ append_assoc top.lasting (record { line = top.line; kind = plain (skip (top_glue p.topskip (pos 0))) } ∷ []) (flat_box one.line what.Blank ∷ break_at at.line Asked.clear_penalty ∷ at.tail)
+    shaped : pruned_nodes (ask_for s).top_skip s.waiting ≡ top.lasting ++ record { line = top.line; kind = plain (skip (top_glue (ask_for s).top_skip (pos 0))) } ∷ flat_box one.line what.Blank ∷ break_at at.line Asked.clear_penalty ∷ at.tail
+    shaped = whole ∙ ap (λ ns. ns ++ flat_box one.line what.Blank ∷ break_at at.line Asked.clear_penalty ∷ at.tail) top.whole ∙ append_assoc top.lasting (record { line = top.line; kind = plain (skip (top_glue (ask_for s).top_skip (pos 0))) } ∷ []) (flat_box one.line what.Blank ∷ break_at at.line Asked.clear_penalty ∷ at.tail)
 
     -- a lasting node comes before the clear
     has-first : HasFirst top.lasting
-    has-first = by_list top.lasting (subst (Spaced false) shaped (spaced-pruned p.topskip false s.waiting spaced))
+    has-first = by_list top.lasting (subst (Spaced false) shaped (spaced-pruned (ask_for s).top_skip false s.waiting spaced))
       where
-        by_list : (ls : List PlainNode) → Spaced false (ls ++ record { line = top.line; kind = plain (skip (top_glue p.topskip (pos 0))) } ∷ flat_box one.line what.Blank ∷ break_at at.line Asked.clear_penalty ∷ at.tail) → HasFirst ls
+        by_list : (ls : List PlainNode) → Spaced false (ls ++ record { line = top.line; kind = plain (skip (top_glue (ask_for s).top_skip (pos 0))) } ∷ flat_box one.line what.Blank ∷ break_at at.line Asked.clear_penalty ∷ at.tail) → HasFirst ls
         by_list [] h = let no : false ≡ true = h.1.1.0 refl in cc
         by_list (x ∷ ls) h = tt
 
-    -- no act is reached, so the page is made for the goal of the state
-    asked-goal : (ask_for p s).goal ≡ p.textheight
-    asked-goal = ap (λ (t : State). t.goal) (same-led p s kept ended (none-reached p s kept ended n again)) ∙ goal
+    -- no act is reached, so the page is made for what is asked now
+    same : led s ≡ s
+    same = same-led s kept ended (none-reached s kept ended n again)
+
+    asked-goal : (ask_for s).goal ≡ s.params.textheight
+    asked-goal = ap (λ (t : State). t.goal) same ∙ goal
 
     -- so the page breaks before its top glue, and the clear is behind that
     place : i ≡ length top.lasting
-    place = high-breaks (ask_for p s).goal (ask_for p s).max_depth p.topskip Asked.clear_penalty _ (limit-deep p s kept ended deep) refl (subst (λ (x : ℤ). pos 0 ≤ℤ x) (sym asked-goal) base) (subst (λ (x : ℤ). x <ℤ p.topskip) (sym asked-goal) high) s.waiting top.lasting top.line one.line what.Blank at.line at.tail top.all has-first shaped
+    place = high-breaks (ask_for s).goal (ask_for s).max_depth (ask_for s).top_skip Asked.clear_penalty _ (limit-deep s kept ended same deep) refl (subst (λ (x : ℤ). pos 0 ≤ℤ x) (sym asked-goal) base) (subst (λ (t : State). t.goal <ℤ t.params.topskip) (sym same) (subst (λ (x : ℤ). x <ℤ s.params.topskip) (sym goal) high)) s.waiting top.lasting top.line one.line what.Blank at.line at.tail top.all has-first shaped
 
     longer : length before ≡ length top.lasting + 2
-    longer = ap length (body ∙ ap (λ ns. ns ++ flat_box one.line what.Blank ∷ []) top.whole ∙ append_assoc top.lasting (record { line = top.line; kind = plain (skip (top_glue p.topskip (pos 0))) } ∷ []) (flat_box one.line what.Blank ∷ [])) ∙ length-append top.lasting (record { line = top.line; kind = plain (skip (top_glue p.topskip (pos 0))) } ∷ flat_box one.line what.Blank ∷ [])
+    longer = ap length (body ∙ ap (λ ns. ns ++ flat_box one.line what.Blank ∷ []) top.whole ∙ append_assoc top.lasting (record { line = top.line; kind = plain (skip (top_glue (ask_for s).top_skip (pos 0))) } ∷ []) (flat_box one.line what.Blank ∷ [])) ∙ length-append top.lasting (record { line = top.line; kind = plain (skip (top_glue (ask_for s).top_skip (pos 0))) } ∷ flat_box one.line what.Blank ∷ [])
 
     pub no-clear : ⊥
     no-clear = sums (length before) (length top.lasting) i (take-most i r.passed) longer place

@@ -1,5 +1,5 @@
 -- How many firings without a page a state can still bring, if the top skip is higher than a page.
-use Rattle.std.proofs.Common.{◌≡◌, sym, ap, subst, ℕ, ◌+◌, ◌*◌, ◌≤◌, Bool, true, false, List, ◌++◌, arith}
+use Rattle.std.proofs.Common.{◌≡◌, sym, ap, subst, ℕ, ◌+◌, ◌*◌, ◌≤◌, Bool, false, List, ◌++◌, arith}
 use Rattle.std.specs.List.{AllByRecursion}
 use Rattle.tb_node.specs.PlainNodes.{PlainNode}
 use Rattle.tb_param.specs.declared.Params.{Params}
@@ -63,7 +63,6 @@ pub record BoundedHigh (p : Params) (m : ℕ) (s : State) : Type 0 where
   pub holds : StageHolds p s again stage
   pub coming : stage ≡ last → 1 ≤ again
   pub floats : FloatsFit p s
-  pub spaced : Spaced true s.waiting
   pub weight : wait_cost s.waiting + 2 * way_floats s.floats ≤ m + 3 * again
   pub bound : s.dead_cycles + wait_cost s.waiting + 2 * way_floats s.floats + stage_cost stage ≤ m + 3 + 3 * again
 
@@ -87,18 +86,17 @@ module _ (p : Params) (m : ℕ) (f : Fired) (held : AllInserted f.held) (w : Wor
   -- what is known after the output routine is known after the goal is set
   pub finish-high : (again : ℕ) (stage : Stage)
       → ((bs : List PlainNode) → AllByRecursion Idle (sorts bs) → Again again (sorts w.put_back ++ (sorts bs ++ sorts f.rest)))
-      → StageHolds p (after p m f held w) again stage → (stage ≡ last → 1 ≤ again) → FloatsFit p w.state → Spaced true (after p m f held w).waiting
+      → StageHolds p (after p m f held w) again stage → (stage ≡ last → 1 ≤ again) → FloatsFit p w.state
       → wait_cost w.put_back + wait_cost f.rest + 2 * way_floats w.state.floats ≤ m + 3 * again
       → w.state.dead_cycles + (wait_cost w.put_back + wait_cost f.rest) + 2 * way_floats w.state.floats + stage_cost stage ≤ m + 3 + 3 * again
       → BoundedHigh p m (after p m f held w)
-  finish-high again stage region holds coming floats spaced weight bound = record {
+  finish-high again stage region holds coming floats weight bound = record {
     again = again;
     stage = stage;
     region = after-region p m f held w again region;
     holds = holds;
     coming = coming;
     floats = fits-same p w.state (after p m f held w) (goal p m f held w).floats (goal p m f held w).columns floats;
-    spaced = spaced;
     weight = sums (wait_cost (after p m f held w).waiting) (wait_cost w.put_back + wait_cost f.rest) (way_floats (after p m f held w).floats) (way_floats w.state.floats) (m + 3 * again) (wait-total p m f held w) (ap way_floats (goal p m f held w).floats) weight;
     bound = sums-with (wait_cost (after p m f held w).waiting) (wait_cost w.put_back + wait_cost f.rest) (way_floats (after p m f held w).floats) (way_floats w.state.floats) (m + 3 + 3 * again) (after p m f held w).dead_cycles w.state.dead_cycles (stage_cost stage) (wait-total p m f held w) (ap way_floats (goal p m f held w).floats) (goal p m f held w).cycles bound;
   }
@@ -112,10 +110,10 @@ module _ (p : Params) (m : ℕ) (f : Fired) (held : AllInserted f.held) (w : Wor
   -- after a page the dead cycles are none
   pub shipped-high : (again : ℕ)
       → ((bs : List PlainNode) → AllByRecursion Idle (sorts bs) → Again again (sorts w.put_back ++ (sorts bs ++ sorts f.rest)))
-      → FloatsFit p w.state → Spaced true (after p m f held w).waiting → w.state.dead_cycles ≡ 0
+      → FloatsFit p w.state → w.state.dead_cycles ≡ 0
       → wait_cost w.put_back + wait_cost f.rest + 2 * way_floats w.state.floats ≤ m + 3 * again
       → BoundedHigh p m (after p m f held w)
-  shipped-high again region floats spaced dead weight = finish-high again loose region tt (λ e. cc) floats spaced weight (sums w.state.dead_cycles (wait_cost w.put_back + wait_cost f.rest) (way_floats w.state.floats) again dead weight)
+  shipped-high again region floats dead weight = finish-high again loose region tt (λ e. cc) floats weight (sums w.state.dead_cycles (wait_cost w.put_back + wait_cost f.rest) (way_floats w.state.floats) again dead weight)
     where
       sums : (d b y a : ℕ) → d ≡ 0 → b + 2 * y ≤ m + 3 * a → d + b + 2 * y + 3 ≤ m + 3 + 3 * a
       sums d b y a h k = omega arith

@@ -131,7 +131,7 @@ module _ (P : Float → Type 0) (topped : (f : Float) → P f → P (Text.with_t
       l = FloatMoves.joined_to place f left
 
       r : Recorded
-      r = placed f place w.state.floats (column_height_of p w.state.floats)
+      r = placed p f place w.state.floats (column_height_of p w.state.floats)
 
       counted : way_floats l ≤ way_floats w.state.floats
       counted =

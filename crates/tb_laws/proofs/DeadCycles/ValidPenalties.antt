@@ -1,8 +1,8 @@
--- In a valid galley the interline penalty forces no break.
+-- What follows from the ranges of the parameters: the interline penalty forces no break, and the lengths of a page are not negative.
 use Rattle.std.proofs.Common.{◌≡◌, refl, ℤ, pos, Bool, false, arith}
-use Rattle.std.specs.Prelude.{IsTrue, int_le, negsuc}
+use Rattle.std.specs.Prelude.{IsTrue, int_le, ◌≤ℤ◌, negsuc}
 use Rattle.std.proofs.lemmas.Int.{ints}
-use Rattle.tb_float.proofs.ParamLemmas.{all-at, in-range}
+use Rattle.tb_float.proofs.ParamLemmas.{all-at, dim-extent, in-range}
 use Rattle.tb_scaled.specs.Scaled.{eject_penalty}
 use Rattle.tb_param.specs.declared.Params.{Params}
 use Rattle.tb_param.specs.Fields.{value_of}
@@ -17,3 +17,26 @@ unfolding are_params
 interline-calm p h =
     let test : Row → Bool = λ r. is_no_fault (value_fault r.form (value_of r.field p)) in
     calm-penalty p.interlinepenalty (all-at test rows 34 _ refl h)
+
+-- ---- no length of a page is negative
+
+pub topskip-low : (p : Params) → IsTrue (are_params p) → pos 0 ≤ℤ p.topskip
+unfolding are_params
+topskip-low p h =
+    let test : Row → Bool = λ r. is_no_fault (value_fault r.form (value_of r.field p)) in
+    let k = dim-extent (pos 1) p.topskip (omega (arith, ints)) (all-at test rows 1 _ refl h) in
+    k.low
+
+pub maxdepth-low : (p : Params) → IsTrue (are_params p) → pos 0 ≤ℤ p.maxdepth
+unfolding are_params
+maxdepth-low p h =
+    let test : Row → Bool = λ r. is_no_fault (value_fault r.form (value_of r.field p)) in
+    let k = dim-extent (pos 0) p.maxdepth (omega (arith, ints)) (all-at test rows 2 _ refl h) in
+    k.low
+
+pub textheight-low : (p : Params) → IsTrue (are_params p) → pos 0 ≤ℤ p.textheight
+unfolding are_params
+textheight-low p h =
+    let test : Row → Bool = λ r. is_no_fault (value_fault r.form (value_of r.field p)) in
+    let k = dim-extent (pos 1) p.textheight (omega (arith, ints)) (all-at test rows 0 _ refl h) in
+    k.low

@@ -28,6 +28,7 @@ act_cost (acts.Suppress area) = 0
 act_cost (acts.Page n) = 0
 act_cost (acts.Head f) = 2
 act_cost (acts.Columns two) = 1
+act_cost (acts.Set c) = 0
 
 abbrev pub kind_cost : PlainKind → ℕ
 kind_cost (plain (hbox w h d)) = 0

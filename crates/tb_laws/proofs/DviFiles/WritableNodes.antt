@@ -68,6 +68,7 @@ WritableAct (acts.Suppress area) = Unit {0}
 WritableAct (acts.Page n) = n ≤ 1000000
 WritableAct (acts.Head f) = WritableFloat f
 WritableAct (acts.Columns pair) = Unit {0}
+WritableAct (acts.Set c) = Unit {0}
 
 abbrev pub WritableKind : PlainKind → Type 0
 WritableKind (plain m) = WritableMatter m

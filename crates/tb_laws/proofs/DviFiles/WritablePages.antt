@@ -1,12 +1,10 @@
 -- The file of a run of a valid galley lists the pages of the run.
-use Rattle.std.proofs.Common.{◌≡◌, refl, sym, subst, ℕ, ◌+◌, ℤ, pos, ◌+ℤ◌, ◌≤◌, ◌<◌, true, List, [], ◌∷◌, ◌++◌, map, length, Option, Some, None, Ok, All, FitsSigned, arith}
-use Rattle.std.specs.Prelude.{nat_abs}
+use Rattle.std.proofs.Common.{◌≡◌, refl, sym, subst, ℕ, ℤ, pos, ◌+ℤ◌, ◌≤◌, ◌<◌, true, List, [], ◌∷◌, ◌++◌, map, length, Option, Some, None, Ok, All, FitsSigned, arith}
 use Rattle.std.specs.Int.{w32}
 use Rattle.std.specs.List.{AllByRecursion}
 use Rattle.std.proofs.lemmas.List.Elements.{All-from_recursion}
 use Rattle.tb_break.proofs.EachLemmas.{all-join}
 use Rattle.tb_node.specs.PlainNodes.{PlainKind, plain, ins, act, PlainNode, node_shape}
-use Rattle.tb_param.specs.declared.Params.{Params}
 use Rattle.tb_galley.specs.declared.Galley.{Galley}
 use Rattle.tb_galley.specs.Valid.{IsValid}
 use Rattle.tb_pack.specs.declared.Set.{Set}
@@ -25,7 +23,6 @@ use Rattle.tb_steps.specs.Run.{End, done, run_of}
 use Rattle.tb_laws.specs.Laws.{EndsDone, FilesListTheirPages}
 use Rattle.tb_laws.specs.DviFiles.{is_done, galley_file}
 use Rattle.tb_laws.specs.DviPages.{event_pages, run_pages}
-use Rattle.tb_laws.proofs.Defined.RunParams.{params-runnable, few-firings, height-fits}
 use Rattle.tb_laws.proofs.DviFiles.WritableNodes.{WritableSpot, WritableKind, WritableNodes, WritableSheet}
 use Rattle.tb_laws.proofs.DviFiles.WritableRuns.{WritableEvents, run-writable}
 
@@ -64,22 +61,19 @@ sheet-writable (two tops at left right) w =
 
 -- ---- the pages of a run
 
-number-small : (n limit : ℕ) → n ≤ limit + 1000000 → limit ≤ 1000000 → n < 2147483648
-number-small n limit e h = omega (arith, e, h)
+number-small : (n : ℕ) → n ≤ 2000000 → n < 2147483648
+number-small n e = omega (arith, e)
 
-module _ (p : Params) (height : FitsSigned w32 p.textheight) (few : nat_abs p.maxpages ≤ 1000000) where
-  all-pages : (es : List RunEvent) → WritableEvents p height es → AllByRecursion IsWritablePage (event_pages es)
-  all-pages [] w = tt
-  all-pages (offered t ∷ es) w = all-pages es w.1
-  all-pages (sent (warned x) ∷ es) w = all-pages es w.1
-  all-pages (sent (shipped number sheet) ∷ es) w =
-      (record { number = number-small number (nat_abs p.maxpages) w.0.0 few; placed = All-from_recursion IsWritable (sheet_placed sheet) (sheet-writable sheet w.0.1) }, all-pages es w.1)
+all-pages : (es : List RunEvent) → WritableEvents es → AllByRecursion IsWritablePage (event_pages es)
+all-pages [] w = tt
+all-pages (offered t ∷ es) w = all-pages es w.1
+all-pages (sent (warned x) ∷ es) w = all-pages es w.1
+all-pages (sent (shipped number sheet) ∷ es) w =
+    (record { number = number-small number w.0.0; placed = All-from_recursion IsWritable (sheet_placed sheet) (sheet-writable sheet w.0.1) }, all-pages es w.1)
 
 -- each page that a run of a valid galley ships has bytes
 pub pages-writable : (g : Galley) → IsValid g → All IsWritablePage (run_pages (run_of g))
-pages-writable g v =
-    let height = height-fits g.params (params-runnable g.params v.params) in
-    All-from_recursion IsWritablePage (run_pages (run_of g)) (all-pages g.params height (few-firings g.params v.params).pages (run_of g).events (run-writable g v height))
+pages-writable g v = All-from_recursion IsWritablePage (run_pages (run_of g)) (all-pages (run_of g).events (run-writable g v))
 
 -- ---- the law
 

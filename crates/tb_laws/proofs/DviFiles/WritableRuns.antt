@@ -1,6 +1,6 @@
 -- Each page that a run of a valid galley ships has bytes in a DVI file.
-use Rattle.std.proofs.Common.{◌≡◌, refl, ℕ, suc, ℤ, pos, negsuc, ◌+ℤ◌, ◌≤◌, ◌<◌, Bool, true, false, List, [], ◌∷◌, ◌++◌, map, length, FitsSigned, arith}
-use Rattle.std.specs.Prelude.{◌&&◌, ◌||◌, ◌==◌, nat_le, int_le, IsTrue, codes, decimal, if◌then◌else◌, not}
+use Rattle.std.proofs.Common.{◌≡◌, refl, ℕ, suc, ℤ, pos, negsuc, ◌+◌, ◌+ℤ◌, ◌≤◌, ◌<◌, Bool, true, false, List, [], ◌∷◌, ◌++◌, map, length, FitsSigned, arith}
+use Rattle.std.specs.Prelude.{◌&&◌, ◌||◌, ◌==◌, nat_le, nat_abs, int_le, IsTrue, codes, decimal, if◌then◌else◌, not}
 use Rattle.std.specs.Int.{w32}
 use Rattle.std.specs.List.{AllByRecursion, list_all}
 use Rattle.std.proofs.lemmas.Int.{ints}
@@ -29,7 +29,7 @@ use Rattle.tb_galley.specs.declared.Item.{Item}
 use Rattle.tb_galley.specs.declared.ItemKind.{ItemKind}
 use Rattle.tb_galley.specs.declared.ItemKind.TheVariants as items
 use Rattle.tb_galley.specs.declared.Galley.{Galley}
-use Rattle.tb_galley.specs.GalleyNodes.{plain_leaf, with_firings, enlarge_list, item_kinds, two_after, item_nodes, expanded}
+use Rattle.tb_galley.specs.GalleyNodes.{plain_leaf, with_firings, enlarge_list, item_kinds, two_after, params_after, item_nodes, expanded}
 use Rattle.tb_galley.specs.declared.ClassLine.{ClassLine}
 use Rattle.tb_galley.specs.Valid.{is_size, is_leaf, is_float, is_margin, is_item, IsValid, may_stand, do_all_stand, is_head, is_top_alone}
 use Rattle.tb_insert.specs.declared.Class.{Class}
@@ -42,17 +42,17 @@ use Rattle.tb_margin.specs.Margin.{note_height, note_depth}
 use Rattle.tb_report.specs.Lines.{where_text, side_text}
 use Rattle.tb_text.specs.Fields.{and_count, and_text}
 use Rattle.tb_sheet.specs.declared.Warn.{Warn}
-use Rattle.tb_sheet.specs.Sheet.{PlainSent, warned}
-use Rattle.tb_column.specs.Ranges.{AreColumnParams}
+use Rattle.tb_sheet.specs.Sheet.{PlainSent, warned, shipped}
 use Rattle.tb_column.proofs.RangeLemmas.{column-params}
 use Rattle.tb_output.specs.State.{State, Recorded, first_state, void_boxes}
 use Rattle.tb_output.specs.Act.{taken_float, lists_with_taken, taken_head}
 use Rattle.tb_steps.specs.Run.{run_of, ask_for}
-use Rattle.tb_steps.proofs.RunTree.{ActMove, page_of, fired_at, served_at, galley-is, takes_float, takes_note, sets_flag, changes_columns, sets_number, takes_title}
-use Rattle.tb_steps.proofs.RunFolds.{each_event, RunLaw, run-holds}
+use Rattle.tb_steps.proofs.RunTree.{ActMove, page_of, fired_at, served_at, galley-is, takes_float, takes_note, sets_flag, changes_columns, sets_number, takes_title, sets_parameter}
+use Rattle.tb_steps.proofs.RunParams.{params-runnable, few-firings, height-fits}
+use Rattle.tb_steps.proofs.RunFolds.{each_event, RangedLaw, with_ranges, run-holds}
 use Rattle.tb_items.specs.RunEvents.{RunEvent, offered, sent}
 use Rattle.tb_items.specs.Classes.{classes_of, foot_class, enlarging_class, class_of}
-use Rattle.tb_laws.proofs.DviFiles.WritableNodes.{WritableLeaves, WritableFloat, WritableNote, WritableAct, WritableNodes, nodes-join, nodes-pruned, WritableReached, WritableReach, reached-writable, WritableBoxes, fired-writable}
+use Rattle.tb_laws.proofs.DviFiles.WritableNodes.{WritableLeaves, WritableSheet, WritableFloat, WritableNote, WritableAct, WritableNodes, nodes-join, nodes-pruned, WritableReached, WritableReach, reached-writable, WritableBoxes, fired-writable}
 use Rattle.tb_items.proofs.GalleyClasses.{standing-rule}
 use Rattle.tb_laws.proofs.DviFiles.WritableWorks.{WritableLists, WritableState, WritableSent, out-writable, WritableClasses}
 
@@ -80,40 +80,49 @@ module _ (p : Params) (height : FitsSigned w32 p.textheight) where
   acts-on (sets_number n) h g = let fits : n ≤ 1000000 = g in (h.0, h.1, h.2, h.3, h.4, omega (arith, fits), h.6)
   acts-on (takes_title {s = s} f r) h g = (h.0, h.1, h.2, (h.3.0, h.3.1, h.3.2, h.3.3, all-join WritableFloat s.floats.double (taken_head p f ∷ []) h.3.4 ((g.0, min-fits f.height p.textheight g.1 height), tt), h.3.5), h.4, h.5, h.6)
   acts-on (changes_columns two) h g = (h.0, h.1, h.2, h.3, tt, h.5, h.6)
+  acts-on (sets_parameter c) h g = h
 
-  -- ---- events
+-- ---- events
 
-  abbrev pub WritableEvent : RunEvent → Type 0
-  WritableEvent (offered t) = Unit {0}
-  WritableEvent (sent e) = WritableSent p e
+-- a page has a number up to 2000000: it is at most the page limit and 1000000
+abbrev pub WritableEvent : RunEvent → Type 0
+WritableEvent (offered t) = Unit {0}
+WritableEvent (sent (warned w)) = Unit {0}
+WritableEvent (sent (shipped number sheet)) = (number ≤ 2000000) × WritableSheet sheet
 
-  abbrev pub WritableEvents : List RunEvent → Type 0
-  WritableEvents es = AllByRecursion WritableEvent es
+abbrev pub WritableEvents : List RunEvent → Type 0
+WritableEvents es = AllByRecursion WritableEvent es
 
-  warnings : (ws : List Warn) → WritableEvents (map (λ w. sent (warned w)) ws)
-  warnings [] = tt
-  warnings (w ∷ ws) = (tt, warnings ws)
+warnings : (ws : List Warn) → WritableEvents (map (λ w. sent (warned w)) ws)
+warnings [] = tt
+warnings (w ∷ ws) = (tt, warnings ws)
 
-  sent-events : (es : List PlainSent) → AllByRecursion (WritableSent p) es → WritableEvents (map sent es)
-  sent-events [] h = tt
-  sent-events (e ∷ es) h = (h.0, sent-events es h.1)
+number-fits : (n limit : ℕ) → n ≤ limit + 1000000 → limit ≤ 1000000 → n ≤ 2000000
+number-fits n limit e h = omega (arith, e, h)
 
-  -- ---- a run
+sent-events : (p : Params) → nat_abs p.maxpages ≤ 1000000 → (es : List PlainSent) → AllByRecursion (WritableSent p) es → WritableEvents (map sent es)
+sent-events p few [] h = tt
+sent-events p few (warned w ∷ es) h = (tt, sent-events p few es h.1)
+sent-events p few (shipped number sheet ∷ es) h = ((number-fits number (nat_abs p.maxpages) h.0.0 few, h.0.1), sent-events p few es h.1)
 
-  page-reached : (s : State) → WritableState s → WritableReach (page_of p s)
-  page-reached s h = reached-writable (ask_for p s).max_depth (terms_after (frozen_for (ask_for p s) s.classes s.boxes)) [] (pruned_nodes p.topskip s.waiting) tt (nodes-pruned p.topskip s.waiting h.0)
+-- ---- a run
 
-  abbrev writing : AreColumnParams p → RunLaw p
-  writing ranges = record {
-    shows = each_event WritableEvent;
-    between = WritableState;
-    within = λ o rs s. AllByRecursion WritableReached rs × WritableState s × WritableReach (page_of p o);
-    begins = λ s h. let x = page-reached s h in (x.reached, h, x);
-    tries = λ o line b least rs s h. ((tt, tt), (h.0.1, h.1, h.2));
-    acts = λ o s t a ws records rs m h. (warnings ws, (h.0.1, acts-on m h.1 h.0.0, h.2));
-    fires = λ o s h. let x = out-writable p ranges s (fired_at p o s) h.1 (fired-writable (frozen_for (ask_for p o) s.classes s.boxes) s.boxes (page_of p o) h.1.1 h.2) in (sent-events (served_at p o s).sent x.2, x.0);
-    stops = λ o s h. tt;
-  }
+page-reached : (s : State) → WritableState s → WritableReach (page_of s)
+page-reached s h = reached-writable (ask_for s).max_depth (terms_after (frozen_for (ask_for s) s.classes s.boxes)) [] (pruned_nodes (ask_for s).top_skip s.waiting) tt (nodes-pruned (ask_for s).top_skip s.waiting h.0)
+
+abbrev writing : RangedLaw
+writing = record {
+  shows = each_event WritableEvent;
+  between = WritableState;
+  within = λ o rs s. AllByRecursion WritableReached rs × WritableState s × WritableReach (page_of o);
+  begins = λ s r h. let x = page-reached s h in (x.reached, h, x);
+  tries = λ o line b least rs s r h. ((tt, tt), (h.0.1, h.1, h.2));
+  acts = λ o s t a ws records rs r m h. (warnings ws, (h.0.1, acts-on s.params (height-fits s.params (params-runnable s.params r)) m h.1 h.0.0, h.2));
+  fires = λ o s r h.
+      let x = out-writable s.params (column-params s.params r) s (fired_at o s) h.1 (fired-writable (frozen_for (ask_for o) s.classes s.boxes) s.boxes (page_of o) h.1.1 h.2) in
+      (sent-events s.params (few-firings s.params r).pages (served_at o s).sent x.2, x.0);
+  stops = λ o s r h. tt;
+}
 
 -- ---- the nodes of a valid galley
 
@@ -133,9 +142,9 @@ size-fits (pos h) (negsuc d) a b = cc
 size-fits (negsuc h) (pos d) a b = cc
 size-fits (negsuc h) (negsuc d) a b = cc
 
-height-fits : (h : ℤ) → IsTrue (is_size h) → FitsSigned w32 h
-height-fits (pos h) a = record { sfits = grind (arith, ints, a) }
-height-fits (negsuc h) a = cc
+one-fits : (h : ℤ) → IsTrue (is_size h) → FitsSigned w32 h
+one-fits (pos h) a = record { sfits = grind (arith, ints, a) }
+one-fits (negsuc h) a = cc
 
 -- a name, and the sizes of a box
 sized : (name : List ℕ) (h d : ℤ) → IsTrue (is_name name && is_size h && is_size d) → (length name ≤ 63) × FitsSigned w32 (h +ℤ d)
@@ -174,7 +183,7 @@ named-writable : (f : Float) → IsTrue (is_name f.name) → f.class < 100 → I
 named-writable f name k size =
     let n : length f.name ≤ 63 = name-short f.name name in
     let d : length (decimal f.class) ≤ 2 = length-decimal-le 2 f.class (omega arith) k (omega arith) in
-    ((λ place. label place n d (f.class == 0)), height-fits f.height size)
+    ((λ place. label place n d (f.class == 0)), one-fits f.height size)
   where
     label : (place : Where) → length f.name ≤ 63 → length (decimal f.class) ≤ 2 → (b : Bool) → length (if b then codes "head " ++ f.name else codes "float " ++ f.name ++ and_count f.class ++ and_text (where_text place)) < 256
     label place n d true = omega (arith, n, length-append (codes "head ") f.name)
@@ -249,12 +258,13 @@ item-writable p two n items.TwoColumn v = (tt, (tt, (tt, (tt, (tt, (tt, tt))))))
 item-writable p two n (items.Suppress area) v = (tt, tt)
 item-writable p two n (items.Page k) v = let fits : k ≤ 1000000 = grind (arith, nat_tests, v) in (fits, tt)
 item-writable p two n (items.Head f) v = (head-writable f (and_parts (f.line == n) (is_head f) v).1, tt)
+item-writable p two n (items.Set c) v = (tt, tt)
 
 items-writable : (p : Params) (two : Bool) (ns : List Item) → IsTrue (list_all (λ n. is_item n.line n.kind) ns) → WritableNodes (item_nodes p two ns)
 items-writable p two [] v = tt
 items-writable p two (n ∷ ns) v =
     let parts = and_parts (is_item n.line n.kind) (list_all (λ n. is_item n.line n.kind) ns) v in
-    nodes-join (on_line n.line (item_kinds p two n.kind)) (item_nodes p (two_after two n.kind) ns) (item-writable p two n.line n.kind parts.0) (items-writable p (two_after two n.kind) ns parts.1)
+    nodes-join (on_line n.line (item_kinds p two n.kind)) (item_nodes (params_after p n.kind) (two_after two n.kind) ns) (item-writable p two n.line n.kind parts.0) (items-writable (params_after p n.kind) (two_after two n.kind) ns parts.1)
 
 expanded-writable : (g : Galley) → IsValid g → WritableNodes (expanded g)
 unfolding expanded
@@ -277,7 +287,7 @@ classes-writable : (g : Galley) → IsValid g → WritableClasses (classes_of g)
 classes-writable g v = lines-writable g.version g.params g.classes v.standing
 
 -- each page of the run of a valid galley has bytes
-pub run-writable : (g : Galley) → IsValid g → (height : FitsSigned w32 g.params.textheight) → WritableEvents g.params height (run_of g).events
-run-writable g v height =
+pub run-writable : (g : Galley) → IsValid g → WritableEvents (run_of g).events
+run-writable g v =
     let start : WritableState (first_state g.params (classes_of g) (expanded g)) = (expanded-writable g v, void (classes_of g), tt, (tt, tt, tt, tt, tt, tt), tt, omega arith, classes-writable g v) in
-    run-holds (writing g.params height (column-params g.params v.params)) (galley-is g) start
+    run-holds (with_ranges writing) (galley-is g) (v.params, start)

@@ -112,8 +112,8 @@ records-shows h i r w c d e l f k b = by_refused w.refused d e l f
 placed-shows : (p : Params) (i : Hand) (place : Where) (f : Float) (left : FloatLists) (w : Work) → (Unit {0} → HandPlain i) → Within (shown w) (beside i (shown w)) → Shows nothing w i (FloatMoves.place_float p place f left w)
 placed-shows p i place f left w k b = by_record (FloatMoves.is_placed place)
   where
-    by_record : (t : Bool) → Shows nothing w i (with_floats (FloatMoves.joined_to place f left) (if t then records_also (placed f place w.state.floats (column_height_of p w.state.floats)) w else w))
-    by_record true = records-shows nothing i (placed f place w.state.floats (column_height_of p w.state.floats)) w _ refl refl refl (λ k. k) k b
+    by_record : (t : Bool) → Shows nothing w i (with_floats (FloatMoves.joined_to place f left) (if t then records_also (placed p f place w.state.floats (column_height_of p w.state.floats)) w else w))
+    by_record true = records-shows nothing i (placed p f place w.state.floats (column_height_of p w.state.floats)) w _ refl refl refl (λ k. k) k b
     by_record false = alike nothing i w _ refl refl refl (λ k. k) k b
 
 -- a warning, whatever is in hand

@@ -15,14 +15,14 @@ use Rattle.tb_output.proofs.StepLaws.RefusedSteps.{by-sends, by-records, by-any-
 use Rattle.tb_output.proofs.StepLaws.ColumnSteps.{RecordLaw, ColumnStep, still, in_turn, records_one, ships_one}
 use Rattle.tb_output.proofs.StepLaws.FiringSteps.{FiringStep, by_columns, warns_one, changes, fewer, afterwards, page_work-step}
 
--- the float that was placed had the mark `!`, or kept the limits with the lists and the column height just before
-abbrev pub IsLimited : Params → Recorded → Type 0
-IsLimited p (placed f place l height) = f.bang ≡ false → (height ≡ column_height_of p l) × KeepsLimits p l f place
-IsLimited p (output c) = Unit {0}
-IsLimited p (emptied l) = Unit {0}
+-- the float that was placed had the mark `!`, or kept the limits with the parameters, the lists and the column height just before
+abbrev pub IsLimited : Recorded → Type 0
+IsLimited (placed p f place l height) = f.bang ≡ false → (height ≡ column_height_of p l) × KeepsLimits p l f place
+IsLimited (output c) = Unit {0}
+IsLimited (emptied l) = Unit {0}
 
-abbrev pub AreLimited : Params → List Recorded → Type 0
-AreLimited p rs = AllByRecursion (IsLimited p) rs
+abbrev pub AreLimited : List Recorded → Type 0
+AreLimited rs = AllByRecursion IsLimited rs
 
 -- ---- what a firing records
 
@@ -62,5 +62,5 @@ unfolding Output.out page_work
 out-records p law s f = firing-lawful p law (page_work-step p law s f) tt
 
 -- a firing places floats within the limits alone
-pub out-keeps : (p : Params) (s : State) (f : Fired) → AreLimited p (Output.out p s f).records
-out-keeps p s f = out-records p (record { holds = IsLimited p; at_place = λ f place l k. λ plain. (refl, k plain); at_output = λ c. tt }) s f
+pub out-keeps : (p : Params) (s : State) (f : Fired) → AreLimited (Output.out p s f).records
+out-keeps p s f = out-records p (record { holds = IsLimited; at_place = λ f place l k. λ plain. (refl, k plain); at_output = λ c. tt }) s f

@@ -7,15 +7,19 @@ use Rattle.tb_node.specs.declared.Float.{Float}
 use Rattle.tb_node.specs.declared.Where.{Where}
 use Rattle.tb_node.specs.declared.Where.TheVariants as places
 use Rattle.tb_param.specs.declared.Params.{Params}
+use Rattle.tb_param.specs.declared.SetPlace.{SetPlace}
+use Rattle.tb_param.specs.declared.SetPlace.TheVariants as set_places
+use Rattle.tb_param.specs.Changes.{set_place}
 use Rattle.tb_galley.specs.declared.Galley.{Galley}
 use Rattle.tb_float.specs.Lists.{FloatLists}
 use Rattle.tb_float.specs.Rooms.{column_height_of}
 use Rattle.tb_sheet.specs.declared.Warn.{Warn}
 use Rattle.tb_area.specs.Laws as area
 use Rattle.tb_output.specs.State.{State, Recorded, placed, output, emptied}
+use Rattle.tb_output.specs.Act.{set_records}
 use Rattle.tb_laws.proofs.Limits.LimitLemmas.{IsLimited, AreLimited, out-keeps}
 use Rattle.tb_steps.specs.Run.{run_of}
-use Rattle.tb_steps.proofs.RunTree.{ActMove, fired_at, galley-is, changes_columns}
+use Rattle.tb_steps.proofs.RunTree.{ActMove, fired_at, galley-is, changes_columns, sets_parameter}
 use Rattle.tb_steps.proofs.RunFolds.{each_record, RunLaw, run-holds}
 use Rattle.tb_laws.specs.Laws.{PlacedWithin, KeepsLimits, WithinLimits}
 
@@ -29,34 +33,39 @@ placed-within p f l places.Page k = tt
 placed-within p f l places.Double k = record { room = k.1; count = k.0 }
 placed-within p f l places.Deferred k = tt
 
-record-within : (p : Params) (r : Recorded) → IsLimited p r → KeepsLimits p r
-record-within p (placed f place l height) k = λ plain.
+record-within : (r : Recorded) → IsLimited r → KeepsLimits r
+record-within (placed p f place l height) k = λ plain.
     let both = k (not-true f.bang plain) in
     subst (λ h. PlacedWithin p f l h place) (sym both.0) (placed-within p f l place both.1)
-record-within p (output c) k = tt
-record-within p (emptied l) k = tt
+record-within (output c) k = tt
+record-within (emptied l) k = tt
 
-records-within : (p : Params) (rs : List Recorded) → AreLimited p rs → AllByRecursion (KeepsLimits p) rs
-records-within p [] k = tt
-records-within p (r ∷ rs) k = (record-within p r k.0, records-within p rs k.1)
+records-within : (rs : List Recorded) → AreLimited rs → AllByRecursion KeepsLimits rs
+records-within [] k = tt
+records-within (r ∷ rs) k = (record-within r k.0, records-within rs k.1)
 
 -- ---- a run
 
-act-limited : {p : Params} {s t : State} {a : Act} {ws : List Warn} {rs : List Recorded} → ActMove p s a t ws rs → AreLimited p rs
+set-limited : (x : SetPlace) (l : FloatLists) → AreLimited (set_records x l)
+set-limited set_places.AfterClear l = (tt, tt)
+set-limited x l = tt
+
+act-limited : {p : Params} {s t : State} {a : Act} {ws : List Warn} {rs : List Recorded} → ActMove p s a t ws rs → AreLimited rs
 act-limited (changes_columns two) = (tt, tt)
+act-limited (sets_parameter {s = s} c) = set-limited (set_place c.field) s.floats
 act-limited m = tt
 
-abbrev limits : (p : Params) → RunLaw p
-limits p = record {
-  shows = each_record (IsLimited p);
+abbrev limits : RunLaw
+limits = record {
+  shows = each_record IsLimited;
   between = λ s. Unit {0};
   within = λ o rs s. Unit {0};
   begins = λ s h. tt;
   tries = λ o line b least rs s h. (tt, tt);
   acts = λ o s t a ws records rs m h. (act-limited m, tt);
-  fires = λ o s h. (out-keeps p s (fired_at p o s), tt);
+  fires = λ o s h. (out-keeps s.params s (fired_at o s), tt);
   stops = λ o s h. (tt, tt);
 }
 
-pub run-within : (g : Galley) → WithinLimits g.params (run_of g)
-run-within g = records-within g.params (run_of g).records (run-holds (limits g.params) (galley-is g) tt)
+pub run-within : (g : Galley) → WithinLimits (run_of g)
+run-within g = records-within (run_of g).records (run-holds limits (galley-is g) tt)

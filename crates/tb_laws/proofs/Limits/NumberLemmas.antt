@@ -29,14 +29,20 @@ use Rattle.tb_column.specs.Column.{PlainColumn, Notes, standing_notes}
 use Rattle.tb_sheet.specs.Asked
 use Rattle.tb_sheet.specs.Sheet.{PlainSheet, PlainSent, warned, shipped, one, pair_sheet}
 use Rattle.tb_sheet.specs.declared.Warn.TheVariants as warnings
-use Rattle.tb_output.specs.State.{State, Work, Recorded, placed, output, begun, puts, sends, records_also, with_floats, footnotes, has_floats}
+use Rattle.tb_output.specs.State.{State, Work, Recorded, placed, output, emptied, begun, puts, sends, records_also, with_floats, footnotes, has_floats}
 use Rattle.tb_output.specs.FloatMoves
 use Rattle.tb_output.specs.Pages
 use Rattle.tb_output.specs.Columns
 use Rattle.tb_output.specs.Text
 use Rattle.tb_output.specs.Clear
 use Rattle.tb_output.specs.Output
-use Rattle.tb_laws.specs.AreaNumbers.{unmarked, HoldsNumbers, KeepsNumbers}
+use Rattle.tb_laws.specs.AreaNumbers.{unmarked, HoldsNumbers}
+
+-- a float was placed where its areas hold no more than their numbers, before and after; nothing is asked of other records
+abbrev pub IsNumbered : Recorded → Type 0
+IsNumbered (placed p f place l height) = HoldsNumbers p l × HoldsNumbers p (FloatMoves.joined_to place f l)
+IsNumbered (output c) = Unit {0}
+IsNumbered (emptied l) = Unit {0}
 
 -- ---- lists
 
@@ -157,7 +163,7 @@ module _ (p : Params) where
   -- the lists hold no more, and so did those of each record
   pub record Numbered (w : Work) : Type 0 where
     pub lists : Holds w.state.floats
-    pub records : AllByRecursion (KeepsNumbers p) w.records
+    pub records : AllByRecursion IsNumbered w.records
 
   numbered_if : (t : Bool) (a b : Work) → Numbered a → Numbered b → Numbered (if t then a else b)
   numbered_if true a b x y = x
@@ -166,8 +172,8 @@ module _ (p : Params) where
   sends-numbered : (e : PlainSent) (w : Work) → Numbered w → Numbered (sends e w)
   sends-numbered e w h = numbered_if w.refused w (record w { sent = w.sent ++ e ∷ [] }) h (record { lists = h.lists; records = h.records })
 
-  also-numbered : (r : Recorded) (w : Work) → KeepsNumbers p r → Numbered w → Numbered (records_also r w)
-  also-numbered r w k h = numbered_if w.refused w (record w { records = w.records ++ r ∷ [] }) h (record { lists = h.lists; records = all-push (KeepsNumbers p) w.records r h.records k })
+  also-numbered : (r : Recorded) (w : Work) → IsNumbered r → Numbered w → Numbered (records_also r w)
+  also-numbered r w k h = numbered_if w.refused w (record w { records = w.records ++ r ∷ [] }) h (record { lists = h.lists; records = all-push IsNumbered w.records r h.records k })
 
   ship-numbered : (sheet : PlainSheet) (w : Work) → Numbered w → Numbered (Pages.ship p sheet w)
   ship-numbered sheet w h =
@@ -181,7 +187,7 @@ module _ (p : Params) where
   pub place_float-numbered : (place : Where) (f : Float) (left : FloatLists) (w : Work) → SameSpaces w.state.floats left → (f.bang ≡ false → KeepsLimits p w.state.floats f place) → Numbered w → Numbered (FloatMoves.place_float p place f left w)
   place_float-numbered place f left w s k h =
       let l = w.state.floats in
-      let r = placed f place l (column_height_of p l) in
+      let r = placed p f place l (column_height_of p l) in
       let after : Holds (FloatMoves.joined_to place f l) = joined-holds f place l h.lists k in
       let both : Numbered (if FloatMoves.is_placed place then records_also r w else w) = numbered_if (FloatMoves.is_placed place) (records_also r w) w (also-numbered r w (h.lists, after) h) h in
       record { lists = same-holds (FloatMoves.joined_to place f l) (FloatMoves.joined_to place f left) (same-joined f place l left s) after; records = both.records }

@@ -7,6 +7,9 @@ use Rattle.tb_node.specs.declared.Act.TheVariants as acts
 use Rattle.tb_node.proofs.Weights.{Weight}
 use Rattle.tb_param.specs.declared.Params.{Params}
 use Rattle.tb_param.specs.Release.{has_second}
+use Rattle.tb_param.specs.declared.SetPlace.{SetPlace}
+use Rattle.tb_param.specs.declared.SetPlace.TheVariants as set_places
+use Rattle.tb_param.specs.Changes.{set_place}
 use Rattle.tb_builder.specs.Reach.{Reached, acted, tried}
 use Rattle.tb_builder.proofs.Cutting.CutLemmas.{acted_of}
 use Rattle.tb_builder.proofs.FiredPages.PageWeights.{acted_weight}
@@ -16,18 +19,18 @@ use Rattle.tb_float.specs.Lists.{FloatLists, no_floats}
 use Rattle.tb_sheet.specs.declared.Warn.{Warn}
 use Rattle.tb_column.specs.Column.{PlainColumn}
 use Rattle.tb_output.specs.State.{State, Recorded}
-use Rattle.tb_output.specs.Act.{taken_float}
+use Rattle.tb_output.specs.Act.{taken_float, set_records}
 use Rattle.tb_laws.proofs.NothingLost.StateWeights.{left_weight}
 use Rattle.tb_column.proofs.PrintedLines.{left_prints, LeftPlain}
 use Rattle.tb_laws.proofs.Closed.Closings.{owed_after, never, Still, act_token}
-use Rattle.tb_laws.proofs.Closed.ClosingPages.{ActsClose, owed_acts, ways_acts, AllStill}
+use Rattle.tb_laws.proofs.Closed.ClosingPages.{SetCloses, ActsClose, owed_acts, ways_acts, AllStill}
 use Rattle.tb_laws.proofs.Closed.ClosingStates.{ways_of}
 use Rattle.tb_laws.proofs.Closed.SparedLists.{Single}
 use Rattle.tb_laws.proofs.Closed.ServedLists.{entry_items}
 use Rattle.tb_laws.proofs.NothingLost.RunWeights.{ActFits, ActsFit}
 use Rattle.tb_items.specs.RunEvents.{RunEvent}
 use Rattle.tb_steps.specs.Run.{Progress, progress}
-use Rattle.tb_steps.proofs.RunTree.{ActMove, PageMoves, page-is, takes_float, takes_note, sets_flag, changes_columns, sets_number, takes_title}
+use Rattle.tb_steps.proofs.RunTree.{ActMove, PageMoves, page-is, takes_float, takes_note, sets_flag, changes_columns, sets_number, takes_title, sets_parameter}
 use Rattle.tb_steps.proofs.RunFolds.{each_record, PageLaw, page-holds, progress-holds, whole-holds}
 use Rattle.tb_laws.specs.Laws.{IsEmptied}
 use Rattle.tb_output.proofs.Acts.HeadLemmas.{head-room}
@@ -47,6 +50,7 @@ acts-fit v o d (acts.Suppress area ∷ ds) h c = (tt, acts-fit v o d ds h c)
 acts-fit v o d (acts.Page n ∷ ds) h c = (tt, acts-fit v o d ds h c)
 acts-fit v o d (acts.Head f ∷ ds) h c = (tt, acts-fit v o false ds (λ e. never e) c)
 acts-fit v o d (acts.Columns two ∷ ds) h c = (h c.0, acts-fit v o d ds h c.1)
+acts-fit v o d (acts.Set k ∷ ds) h c = (tt, acts-fit v o d ds h c.1)
 
 -- ---- an act
 
@@ -57,26 +61,34 @@ items-append (entries.Left m ∷ xs) ys = let h : entry_items (xs ++ ys) ≡ ent
 items-append (entries.Right m ∷ xs) ys = items-append xs ys
 
 -- what an act comes to: the records, how many firings are owed, and whether still nothing came
-record Went (p : Params) (n : ℕ) (s : State) (a : Act) (ds : List Act) (t : State) (rs : List Recorded) : Type 0 where
-  records : AllByRecursion IsEmptied rs
-  owed : ℕ
-  done : Bool
-  empty : done ≡ true → t.floats ≡ no_floats
-  items : entry_items t.floats.current ≤ owed
-  single : Single t
-  close : ActsClose done ds
-  same_owed : owed_acts (ways_of p s) n (a ∷ ds) ≡ owed_acts (ways_of p t) owed ds
-  same_ways : ways_acts (ways_of p s) (a ∷ ds) ≡ ways_acts (ways_of p t) ds
-  here : t.floats.here ≡ s.floats.here
-  still : Still (act_token a) → t.floats ≡ s.floats
-  bare : done ≡ true → left_prints t.left_column ≡ []
-  left : left_prints t.left_column ≡ left_prints s.left_column
-  left_plain : LeftPlain s.left_column → LeftPlain t.left_column
+pub record Went (n : ℕ) (s : State) (a : Act) (ds : List Act) (t : State) (rs : List Recorded) : Type 0 where
+  pub records : AllByRecursion IsEmptied rs
+  pub owed : ℕ
+  pub done : Bool
+  pub empty : done ≡ true → t.floats ≡ no_floats
+  pub items : entry_items t.floats.current ≤ owed
+  pub single : Single t
+  pub close : ActsClose done ds
+  pub same_owed : owed_acts (ways_of s) n (a ∷ ds) ≡ owed_acts (ways_of t) owed ds
+  pub same_ways : ways_acts (ways_of s) (a ∷ ds) ≡ ways_acts (ways_of t) ds
+  pub here : t.floats.here ≡ s.floats.here
+  pub still : Still (act_token a) → t.floats ≡ s.floats
+  pub bare : done ≡ true → left_prints t.left_column ≡ []
+  pub left : left_prints t.left_column ≡ left_prints s.left_column
+  pub left_plain : LeftPlain s.left_column → LeftPlain t.left_column
 
-act-went : (p : Params) (n : ℕ) (o : Bool) {s t : State} {a : Act} {ws : List Warn} {rs : List Recorded} (ds : List Act) → ActMove p s a t ws rs → (o ≡ true → s.floats ≡ no_floats) → (o ≡ true → left_prints s.left_column ≡ []) → entry_items s.floats.current ≤ n → Single s → ActsClose o (a ∷ ds) → Went p n s a ds t rs
-act-went p n o ds (takes_float {s = s} f r) e b i g c =
-    record { records = tt; owed = owed_after (ways_of p s) f.wide n; done = false; empty = λ z. never z; items = taken-items f.wide (has_second p) s.two_columns; single = taken-single f.wide (has_second p) s.two_columns; close = c; same_owed = refl; same_ways = refl; here = taken-here (has_second p && (f.wide && s.two_columns)); still = λ z. absurd z; bare = λ z. never z; left = refl; left_plain = λ z. z }
+-- where a measure is set the lists are empty
+set-emptied : (x : SetPlace) (o : Bool) (l : FloatLists) → (o ≡ true → l ≡ no_floats) → SetCloses o x → AllByRecursion IsEmptied (set_records x l)
+set-emptied set_places.AfterClear o l e c = (e c, tt)
+set-emptied x o l e c = tt
+
+pub act-went : (n : ℕ) (o : Bool) {s t : State} {a : Act} {ws : List Warn} {rs : List Recorded} (ds : List Act) → ActMove s.params s a t ws rs → (o ≡ true → s.floats ≡ no_floats) → (o ≡ true → left_prints s.left_column ≡ []) → entry_items s.floats.current ≤ n → Single s → ActsClose o (a ∷ ds) → Went n s a ds t rs
+act-went n o ds (takes_float {s = s} f r) e b i g c =
+    record { records = tt; owed = owed_after (ways_of s) f.wide n; done = false; empty = λ z. never z; items = taken-items f.wide (has_second s.params) s.two_columns; single = taken-single f.wide (has_second s.params) s.two_columns; close = c; same_owed = refl; same_ways = refl; here = taken-here (has_second s.params && (f.wide && s.two_columns)); still = λ z. absurd z; bare = λ z. never z; left = refl; left_plain = λ z. z }
   where
+    p : Params
+    p = s.params
+
     lists : Bool → FloatLists
     lists t = if t then record s.floats { second = s.floats.second ++ taken_float p s f ∷ [] } else record s.floats { current = s.floats.current ++ entries.Float (taken_float p s f) ∷ [] }
 
@@ -100,54 +112,55 @@ act-went p n o ds (takes_float {s = s} f r) e b i g c =
     taken-here : (u : Bool) → (lists u).here ≡ s.floats.here
     taken-here true = refl
     taken-here false = refl
-act-went p n o ds (takes_note {s = s} m r) e b i g c =
+act-went n o ds (takes_note {s = s} m r) e b i g c =
     let k : entry_items (s.floats.current ++ entries.Left m ∷ entries.Right m ∷ []) ≡ entry_items s.floats.current + 1 = items-append s.floats.current (entries.Left m ∷ entries.Right m ∷ []) in
     record { records = tt; owed = suc n; done = false; empty = λ z. never z; items = omega arith; single = g; close = c; same_owed = refl; same_ways = refl; here = refl; still = λ z. absurd z; bare = λ z. never z; left = refl; left_plain = λ z. z }
-act-went p n o ds (takes_title {s = s} f r) e b i g c =
-    record { records = tt; owed = n; done = false; empty = λ z. never z; items = i; single = λ z. never (sym z ∙ (head-room p s r).two); close = c; same_owed = refl; same_ways = refl; here = refl; still = λ z. absurd z; bare = λ z. never z; left = refl; left_plain = λ z. z }
-act-went p n o ds (changes_columns two) e b i g c = record { records = (e c.0, tt); owed = n; done = o; empty = e; items = i; single = λ z. ap (λ l. l.double) (e c.0); close = c.1; same_owed = refl; same_ways = refl; here = refl; still = λ z. refl; bare = λ z. refl; left = sym (b c.0); left_plain = λ z. tt }
-act-went p n o ds (sets_flag area) e b i g c = record { records = tt; owed = n; done = o; empty = e; items = i; single = g; close = c; same_owed = refl; same_ways = refl; here = refl; still = λ z. refl; bare = b; left = refl; left_plain = λ z. z }
-act-went p n o ds (sets_number k) e b i g c = record { records = tt; owed = n; done = o; empty = e; items = i; single = g; close = c; same_owed = refl; same_ways = refl; here = refl; still = λ z. refl; bare = b; left = refl; left_plain = λ z. z }
+act-went n o ds (takes_title {s = s} f r) e b i g c =
+    record { records = tt; owed = n; done = false; empty = λ z. never z; items = i; single = λ z. never (sym z ∙ (head-room s.params s r).two); close = c; same_owed = refl; same_ways = refl; here = refl; still = λ z. absurd z; bare = λ z. never z; left = refl; left_plain = λ z. z }
+act-went n o ds (changes_columns two) e b i g c = record { records = (e c.0, tt); owed = n; done = o; empty = e; items = i; single = λ z. ap (λ l. l.double) (e c.0); close = c.1; same_owed = refl; same_ways = refl; here = refl; still = λ z. refl; bare = λ z. refl; left = sym (b c.0); left_plain = λ z. tt }
+act-went n o ds (sets_flag area) e b i g c = record { records = tt; owed = n; done = o; empty = e; items = i; single = g; close = c; same_owed = refl; same_ways = refl; here = refl; still = λ z. refl; bare = b; left = refl; left_plain = λ z. z }
+act-went n o ds (sets_number k) e b i g c = record { records = tt; owed = n; done = o; empty = e; items = i; single = g; close = c; same_owed = refl; same_ways = refl; here = refl; still = λ z. refl; bare = b; left = refl; left_plain = λ z. z }
+act-went n o ds (sets_parameter {s = s} x) e b i g c = record { records = set-emptied (set_place x.field) o s.floats e c.0; owed = n; done = o; empty = e; items = i; single = g; close = c.1; same_owed = refl; same_ways = refl; here = refl; still = λ z. refl; bare = b; left = refl; left_plain = λ z. z }
 
 -- ---- all acts of a page
 
 -- the state after them
-pub record ActsClosed (p : Params) (n : ℕ) (ds : List Act) (s t : State) : Type 0 where
-  pub ways : ways_of p t ≡ ways_acts (ways_of p s) ds
-  pub items : entry_items t.floats.current ≤ owed_acts (ways_of p s) n ds
+pub record ActsClosed (n : ℕ) (ds : List Act) (s t : State) : Type 0 where
+  pub ways : ways_of t ≡ ways_acts (ways_of s) ds
+  pub items : entry_items t.floats.current ≤ owed_acts (ways_of s) n ds
   pub single : Single t
   pub here : t.floats.here ≡ s.floats.here
   pub still : AllStill ds → t.floats ≡ s.floats
   pub left : left_prints t.left_column ≡ left_prints s.left_column
   pub left_plain : LeftPlain s.left_column → LeftPlain t.left_column
 
-pub record ProgressClosed (p : Params) (n : ℕ) (ds : List Act) (s : State) (q : Progress) : Type 0 where
+pub record ProgressClosed (n : ℕ) (ds : List Act) (s : State) (q : Progress) : Type 0 where
   pub records : AllByRecursion IsEmptied q.records
-  pub after : q.fault ≡ None → ActsClosed p n ds s q.state
+  pub after : q.fault ≡ None → ActsClosed n ds s q.state
 
 -- while a page is gone through: what all its acts owe is what those that are left owe, and they close
-record Acting (p : Params) (n : ℕ) (all : List Act) (o : State) (rs : List Reached) (s : State) : Type 0 where
-  owed : ℕ
-  done : Bool
-  empty : done ≡ true → s.floats ≡ no_floats
-  items : entry_items s.floats.current ≤ owed
-  single : Single s
-  close : ActsClose done (acted_of rs)
-  same_owed : owed_acts (ways_of p o) n all ≡ owed_acts (ways_of p s) owed (acted_of rs)
-  same_ways : ways_acts (ways_of p o) all ≡ ways_acts (ways_of p s) (acted_of rs)
-  here : s.floats.here ≡ o.floats.here
-  still : AllStill all → AllStill (acted_of rs) × (s.floats ≡ o.floats)
-  bare : done ≡ true → left_prints s.left_column ≡ []
-  left : left_prints s.left_column ≡ left_prints o.left_column
-  left_plain : LeftPlain o.left_column → LeftPlain s.left_column
+pub record Acting (n : ℕ) (all : List Act) (o : State) (rs : List Reached) (s : State) : Type 0 where
+  pub owed : ℕ
+  pub done : Bool
+  pub empty : done ≡ true → s.floats ≡ no_floats
+  pub items : entry_items s.floats.current ≤ owed
+  pub single : Single s
+  pub close : ActsClose done (acted_of rs)
+  pub same_owed : owed_acts (ways_of o) n all ≡ owed_acts (ways_of s) owed (acted_of rs)
+  pub same_ways : ways_acts (ways_of o) all ≡ ways_acts (ways_of s) (acted_of rs)
+  pub here : s.floats.here ≡ o.floats.here
+  pub still : AllStill all → AllStill (acted_of rs) × (s.floats ≡ o.floats)
+  pub bare : done ≡ true → left_prints s.left_column ≡ []
+  pub left : left_prints s.left_column ≡ left_prints o.left_column
+  pub left_plain : LeftPlain o.left_column → LeftPlain s.left_column
 
-abbrev acting : (p : Params) → ℕ → List Act → State → PageLaw p
-acting p n all o = record {
+abbrev pub acting : ℕ → List Act → State → PageLaw
+acting n all o = record {
   shows = each_record IsEmptied;
-  holds = Acting p n all o;
+  holds = Acting n all o;
   tries = λ line b least rs s h. (tt, record { owed = h.owed; done = h.done; empty = h.empty; items = h.items; single = h.single; close = h.close; same_owed = h.same_owed; same_ways = h.same_ways; here = h.here; still = h.still; bare = h.bare; left = h.left; left_plain = h.left_plain });
   acts = λ s t a ws records rs x h.
-      let k = act-went p h.owed h.done (acted_of rs) x h.empty h.bare h.items h.single h.close in (
+      let k = act-went h.owed h.done (acted_of rs) x h.empty h.bare h.items h.single h.close in (
         k.records,
         record {
           owed = k.owed;
@@ -167,22 +180,22 @@ acting p n all o = record {
       );
 }
 
-module _ (p : Params) (rs : List Reached) (n : ℕ) (o : Bool) (s : State) (e : o ≡ true → s.floats ≡ no_floats) (b : o ≡ true → left_prints s.left_column ≡ []) (i : entry_items s.floats.current ≤ n) (g : Single s) (c : ActsClose o (acted_of rs)) where
-  start : Acting p n (acted_of rs) s rs s
-  start = record { owed = n; done = o; empty = e; items = i; single = g; close = c; same_owed = refl; same_ways = refl; here = refl; still = λ z. (z, refl); bare = b; left = refl; left_plain = λ z. z }
+module _ (rs : List Reached) (n : ℕ) (o : Bool) (s : State) (e : o ≡ true → s.floats ≡ no_floats) (b : o ≡ true → left_prints s.left_column ≡ []) (i : entry_items s.floats.current ≤ n) (g : Single s) (c : ActsClose o (acted_of rs)) where
+  pub acting-starts : Acting n (acted_of rs) s rs s
+  acting-starts = record { owed = n; done = o; empty = e; items = i; single = g; close = c; same_owed = refl; same_ways = refl; here = refl; still = λ z. (z, refl); bare = b; left = refl; left_plain = λ z. z }
 
-  acts-closed : {t : State} → Acting p n (acted_of rs) s [] t → ActsClosed p n (acted_of rs) s t
+  acts-closed : {t : State} → Acting n (acted_of rs) s [] t → ActsClosed n (acted_of rs) s t
   acts-closed {t = t} h = record { ways = sym h.same_ways; items = subst (λ m. entry_items t.floats.current ≤ m) (sym h.same_owed) h.items; single = h.single; here = h.here; still = λ z. (h.still z).1; left = h.left; left_plain = h.left_plain }
 
   -- the acts and tries so far record empty lists alone
-  pub page-emptied : {qs : List Reached} {t : State} {es : List RunEvent} {records : List Recorded} → PageMoves p rs s es records qs t → AllByRecursion IsEmptied records
-  page-emptied x = (page-holds (acting p n (acted_of rs) s) x start).0
+  pub page-emptied : {qs : List Reached} {t : State} {es : List RunEvent} {records : List Recorded} → PageMoves rs s es records qs t → AllByRecursion IsEmptied records
+  page-emptied x = (page-holds (acting n (acted_of rs) s) x acting-starts).0
 
-  pub page-closed : {t : State} {es : List RunEvent} {records : List Recorded} → PageMoves p rs s es records [] t → ActsClosed p n (acted_of rs) s t
-  page-closed x = acts-closed (page-holds (acting p n (acted_of rs) s) x start).1
+  pub page-closed : {t : State} {es : List RunEvent} {records : List Recorded} → PageMoves rs s es records [] t → ActsClosed n (acted_of rs) s t
+  page-closed x = acts-closed (page-holds (acting n (acted_of rs) s) x acting-starts).1
 
-  pub progress-closed : (least : ℤ) → ProgressClosed p n (acted_of rs) s (progress p rs least s)
-  progress-closed least = record { records = (progress-holds (acting p n (acted_of rs) s) (page-is p rs least s) start).0; after = λ f. acts-closed (whole-holds (acting p n (acted_of rs) s) (page-is p rs least s) start f) }
+  pub progress-closed : (least : ℤ) → ProgressClosed n (acted_of rs) s (progress rs least s)
+  progress-closed least = record { records = (progress-holds (acting n (acted_of rs) s) (page-is rs least s) acting-starts).0; after = λ f. acts-closed (whole-holds (acting n (acted_of rs) s) (page-is rs least s) acting-starts f) }
 
 -- acts that take nothing bring nothing
 pub still-weight : (v : Weight) (rs : List Reached) → AllStill (acted_of rs) → acted_weight v rs ≡ 0
@@ -193,4 +206,5 @@ still-weight v (acted (acts.Head f) ∷ rs) h = absurd h.0
 still-weight v (acted (acts.Suppress area) ∷ rs) h = let k : acted_weight v rs ≡ 0 = still-weight v rs h.1 in omega arith
 still-weight v (acted (acts.Page n) ∷ rs) h = let k : acted_weight v rs ≡ 0 = still-weight v rs h.1 in omega arith
 still-weight v (acted (acts.Columns two) ∷ rs) h = let k : acted_weight v rs ≡ 0 = still-weight v rs h.1 in omega arith
+still-weight v (acted (acts.Set c) ∷ rs) h = let k : acted_weight v rs ≡ 0 = still-weight v rs h.1 in omega arith
 still-weight v (tried line b ∷ rs) h = still-weight v rs h

@@ -1,16 +1,15 @@
 -- Each step of a run keeps that what waits closes; so all lists are empty at each change of columns and at the end, and
 -- at the end nothing is left that has to ship.
 use Rattle.std.proofs.Common.{◌≡◌, refl, sym, ◌∙◌, ap, subst, ℕ, suc, ◌+◌, ◌⊎◌, inl, inr, Bool, true, false, List, [], ◌∷◌, ◌++◌, map, take, drop, Option, Some, None, arith}
-use Rattle.std.specs.Prelude.{ℤ, ◌==◌, int_le, if◌then◌else◌}
+use Rattle.std.specs.Prelude.{ℤ, ◌==◌, if◌then◌else◌}
 use Rattle.std.specs.List.{AllByRecursion}
-use Rattle.tb_scaled.specs.Scaled.{awful_bad, eject_penalty}
+use Rattle.tb_scaled.specs.Scaled.{awful_bad}
 use Rattle.tb_node.specs.declared.RuleOf.TheVariants.{Item}
 use Rattle.tb_node.specs.declared.Act.TheVariants as acts
 use Rattle.tb_node.specs.declared.What.{What}
 use Rattle.tb_node.specs.declared.What.TheVariants as what
 use Rattle.tb_node.specs.PlainNodes.{Leaf, hbox, rule, PlainKind, plain, ins, act, PlainNode, without_acts, without_insertions}
 use Rattle.tb_node.proofs.Weights.{Weight, nodes_weight, kind_weight, weight-append}
-use Rattle.tb_param.specs.declared.Params.{Params}
 use Rattle.tb_insert.specs.Account.{Frozen, Labelled, labelled}
 use Rattle.tb_break.specs.PageTop.{pruned_nodes}
 use Rattle.tb_builder.specs.FiredPages.{Boxed, page_break, from_break, penalty_at, box_after, box_content, content_of, given_to, is_given, fired_by, frozen_for, held_insertions}
@@ -28,6 +27,8 @@ use Rattle.tb_param.specs.Release.{has_second}
 use Rattle.tb_laws.proofs.NothingLost.PutOutWeights.{other-box}
 use Rattle.std.proofs.lemmas.Bool.{eq-eqb, eqb-true}
 use Rattle.tb_output.specs.Output.{out}
+use Rattle.tb_output.proofs.KeptParams.{out-keeps-params}
+use Rattle.tb_laws.proofs.DeadCycles.ValidPenalties.{interline-calm}
 use Rattle.tb_laws.proofs.NothingLost.StateWeights.{BoxesFit, class_numbers, Paired, entries_weight, floats_weight, lists_weight, left_weight, state_weight, sent_weight}
 use Rattle.tb_laws.proofs.Closed.SortLemmas.{pen_sort, sorts, sorts-append, take-drop}
 use Rattle.tb_laws.proofs.Closed.PlaceLemmas.{AllSteady, body-steady}
@@ -37,7 +38,7 @@ use Rattle.tb_laws.proofs.Closed.ClosingPages.{owed_acts, ways_acts, pruned-clos
 use Rattle.tb_laws.proofs.DeadCycles.BoxesFirst.{RealFirst, HasReal, BreakReal, pruned-first, acts-first, break-real}
 use Rattle.tb_laws.proofs.Closed.ClosingStates.{ways_of, Clean, HereKept, Closing, OutClosed, out-closed}
 use Rattle.tb_laws.proofs.Limits.LimitLemmas.{out-records}
-use Rattle.tb_laws.proofs.NothingLost.ClosingActs.{acts-fit, ActsClosed, ProgressClosed, progress-closed, page-emptied, page-closed, still-weight}
+use Rattle.tb_laws.proofs.NothingLost.ClosingActs.{acts-fit, Acting, acting-starts, ActsClosed, ProgressClosed, progress-closed, page-emptied, page-closed, still-weight}
 use Rattle.tb_laws.proofs.NothingLost.RunWeights.{ActsFit, After, whole-adds, box-fired, fit-numbers, box_after-number, Kept, page_of, cut, passed_bare, cut_bare, cut_feet, cut_stands, reached, fired-keeps}
 use Rattle.tb_laws.proofs.NothingLost.LastLabels.{LabelsLast, GivesLast, quiet-last, same-boxes, held-quiet, void-last, clear-last}
 use Rattle.tb_laws.proofs.Closed.BareFeet.{HoldsBare, HoldBare, LabelsBare, bare-weight, body-bare, labelled-bare, held-bare}
@@ -170,20 +171,20 @@ void-given ls (c ∷ cs) (b ∷ bs) h e k o = by_number (k == c.number) refl o (
 -- ---- a step
 
 -- a step keeps that what waits closes, and records empty lists alone; if it ends well nothing is left that has to ship
-abbrev pub StepCloses : Params → State → Step → Type 0
-StepCloses p s (goes_on es rs t) = AllByRecursion IsEmptied rs × Closing p t
-StepCloses p s (ends es rs (done left)) = AllByRecursion IsEmptied rs × ((v : Weight) → state_weight v s ≡ 0)
-StepCloses p s (ends es rs (pool_full line live)) = AllByRecursion IsEmptied rs
-StepCloses p s (ends es rs (dead_cycles n)) = AllByRecursion IsEmptied rs
-StepCloses p s (ends es rs (page_limit n)) = AllByRecursion IsEmptied rs
-StepCloses p s (ends es rs (node_limit n)) = AllByRecursion IsEmptied rs
+abbrev pub StepCloses : State → Step → Type 0
+StepCloses s (goes_on es rs t) = AllByRecursion IsEmptied rs × Closing t
+StepCloses s (ends es rs (done left)) = AllByRecursion IsEmptied rs × ((v : Weight) → state_weight v s ≡ 0)
+StepCloses s (ends es rs (pool_full line live)) = AllByRecursion IsEmptied rs
+StepCloses s (ends es rs (dead_cycles n)) = AllByRecursion IsEmptied rs
+StepCloses s (ends es rs (page_limit n)) = AllByRecursion IsEmptied rs
+StepCloses s (ends es rs (node_limit n)) = AllByRecursion IsEmptied rs
 
-module _ (p : Params) (calm : int_le p.interlinepenalty eject_penalty ≡ false) (s : State) (kept : Kept s) (closing : Closing p s) where
-  pub page_cut : CutAt [] (pruned_nodes p.topskip s.waiting) (page_of p s)
-  page_cut = cut ones p calm s kept
+module _ (s : State) (kept : Kept s) (closing : Closing s) where
+  pub page_cut : CutAt [] (pruned_nodes (ask_for s).top_skip s.waiting) (page_of s)
+  page_cut = cut ones s kept
 
-  pub page_closes : PageCloses (ways_of p s) closing.owed closing.done (page_break (page_of p s)).place (page_of p s)
-  page_closes = cut-closes (pruned_nodes p.topskip s.waiting) (page_of p s) (ways_of p s) closing.owed closing.done (page_break (page_of p s)).place page_cut (pruned-closes p.topskip s.waiting kept.placed.held (ways_of p s) closing.owed closing.done kept.placed.stands closing.closes)
+  pub page_closes : PageCloses (ways_of s) closing.owed closing.done (page_break (page_of s)).place (page_of s)
+  page_closes = cut-closes (pruned_nodes (ask_for s).top_skip s.waiting) (page_of s) (ways_of s) closing.owed closing.done (page_break (page_of s)).place page_cut (pruned-closes (ask_for s).top_skip s.waiting kept.placed.held (ways_of s) closing.owed closing.done kept.placed.stands closing.closes)
 
   left_fits : (v : Weight) → closing.done ≡ true → left_weight v s.left_column ≡ 0
   left_fits v e = let k : boxes_weight v s.boxes + nodes_weight v s.held_page + lists_weight v s.floats + left_weight v s.left_column ≡ 0 = (closing.clean e).weightless v in omega arith
@@ -195,35 +196,39 @@ module _ (p : Params) (calm : int_le p.interlinepenalty eject_penalty ≡ false)
   bare e = weightless-left s.left_column (left_fits ones e)
 
   -- a change of columns drops nothing that weighs
-  pub changes-fit : (v : Weight) → ActsFit v s.left_column (acted_of (page_of p s).reached)
-  changes-fit v = acts-fit v s.left_column closing.done (acted_of (page_of p s).reached) (left_fits v) page_closes.acts_close
+  pub changes-fit : (v : Weight) → ActsFit v s.left_column (acted_of (page_of s).reached)
+  changes-fit v = acts-fit v s.left_column closing.done (acted_of (page_of s).reached) (left_fits v) page_closes.acts_close
 
-  pub progressed : ProgressClosed p closing.owed (acted_of (page_of p s).reached) s (progress p (page_of p s).reached awful_bad s)
-  progressed = progress-closed p (page_of p s).reached closing.owed closing.done s empty bare closing.items closing.single page_closes.acts_close awful_bad
+  -- at its beginning
+  pub acting-begins : Acting closing.owed (acted_of (page_of s).reached) s (page_of s).reached s
+  acting-begins = acting-starts (page_of s).reached closing.owed closing.done s empty bare closing.items closing.single page_closes.acts_close
 
-  pub emptied-page : {qs : List Reached} {t : State} {es : List RunEvent} {rs : List Recorded} → PageMoves p (page_of p s).reached s es rs qs t → AllByRecursion IsEmptied rs
-  emptied-page = page-emptied p (page_of p s).reached closing.owed closing.done s empty bare closing.items closing.single page_closes.acts_close
+  pub progressed : ProgressClosed closing.owed (acted_of (page_of s).reached) s (progress (page_of s).reached awful_bad s)
+  progressed = progress-closed (page_of s).reached closing.owed closing.done s empty bare closing.items closing.single page_closes.acts_close awful_bad
+
+  pub emptied-page : {qs : List Reached} {t : State} {es : List RunEvent} {rs : List Recorded} → PageMoves (page_of s).reached s es rs qs t → AllByRecursion IsEmptied rs
+  emptied-page = page-emptied (page_of s).reached closing.owed closing.done s empty bare closing.items closing.single page_closes.acts_close
 
   -- the state after the acts of the page
-  pub closed-page : {t : State} {es : List RunEvent} {rs : List Recorded} → WholePage p s es rs t → ActsClosed p closing.owed (acted_of (page_of p s).reached) s t
-  closed-page = page-closed p (page_of p s).reached closing.owed closing.done s empty bare closing.items closing.single page_closes.acts_close
+  pub closed-page : {t : State} {es : List RunEvent} {rs : List Recorded} → WholePage s es rs t → ActsClosed closing.owed (acted_of (page_of s).reached) s t
+  closed-page = page-closed (page_of s).reached closing.owed closing.done s empty bare closing.items closing.single page_closes.acts_close
 
-  pub page-after : {t : State} {es : List RunEvent} {rs : List Recorded} → WholePage p s es rs t → (v : Weight) → After v (acted_weight v (page_of p s).reached) s t
-  page-after x v = whole-adds v p calm s kept (changes-fit v) x
+  pub page-after : {t : State} {es : List RunEvent} {rs : List Recorded} → WholePage s es rs t → (v : Weight) → After v (acted_weight v (page_of s).reached) s t
+  page-after x v = whole-adds v s kept (changes-fit v) x
 
   -- a box before the next forced break is on the page that breaks there
-  first_break : RealFirst (sorts s.waiting) → BreakReal (sorts (take (page_break (page_of p s)).place (page_of p s).passed)) (pen_sort (penalty_at (from_break (page_of p s))))
+  first_break : RealFirst (sorts s.waiting) → BreakReal (sorts (take (page_break (page_of s)).place (page_of s).passed)) (pen_sort (penalty_at (from_break (page_of s))))
   first_break r =
-      let w = page_of p s in
+      let w = page_of s in
       let k = (page_break w).place in
-      let a : RealFirst (sorts (page_cut.front ++ w.beyond)) = subst (λ l. RealFirst (sorts l)) page_cut.whole (pruned-first p.topskip s.waiting r) in
+      let a : RealFirst (sorts (page_cut.front ++ w.beyond)) = subst (λ l. RealFirst (sorts l)) page_cut.whole (pruned-first (ask_for s).top_skip s.waiting r) in
       let b : RealFirst (sorts (without_acts page_cut.front) ++ sorts w.beyond) = acts-first page_cut.front (sorts w.beyond) (subst RealFirst (sorts-append page_cut.front w.beyond) a) in
       let c : RealFirst (sorts (without_acts page_cut.front ++ w.beyond)) = subst RealFirst (sym (sorts-append (without_acts page_cut.front) w.beyond)) b in
       let d : RealFirst (sorts (take k w.passed ++ (drop k w.passed ++ w.beyond))) = subst (λ l. RealFirst (sorts l)) (ap (λ l. l ++ w.beyond) (sym page_cut.passed) ∙ take-drop k w.passed w.beyond) c in
       break-real (sorts (take k w.passed)) (drop k w.passed ++ w.beyond) (subst RealFirst (sorts-append (take k w.passed) (drop k w.passed ++ w.beyond)) d)
 
-  module _ (t : State) (after : (v : Weight) → After v (acted_weight v (page_of p s).reached) s t) (acts_done : ActsClosed p closing.owed (acted_of (page_of p s).reached) s t) (z : Frozen) where
-    here_now : HereKept s → (t.floats.here ≡ []) ⊎ (HasReal (sorts t.held_page) ⊎ BreakReal (sorts (take (page_break (page_of p s)).place (page_of p s).passed)) (pen_sort (penalty_at (from_break (page_of p s)))))
+  module _ (t : State) (after : (v : Weight) → After v (acted_weight v (page_of s).reached) s t) (acts_done : ActsClosed closing.owed (acted_of (page_of s).reached) s t) (z : Frozen) where
+    here_now : HereKept s → (t.floats.here ≡ []) ⊎ (HasReal (sorts t.held_page) ⊎ BreakReal (sorts (take (page_break (page_of s)).place (page_of s).passed)) (pen_sort (penalty_at (from_break (page_of s)))))
     here_now (inl n) = inl (acts_done.here ∙ n)
     here_now (inr (inl r)) = inr (inl (subst (λ l. HasReal (sorts l)) (sym (after ones).held) r))
     here_now (inr (inr r)) = inr (inr (first_break r))
@@ -237,46 +242,46 @@ module _ (p : Params) (calm : int_le p.interlinepenalty eject_penalty ≡ false)
     fit_boxes : BoxesFit t.classes t.boxes
     fit_boxes = (after ones).sound.box
 
-    labels_class : LabelsOfClass (class_numbers s.classes) (labelled z (take (page_break (page_of p s)).place (page_of p s).passed))
-    labels_class = labelled-class (class_numbers s.classes) z [] [] (take (page_break (page_of p s)).place (page_of p s).passed) tt (cut_feet ones p calm s kept).0
+    labels_class : LabelsOfClass (class_numbers s.classes) (labelled z (take (page_break (page_of s)).place (page_of s).passed))
+    labels_class = labelled-class (class_numbers s.classes) z [] [] (take (page_break (page_of s)).place (page_of s).passed) tt (cut_feet ones s kept).0
 
-    labels_bare : LabelsBare (labelled z (take (page_break (page_of p s)).place (page_of p s).passed))
-    labels_bare = labelled-bare z [] [] (take (page_break (page_of p s)).place (page_of p s).passed) tt (cut_bare ones p calm s kept).0
+    labels_bare : LabelsBare (labelled z (take (page_break (page_of s)).place (page_of s).passed))
+    labels_bare = labelled-bare z [] [] (take (page_break (page_of s)).place (page_of s).passed) tt (cut_bare ones s kept).0
 
-    labels_last : page_closes.done ≡ true → LabelsLast (labelled z (take (page_break (page_of p s)).place (page_of p s).passed))
-    labels_last e = quiet-last z (take (page_break (page_of p s)).place (page_of p s).passed) (tokens-take Quiet (page_break (page_of p s)).place (page_of p s).passed (page_closes.still e).1)
+    labels_last : page_closes.done ≡ true → LabelsLast (labelled z (take (page_break (page_of s)).place (page_of s).passed))
+    labels_last e = quiet-last z (take (page_break (page_of s)).place (page_of s).passed) (tokens-take Quiet (page_break (page_of s)).place (page_of s).passed (page_closes.still e).1)
 
     -- the firing of the page in the state after its acts
-    pub fired_closes : let f = fired_by (labelled z (take (page_break (page_of p s)).place (page_of p s).passed)) t.boxes (page_of p s) in OutClosed (ways_acts (ways_of p s) (acted_of (page_of p s).reached)) page_closes.done f.rest (out p t f).state × ((out p t f).state.two_columns ≡ t.two_columns)
+    pub fired_closes : let f = fired_by (labelled z (take (page_break (page_of s)).place (page_of s).passed)) t.boxes (page_of s) in OutClosed (ways_acts (ways_of s) (acted_of (page_of s).reached)) page_closes.done f.rest (out t.params t f).state × ((out t.params t f).state.two_columns ≡ t.two_columns)
     fired_closes =
-        let w = page_of p s in
+        let w = page_of s in
         let before = take (page_break w).place w.passed in
         let ls = labelled z before in
         let f = fired_by ls t.boxes w in
-        let stands = cut_stands ones p calm s kept in
+        let stands = cut_stands ones s kept in
         let a = after ones in
-        out-closed (class_numbers s.classes) p calm t f before refl stands.calm stands.free kept.placed.held stands.rest (ways_acts (ways_of p s) (acted_of w.reached)) (owed_acts (ways_of p s) closing.owed (acted_of w.reached)) page_closes.done
-        (break-closes (from_break w) (ways_acts (ways_of p s) (acted_of w.reached)) (owed_acts (ways_of p s) closing.owed (acted_of w.reached)) page_closes.done page_closes.first page_closes.rest)
+        out-closed (class_numbers s.classes) t.params (interline-calm t.params a.ranges) t f before refl stands.calm stands.free kept.placed.held stands.rest (ways_acts (ways_of s) (acted_of w.reached)) (owed_acts (ways_of s) closing.owed (acted_of w.reached)) page_closes.done
+        (break-closes (from_break w) (ways_acts (ways_of s) (acted_of w.reached)) (owed_acts (ways_of s) closing.owed (acted_of w.reached)) page_closes.done page_closes.first page_closes.rest)
         (λ h. a.held ∙ kept.placed.free h) (subst AllSteady (sym a.held) kept.placed.steady) (body-steady before stands.calm stands.free)
         acts_done.items a.sound.entries acts_done.single a.sound.columns (here_now closing.here)
         (held-ins (class_numbers s.classes) ls labels_class) (λ e. held-quiet ls (labels_last e)) (λ e. held-quiet ls (clear-last (class_numbers s.classes) z before labels_class (subst (λ ks. GivesLast ks ls) same_classes (void-last ls t.classes t.boxes fit_boxes e)))) (box-fired ls t.classes t.boxes fit_boxes)
 
     -- if nothing came up to the stop, nothing is kept behind an ordinary firing
-    nothing_kept : let f = fired_by (labelled z (take (page_break (page_of p s)).place (page_of p s).passed)) t.boxes (page_of p s) in (out p t f).refused ≡ false → page_closes.done ≡ true → (v : Weight) → boxes_weight v (out p t f).state.boxes + nodes_weight v (out p t f).state.held_page + lists_weight v (out p t f).state.floats + left_weight v (out p t f).state.left_column ≡ 0
+    nothing_kept : let f = fired_by (labelled z (take (page_break (page_of s)).place (page_of s).passed)) t.boxes (page_of s) in (out t.params t f).refused ≡ false → page_closes.done ≡ true → (v : Weight) → boxes_weight v (out t.params t f).state.boxes + nodes_weight v (out t.params t f).state.held_page + lists_weight v (out t.params t f).state.floats + left_weight v (out t.params t f).state.left_column ≡ 0
     nothing_kept r e v =
-        let w = page_of p s in
+        let w = page_of s in
         let before = take (page_break w).place w.passed in
         let ls = labelled z before in
         let f = fired_by ls t.boxes w in
-        let u = (out p t f).state in
+        let u = (out t.params t f).state in
         let q = page_closes.still e in
-        let k : state_weight v u + sent_weight v (out p t f).sent ≡ state_weight v s = (fired-keeps v p calm s kept t (after v) z r).1 in
-        sums (nodes_weight v u.waiting) (boxes_weight v u.boxes) (nodes_weight v u.held_page) (lists_weight v u.floats) (left_weight v u.left_column) (sent_weight v (out p t f).sent)
+        let k : state_weight v u + sent_weight v (out t.params t f).sent ≡ state_weight v s = (fired-keeps v s kept t (after v) z r).1 in
+        sums (nodes_weight v u.waiting) (boxes_weight v u.boxes) (nodes_weight v u.held_page) (lists_weight v u.floats) (left_weight v u.left_column) (sent_weight v (out t.params t f).sent)
         (nodes_weight v s.waiting) (boxes_weight v s.boxes) (nodes_weight v s.held_page) (lists_weight v s.floats) (left_weight v s.left_column)
         (nodes_weight v w.passed) (acted_weight v w.reached) (nodes_weight v w.beyond)
         (nodes_weight v f.body) (boxes_weight v f.boxes) (nodes_weight v f.held) (nodes_weight v f.rest) (boxes_weight v t.boxes) (nodes_weight v fired_closes.0.front)
-        k ((closing.clean q.0).weightless v) (quiet-weight v w.passed (passed_bare ones p calm s kept).0 q.1) (still-weight v w.reached q.2) (reached v p calm s kept)
-        (fired-weight v z t.boxes w (subst (λ ms. AllOfClass ms before) (sym same_classes ∙ fit-numbers t.classes t.boxes fit_boxes) (cut_feet ones p calm s kept).0))
+        k ((closing.clean q.0).weightless v) (quiet-weight v w.passed (passed_bare ones s kept).0 q.1) (still-weight v w.reached q.2) (reached v s kept)
+        (fired-weight v z t.boxes w (subst (λ ms. AllOfClass ms before) (sym same_classes ∙ fit-numbers t.classes t.boxes fit_boxes) (cut_feet ones s kept).0))
         (quiet-weight v f.body (body-bare before) (quiet-body before (tokens-take Quiet (page_break w).place w.passed q.1)))
         (same-boxes v ls t.boxes (labels_last e) labels_bare)
         (ap (boxes_weight v) (after ones).boxes)
@@ -286,38 +291,38 @@ module _ (p : Params) (calm : int_le p.interlinepenalty eject_penalty ≡ false)
         sums : (Wu Bu Hu Lu Ku S Ws B H L K P A Y Fb Fx Fh Fr Bt F : ℕ) → Wu + Bu + Hu + Lu + Ku + S ≡ Ws + B + H + L + K → B + H + L + K ≡ 0 → P ≡ 0 → A ≡ 0 → P + A + Y ≡ Ws → Fb + Fx + Fh + Fr ≡ Bt + (P + Y) → Fb ≡ 0 → Fx ≡ Bt → Bt ≡ B → Fh ≡ 0 → Wu ≡ F + Fr → Bu + Hu + Lu + Ku ≡ 0
         sums Wu Bu Hu Lu Ku S Ws B H L K P A Y Fb Fx Fh Fr Bt F a b c d e f g h i j k = omega arith
 
-    fired_closing : let f = fired_by (labelled z (take (page_break (page_of p s)).place (page_of p s).passed)) t.boxes (page_of p s) in (out p t f).refused ≡ false → Closing p (out p t f).state
+    fired_closing : let f = fired_by (labelled z (take (page_break (page_of s)).place (page_of s).passed)) t.boxes (page_of s) in (out t.params t f).refused ≡ false → Closing (out t.params t f).state
     fired_closing r =
         let x = fired_closes.0 in
-        let f = fired_by (labelled z (take (page_break (page_of p s)).place (page_of p s).passed)) t.boxes (page_of p s) in
-        let ways : ways_acts (ways_of p s) (acted_of (page_of p s).reached) ≡ ways_of p (out p t f).state = sym acts_done.ways ∙ ap (λ t. record { second = has_second p; two = t }) (sym fired_closes.1) in
-        record { owed = x.owed; done = x.done; closes = subst (λ y. Closes y x.owed x.done (tokens (out p t f).state.waiting)) ways x.closes; items = x.items; single = x.single; here = x.here; clean = λ e. by_clean (nothing_kept r) (x.clean e) }
+        let f = fired_by (labelled z (take (page_break (page_of s)).place (page_of s).passed)) t.boxes (page_of s) in
+        let ways : ways_acts (ways_of s) (acted_of (page_of s).reached) ≡ ways_of (out t.params t f).state = sym acts_done.ways ∙ (λ i. record { second = has_second (sym (out-keeps-params t.params t f) i); two = sym fired_closes.1 i }) in
+        record { owed = x.owed; done = x.done; closes = subst (λ y. Closes y x.owed x.done (tokens (out t.params t f).state.waiting)) ways x.closes; items = x.items; single = x.single; here = x.here; clean = λ e. by_clean (nothing_kept r) (x.clean e) }
       where
         by_clean : {u : State} → (page_closes.done ≡ true → (v : Weight) → boxes_weight v u.boxes + nodes_weight v u.held_page + lists_weight v u.floats + left_weight v u.left_column ≡ 0) → ((page_closes.done ≡ true) × (u.floats.here ≡ [])) ⊎ Clean u → Clean u
         by_clean h (inl y) = record { weightless = h y.0; here = y.1 }
         by_clean h (inr y) = y
 
   -- at the end nothing is left that has to ship
-  end-empty : (t : State) → ActsClosed p closing.owed (acted_of (page_of p s).reached) s t → (page_of p s).fires ≡ false → (t.floats ≡ no_floats) × ((v : Weight) → state_weight v s ≡ 0)
+  end-empty : (t : State) → ActsClosed closing.owed (acted_of (page_of s).reached) s t → (page_of s).fires ≡ false → (t.floats ≡ no_floats) × ((v : Weight) → state_weight v s ≡ 0)
   end-empty t d u =
-      let w = page_of p s in
-      let e : page_closes.done ≡ true = subst (λ l. Closes (ways_acts (ways_of p s) (acted_of w.reached)) (owed_acts (ways_of p s) closing.owed (acted_of w.reached)) page_closes.done (tokens l)) (page_cut.ended u) page_closes.beyond in
+      let w = page_of s in
+      let e : page_closes.done ≡ true = subst (λ l. Closes (ways_acts (ways_of s) (acted_of w.reached)) (owed_acts (ways_of s) closing.owed (acted_of w.reached)) page_closes.done (tokens l)) (page_cut.ended u) page_closes.beyond in
       let q = page_closes.still e in
-      (d.still q.2 ∙ empty q.0, λ v. sums (nodes_weight v s.waiting) (boxes_weight v s.boxes) (nodes_weight v s.held_page) (lists_weight v s.floats) (left_weight v s.left_column) (nodes_weight v w.passed) (acted_weight v w.reached) (nodes_weight v w.beyond) ((closing.clean q.0).weightless v) (quiet-weight v w.passed (passed_bare ones p calm s kept).0 q.1) (still-weight v w.reached q.2) (ap (nodes_weight v) (page_cut.ended u)) (reached v p calm s kept))
+      (d.still q.2 ∙ empty q.0, λ v. sums (nodes_weight v s.waiting) (boxes_weight v s.boxes) (nodes_weight v s.held_page) (lists_weight v s.floats) (left_weight v s.left_column) (nodes_weight v w.passed) (acted_weight v w.reached) (nodes_weight v w.beyond) ((closing.clean q.0).weightless v) (quiet-weight v w.passed (passed_bare ones s kept).0 q.1) (still-weight v w.reached q.2) (ap (nodes_weight v) (page_cut.ended u)) (reached v s kept))
     where
       sums : (W B H L K P A Y : ℕ) → B + H + L + K ≡ 0 → P ≡ 0 → A ≡ 0 → Y ≡ 0 → P + A + Y ≡ W → W + B + H + L + K ≡ 0
       sums W B H L K P A Y b c d e f = omega arith
 
-  firing-emptied : {t : State} {es : List RunEvent} {rs : List Recorded} → WholePage p s es rs t → AllByRecursion IsEmptied (rs ++ (served_at p s t).records)
-  firing-emptied {t = t} {rs = rs} x = all-join IsEmptied rs (served_at p s t).records (emptied-page x) (out-records p (record { holds = IsEmptied; at_place = λ g place l k. tt; at_output = λ c. tt }) t (fired_at p s t))
+  firing-emptied : {t : State} {es : List RunEvent} {rs : List Recorded} → WholePage s es rs t → AllByRecursion IsEmptied (rs ++ (served_at s t).records)
+  firing-emptied {t = t} {rs = rs} x = all-join IsEmptied rs (served_at s t).records (emptied-page x) (out-records t.params (record { holds = IsEmptied; at_place = λ g place l k. tt; at_output = λ c. tt }) t (fired_at s t))
 
-  pub steps-close : {x : Step} → StepIs p s x → StepCloses p s x
-  steps-close (fires_on {t = t} x f r) = (firing-emptied x, fired_closing t (page-after x) (closed-page x) (frozen_for (ask_for p s) t.classes t.boxes) r)
+  pub steps-close : {x : Step} → StepIs s x → StepCloses s x
+  steps-close (fires_on {t = t} x f r) = (firing-emptied x, fired_closing t (page-after x) (closed-page x) (frozen_for (ask_for s) t.classes t.boxes) r)
   steps-close (meets_page_limit x f r) = firing-emptied x
   steps-close (meets_node_limit x f r n) = firing-emptied x
   steps-close (meets_cycle_limit x e c) = emptied-page x
   steps-close (is_done {rs = rs} {t = t} x u) = let k = end-empty t (closed-page x) u in (all-join IsEmptied rs (emptied t.floats ∷ []) (emptied-page x) (k.0, tt), k.1)
   steps-close (meets_full_pool x e) = emptied-page x
 
-  pub step-closes : StepCloses p s (step p s)
-  step-closes = steps-close (step-is p s)
+  pub step-closes : StepCloses s (step s)
+  step-closes = steps-close (step-is s)

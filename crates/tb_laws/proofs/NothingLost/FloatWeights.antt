@@ -51,7 +51,7 @@ pub placed-adds : (v : Weight) (p : Params) (place : Where) (f : Float) (left : 
 placed-adds v p place f left w j h e = by_record (FloatMoves.is_placed place)
   where
     r : Recorded
-    r = placed f place w.state.floats (column_height_of p w.state.floats)
+    r = placed p f place w.state.floats (column_height_of p w.state.floats)
 
     l : FloatLists
     l = FloatMoves.joined_to place f left

@@ -9,6 +9,7 @@ use Rattle.tb_node.specs.declared.Act.TheVariants as acts
 use Rattle.tb_node.proofs.Weights.{Weight, leaves_weight, nodes_weight, weight-append}
 use Rattle.tb_param.specs.declared.Params.{Params}
 use Rattle.tb_param.specs.Release.{has_second}
+use Rattle.tb_param.specs.Ranges.{are_params}
 use Rattle.tb_galley.specs.declared.Leaf.{Leaf}
 use Rattle.tb_galley.specs.declared.LeafKind.{LeafKind}
 use Rattle.tb_galley.specs.declared.LeafKind.TheVariants as leaves
@@ -16,7 +17,7 @@ use Rattle.tb_galley.specs.declared.Item.{Item}
 use Rattle.tb_galley.specs.declared.ItemKind.{ItemKind}
 use Rattle.tb_galley.specs.declared.ItemKind.TheVariants as items
 use Rattle.tb_galley.specs.declared.Galley.{Galley}
-use Rattle.tb_galley.specs.GalleyNodes.{plain_leaf, enlarge_list, with_firings, item_kinds, item_nodes, two_after, expanded}
+use Rattle.tb_galley.specs.GalleyNodes.{plain_leaf, enlarge_list, with_firings, item_kinds, item_nodes, two_after, params_after, expanded}
 use Rattle.tb_insert.specs.declared.Class.{Class}
 use Rattle.tb_builder.proofs.FiredPages.PageWeights.{hits, IsOnce, boxes_weight}
 use Rattle.tb_items.specs.Classes.{classes_of}
@@ -91,10 +92,11 @@ ItemsFit ks = AllByRecursion (λ n. ItemFits ks n.kind)
 items-stand : (ks : List ℕ) (p : Params) (two : Bool) (ns : List Item) → ItemsFit ks ns → Extends ks many false (item_nodes p two ns)
 items-stand ks p two [] f = record { by = λ ys s. s; feet = tt }
 items-stand ks p two (n ∷ ns) f =
+    let later = params_after p n.kind in
     let after = two_after two n.kind in
     let x = item-extends ks p two n.line n.kind f.0 in
-    let y = items-stand ks p after ns f.1 in
-    record { by = λ ys s. subst (Stands many false) (sym (ap (λ l. l ++ ys) (sorts-append (on_line n.line (item_kinds p two n.kind)) (item_nodes p after ns)) ∙ append_assoc (sorts (on_line n.line (item_kinds p two n.kind))) (sorts (item_nodes p after ns)) ys)) (x.by (sorts (item_nodes p after ns) ++ ys) (y.by ys s)); feet = placed-both ks (on_line n.line (item_kinds p two n.kind)) (item_nodes p after ns) x.feet y.feet }
+    let y = items-stand ks later after ns f.1 in
+    record { by = λ ys s. subst (Stands many false) (sym (ap (λ l. l ++ ys) (sorts-append (on_line n.line (item_kinds p two n.kind)) (item_nodes later after ns)) ∙ append_assoc (sorts (on_line n.line (item_kinds p two n.kind))) (sorts (item_nodes later after ns)) ys)) (x.by (sorts (item_nodes later after ns) ++ ys) (y.by ys s)); feet = placed-both ks (on_line n.line (item_kinds p two n.kind)) (item_nodes later after ns) x.feet y.feet }
 
 -- no two classes have one number
 abbrev pub NumbersDiffer : List Class → Type 0
@@ -106,12 +108,13 @@ void-fit [] h = tt
 void-fit (c ∷ cs) h = (refl, h.0, void-fit cs h.1)
 
 -- a run begins with a state that keeps what runs keep
-pub start-kept : (g : Galley) → NumbersDiffer (classes_of g) → ItemsFit (class_numbers (classes_of g)) g.items → Kept (first_state g.params (classes_of g) (expanded g))
+pub start-kept : (g : Galley) → are_params g.params ≡ true → NumbersDiffer (classes_of g) → ItemsFit (class_numbers (classes_of g)) g.items → Kept (first_state g.params (classes_of g) (expanded g))
 unfolding expanded
-start-kept g d f =
+start-kept g r d f =
     let ks = class_numbers (classes_of g) in
     let x = items-stand ks g.params false g.items f in
     record {
+      ranges = r;
       sound = record { box = void-fit (classes_of g) d; bare = void-bare (classes_of g); columns = tt; entries = tt };
       placed = record {
         held = false;
@@ -178,9 +181,9 @@ item-expanded v p two n k = refl
 items-expanded : (v : Weight) (p : Params) (two : Bool) (ns : List Item) → nodes_weight v (item_nodes p two ns) ≡ items_weight v ns
 items-expanded v p two [] = refl
 items-expanded v p two (n ∷ ns) =
-    let e : nodes_weight v (on_line n.line (item_kinds p two n.kind) ++ item_nodes p (two_after two n.kind) ns) ≡ nodes_weight v (on_line n.line (item_kinds p two n.kind)) + nodes_weight v (item_nodes p (two_after two n.kind) ns) = weight-append v (on_line n.line (item_kinds p two n.kind)) (item_nodes p (two_after two n.kind) ns) in
+    let e : nodes_weight v (on_line n.line (item_kinds p two n.kind) ++ item_nodes (params_after p n.kind) (two_after two n.kind) ns) ≡ nodes_weight v (on_line n.line (item_kinds p two n.kind)) + nodes_weight v (item_nodes (params_after p n.kind) (two_after two n.kind) ns) = weight-append v (on_line n.line (item_kinds p two n.kind)) (item_nodes (params_after p n.kind) (two_after two n.kind) ns) in
     let a : nodes_weight v (on_line n.line (item_kinds p two n.kind)) ≡ item_weight v n.line n.kind = item-expanded v p two n.line n.kind in
-    let h : nodes_weight v (item_nodes p (two_after two n.kind) ns) ≡ items_weight v ns = items-expanded v p (two_after two n.kind) ns in
+    let h : nodes_weight v (item_nodes (params_after p n.kind) (two_after two n.kind) ns) ≡ items_weight v ns = items-expanded v (params_after p n.kind) (two_after two n.kind) ns in
     omega arith
 
 void-weight : (v : Weight) (cs : List Class) → boxes_weight v (void_boxes cs) ≡ 0

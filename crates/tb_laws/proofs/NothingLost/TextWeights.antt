@@ -89,7 +89,7 @@ current-adds v p place false f es w j e = placed-adds v p place f (record w.stat
 -- it comes into the hand
 float-taken : (v : Weight) (p : Params) (f : Float) (es : List Entry) (w : Work) → w.state.floats.current ≡ entries.Float f ∷ es → Weighs v nothing w (of_float f) (FloatMoves.place_float p places.Here f (record w.state.floats { current = es }) w)
 float-taken v p f es w e =
-    let r = placed f places.Here w.state.floats (column_height_of p w.state.floats) in
+    let r = placed p f places.Here w.state.floats (column_height_of p w.state.floats) in
     let l = FloatMoves.joined_to places.Here f (record w.state.floats { current = es }) in
     let a = records_also r w in
     weighs-then v nothing nothing (of_float f) w a (with_floats l a) (keeps v nothing w a (records-adds v r w))

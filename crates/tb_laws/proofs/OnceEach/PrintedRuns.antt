@@ -1,10 +1,7 @@
 -- A run that is done shows the boxes and rules of its galley in their order, and ships no insertions and no acts.
 use Rattle.std.proofs.Common.{◌≡◌, refl, sym, ◌∙◌, ap, subst, ℕ, true, false, List, [], ◌∷◌, ◌++◌, map, take, drop, arith, append_assoc}
-use Rattle.std.specs.Prelude.{int_le}
 use Rattle.std.specs.List.{AllByRecursion}
-use Rattle.tb_scaled.specs.Scaled.{eject_penalty}
 use Rattle.tb_node.specs.PlainNodes.{without_acts, without_insertions}
-use Rattle.tb_param.specs.declared.Params.{Params}
 use Rattle.tb_insert.specs.Account.{Frozen, labelled}
 use Rattle.tb_builder.specs.Reach.{Reached}
 use Rattle.tb_builder.specs.FiredPages.{page_break, from_break, with_spent_break, fired_by, frozen_for}
@@ -88,16 +85,16 @@ warnings-silent : (ws : List Warn) → Silent (map (λ w. sent (warned w)) ws)
 warnings-silent [] = (refl, tt)
 warnings-silent (w ∷ ws) = warnings-silent ws
 
-abbrev silence : (p : Params) → PageLaw p
-silence p = record {
+abbrev silence : PageLaw
+silence = record {
   shows = record { holds = λ es rs. Silent es; none = (refl, tt); both = λ es fs rs qs a b. silent-append es fs a b };
   holds = λ rs s. Unit {0};
   tries = λ line b least rs s h. ((refl, tt), tt);
   acts = λ s t a ws records rs m h. (warnings-silent ws, tt);
 }
 
-page-silent : {p : Params} {rs qs : List Reached} {s t : State} {es : List RunEvent} {records : List Recorded} → PageMoves p rs s es records qs t → Silent es
-page-silent {p = p} x = (page-holds (silence p) x tt).0
+page-silent : {rs qs : List Reached} {s t : State} {es : List RunEvent} {records : List Recorded} → PageMoves rs s es records qs t → Silent es
+page-silent x = (page-holds silence x tt).0
 
 -- ---- a page while another is held
 
@@ -124,13 +121,13 @@ StepReads s (ends es rs (dead_cycles n)) = Unit {0}
 StepReads s (ends es rs (page_limit n)) = Unit {0}
 StepReads s (ends es rs (node_limit n)) = Unit {0}
 
-module _ (p : Params) (calm : int_le p.interlinepenalty eject_penalty ≡ false) (s : State) (kept : Kept s) (closing : Closing p s) (left_plain : LeftPlain s.left_column) where
+module _ (s : State) (kept : Kept s) (closing : Closing s) (left_plain : LeftPlain s.left_column) where
   -- the page's list and the rest are what waited
-  page-prints : prints (without_insertions (take (page_break (page_of p s)).place (page_of p s).passed)) ++ prints (with_spent_break (from_break (page_of p s))) ≡ prints s.waiting
+  page-prints : prints (without_insertions (take (page_break (page_of s)).place (page_of s).passed)) ++ prints (with_spent_break (from_break (page_of s))) ≡ prints s.waiting
   page-prints =
-      let w = page_of p s in
+      let w = page_of s in
       let k = (page_break w).place in
-      let c = page_cut p calm s kept closing in
+      let c = page_cut s kept closing in
       (λ i. prints-insertions (take k w.passed) i ++ spent-prints (drop k w.passed ++ w.beyond) i)
       ∙ sym (prints-append (take k w.passed) (drop k w.passed ++ w.beyond))
       ∙ ap prints (sym (take-drop k w.passed w.beyond))
@@ -139,33 +136,33 @@ module _ (p : Params) (calm : int_le p.interlinepenalty eject_penalty ≡ false)
       ∙ ap (λ l. l ++ prints w.beyond) (prints-acts c.front)
       ∙ sym (prints-append c.front w.beyond)
       ∙ ap prints (sym c.whole)
-      ∙ pruned-prints p.topskip s.waiting
+      ∙ pruned-prints (ask_for s).top_skip s.waiting
 
-  unreal : kept.placed.held ≡ true → HasReal (sorts (take (page_break (page_of p s)).place (page_of p s).passed)) → ⊥
+  unreal : kept.placed.held ≡ true → HasReal (sorts (take (page_break (page_of s)).place (page_of s).passed)) → ⊥
   unreal e =
-      let w = page_of p s in
+      let w = page_of s in
       let k = (page_break w).place in
-      let c = page_cut p calm s kept closing in
-      let a : Stands none true (sorts (c.front ++ w.beyond)) = subst (λ l. Stands none true (sorts l)) c.whole (pruned-stands p.topskip s.waiting true (subst (λ b. Stands none b (sorts s.waiting)) e kept.placed.stands)) in
+      let c = page_cut s kept closing in
+      let a : Stands none true (sorts (c.front ++ w.beyond)) = subst (λ l. Stands none true (sorts l)) c.whole (pruned-stands (ask_for s).top_skip s.waiting true (subst (λ b. Stands none b (sorts s.waiting)) e kept.placed.stands)) in
       let b : Stands none true (sorts (without_acts c.front) ++ sorts w.beyond) = acts-silent c.front (sorts w.beyond) none true (subst (Stands none true) (sorts-append c.front w.beyond) a) in
       let d : Stands none true (sorts (without_acts c.front ++ w.beyond)) = subst (Stands none true) (sym (sorts-append (without_acts c.front) w.beyond)) b in
       let g : Stands none true (sorts (take k w.passed ++ (drop k w.passed ++ w.beyond))) = subst (λ l. Stands none true (sorts l)) (ap (λ l. l ++ w.beyond) (sym c.passed) ∙ take-drop k w.passed w.beyond) d in
-      held-unreal (sorts (take k w.passed)) (sorts (drop k w.passed ++ w.beyond)) none (sorts-calm (take k w.passed) (cut_stands ones p calm s kept).calm) (subst (Stands none true) (sorts-append (take k w.passed) (drop k w.passed ++ w.beyond)) g)
+      held-unreal (sorts (take k w.passed)) (sorts (drop k w.passed ++ w.beyond)) none (sorts-calm (take k w.passed) (cut_stands ones s kept).calm) (subst (Stands none true) (sorts-append (take k w.passed) (drop k w.passed ++ w.beyond)) g)
 
-  fired-reads : (t : State) → After ones (acted_weight ones (page_of p s).reached) s t → ActsClosed p closing.owed (acted_of (page_of p s).reached) s t → (z : Frozen) → let f = fired_by (labelled z (take (page_break (page_of p s)).place (page_of p s).passed)) t.boxes (page_of p s) in (out p t f).refused ≡ false → Within (state_prints s) (sent_prints (out p t f).sent ++ state_prints (out p t f).state) × SentPlain (out p t f).sent × LeftPlain (out p t f).state.left_column
+  fired-reads : (t : State) → After ones (acted_weight ones (page_of s).reached) s t → ActsClosed closing.owed (acted_of (page_of s).reached) s t → (z : Frozen) → let f = fired_by (labelled z (take (page_break (page_of s)).place (page_of s).passed)) t.boxes (page_of s) in (out t.params t f).refused ≡ false → Within (state_prints s) (sent_prints (out t.params t f).sent ++ state_prints (out t.params t f).state) × SentPlain (out t.params t f).sent × LeftPlain (out t.params t f).state.left_column
   fired-reads t a d z r =
-      let w = page_of p s in
+      let w = page_of s in
       let before = take (page_break w).place w.passed in
       let f = fired_by (labelled z before) t.boxes w in
-      let stands = cut_stands ones p calm s kept in
-      let x : OutReads f t (out p t f) = out-reads p calm t f before refl stands.calm stands.free kept.placed.held stands.rest unreal (λ h. a.held ∙ kept.placed.free h) a.sound.entries a.sound.columns (tt, d.left_plain left_plain) in
-      (subst (λ l. Within l (sent_prints (out p t f).sent ++ state_prints (out p t f).state)) (λ i. (d.left i ++ prints (a.held i)) ++ page-prints i) (x.lines r), x.plain.0, x.plain.1)
+      let stands = cut_stands ones s kept in
+      let x : OutReads f t (out t.params t f) = out-reads t.params (interline-calm t.params a.ranges) t f before refl stands.calm stands.free kept.placed.held stands.rest unreal (λ h. a.held ∙ kept.placed.free h) a.sound.entries a.sound.columns (tt, d.left_plain left_plain) in
+      (subst (λ l. Within l (sent_prints (out t.params t f).sent ++ state_prints (out t.params t f).state)) (λ i. (d.left i ++ prints (a.held i)) ++ page-prints i) (x.lines r), x.plain.0, x.plain.1)
 
-  reads : {x : Step} → StepIs p s x → StepReads s x
+  reads : {x : Step} → StepIs s x → StepReads s x
   reads (fires_on {es = es} {t = t} x f r) =
-      let o = served_at p s t in
+      let o = served_at s t in
       let e = page-silent x in
-      let k = fired-reads t (page-after p calm s kept closing x ones) (closed-page p calm s kept closing x) (frozen_for (ask_for p s) t.classes t.boxes) r in
+      let k = fired-reads t (page-after s kept closing x ones) (closed-page s kept closing x) (frozen_for (ask_for s) t.classes t.boxes) r in
       (subst (λ l. Within (state_prints s) (l ++ state_prints o.state)) (sym (events-append es (map sent o.sent) ∙ (λ i. e.0 i ++ sent-events o.sent i))) k.0, plain-append es (map sent o.sent) e.1 (sent-plain o.sent k.1), k.2)
   reads (is_done x u) = (page-silent x).1
   reads x = tt
@@ -188,21 +185,21 @@ weightless-state s e =
 never-reads : (s : State) (es : List RunEvent) (rs : List Recorded) (e : End) → (EndsDone e → ⊥) → Reads s (record { events = es; records = rs; end = e })
 never-reads s es rs e n = record { lines = λ d. absurd (n d); plain_events = λ d. absurd (n d) }
 
-run-reads : (p : Params) → int_le p.interlinepenalty eject_penalty ≡ false → {s : State} {r : Run} → RunIs p s r → Kept s → Closing p s → LeftPlain s.left_column → Reads s r
-run-reads p calm (goes_on_so {s = s} {t = t} {es = es} {r = r} x y) k c l =
-    let z = reads p calm s k c l x in
-    let later = run-reads p calm y (weighs ones p calm s k (changes-fit p calm s k c ones) x).0 (steps-close p calm s k c x).1 z.2 in
+run-reads : {s : State} {r : Run} → RunIs s r → Kept s → Closing s → LeftPlain s.left_column → Reads s r
+run-reads (goes_on_so {s = s} {t = t} {es = es} {r = r} x y) k c l =
+    let z = reads s k c l x in
+    let later = run-reads y (weighs ones s k (changes-fit s k c ones) x).0 (steps-close s k c x).1 z.2 in
     record {
       lines = λ d. subst (Within (state_prints s)) (sym (events-append es r.events)) (within-within (state_prints s) (events_prints es ++ state_prints t) (events_prints es ++ events_prints r.events) z.0 (both-within (events_prints es) (events_prints es) (state_prints t) (events_prints r.events) (itself (events_prints es)) (later.lines d)));
       plain_events = λ d. plain-append es r.events z.1 (later.plain_events d);
     }
-run-reads p calm (ends_so {s = s} {es = es} (is_done x u)) k c l = record { lines = λ d. subst (λ y. Within y (events_prints es)) (sym (weightless-state s ((steps-close p calm s k c (is_done x u)).1 ones))) tt; plain_events = λ d. (page-silent x).1 }
-run-reads p calm (ends_so {s = s} x) k c l = never-reads s _ _ _ (λ d. d)
-run-reads p calm (runs_out s) k c l = never-reads s [] [] (dead_cycles s.dead_cycles) (λ d. d)
-run-reads p calm (starts_too_full s) k c l = never-reads s [] [] (node_limit (held_count s)) (λ d. d)
+run-reads (ends_so {s = s} {es = es} (is_done x u)) k c l = record { lines = λ d. subst (λ y. Within y (events_prints es)) (sym (weightless-state s ((steps-close s k c (is_done x u)).1 ones))) tt; plain_events = λ d. (page-silent x).1 }
+run-reads (ends_so {s = s} x) k c l = never-reads s _ _ _ (λ d. d)
+run-reads (runs_out s) k c l = never-reads s [] [] (dead_cycles s.dead_cycles) (λ d. d)
+run-reads (starts_too_full s) k c l = never-reads s [] [] (node_limit (held_count s)) (λ d. d)
 
 -- the run of a valid galley
 pub valid-reads : (g : Galley) → IsValid g → Reads (first_state g.params (classes_of g) (expanded g)) (run_of g)
 valid-reads g v =
     let f = valid-fit g v in
-    run-reads g.params (interline-calm g.params v.params) (galley-is g) (start-kept g (valid-differ g v) f) (start-closing g f) tt
+    run-reads (galley-is g) (start-kept g v.params (valid-differ g v) f) (start-closing g v.order f) tt

@@ -9,7 +9,7 @@ use Rattle.tb_galley.specs.declared.Item.{Item}
 use Rattle.tb_galley.specs.declared.ItemKind.{ItemKind}
 use Rattle.tb_galley.specs.declared.ItemKind.TheVariants as items
 use Rattle.tb_galley.specs.declared.Galley.{Galley}
-use Rattle.tb_galley.specs.GalleyNodes.{with_firings, two_after, item_kinds, item_nodes, expanded}
+use Rattle.tb_galley.specs.GalleyNodes.{with_firings, two_after, params_after, item_kinds, item_nodes, expanded}
 use Rattle.tb_galley.specs.Valid.{IsValid}
 use Rattle.tb_steps.specs.Run.{run_of}
 use Rattle.tb_laws.specs.Laws.{text_line, foot_line, note_line, lines_by, galley_floats, float_lines, shipped_nodes, note_lines_of, node_lines, shipped_boxes, shipped_floats, ShipsOnce, EndsDone}
@@ -35,8 +35,8 @@ item-prints p two n k = refl
 items-print : (p : Params) (two : Bool) (ns : List Item) → prints (item_nodes p two ns) ≡ lines_by text_line ns
 items-print p two [] = refl
 items-print p two (n ∷ ns) =
-    prints-append (on_line n.line (item_kinds p two n.kind)) (item_nodes p (two_after two n.kind) ns)
-    ∙ (λ i. item-prints p two n.line n.kind i ++ items-print p (two_after two n.kind) ns i)
+    prints-append (on_line n.line (item_kinds p two n.kind)) (item_nodes (params_after p n.kind) (two_after two n.kind) ns)
+    ∙ (λ i. item-prints p two n.line n.kind i ++ items-print (params_after p n.kind) (two_after two n.kind) ns i)
 
 expanded-prints : (g : Galley) → prints (expanded g) ≡ lines_by text_line g.items
 unfolding expanded

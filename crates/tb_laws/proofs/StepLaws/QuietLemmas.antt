@@ -23,12 +23,12 @@ use Rattle.tb_output.proofs.StepLaws.RefusedSteps.{by-records}
 
 -- a record of a float in an area
 abbrev pub IsQuiet : Recorded → Type 0
-IsQuiet (placed f places.Here l height) = ⊥
-IsQuiet (placed f places.Top l height) = Unit {0}
-IsQuiet (placed f places.Bottom l height) = Unit {0}
-IsQuiet (placed f places.Page l height) = Unit {0}
-IsQuiet (placed f places.Double l height) = Unit {0}
-IsQuiet (placed f places.Deferred l height) = Unit {0}
+IsQuiet (placed p f places.Here l height) = ⊥
+IsQuiet (placed p f places.Top l height) = Unit {0}
+IsQuiet (placed p f places.Bottom l height) = Unit {0}
+IsQuiet (placed p f places.Page l height) = Unit {0}
+IsQuiet (placed p f places.Double l height) = Unit {0}
+IsQuiet (placed p f places.Deferred l height) = Unit {0}
 IsQuiet (output c) = ⊥
 IsQuiet (emptied l) = Unit {0}
 
@@ -36,7 +36,7 @@ abbrev pub AreQuiet : List Recorded → Type 0
 AreQuiet = AllByRecursion IsQuiet
 
 quiet-column : (k : FloatKind) (r : Recorded) → IsQuiet r → column_lines k r ≡ []
-quiet-column k (placed f place l height) h = refl
+quiet-column k (placed p f place l height) h = refl
 quiet-column k (output c) h = absurd h
 quiet-column k (emptied l) h = refl
 
@@ -49,7 +49,7 @@ pub quiet-lines : (k : FloatKind) (rs more : List Recorded) → AreQuiet more �
 quiet-lines k rs more h = records-append k rs more ∙ ap (λ l. record_lines k rs ++ l) (quiet-columns k more h) ∙ append-nil (record_lines k rs)
 
 quiet-placing : (k : FloatKind) (n : ℕ) (r : Recorded) → IsQuiet r → IsPlacing k n r → ⊥
-quiet-placing k n (placed f places.Here l height) h i = h
+quiet-placing k n (placed p f places.Here l height) h i = h
 quiet-placing k n r h i = i
 
 quiet-none : (k : FloatKind) (n : ℕ) (rs : List Recorded) → AreQuiet rs → WasPlaced k n rs → ⊥
@@ -83,8 +83,8 @@ record-added : (r : Recorded) (w : Work) → IsQuiet r → AddsQuiet w (records_
 record-added r w q = by-records (AddsQuiet w) r w (none-added w w refl) (record { more = r ∷ []; whole = refl; quiet = (q, tt) })
 
 gone-added : (p : Params) (a : AreaPlace) (f : Float) (before rest : List Float) (w : Work) → AddsQuiet w (FloatMoves.place_waiting parts.Deferred p (where_of a) f before rest w)
-gone-added p at_top f before rest w = let x = record-added (placed f places.Top w.state.floats (column_height_of p w.state.floats)) w tt in record { more = x.more; whole = x.whole; quiet = x.quiet }
-gone-added p at_bottom f before rest w = let x = record-added (placed f places.Bottom w.state.floats (column_height_of p w.state.floats)) w tt in record { more = x.more; whole = x.whole; quiet = x.quiet }
+gone-added p at_top f before rest w = let x = record-added (placed p f places.Top w.state.floats (column_height_of p w.state.floats)) w tt in record { more = x.more; whole = x.whole; quiet = x.quiet }
+gone-added p at_bottom f before rest w = let x = record-added (placed p f places.Bottom w.state.floats (column_height_of p w.state.floats)) w tt in record { more = x.more; whole = x.whole; quiet = x.quiet }
 gone-added p deferred f before rest w = none-added w w refl
 
 pub next-added : (p : Params) (before fs : List Float) (w : Work) → AddsQuiet w (FloatMoves.place_next p before fs w)
@@ -95,7 +95,7 @@ next-added p before (f ∷ rest) w =
     both-added w v (FloatMoves.place_next p (FloatMoves.still_deferred (where_of a) f before) rest v) (gone-added p a f before rest w) (next-added p (FloatMoves.still_deferred (where_of a) f before) rest v)
 
 gone-double-added : (from : Part) (p : Params) (b : Bool) (f : Float) (before rest : List Float) (w : Work) → AddsQuiet w (FloatMoves.place_waiting from p (if b then places.Double else places.Deferred) f before rest w)
-gone-double-added from p true f before rest w = let x = record-added (placed f places.Double w.state.floats (column_height_of p w.state.floats)) w tt in record { more = x.more; whole = x.whole; quiet = x.quiet }
+gone-double-added from p true f before rest w = let x = record-added (placed p f places.Double w.state.floats (column_height_of p w.state.floats)) w tt in record { more = x.more; whole = x.whole; quiet = x.quiet }
 gone-double-added from p false f before rest w = none-added w w refl
 
 pub double-added : (from : Part) (p : Params) (before fs : List Float) (w : Work) → AddsQuiet w (FloatMoves.place_double from p before fs w)
