@@ -15,16 +15,17 @@ use Rattle.tb_best.specs.ClosedTables.{Table, IsNoBetter, IsClosed}
 use Rattle.tb_best.proofs.Paths.{AreMarks, marked, Path, more-some, run-paths}
 use Rattle.tb_best.proofs.PlanMarks.{breaks_after, plan-marks, plan-breaks, plan-count}
 use Rattle.tb_best.proofs.PlanRuns.{plan_marks, plan_fuel, plan-run}
+use Rattle.tb_best.proofs.SideItems.{items-keep}
 use Rattle.tb_best.proofs.ClosedLemmas.{closed-ways}
 
 -- a plan's marks are at places, and they are its breaks
 marks-at-places : (g : Galley) (plan : List ℕ) → IsPlan g plan → AreMarks (all_ahead g) (plan_marks g plan)
 unfolding places_of all_ahead
-marks-at-places g plan h = plan-marks g.params (last_ahead g) false befores.Nothing 0 g.items plan h
+marks-at-places g plan h = plan-marks g.params (last_ahead g) g.params false befores.Nothing 0 g.items plan h
 
 pub marks-are-breaks : (g : Galley) (plan : List ℕ) → IsPlan g plan → breaks_after [] (all_ahead g) (plan_marks g plan) ≡ reverse plan
 unfolding places_of all_ahead
-marks-are-breaks g plan h = plan-breaks g.params (last_ahead g) false befores.Nothing 0 g.items plan [] h
+marks-are-breaks g plan h = plan-breaks g.params (last_ahead g) g.params false befores.Nothing 0 g.items plan [] h
 
 pub marks-are-counted : (g : Galley) (plan : List ℕ) → IsPlan g plan → marked (plan_marks g plan) ≡ length plan
 unfolding places_of
@@ -43,12 +44,12 @@ in-less total d e l m n h k i j = omega (arith, ints, h, k, i, j)
 -- no way from the beginning ends better
 abbrev pub HasNoBetterWay : Galley → ℤ → List ℕ → Type 0
 HasNoBetterWay g total best =
-    (k : ℕ) (ms : List Bool) (d : ℤ) → Path g.params (place_penalties g.items) k (empty_start g) (all_ahead g) ms d → IsNoBetter total best (pos 0 +ℤ (d +ℤ pos (1000 * marked ms))) (breaks_after [] (all_ahead g) ms)
+    (k : ℕ) (ms : List Bool) (d : ℤ) → Path (place_penalties g.items) k (empty_start g) (all_ahead g) ms d → IsNoBetter total best (pos 0 +ℤ (d +ℤ pos (1000 * marked ms))) (breaks_after [] (all_ahead g) ms)
 
 module _ (g : Galley) (total : ℤ) (best : List ℕ) (none : HasNoBetterWay g total best) (plan : List ℕ) (h : IsPlan g plan) where
   -- the run with the breaks of a plan is a way from the beginning, perhaps without some of them
   by-way : (d e : ℤ) → (pos (1000 * length plan) +ℤ d) ≡ e
-      → (less : List Bool) × Path g.params (place_penalties g.items) (plan_fuel g) (empty_start g) (all_ahead g) less d × ((less ≡ plan_marks g plan) ⊎ (marked less < marked (plan_marks g plan)))
+      → (less : List Bool) × Path (place_penalties g.items) (plan_fuel g) (empty_start g) (all_ahead g) less d × ((less ≡ plan_marks g plan) ⊎ (marked less < marked (plan_marks g plan)))
       → IsNoBetter total best e (reverse plan)
   by-way d e sum (less, way, inl same) =
       subst (λ x. IsNoBetter total best x (reverse plan)) (in-all d e (marked less) (length plan) (ap marked same ∙ marks-are-counted g plan h) sum)
@@ -64,7 +65,7 @@ module _ (g : Galley) (total : ℤ) (best : List ℕ) (none : HasNoBetterWay g t
   plan-no-better d e =
       let parts = more-some (breaks_cost plan) (unlimited_demerits (with_breaks g plan)) d e in
       by-way parts.0 d parts.2
-      (run-paths g.params (place_penalties g.items) (plan_fuel g) (empty_start g) (all_ahead g) (plan_marks g plan) parts.0 (marks-at-places g plan h) (sym (plan-run g plan h) ∙ parts.1))
+      (run-paths (place_penalties g.items) (plan_fuel g) (empty_start g) (all_ahead g) (plan_marks g plan) parts.0 (marks-at-places g plan h) (sym (plan-run g plan h) ∙ parts.1))
 
 no-greater : (total : ℤ) (best breaks : List ℕ) → IsNoBetter total best total breaks → is_greater breaks best ≡ false
 no-greater total best breaks (inl h) = let no : ⊥ = grind (arith, ints, h) in absurd no
@@ -82,4 +83,4 @@ ways-best g plan total is sum none = record {
 -- a plan with the demerits and breaks of a closed table is the best one
 pub closed-best : (g : Galley) (plan : List ℕ) (total : ℤ) (Known : Table) → IsPlan g plan → plan_demerits g plan ≡ Some total → IsClosed g total (reverse plan) Known → IsBest g plan total
 closed-best g plan total Known is sum closed =
-    ways-best g plan total is sum (λ k ms d way. closed-ways g total (reverse plan) Known closed k (empty_start g) (all_ahead g) ms d (pos 0) [] way closed.begins)
+    ways-best g plan total is sum (λ k ms d way. closed-ways g total (reverse plan) Known closed k (empty_start g) (all_ahead g) ms d (pos 0) [] (items-keep g) way closed.begins)

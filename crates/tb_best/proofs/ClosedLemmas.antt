@@ -16,6 +16,8 @@ use Rattle.tb_rate.specs.RatedRun.{floats_waiting, insertions_first, demerits_if
 use Rattle.tb_best.specs.PlanDemerits.{step_demerits}
 use Rattle.tb_best.specs.ItemsAhead.{Ahead, forced, state_with}
 use Rattle.tb_best.specs.ClosedTables.{Table, IsNoBetter, IsAsGood, IsClosed}
+use Rattle.tb_best.specs.Sides.{may_alternate, AheadKeep}
+use Rattle.tb_best.proofs.SideItems.{planned-keep}
 use Rattle.tb_best.proofs.Paths.{planned, marked, Path, finished, taken, cut, filled, run-paths, path-runs, path-marks}
 use Rattle.tb_best.proofs.PlanMarks.{breaks_after}
 
@@ -60,9 +62,9 @@ rating-low : (p : Params) (places : List PlacePenalty) (page : ℕ) (o : Option 
 rating-low p places page None waiting held = omega (arith, ints)
 rating-low p places page (Some t) waiting held = rating-by p places page t waiting held (int_lt t.penalty eject_penalty)
 
-pub step-low : (p : Params) (places : List PlacePenalty) (s : State) (x : Step) → pos 0 ≤ℤ step_demerits p places s x
-step-low p places s (ends es rs e) = omega (arith, ints)
-step-low p places s (goes_on es rs t) = rating-low p places (first_number t.number es) (last_champion es) (floats_waiting t.floats) (insertions_first t.waiting)
+pub step-low : (places : List PlacePenalty) (s : State) (x : Step) → pos 0 ≤ℤ step_demerits places s x
+step-low places s (ends es rs e) = omega (arith, ints)
+step-low places s (goes_on es rs t) = rating-low t.params places (first_number t.number es) (last_champion es) (floats_waiting t.floats) (insertions_first t.waiting)
 
 -- ---- the sum of a way
 
@@ -81,15 +83,15 @@ past total a b c d h k e = grind (arith, ints, h, k, e)
 one-more : (d : ℤ) (m : ℕ) → pos 0 ≤ℤ (d +ℤ pos (1000 * m)) → pos 0 ≤ℤ (d +ℤ pos (1000 * suc m))
 one-more d m h = omega (arith, ints, h)
 
-module _ (p : Params) (places : List PlacePenalty) where
-  pub way-low : (k : ℕ) (s : State) (cs : List Ahead) (ms : List Bool) (d : ℤ) → Path p places k s cs ms d → pos 0 ≤ℤ (d +ℤ pos (1000 * marked ms))
+module _ (places : List PlacePenalty) where
+  pub way-low : (k : ℕ) (s : State) (cs : List Ahead) (ms : List Bool) (d : ℤ) → Path places k s cs ms d → pos 0 ≤ℤ (d +ℤ pos (1000 * marked ms))
   way-low _ _ _ _ _ (finished k s es rs left quiet e) = omega (arith, ints)
   way-low _ _ _ _ _ (taken k s c cs ms d quiet h) = way-low k (state_with c.nodes s) cs ms d h
   way-low _ _ _ _ _ (cut k s c cs ms d quiet place box h) = one-more d (marked ms) (way-low k (state_with (forced c ∷ c.nodes) s) cs ms d h)
   way-low _ _ _ _ _ (filled k s cs ms d es rs t fires e h) =
       let i = way-low k t cs ms d h in
-      let j = step-low p places s (goes_on es rs t) in
-      subst (λ x. pos 0 ≤ℤ x) (sym (zero-more (step_demerits p places s (goes_on es rs t)) d (pos (1000 * marked ms)))) (sum-low (step_demerits p places s (goes_on es rs t)) (d +ℤ pos (1000 * marked ms)) j i)
+      let j = step-low places s (goes_on es rs t) in
+      subst (λ x. pos 0 ≤ℤ x) (sym (zero-more (step_demerits places s (goes_on es rs t)) d (pos (1000 * marked ms)))) (sum-low (step_demerits places s (goes_on es rs t)) (d +ℤ pos (1000 * marked ms)) j i)
     where
       zero-more : (r d c : ℤ) → ((r +ℤ d) +ℤ c) ≡ (r +ℤ (d +ℤ c))
       zero-more r d c = omega (arith, ints)
@@ -128,44 +130,44 @@ merged a e d breaks cs less ms (inl h) k = by (less-or-same e d (int_lt e d) ref
 
 module _ (g : Galley) (total : ℤ) (best : List ℕ) where
   -- a way from a state ends no better, if none from one that is as good does
-  pub as-good-way : (k : ℕ) (t u : State) (cs : List Ahead) (ms : List Bool) (d a : ℤ) (breaks : List ℕ) → Path g.params (place_penalties g.items) k t cs ms d → IsAsGood g t u
-      → ((others : List Bool) (e : ℤ) → Path g.params (place_penalties g.items) k u cs others e → IsNoBetter total best (a +ℤ (e +ℤ pos (1000 * marked others))) (breaks_after breaks cs others))
+  pub as-good-way : (k : ℕ) (t u : State) (cs : List Ahead) (ms : List Bool) (d a : ℤ) (breaks : List ℕ) → Path (place_penalties g.items) k t cs ms d → AheadKeep (may_alternate g) cs → IsAsGood g t u
+      → ((others : List Bool) (e : ℤ) → Path (place_penalties g.items) k u cs others e → IsNoBetter total best (a +ℤ (e +ℤ pos (1000 * marked others))) (breaks_after breaks cs others))
       → IsNoBetter total best (a +ℤ (d +ℤ pos (1000 * marked ms))) (breaks_after breaks cs ms)
-  as-good-way k t u cs ms d a breaks way good claim =
-      let run = good k (planned ms cs) d (path-runs g.params (place_penalties g.items) k t cs ms d way) in
-      let other = run-paths g.params (place_penalties g.items) k u cs ms run.0 (path-marks g.params (place_penalties g.items) k t cs ms d way) run.1 in
+  as-good-way k t u cs ms d a breaks way keep good claim =
+      let run = good k (planned ms cs) d (planned-keep (may_alternate g) ms cs keep) (path-runs (place_penalties g.items) k t cs ms d way) in
+      let other = run-paths (place_penalties g.items) k u cs ms run.0 (path-marks (place_penalties g.items) k t cs ms d way) run.1 in
       no-worse total (a +ℤ (run.0 +ℤ pos (1000 * marked other.0))) (a +ℤ (d +ℤ pos (1000 * marked ms))) best (breaks_after breaks cs other.0) (breaks_after breaks cs ms)
       (merged a run.0 d breaks cs other.0 ms other.2 run.2)
       (claim other.0 run.0 other.1)
 
 module _ (g : Galley) (total : ℤ) (best : List ℕ) (Known : Table) (closed : IsClosed g total best Known) where
   abbrev Ways : ℕ → State → List Ahead → List Bool → ℤ → Type 0
-  Ways = Path g.params (place_penalties g.items)
+  Ways = Path (place_penalties g.items)
 
   -- no way with this fuel from what the table knows ends better
   abbrev Claim : ℕ → Type 0
-  Claim k = (s : State) (cs : List Ahead) (ms : List Bool) (d a : ℤ) (breaks : List ℕ) → Ways k s cs ms d → Known s cs a breaks → IsNoBetter total best (a +ℤ (d +ℤ pos (1000 * marked ms))) (breaks_after breaks cs ms)
+  Claim k = (s : State) (cs : List Ahead) (ms : List Bool) (d a : ℤ) (breaks : List ℕ) → AheadKeep (may_alternate g) cs → Ways k s cs ms d → Known s cs a breaks → IsNoBetter total best (a +ℤ (d +ℤ pos (1000 * marked ms))) (breaks_after breaks cs ms)
 
   abbrev Earlier : ℕ → Type 0
   Earlier zero = Unit {0}
   Earlier (suc k) = Claim k
 
-  ways-with : (k : ℕ) → Earlier k → (s : State) (cs : List Ahead) (ms : List Bool) (d : ℤ) → Ways k s cs ms d → (a : ℤ) (breaks : List ℕ) → Known s cs a breaks
+  ways-with : (k : ℕ) → Earlier k → (s : State) (cs : List Ahead) (ms : List Bool) (d : ℤ) → AheadKeep (may_alternate g) cs → Ways k s cs ms d → (a : ℤ) (breaks : List ℕ) → Known s cs a breaks
       → IsNoBetter total best (a +ℤ (d +ℤ pos (1000 * marked ms))) (breaks_after breaks cs ms)
-  ways-with _ later _ _ _ _ (finished k s es rs left quiet e) a breaks known = subst (λ x. IsNoBetter total best x breaks) (nothing-more a) (closed.finishes s a breaks es rs left known quiet e)
-  ways-with _ later _ _ _ _ (taken k s c cs ms d quiet h) a breaks known = ways-with k later (state_with c.nodes s) cs ms d h a breaks (closed.takes s c cs a breaks known quiet)
-  ways-with _ later _ _ _ _ (cut k s c cs ms d quiet place box h) a breaks known =
-      by (closed.cuts s c cs a breaks known quiet place box) (λ x. ways-with k later (state_with (forced c ∷ c.nodes) s) cs ms d h (a +ℤ pos 1000) (c.number ∷ breaks) x)
-      (way-low g.params (place_penalties g.items) k (state_with (forced c ∷ c.nodes) s) cs ms d h)
+  ways-with _ later _ _ _ _ keep (finished k s es rs left quiet e) a breaks known = subst (λ x. IsNoBetter total best x breaks) (nothing-more a) (closed.finishes s a breaks es rs left known quiet e)
+  ways-with _ later _ _ _ _ keep (taken k s c cs ms d quiet h) a breaks known = ways-with k later (state_with c.nodes s) cs ms d keep.1 h a breaks (closed.takes s c cs a breaks known quiet)
+  ways-with _ later _ _ _ _ keep (cut k s c cs ms d quiet place box h) a breaks known =
+      by (closed.cuts s c cs a breaks known quiet place box) (λ x. ways-with k later (state_with (forced c ∷ c.nodes) s) cs ms d keep.1 h (a +ℤ pos 1000) (c.number ∷ breaks) x)
+      (way-low (place_penalties g.items) k (state_with (forced c ∷ c.nodes) s) cs ms d h)
     where
       by : {X : Type 0} → X ⊎ (total <ℤ (a +ℤ pos 1000)) → (X → IsNoBetter total best ((a +ℤ pos 1000) +ℤ (d +ℤ pos (1000 * marked ms))) (breaks_after (c.number ∷ breaks) cs ms)) → pos 0 ≤ℤ (d +ℤ pos (1000 * marked ms))
           → IsNoBetter total best (a +ℤ (d +ℤ pos (1000 * suc (marked ms)))) (breaks_after (c.number ∷ breaks) cs ms)
       by (inl x) next i = subst (λ x. IsNoBetter total best x (breaks_after (c.number ∷ breaks) cs ms)) (in-cut total a d (marked ms)) (next x)
       by (inr y) next i = inl (past total (a +ℤ pos 1000) (d +ℤ pos (1000 * marked ms)) (a +ℤ (d +ℤ pos (1000 * suc (marked ms)))) d y i (in-cut total a d (marked ms)))
-  ways-with _ later _ _ _ _ (filled k s cs ms d es rs t fires e h) a breaks known =
-      by (step_demerits g.params (place_penalties g.items) s (goes_on es rs t)) (closed.fills s t cs a breaks es rs known fires e)
-      (λ x. as-good-way g total best k t x.0 cs ms d (a +ℤ step_demerits g.params (place_penalties g.items) s (goes_on es rs t)) breaks h x.1 (λ others e w. later x.0 cs others e (a +ℤ step_demerits g.params (place_penalties g.items) s (goes_on es rs t)) breaks w x.2))
-      (way-low g.params (place_penalties g.items) k t cs ms d h)
+  ways-with _ later _ _ _ _ keep (filled k s cs ms d es rs t fires e h) a breaks known =
+      by (step_demerits (place_penalties g.items) s (goes_on es rs t)) (closed.fills s t cs a breaks es rs known fires e)
+      (λ x. as-good-way g total best k t x.0 cs ms d (a +ℤ step_demerits (place_penalties g.items) s (goes_on es rs t)) breaks h keep x.1 (λ others e w. later x.0 cs others e (a +ℤ step_demerits (place_penalties g.items) s (goes_on es rs t)) breaks keep w x.2))
+      (way-low (place_penalties g.items) k t cs ms d h)
     where
       by : {X : Type 0} (r : ℤ) → X ⊎ (total <ℤ (a +ℤ r)) → (X → IsNoBetter total best ((a +ℤ r) +ℤ (d +ℤ pos (1000 * marked ms))) (breaks_after breaks cs ms)) → pos 0 ≤ℤ (d +ℤ pos (1000 * marked ms))
           → IsNoBetter total best (a +ℤ ((r +ℤ d) +ℤ pos (1000 * marked ms))) (breaks_after breaks cs ms)
@@ -173,10 +175,10 @@ module _ (g : Galley) (total : ℤ) (best : List ℕ) (Known : Table) (closed : 
       by r (inr y) next i = inl (past total (a +ℤ r) (d +ℤ pos (1000 * marked ms)) (a +ℤ ((r +ℤ d) +ℤ pos (1000 * marked ms))) d y i (in-fill a r d (pos (1000 * marked ms))))
 
   all-claims : (k : ℕ) → Claim k
-  all-claims zero s cs ms d a breaks way known = ways-with zero tt s cs ms d way a breaks known
-  all-claims (suc k) s cs ms d a breaks way known = ways-with (suc k) (all-claims k) s cs ms d way a breaks known
+  all-claims zero s cs ms d a breaks keep way known = ways-with zero tt s cs ms d keep way a breaks known
+  all-claims (suc k) s cs ms d a breaks keep way known = ways-with (suc k) (all-claims k) s cs ms d keep way a breaks known
 
   -- no way from what the table knows ends better
-  pub closed-ways : (k : ℕ) (s : State) (cs : List Ahead) (ms : List Bool) (d a : ℤ) (breaks : List ℕ) → Ways k s cs ms d → Known s cs a breaks
+  pub closed-ways : (k : ℕ) (s : State) (cs : List Ahead) (ms : List Bool) (d a : ℤ) (breaks : List ℕ) → AheadKeep (may_alternate g) cs → Ways k s cs ms d → Known s cs a breaks
       → IsNoBetter total best (a +ℤ (d +ℤ pos (1000 * marked ms))) (breaks_after breaks cs ms)
-  closed-ways k s cs ms d a breaks way known = all-claims k s cs ms d a breaks way known
+  closed-ways k s cs ms d a breaks keep way known = all-claims k s cs ms d a breaks keep way known

@@ -6,7 +6,6 @@ use Rattle.tb_node.specs.PlainNodes.{hbox, rule, skip, kerned, pen, mark, note, 
 use Rattle.tb_node.specs.Shape.{is_box}
 use Rattle.tb_node.specs.declared.Act.{Act}
 use Rattle.tb_galley.specs.GalleyNodes.{with_firings}
-use Rattle.tb_param.specs.declared.Params.{Params}
 use Rattle.tb_break.specs.Best.{Breakpoint, is_stop}
 use Rattle.tb_break.specs.PageTop.{pruned_nodes}
 use Rattle.tb_break.specs.Places.{legal_penalty}
@@ -89,18 +88,18 @@ module _ (top : ℤ) where
   box-first (n ∷ xs) more h = top-node n.line n.kind xs more (box-first xs more) h
 
 -- a page with a box fires at a forced break behind it
-pub behind-box : (p : Params) (s : State) (line : ℕ) (q : ℤ) (rest : List PlainNode) → int_lt q inf_penalty ≡ true → int_le q eject_penalty ≡ true → holds_box s.waiting ≡ true
-    → (reach_in p (state_with (record { line = line; kind = plain (pen q) } ∷ rest) s)).fires ≡ true
-behind-box p s line q rest legal stops box =
-    let made = ask_for p (state_with (penalty_on line q ∷ rest) s) in
+pub behind-box : (s : State) (line : ℕ) (q : ℤ) (rest : List PlainNode) → int_lt q inf_penalty ≡ true → int_le q eject_penalty ≡ true → holds_box s.waiting ≡ true
+    → (reach_in (state_with (record { line = line; kind = plain (pen q) } ∷ rest) s)).fires ≡ true
+behind-box s line q rest legal stops box =
+    let made = ask_for (state_with (penalty_on line q ∷ rest) s) in
     let limit = made.max_depth in
     let terms = terms_after (frozen_for made s.classes s.boxes) in
     ap (λ ns. (reach_from limit terms [] ns).fires) (box-first made.top_skip s.waiting (penalty_on line q ∷ rest) box)
     ∙ list-fires limit terms line q (record { legal = legal; stops = stops }) [] (pruned_nodes made.top_skip s.waiting) rest
 
 -- a page with a box fires where a break is put in
-pub cut-fires : (p : Params) (s : State) (c : Ahead) → holds_box s.waiting ≡ true → (reach_in p (state_with (forced c ∷ c.nodes) s)).fires ≡ true
-cut-fires p s c box = behind-box p s c.line (neg_ℤ (pos 10000)) c.nodes refl refl box
+pub cut-fires : (s : State) (c : Ahead) → holds_box s.waiting ≡ true → (reach_in (state_with (forced c ∷ c.nodes) s)).fires ≡ true
+cut-fires s c box = behind-box s c.line (neg_ℤ (pos 10000)) c.nodes refl refl box
 
 -- ---- a float or marginal note
 
@@ -116,13 +115,13 @@ box-behind (x ∷ xs) ys h = box-by (holds_box (xs ++ ys)) (is_box (node_shape x
 abbrev first_nodes : ℕ → Act → List PlainNode
 first_nodes line a = on_line line (act a ∷ plain (pen (neg_ℤ (pos 10004))) ∷ plain blank_box ∷ [])
 
-second-fires : (p : Params) (s : State) (line : ℕ) (a : Act) (vert : Bool)
-    → (reach_in p (state_with (record { line = line; kind = plain (pen (neg_ℤ (pos (if vert then 10003 else 10002)))) } ∷ []) (state_with (first_nodes line a) s))).fires ≡ true
-second-fires p s line a true = behind-box p (state_with (first_nodes line a) s) line (neg_ℤ (pos 10003)) [] refl refl (box-behind s.waiting (first_nodes line a) refl)
-second-fires p s line a false = behind-box p (state_with (first_nodes line a) s) line (neg_ℤ (pos 10002)) [] refl refl (box-behind s.waiting (first_nodes line a) refl)
+second-fires : (s : State) (line : ℕ) (a : Act) (vert : Bool)
+    → (reach_in (state_with (record { line = line; kind = plain (pen (neg_ℤ (pos (if vert then 10003 else 10002)))) } ∷ []) (state_with (first_nodes line a) s))).fires ≡ true
+second-fires s line a true = behind-box (state_with (first_nodes line a) s) line (neg_ℤ (pos 10003)) [] refl refl (box-behind s.waiting (first_nodes line a) refl)
+second-fires s line a false = behind-box (state_with (first_nodes line a) s) line (neg_ℤ (pos 10002)) [] refl refl (box-behind s.waiting (first_nodes line a) refl)
 
 -- a page fires at an item with firings of its own
-pub item-fires : (p : Params) (s : State) (line : ℕ) (a : Act) (vert : Bool) → (reach_in p (state_with (on_line line (with_firings a vert)) s)).fires ≡ true
-item-fires p s line a vert =
-    ap (λ ns. (reach_in p (record s { waiting = ns })).fires) (sym (append_assoc s.waiting (first_nodes line a) (record { line = line; kind = plain (pen (neg_ℤ (pos (if vert then 10003 else 10002)))) } ∷ [])))
-    ∙ second-fires p s line a vert
+pub item-fires : (s : State) (line : ℕ) (a : Act) (vert : Bool) → (reach_in (state_with (on_line line (with_firings a vert)) s)).fires ≡ true
+item-fires s line a vert =
+    ap (λ ns. (reach_in (record s { waiting = ns })).fires) (sym (append_assoc s.waiting (first_nodes line a) (record { line = line; kind = plain (pen (neg_ℤ (pos (if vert then 10003 else 10002)))) } ∷ [])))
+    ∙ second-fires s line a vert

@@ -2,7 +2,6 @@
 use Rattle.std.proofs.Common.{◌≡◌, refl, ◌∙◌, ap, ℕ, zero, suc, ◌+◌, ◌<◌, ◌≤◌, ℤ, Bool, true, false, List, ◌++◌, map, Option, Some, arith}
 use Rattle.std.specs.Prelude.{pred, if◌then◌else◌}
 use Rattle.tb_scaled.specs.Scaled.{awful_bad}
-use Rattle.tb_param.specs.declared.Params.{Params}
 use Rattle.tb_output.specs.State.{State, Work, Recorded}
 use Rattle.tb_items.specs.RunEvents.{RunEvent, sent}
 use Rattle.tb_steps.specs.Run.{page_limit, Progress, Step, ends, goes_on, firings_left, ask_for}
@@ -15,45 +14,45 @@ use Rattle.tb_best.proofs.Paths.{no-amount, more-some}
 
 -- ---- a step
 
-module _ (p : Params) (s : State) where
-  firing-is : {es : List RunEvent} {rs : List Recorded} {t : State} → WholePage p s es rs t → Fires p s t → StepIs p s (unlimited_firing es rs (served_at p s t))
+module _ (s : State) where
+  firing-is : {es : List RunEvent} {rs : List Recorded} {t : State} → WholePage s es rs t → Fires s t → StepIs s (unlimited_firing es rs (served_at s t))
   firing-is {es = es} {rs = rs} {t = t} x f = by_refused w.refused refl
     where
       w : Work
-      w = served_at p s t
+      w = served_at s t
 
-      by_refused : (u : Bool) → w.refused ≡ u → StepIs p s (if u then ends (es ++ map sent w.sent) (rs ++ w.records) (page_limit (pred w.state.page)) else goes_on (es ++ map sent w.sent) (rs ++ w.records) w.state)
+      by_refused : (u : Bool) → w.refused ≡ u → StepIs s (if u then ends (es ++ map sent w.sent) (rs ++ w.records) (page_limit (pred w.state.page)) else goes_on (es ++ map sent w.sent) (rs ++ w.records) w.state)
       by_refused true r = meets_page_limit x f r
       by_refused false r = fires_on x f r
 
-  unlimited-by : {q : Progress} → PageIs p (page_of p s).reached s q → StepIs p s (unlimited_progress p (ask_for p s) (page_of p s) q q.fault)
-  unlimited-by (is_whole x) = whole-is p s unlimited_firing x (firing-is x)
+  unlimited-by : {q : Progress} → PageIs (page_of s).reached s q → StepIs s (unlimited_progress (ask_for s) (page_of s) q q.fault)
+  unlimited-by (is_whole x) = whole-is s unlimited_firing x (firing-is x)
   unlimited-by (is_cut x e) = meets_full_pool x e
 
   -- what a step is made of if the number of nodes is not tested
-  pub unlimited-is : StepIs p s (unlimited_step p s)
+  pub unlimited-is : StepIs s (unlimited_step s)
   unfolding unlimited_step
-  unlimited-is = unlimited-by (page-is p (page_of p s).reached awful_bad s)
+  unlimited-is = unlimited-by (page-is (page_of s).reached awful_bad s)
 
 -- a step that goes on lowers what is left of the firings
-pub step-turns : (p : Params) (s : State) → 1 ≤ s.page → Turns p s (unlimited_step p s)
-step-turns p s h = steps-turn (unlimited-is p s) h
+pub step-turns : (s : State) → 1 ≤ s.page → Turns s (unlimited_step s)
+step-turns s h = steps-turn (unlimited-is s) h
 
 -- ---- the fuel
 
-later-enough : (p : Params) (s : State) (f g : State → Option ℤ) (r d : ℤ) (x : Step) → Turns p s x
-    → ((t : State) (e : ℤ) → 1 ≤ t.page → firings_left p t < firings_left p s → f t ≡ Some e → g t ≡ Some e) → demerits_after f r x ≡ Some d → demerits_after g r x ≡ Some d
-later-enough p s f g r d (ends es rs e) turns is h = h
-later-enough p s f g r d (goes_on es rs t) turns is h = let parts = more-some r (f t) d h in ap (more_demerits r) (is t parts.0 turns.0 turns.1 parts.1) ∙ ap Some parts.2
+later-enough : (s : State) (f g : State → Option ℤ) (r d : ℤ) (x : Step) → Turns s x
+    → ((t : State) (e : ℤ) → 1 ≤ t.page → firings_left t < firings_left s → f t ≡ Some e → g t ≡ Some e) → demerits_after f r x ≡ Some d → demerits_after g r x ≡ Some d
+later-enough s f g r d (ends es rs e) turns is h = h
+later-enough s f g r d (goes_on es rs t) turns is h = let parts = more-some r (f t) d h in ap (more_demerits r) (is t parts.0 turns.0 turns.1 parts.1) ∙ ap Some parts.2
 
 in-fuel : (a b m : ℕ) → a < b → b < suc m → a < m
 in-fuel a b m h k = omega (arith, h, k)
 
 -- with more fuel than firings are left the demerits are those with any fuel with which the run ends well
-pub enough-fuel : (p : Params) (places : List PlacePenalty) (k m : ℕ) (s : State) (d : ℤ) → 1 ≤ s.page → firings_left p s < m → unlimited_demerits_from p places k s ≡ Some d → unlimited_demerits_from p places m s ≡ Some d
+pub enough-fuel : (places : List PlacePenalty) (k m : ℕ) (s : State) (d : ℤ) → 1 ≤ s.page → firings_left s < m → unlimited_demerits_from places k s ≡ Some d → unlimited_demerits_from places m s ≡ Some d
 unfolding unlimited_demerits_from
-enough-fuel p places zero m s d one more h = absurd (no-amount h)
-enough-fuel p places (suc k) zero s d one more h = let no : ⊥ = omega (arith, more) in absurd no
-enough-fuel p places (suc k) (suc m) s d one more h =
-    later-enough p s (λ t. unlimited_demerits_from p places k t) (λ t. unlimited_demerits_from p places m t) (step_demerits p places s (unlimited_step p s)) d (unlimited_step p s) (step-turns p s one)
-    (λ t e i less x. enough-fuel p places k m t e i (in-fuel (firings_left p t) (firings_left p s) m less more) x) h
+enough-fuel places zero m s d one more h = absurd (no-amount h)
+enough-fuel places (suc k) zero s d one more h = let no : ⊥ = omega (arith, more) in absurd no
+enough-fuel places (suc k) (suc m) s d one more h =
+    later-enough s (λ t. unlimited_demerits_from places k t) (λ t. unlimited_demerits_from places m t) (step_demerits places s (unlimited_step s)) d (unlimited_step s) (step-turns s one)
+    (λ t e i less x. enough-fuel places k m t e i (in-fuel (firings_left t) (firings_left s) m less more) x) h

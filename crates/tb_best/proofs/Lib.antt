@@ -8,6 +8,8 @@ pub mod FuelLemmas
 pub mod PlanMarks
 pub mod PlanBreaks
 pub mod PlanRuns
+pub mod SteadyNodes
+pub mod SideItems
 pub mod ClosedLemmas
 pub mod BestLemmas
 pub mod RatedPlans
@@ -18,7 +20,9 @@ pub mod TurnLemmas
 pub mod CutPages
 pub mod PageTableLemmas
 pub mod ReachedLemmas
+pub mod SteadyWorks
+pub mod SteadySteps
 pub mod LimitLemmas
-pub mod LimitRuns
 pub mod CountedFirings
 pub mod CountedStates
+pub mod LimitRuns

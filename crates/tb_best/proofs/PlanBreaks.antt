@@ -3,7 +3,7 @@ use Rattle.std.proofs.Common.{◌≡◌, refl, sym, ◌∙◌, ap, subst, ℕ, s
 use Rattle.std.specs.Prelude.{IsTrue, if◌then◌else◌}
 use Rattle.tb_param.specs.declared.Params.{Params}
 use Rattle.tb_galley.specs.declared.Item.{Item}
-use Rattle.tb_galley.specs.GalleyNodes.{two_after}
+use Rattle.tb_galley.specs.GalleyNodes.{two_after, params_after}
 use Rattle.tb_plans.specs.declared.walk.Before.{Before}
 use Rattle.tb_plans.specs.Places.{is_glue_next, is_place, before_after, if_place, places_from}
 use Rattle.tb_plans.specs.Plans.{is_part}
@@ -48,32 +48,32 @@ module _ (p : Params) (last : Ahead) (end : last.is_place ≡ false) where
   no-end h = grind (arith, h, end)
 
   -- the numbers are a plan
-  pub numbers-are-plan : (two : Bool) (b : Before) (k : ℕ) (ns : List Item) (ms : List Bool) → AreMarks (ahead_from p last two b k ns) ms → IsTrue (is_part (numbers_of (ahead_from p last two b k ns) ms) (places_from p two b k ns))
-  numbers-are-plan two b k [] [] h = absurd h
-  numbers-are-plan two b k [] (true ∷ ms) h = absurd (no-end h.0)
-  numbers-are-plan two b k [] (false ∷ []) h = refl
-  numbers-are-plan two b k [] (false ∷ m ∷ ms) h = absurd h
-  numbers-are-plan two b k (n ∷ ns) [] h = absurd h
-  numbers-are-plan two b k (n ∷ ns) (true ∷ ms) h =
+  pub numbers-are-plan : (q : Params) (two : Bool) (b : Before) (k : ℕ) (ns : List Item) (ms : List Bool) → AreMarks (ahead_from p q last two b k ns) ms → IsTrue (is_part (numbers_of (ahead_from p q last two b k ns) ms) (places_from p two b k ns))
+  numbers-are-plan q two b k [] [] h = absurd h
+  numbers-are-plan q two b k [] (true ∷ ms) h = absurd (no-end h.0)
+  numbers-are-plan q two b k [] (false ∷ []) h = refl
+  numbers-are-plan q two b k [] (false ∷ m ∷ ms) h = absurd h
+  numbers-are-plan q two b k (n ∷ ns) [] h = absurd h
+  numbers-are-plan q two b k (n ∷ ns) (true ∷ ms) h =
       let rest = places_from p (two_after two n.kind) (before_after p two b n.kind) (suc k) ns in
-      let xs = numbers_of (ahead_from p last (two_after two n.kind) (before_after p two b n.kind) (suc k) ns) ms in
-      subst (λ u. IsTrue (is_part (k ∷ xs) (if_place k u ++ rest))) (sym h.0) (with-number k rest xs (numbers-are-plan (two_after two n.kind) (before_after p two b n.kind) (suc k) ns ms h.1))
-  numbers-are-plan two b k (n ∷ ns) (false ∷ ms) h =
-      without-number k (places_from p (two_after two n.kind) (before_after p two b n.kind) (suc k) ns) (numbers_of (ahead_from p last (two_after two n.kind) (before_after p two b n.kind) (suc k) ns) ms)
+      let xs = numbers_of (ahead_from p (params_after q n.kind) last (two_after two n.kind) (before_after p two b n.kind) (suc k) ns) ms in
+      subst (λ u. IsTrue (is_part (k ∷ xs) (if_place k u ++ rest))) (sym h.0) (with-number k rest xs (numbers-are-plan (params_after q n.kind) (two_after two n.kind) (before_after p two b n.kind) (suc k) ns ms h.1))
+  numbers-are-plan q two b k (n ∷ ns) (false ∷ ms) h =
+      without-number k (places_from p (two_after two n.kind) (before_after p two b n.kind) (suc k) ns) (numbers_of (ahead_from p (params_after q n.kind) last (two_after two n.kind) (before_after p two b n.kind) (suc k) ns) ms)
       (is_place (is_glue_next p two ns) b n.kind) (not-before p (two_after two n.kind) (before_after p two b n.kind) (suc k) ns)
-      (numbers-are-plan (two_after two n.kind) (before_after p two b n.kind) (suc k) ns ms h)
+      (numbers-are-plan (params_after q n.kind) (two_after two n.kind) (before_after p two b n.kind) (suc k) ns ms h)
 
   -- and its marks are these
-  pub numbers-are-marks : (two : Bool) (b : Before) (k : ℕ) (ns : List Item) (ms : List Bool) → AreMarks (ahead_from p last two b k ns) ms → marks_of k ns (numbers_of (ahead_from p last two b k ns) ms) ≡ ms
-  numbers-are-marks two b k [] [] h = absurd h
-  numbers-are-marks two b k [] (true ∷ ms) h = absurd (no-end h.0)
-  numbers-are-marks two b k [] (false ∷ []) h = refl
-  numbers-are-marks two b k [] (false ∷ m ∷ ms) h = absurd h
-  numbers-are-marks two b k (n ∷ ns) [] h = absurd h
-  numbers-are-marks two b k (n ∷ ns) (true ∷ ms) h =
-      marked-so k n ns (numbers_of (ahead_from p last (two_after two n.kind) (before_after p two b n.kind) (suc k) ns) ms) ms (numbers-are-marks (two_after two n.kind) (before_after p two b n.kind) (suc k) ns ms h.1)
-  numbers-are-marks two b k (n ∷ ns) (false ∷ ms) h =
-      unmarked-so k n ns (places_from p (two_after two n.kind) (before_after p two b n.kind) (suc k) ns) (numbers_of (ahead_from p last (two_after two n.kind) (before_after p two b n.kind) (suc k) ns) ms) ms
+  pub numbers-are-marks : (q : Params) (two : Bool) (b : Before) (k : ℕ) (ns : List Item) (ms : List Bool) → AreMarks (ahead_from p q last two b k ns) ms → marks_of k ns (numbers_of (ahead_from p q last two b k ns) ms) ≡ ms
+  numbers-are-marks q two b k [] [] h = absurd h
+  numbers-are-marks q two b k [] (true ∷ ms) h = absurd (no-end h.0)
+  numbers-are-marks q two b k [] (false ∷ []) h = refl
+  numbers-are-marks q two b k [] (false ∷ m ∷ ms) h = absurd h
+  numbers-are-marks q two b k (n ∷ ns) [] h = absurd h
+  numbers-are-marks q two b k (n ∷ ns) (true ∷ ms) h =
+      marked-so k n ns (numbers_of (ahead_from p (params_after q n.kind) last (two_after two n.kind) (before_after p two b n.kind) (suc k) ns) ms) ms (numbers-are-marks (params_after q n.kind) (two_after two n.kind) (before_after p two b n.kind) (suc k) ns ms h.1)
+  numbers-are-marks q two b k (n ∷ ns) (false ∷ ms) h =
+      unmarked-so k n ns (places_from p (two_after two n.kind) (before_after p two b n.kind) (suc k) ns) (numbers_of (ahead_from p (params_after q n.kind) last (two_after two n.kind) (before_after p two b n.kind) (suc k) ns) ms) ms
       (not-before p (two_after two n.kind) (before_after p two b n.kind) (suc k) ns)
-      (numbers-are-plan (two_after two n.kind) (before_after p two b n.kind) (suc k) ns ms h)
-      (numbers-are-marks (two_after two n.kind) (before_after p two b n.kind) (suc k) ns ms h)
+      (numbers-are-plan (params_after q n.kind) (two_after two n.kind) (before_after p two b n.kind) (suc k) ns ms h)
+      (numbers-are-marks (params_after q n.kind) (two_after two n.kind) (before_after p two b n.kind) (suc k) ns ms h)

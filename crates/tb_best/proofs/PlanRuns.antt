@@ -57,15 +57,15 @@ plan_marks g plan = marks_of 0 g.items plan
 
 -- the fuel of its run
 abbrev pub plan_fuel : Galley → ℕ
-plan_fuel g = suc (firings_left g.params (empty_start g))
+plan_fuel g = suc (firings_left (empty_start g))
 
 starts-so : (g : Galley) (plan : List ℕ) → start_of (with_breaks g plan) ≡ state_with (planned (plan_marks g plan) (all_ahead g)) (empty_start g)
 unfolding expanded all_ahead
-starts-so g plan = ap (λ ns. first_state g.params (classes_of g) ns) (nodes-are g.params (last_ahead g) false befores.Nothing 0 g.items plan)
+starts-so g plan = ap (λ ns. first_state g.params (classes_of g) ns) (nodes-are g.params (last_ahead g) g.params false befores.Nothing 0 g.items plan)
 
 pub plan-run : (g : Galley) (plan : List ℕ) → IsPlan g plan
-    → unlimited_demerits (with_breaks g plan) ≡ unlimited_demerits_from g.params (place_penalties g.items) (plan_fuel g) (state_with (planned (plan_marks g plan) (all_ahead g)) (empty_start g))
+    → unlimited_demerits (with_breaks g plan) ≡ unlimited_demerits_from (place_penalties g.items) (plan_fuel g) (state_with (planned (plan_marks g plan) (all_ahead g)) (empty_start g))
 unfolding unlimited_demerits
 plan-run g plan h =
-    ap (λ qs. unlimited_demerits_from g.params qs (plan_fuel g) (start_of (with_breaks g plan))) (same-penalties g plan h)
-    ∙ ap (λ s. unlimited_demerits_from g.params (place_penalties g.items) (plan_fuel g) s) (starts-so g plan)
+    ap (λ qs. unlimited_demerits_from qs (plan_fuel g) (start_of (with_breaks g plan))) (same-penalties g plan h)
+    ∙ ap (λ s. unlimited_demerits_from (place_penalties g.items) (plan_fuel g) s) (starts-so g plan)

@@ -50,32 +50,32 @@ either-same : (t : Bool) (x y e : Step) → IsSame x y → IsSame (if t then x e
 either-same true x y e h = h
 either-same false x y e h = inr refl
 
-progress-same : (p : Params) (a : Ask) (w : Reach) (q : Progress) (o : Option (ℕ × ℕ)) → IsSame (after_progress p a w q o) (unlimited_progress p a w q o)
-progress-same p a w q (Some f) = inr refl
-progress-same p a w q None =
-    let work = out p q.state (fired_of a q.state.classes q.state.boxes w) in
-    either-same w.fires (fire p a w q) (unlimited_fire p a w q) (ends q.events (q.records ++ emptied q.state.floats ∷ []) (done w.passed))
-    (either-same (int_lt (pos q.state.dead_cycles) p.maxdeadcycles) (after_firing p q.events q.records work) (unlimited_firing q.events q.records work) (ends q.events q.records (dead_cycles q.state.dead_cycles))
-    (work-same p q.events q.records work))
+progress-same : (a : Ask) (w : Reach) (q : Progress) (o : Option (ℕ × ℕ)) → IsSame (after_progress a w q o) (unlimited_progress a w q o)
+progress-same a w q (Some f) = inr refl
+progress-same a w q None =
+    let work = out q.state.params q.state (fired_of a q.state.classes q.state.boxes w) in
+    either-same w.fires (fire a w q) (unlimited_fire a w q) (ends q.events (q.records ++ emptied q.state.floats ∷ []) (done w.passed))
+    (either-same (int_lt (pos q.state.dead_cycles) q.state.params.maxdeadcycles) (after_firing q.state.params q.events q.records work) (unlimited_firing q.events q.records work) (ends q.events q.records (dead_cycles q.state.dead_cycles))
+    (work-same q.state.params q.events q.records work))
 
-step-same : (p : Params) (s : State) → IsSame (step p s) (unlimited_step p s)
+step-same : (s : State) → IsSame (step s) (unlimited_step s)
 unfolding step unlimited_step
-step-same p s = let q = progress p (reach_in p s).reached awful_bad s in progress-same p (ask_for p s) (reach_in p s) q q.fault
+step-same s = let q = progress (reach_in s).reached awful_bad s in progress-same (ask_for s) (reach_in s) q q.fault
 
 -- a step that goes on is the same without the limit
 same-goes-on : (x y : Step) (es : List RunEvent) (rs : List Recorded) (t : State) → x ≡ goes_on es rs t → IsSame x y → y ≡ goes_on es rs t
 same-goes-on x y es rs t e (inl h) = absurd (subst IsLimited e h)
 same-goes-on x y es rs t e (inr h) = sym h ∙ e
 
-pub goes-on : (p : Params) (s t : State) (es : List RunEvent) (rs : List Recorded) → step p s ≡ goes_on es rs t → unlimited_step p s ≡ goes_on es rs t
-goes-on p s t es rs h = same-goes-on (step p s) (unlimited_step p s) es rs t h (step-same p s)
+pub goes-on : (s t : State) (es : List RunEvent) (rs : List Recorded) → step s ≡ goes_on es rs t → unlimited_step s ≡ goes_on es rs t
+goes-on s t es rs h = same-goes-on (step s) (unlimited_step s) es rs t h (step-same s)
 
 same-ends : (x y : Step) (es : List RunEvent) (rs : List Recorded) (left : List PlainNode) → x ≡ ends es rs (done left) → IsSame x y → y ≡ ends es rs (done left)
 same-ends x y es rs left e (inl h) = absurd (subst IsLimited e h)
 same-ends x y es rs left e (inr h) = sym h ∙ e
 
-pub ends-well : (p : Params) (s : State) (es : List RunEvent) (rs : List Recorded) (left : List PlainNode) → step p s ≡ ends es rs (done left) → unlimited_step p s ≡ ends es rs (done left)
-ends-well p s es rs left h = same-ends (step p s) (unlimited_step p s) es rs left h (step-same p s)
+pub ends-well : (s : State) (es : List RunEvent) (rs : List Recorded) (left : List PlainNode) → step s ≡ ends es rs (done left) → unlimited_step s ≡ ends es rs (done left)
+ends-well s es rs left h = same-ends (step s) (unlimited_step s) es rs left h (step-same s)
 
 -- ---- the run
 
@@ -91,16 +91,16 @@ later-same : (f g : State → Option ℤ) (r d : ℤ) (x : Step) → ((t : State
 later-same f g r d (ends es rs e) is h = h
 later-same f g r d (goes_on es rs t) is h = let parts = more-some r (f t) d h in ap (more_demerits r) (is t parts.0 parts.1) ∙ ap Some parts.2
 
-by-same : (p : Params) (places : List PlacePenalty) (s : State) (f g : State → Option ℤ) (d : ℤ) (x y : Step) → ((t : State) (e : ℤ) → f t ≡ Some e → g t ≡ Some e) → IsSame x y
-    → demerits_after f (step_demerits p places s x) x ≡ Some d → demerits_after g (step_demerits p places s y) y ≡ Some d
-by-same p places s f g d x y is (inl h) e = absurd (no-amount (sym (limited-none f (step_demerits p places s x) x h) ∙ e))
-by-same p places s f g d x y is (inr h) e = subst (λ z. demerits_after g (step_demerits p places s z) z ≡ Some d) h (later-same f g (step_demerits p places s x) d x is e)
+by-same : (places : List PlacePenalty) (s : State) (f g : State → Option ℤ) (d : ℤ) (x y : Step) → ((t : State) (e : ℤ) → f t ≡ Some e → g t ≡ Some e) → IsSame x y
+    → demerits_after f (step_demerits places s x) x ≡ Some d → demerits_after g (step_demerits places s y) y ≡ Some d
+by-same places s f g d x y is (inl h) e = absurd (no-amount (sym (limited-none f (step_demerits places s x) x h) ∙ e))
+by-same places s f g d x y is (inr h) e = subst (λ z. demerits_after g (step_demerits places s z) z ≡ Some d) h (later-same f g (step_demerits places s x) d x is e)
 
-from-same : (p : Params) (places : List PlacePenalty) (k : ℕ) (s : State) (d : ℤ) → demerits_from p places k s ≡ Some d → unlimited_demerits_from p places k s ≡ Some d
+from-same : (places : List PlacePenalty) (k : ℕ) (s : State) (d : ℤ) → demerits_from places k s ≡ Some d → unlimited_demerits_from places k s ≡ Some d
 unfolding demerits_from unlimited_demerits_from
-from-same p places zero s d h = absurd (no-amount h)
-from-same p places (suc k) s d h =
-    by-same p places s (λ t. demerits_from p places k t) (λ t. unlimited_demerits_from p places k t) d (step p s) (unlimited_step p s) (λ t e x. from-same p places k t e x) (step-same p s) h
+from-same places zero s d h = absurd (no-amount h)
+from-same places (suc k) s d h =
+    by-same places s (λ t. demerits_from places k t) (λ t. unlimited_demerits_from places k t) d (step s) (unlimited_step s) (λ t e x. from-same places k t e x) (step-same s) h
 
 start-same : (t : Bool) (o : Option ℤ) (d : ℤ) → (if t then None else o) ≡ Some d → o ≡ Some d
 start-same true o d h = absurd (no-amount h)
@@ -110,8 +110,8 @@ demerits-same : (g : Galley) (d : ℤ) → demerits g ≡ Some d → unlimited_d
 unfolding demerits unlimited_demerits
 demerits-same g d h =
     let s = start_of g in
-    from-same g.params (place_penalties g.items) (suc (firings_left g.params s)) s d
-    (start-same (int_lt g.params.maxnodes (pos (held_count s))) (demerits_from g.params (place_penalties g.items) (suc (firings_left g.params s)) s) d h)
+    from-same (place_penalties g.items) (suc (firings_left s)) s d
+    (start-same (int_lt g.params.maxnodes (pos (held_count s))) (demerits_from (place_penalties g.items) (suc (firings_left s)) s) d h)
 
 -- a plan has the demerits of the run with its breaks, and 1000 for each break
 pub plan-rated : (g : Galley) (plan : List ℕ) (d : ℤ) → demerits (with_breaks g plan) ≡ Some d → plan_demerits g plan ≡ more_demerits (breaks_cost plan) (Some d)
@@ -148,11 +148,11 @@ step-has run f r left is (goes_on es rs t) h = more-has r (f t) (is t h)
 not-done : (n : ℕ) (left : List PlainNode) → dead_cycles n ≡ done left → ⊥
 not-done n left h = no-amount (ap demerits_at h)
 
-run-has : (p : Params) (places : List PlacePenalty) (k : ℕ) (s : State) (left : List PlainNode) → (run_from p k s).end ≡ done left → HasDemerits (demerits_from p places k s)
+run-has : (places : List PlacePenalty) (k : ℕ) (s : State) (left : List PlainNode) → (run_from k s).end ≡ done left → HasDemerits (demerits_from places k s)
 unfolding run_from demerits_from
-run-has p places zero s left h = absurd (not-done s.dead_cycles left h)
-run-has p places (suc k) s left h =
-    step-has (λ t. run_from p k t) (λ t. demerits_from p places k t) (demerits_if (step_rating p places s)) left (λ t e. run-has p places k t left e) (step p s) h
+run-has places zero s left h = absurd (not-done s.dead_cycles left h)
+run-has places (suc k) s left h =
+    step-has (λ t. run_from k t) (λ t. demerits_from places k t) (demerits_if (step_rating places s)) left (λ t e. run-has places k t left e) (step s) h
 
 start-has : (t : Bool) (n : ℕ) (run : Run) (o : Option ℤ) (left : List PlainNode) → (run.end ≡ done left → HasDemerits o) → (if t then record { events = []; records = []; end = node_limit n } else run).end ≡ done left
     → HasDemerits (if t then None else o)
@@ -163,8 +163,8 @@ done-has : (g : Galley) (left : List PlainNode) → (run_of g).end ≡ done left
 unfolding run_of demerits
 done-has g left h =
     let s = start_of g in
-    let k = suc (firings_left g.params s) in
-    start-has (int_lt g.params.maxnodes (pos (held_count s))) (held_count s) (run_from g.params k s) (demerits_from g.params (place_penalties g.items) k s) left (λ e. run-has g.params (place_penalties g.items) k s left e) h
+    let k = suc (firings_left s) in
+    start-has (int_lt g.params.maxnodes (pos (held_count s))) (held_count s) (run_from k s) (demerits_from (place_penalties g.items) k s) left (λ e. run-has (place_penalties g.items) k s left e) h
 
 -- if the run of a galley ends well, no break at all is a plan with demerits
 pub none-is-plan : (g : Galley) (left : List PlainNode) → (run_of g).end ≡ done left → HasNoPlan g → ⊥

@@ -29,7 +29,7 @@ module _ (g : Galley) (plan : List ℕ) (total : ℤ) (best : IsBest g plan tota
           inr (h, ap (λ l. is_greater l (reverse plan)) (sym (reverse-reverse breaks)) ∙ best.greatest (reverse breaks) is.0 (is.1 ∙ ap Some h))
 
   as-good-itself : (t : State) → IsAsGood g t t
-  as-good-itself t fuel behind d h = (d, h, omega (arith, ints))
+  as-good-itself t fuel behind d keep h = (d, h, omega (arith, ints))
 
   pub reached-closed : IsClosed g total (reverse plan) (Reaches g)
   reached-closed = record {
@@ -54,7 +54,7 @@ module _ (g : Galley) (plan : List ℕ) (total : ℤ) (best : IsBest g plan tota
           as-good-itself u,
           tables.fills (state_with (forced c ∷ c.nodes) t) u ds (d +ℤ pos 1000) (c.number ∷ breaks) es rs
               (tables.cuts t c ds d breaks (on-from s cs t (c ∷ ds) d breaks h way) place)
-              (fires-here g.params (state_with (forced c ∷ c.nodes) t) u es rs e) e,
+              (fires-here (state_with (forced c ∷ c.nodes) t) u es rs e) e,
         );
     finishes = λ s t cs d breaks es rs left h way quiet e.
         end-no-better d breaks (record { state = t; events = es; records = rs; left = left; reached = on-from s cs t [] d breaks h way; ends_well = e });

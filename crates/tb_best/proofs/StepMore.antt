@@ -71,18 +71,19 @@ act-more p s more (acts.Suppress area) = refl
 act-more p s more (acts.Page n) = refl
 act-more p s more (acts.Head f) = title-more p s more f (not (has_head_room p s))
 act-more p s more (acts.Columns two) = refl
+act-more p s more (acts.Set c) = refl
 
 by-act : (later : State → Progress) (s : State) (more : List PlainNode) (a : Acted) → ((t : State) → later (state_with more t) ≡ progress_with more (later t))
     → progress_by later (state_with more s) (acted_with more a) ≡ progress_with more (progress_by later s a)
 by-act later s more (went t ws rs) h = ap (after_events (map (λ w. sent (warned w)) ws) rs) (h t)
 by-act later s more (full line live) h = refl
 
-pub progress-more : (p : Params) (rs : List Reached) (least : ℤ) (s : State) (more : List PlainNode) → progress p rs least (state_with more s) ≡ progress_with more (progress p rs least s)
-progress-more p [] least s more = refl
-progress-more p (acted a ∷ rs) least s more =
-    ap (progress_by (λ t. progress p rs least t) (state_with more s)) (act-more p s more a)
-    ∙ by-act (λ t. progress p rs least t) s more (act_on p s a) (λ t. progress-more p rs least t more)
-progress-more p (tried line b ∷ rs) least s more = ap (after_events (offered (try_of line b least) ∷ []) []) (progress-more p rs (min_ℤ least b.cost) s more)
+pub progress-more : (rs : List Reached) (least : ℤ) (s : State) (more : List PlainNode) → progress rs least (state_with more s) ≡ progress_with more (progress rs least s)
+progress-more [] least s more = refl
+progress-more (acted a ∷ rs) least s more =
+    ap (progress_by (λ t. progress rs least t) (state_with more s)) (act-more s.params s more a)
+    ∙ by-act (λ t. progress rs least t) s more (act_on s.params s a) (λ t. progress-more rs least t more)
+progress-more (tried line b ∷ rs) least s more = ap (after_events (offered (try_of line b least) ∷ []) []) (progress-more rs (min_ℤ least b.cost) s more)
 
 -- ---- the firing
 
@@ -101,46 +102,46 @@ by-fire : (t : Bool) (more : List PlainNode) (x y e : Step) → x ≡ step_with 
 by-fire true more x y e h k = h
 by-fire false more x y e h k = k
 
-fire-more : (p : Params) (a : Ask) (w : Reach) (q : Progress) (more : List PlainNode) → has_other w.beyond ≡ true → unlimited_fire p a (with_more more w) (progress_with more q) ≡ step_with more (unlimited_fire p a w q)
-fire-more p a w q more left =
-    ap (λ f. if int_lt (pos q.state.dead_cycles) p.maxdeadcycles then unlimited_firing q.events q.records (out p (state_with more q.state) f) else ends q.events q.records (dead_cycles q.state.dead_cycles))
+fire-more : (a : Ask) (w : Reach) (q : Progress) (more : List PlainNode) → has_other w.beyond ≡ true → unlimited_fire a (with_more more w) (progress_with more q) ≡ step_with more (unlimited_fire a w q)
+fire-more a w q more left =
+    ap (λ f. if int_lt (pos q.state.dead_cycles) q.state.params.maxdeadcycles then unlimited_firing q.events q.records (out q.state.params (state_with more q.state) f) else ends q.events q.records (dead_cycles q.state.dead_cycles))
     (fired-of-more a q.state.classes q.state.boxes w more left)
-    ∙ by-fire (int_lt (pos q.state.dead_cycles) p.maxdeadcycles) more (unlimited_firing q.events q.records (out p (state_with more q.state) (fired_with more page))) (unlimited_firing q.events q.records (out p q.state page)) (ends q.events q.records (dead_cycles q.state.dead_cycles))
-    (ap (unlimited_firing q.events q.records) (out-more p q.state page more) ∙ by-work q.events q.records (out p q.state page) more (out p q.state page).refused) refl
+    ∙ by-fire (int_lt (pos q.state.dead_cycles) q.state.params.maxdeadcycles) more (unlimited_firing q.events q.records (out q.state.params (state_with more q.state) (fired_with more page))) (unlimited_firing q.events q.records (out q.state.params q.state page)) (ends q.events q.records (dead_cycles q.state.dead_cycles))
+    (ap (unlimited_firing q.events q.records) (out-more q.state.params q.state page more) ∙ by-work q.events q.records (out q.state.params q.state page) more (out q.state.params q.state page).refused) refl
   where
     page : Fired
     page = fired_of a q.state.classes q.state.boxes w
 
-progress-step : (p : Params) (a : Ask) (w : Reach) (q : Progress) (more : List PlainNode) (o : Option (ℕ × ℕ)) → w.fires ≡ true → has_other w.beyond ≡ true
-    → unlimited_progress p a (with_more more w) (progress_with more q) o ≡ step_with more (unlimited_progress p a w q o)
-progress-step p a w q more (Some f) fires left = refl
-progress-step p a w q more None fires left = by w.fires fires
+progress-step : (a : Ask) (w : Reach) (q : Progress) (more : List PlainNode) (o : Option (ℕ × ℕ)) → w.fires ≡ true → has_other w.beyond ≡ true
+    → unlimited_progress a (with_more more w) (progress_with more q) o ≡ step_with more (unlimited_progress a w q o)
+progress-step a w q more (Some f) fires left = refl
+progress-step a w q more None fires left = by w.fires fires
   where
     by : (t : Bool) → t ≡ true
-        → (if t then unlimited_fire p a (with_more more w) (progress_with more q) else ends q.events (q.records ++ emptied q.state.floats ∷ []) (done w.passed))
-        ≡ step_with more (if t then unlimited_fire p a w q else ends q.events (q.records ++ emptied q.state.floats ∷ []) (done w.passed))
-    by true e = fire-more p a w q more left
+        → (if t then unlimited_fire a (with_more more w) (progress_with more q) else ends q.events (q.records ++ emptied q.state.floats ∷ []) (done w.passed))
+        ≡ step_with more (if t then unlimited_fire a w q else ends q.events (q.records ++ emptied q.state.floats ∷ []) (done w.passed))
+    by true e = fire-more a w q more left
     by false e = refl
 
 -- what a state reaches leaves the node at which it stops
-left-in : (p : Params) (s : State) → (reach_in p s).fires ≡ true → has_other (reach_in p s).beyond ≡ true
-left-in p s fires = reach-left (ask_for p s).max_depth (terms_after (frozen_for (ask_for p s) s.classes s.boxes)) [] (laid_out (ask_for p s).top_skip [] s.waiting) fires
+left-in : (s : State) → (reach_in s).fires ≡ true → has_other (reach_in s).beyond ≡ true
+left-in s fires = reach-left (ask_for s).max_depth (terms_after (frozen_for (ask_for s) s.classes s.boxes)) [] (laid_out (ask_for s).top_skip [] s.waiting) fires
 
 -- if a page fires, it is made for the same whatever waits behind
-pub asked-more : (p : Params) (s : State) (more : List PlainNode) → (reach_in p s).fires ≡ true → ask_for p (state_with more s) ≡ ask_for p s
-asked-more p s more fires =
-    asked-in p s (s.waiting ++ more) s.waiting (led-fires p (ask_for p s).max_depth (terms_after (frozen_for (ask_for p s) s.classes s.boxes)) p.topskip [] s.waiting more s fires)
+pub asked-more : (s : State) (more : List PlainNode) → (reach_in s).fires ≡ true → ask_for (state_with more s) ≡ ask_for s
+asked-more s more fires =
+    asked-in s (s.waiting ++ more) s.waiting (led-fires (ask_for s).max_depth (terms_after (frozen_for (ask_for s) s.classes s.boxes)) (ask_for s).top_skip [] s.waiting more s fires)
 
 -- if a page fires, the step is the same whatever waits behind
-pub step-more : (p : Params) (s : State) (more : List PlainNode) → (reach_in p s).fires ≡ true → unlimited_step p (state_with more s) ≡ step_with more (unlimited_step p s)
+pub step-more : (s : State) (more : List PlainNode) → (reach_in s).fires ≡ true → unlimited_step (state_with more s) ≡ step_with more (unlimited_step s)
 unfolding unlimited_step
-step-more p s more fires =
-    let w = reach_in p s in
-    let q = progress p w.reached awful_bad s in
-    ap (λ a. unlimited_step_of p (state_with more s) a (reach_of a s.classes s.boxes [] (s.waiting ++ more))) (asked-more p s more fires)
-    ∙ ap (unlimited_step_of p (state_with more s) (ask_for p s)) (begun-more (ask_for p s) s.classes s.boxes s.waiting more fires)
-    ∙ ap (λ x. unlimited_progress p (ask_for p s) (with_more more w) x x.fault) (progress-more p w.reached awful_bad s more)
-    ∙ progress-step p (ask_for p s) w q more q.fault fires (left-in p s fires)
+step-more s more fires =
+    let w = reach_in s in
+    let q = progress w.reached awful_bad s in
+    ap (λ a. unlimited_step_of (state_with more s) a (reach_of a s.classes s.boxes [] (s.waiting ++ more))) (asked-more s more fires)
+    ∙ ap (unlimited_step_of (state_with more s) (ask_for s)) (begun-more (ask_for s) s.classes s.boxes s.waiting more fires)
+    ∙ ap (λ x. unlimited_progress (ask_for s) (with_more more w) x x.fault) (progress-more w.reached awful_bad s more)
+    ∙ progress-step (ask_for s) w q more q.fault fires (left-in s fires)
 
 -- ---- the demerits
 
@@ -164,18 +165,18 @@ either-waits : (t : Bool) (x y : Step) → WaitsOther x → WaitsOther y → Wai
 either-waits true x y h k = h
 either-waits false x y h k = k
 
-progress-waits : (p : Params) (a : Ask) (w : Reach) (q : Progress) (o : Option (ℕ × ℕ)) → has_other w.beyond ≡ true → WaitsOther (unlimited_progress p a w q o)
-progress-waits p a w q (Some f) left = tt
-progress-waits p a w q None left =
+progress-waits : (a : Ask) (w : Reach) (q : Progress) (o : Option (ℕ × ℕ)) → has_other w.beyond ≡ true → WaitsOther (unlimited_progress a w q o)
+progress-waits a w q (Some f) left = tt
+progress-waits a w q None left =
     let page = fired_of a q.state.classes q.state.boxes w in
-    let work = out p q.state page in
-    either-waits w.fires (unlimited_fire p a w q) (ends q.events (q.records ++ emptied q.state.floats ∷ []) (done w.passed))
-    (either-waits (int_lt (pos q.state.dead_cycles) p.maxdeadcycles) (unlimited_firing q.events q.records work) (ends q.events q.records (dead_cycles q.state.dead_cycles))
-    (work-waits q.events q.records work (out-waits p q.state page (rest-other a q.state.classes q.state.boxes w left))) tt) tt
+    let work = out q.state.params q.state page in
+    either-waits w.fires (unlimited_fire a w q) (ends q.events (q.records ++ emptied q.state.floats ∷ []) (done w.passed))
+    (either-waits (int_lt (pos q.state.dead_cycles) q.state.params.maxdeadcycles) (unlimited_firing q.events q.records work) (ends q.events q.records (dead_cycles q.state.dead_cycles))
+    (work-waits q.events q.records work (out-waits q.state.params q.state page (rest-other a q.state.classes q.state.boxes w left))) tt) tt
 
-step-waits : (p : Params) (s : State) → (reach_in p s).fires ≡ true → WaitsOther (unlimited_step p s)
+step-waits : (s : State) → (reach_in s).fires ≡ true → WaitsOther (unlimited_step s)
 unfolding unlimited_step
-step-waits p s fires = let q = progress p (reach_in p s).reached awful_bad s in progress-waits p (ask_for p s) (reach_in p s) q q.fault (left-in p s fires)
+step-waits s fires = let q = progress (reach_in s).reached awful_bad s in progress-waits (ask_for s) (reach_in s) q q.fault (left-in s fires)
 
 first-by : (t : Bool) (ns more : List PlainNode) → (has_other ns ≡ true → insertions_first (ns ++ more) ≡ insertions_first ns) → (if t then has_other ns else true) ≡ true
     → (if t then suc (insertions_first (ns ++ more)) else 0) ≡ (if t then suc (insertions_first ns) else 0)
@@ -186,11 +187,11 @@ first-more : (ns more : List PlainNode) → has_other ns ≡ true → insertions
 first-more [] more h = let no : false ≡ true = h in cc
 first-more (n ∷ ns) more h = first-by (is_insertion_kind n.kind) ns more (first-more ns more) h
 
-rated-more : (p : Params) (places : List PlacePenalty) (s : State) (more : List PlainNode) (x : Step) → WaitsOther x → step_demerits p places (state_with more s) (step_with more x) ≡ step_demerits p places s x
-rated-more p places s more (ends es rs e) h = refl
-rated-more p places s more (goes_on es rs t) h = ap (λ n. demerits_if (rating p places (first_number t.number es) (last_champion es) (floats_waiting t.floats) n)) (first-more t.waiting more h)
+rated-more : (places : List PlacePenalty) (s : State) (more : List PlainNode) (x : Step) → WaitsOther x → step_demerits places (state_with more s) (step_with more x) ≡ step_demerits places s x
+rated-more places s more (ends es rs e) h = refl
+rated-more places s more (goes_on es rs t) h = ap (λ n. demerits_if (rating t.params places (first_number t.number es) (last_champion es) (floats_waiting t.floats) n)) (first-more t.waiting more h)
 
 -- if a page fires, its demerits are the same whatever waits behind
-pub demerits-more : (p : Params) (places : List PlacePenalty) (s : State) (more : List PlainNode) → (reach_in p s).fires ≡ true
-    → step_demerits p places (state_with more s) (step_with more (unlimited_step p s)) ≡ step_demerits p places s (unlimited_step p s)
-demerits-more p places s more fires = rated-more p places s more (unlimited_step p s) (step-waits p s fires)
+pub demerits-more : (places : List PlacePenalty) (s : State) (more : List PlainNode) → (reach_in s).fires ≡ true
+    → step_demerits places (state_with more s) (step_with more (unlimited_step s)) ≡ step_demerits places s (unlimited_step s)
+demerits-more places s more fires = rated-more places s more (unlimited_step s) (step-waits s fires)

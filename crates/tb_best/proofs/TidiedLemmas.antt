@@ -1,7 +1,6 @@
 -- A state without what vanishes at the top of its next page has the same runs.
 use Rattle.std.proofs.Common.{◌≡◌, refl, sym, ap, ℕ, ℤ, List, [], ◌∷◌, ◌++◌}
 use Rattle.tb_node.specs.PlainNodes.{hbox, rule, skip, kerned, pen, mark, note, whatsit, PlainKind, plain, ins, act, PlainNode}
-use Rattle.tb_param.specs.declared.Params.{Params}
 use Rattle.tb_galley.specs.declared.Galley.{Galley}
 use Rattle.tb_break.specs.PageTop.{pruned_nodes}
 use Rattle.tb_insert.specs.Account.{terms_after}
@@ -35,28 +34,28 @@ module _ (top : ℤ) where
   tidied-top [] more = refl
   tidied-top (n ∷ ns) more = tidied-node n.line n.kind ns more (tidied-top ns more)
 
-tidied-kind : (p : Params) (ns more : List PlainNode) → ((t : State) → led_through p (tidied_nodes ns ++ more) t ≡ led_through p (ns ++ more) t) → (s : State) (l : ℕ) (k : PlainKind)
-    → led_through p (tidied_nodes (record { line = l; kind = k } ∷ ns) ++ more) s ≡ led_through p (record { line = l; kind = k } ∷ ns ++ more) s
-tidied-kind p ns more ih s l (plain (hbox a b d)) = refl
-tidied-kind p ns more ih s l (plain (rule a b d)) = refl
-tidied-kind p ns more ih s l (plain (skip g)) = ih s
-tidied-kind p ns more ih s l (plain (kerned g)) = ih s
-tidied-kind p ns more ih s l (plain (pen q)) = ih s
-tidied-kind p ns more ih s l (plain (mark a)) = ih s
-tidied-kind p ns more ih s l (plain (note a)) = ih s
-tidied-kind p ns more ih s l (plain whatsit) = ih s
-tidied-kind p ns more ih s l (ins i) = refl
-tidied-kind p ns more ih s l (act a) = led-both p (led_through p (tidied_nodes ns ++ more)) (led_through p (ns ++ more)) s (act_on p s a) ih
+tidied-kind : (ns more : List PlainNode) → ((t : State) → led_through (tidied_nodes ns ++ more) t ≡ led_through (ns ++ more) t) → (s : State) (l : ℕ) (k : PlainKind)
+    → led_through (tidied_nodes (record { line = l; kind = k } ∷ ns) ++ more) s ≡ led_through (record { line = l; kind = k } ∷ ns ++ more) s
+tidied-kind ns more ih s l (plain (hbox a b d)) = refl
+tidied-kind ns more ih s l (plain (rule a b d)) = refl
+tidied-kind ns more ih s l (plain (skip g)) = ih s
+tidied-kind ns more ih s l (plain (kerned g)) = ih s
+tidied-kind ns more ih s l (plain (pen q)) = ih s
+tidied-kind ns more ih s l (plain (mark a)) = ih s
+tidied-kind ns more ih s l (plain (note a)) = ih s
+tidied-kind ns more ih s l (plain whatsit) = ih s
+tidied-kind ns more ih s l (ins i) = refl
+tidied-kind ns more ih s l (act a) = led-both (led_through (tidied_nodes ns ++ more)) (led_through (ns ++ more)) s (act_on s.params s a) ih
 
 -- the acts before the first box are the same
-tidied-led : (p : Params) (ns more : List PlainNode) (s : State) → led_through p (tidied_nodes ns ++ more) s ≡ led_through p (ns ++ more) s
-tidied-led p [] more s = refl
-tidied-led p (n ∷ ns) more s = tidied-kind p ns more (tidied-led p ns more) s n.line n.kind
+tidied-led : (ns more : List PlainNode) (s : State) → led_through (tidied_nodes ns ++ more) s ≡ led_through (ns ++ more) s
+tidied-led [] more s = refl
+tidied-led (n ∷ ns) more s = tidied-kind ns more (tidied-led ns more) s n.line n.kind
 
 -- a state and the tidied one are alike
 pub tidied-alike : (g : Galley) (s : State) → AreAlike g s (tidied s)
 tidied-alike g s fuel more =
-    let made = ask_for g.params (state_with more s) in
-    sym (run-in g.params (place_penalties g.items) fuel (state_with more s) (tidied_nodes s.waiting ++ more)
-    (asked-in g.params s (tidied_nodes s.waiting ++ more) (s.waiting ++ more) (tidied-led g.params s.waiting more s))
+    let made = ask_for (state_with more s) in
+    sym (run-in (place_penalties g.items) fuel (state_with more s) (tidied_nodes s.waiting ++ more)
+    (asked-in s (tidied_nodes s.waiting ++ more) (s.waiting ++ more) (tidied-led s.waiting more s))
     (ap (reach_from made.max_depth (terms_after (frozen_for made s.classes s.boxes)) []) (tidied-top made.top_skip s.waiting more)))

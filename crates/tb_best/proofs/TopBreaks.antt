@@ -75,84 +75,85 @@ act-in p s ws (acts.Suppress area) = refl
 act-in p s ws (acts.Page n) = refl
 act-in p s ws (acts.Head f) = either-in ws (not (has_head_room p s)) (full f.line (live_count s.floats)) (went (with_head p s (taken_head p f)) [] [])
 act-in p s ws (acts.Columns two) = refl
+act-in p s ws (acts.Set c) = refl
 
 by-act : (later : State → Progress) (s : State) (ws : List PlainNode) (a : Acted) → ((t : State) → later (waits ws t) ≡ progress_in ws (later t))
     → progress_by later (waits ws s) (acted_in ws a) ≡ progress_in ws (progress_by later s a)
 by-act later s ws (went t es rs) h = ap (after_events (map (λ w. sent (warned w)) es) rs) (h t)
 by-act later s ws (full line live) h = refl
 
-progress-in : (p : Params) (rs : List Reached) (least : ℤ) (s : State) (ws : List PlainNode) → progress p rs least (waits ws s) ≡ progress_in ws (progress p rs least s)
-progress-in p [] least s ws = refl
-progress-in p (acted a ∷ rs) least s ws =
-    ap (progress_by (λ t. progress p rs least t) (waits ws s)) (act-in p s ws a) ∙ by-act (λ t. progress p rs least t) s ws (act_on p s a) (λ t. progress-in p rs least t ws)
-progress-in p (tried line b ∷ rs) least s ws = ap (after_events (offered (try_of line b least) ∷ []) []) (progress-in p rs (min_ℤ least b.cost) s ws)
+progress-in : (rs : List Reached) (least : ℤ) (s : State) (ws : List PlainNode) → progress rs least (waits ws s) ≡ progress_in ws (progress rs least s)
+progress-in [] least s ws = refl
+progress-in (acted a ∷ rs) least s ws =
+    ap (progress_by (λ t. progress rs least t) (waits ws s)) (act-in s.params s ws a) ∙ by-act (λ t. progress rs least t) s ws (act_on s.params s a) (λ t. progress-in rs least t ws)
+progress-in (tried line b ∷ rs) least s ws = ap (after_events (offered (try_of line b least) ∷ []) []) (progress-in rs (min_ℤ least b.cost) s ws)
 
 led-act : (ws : List PlainNode) (f : State → State) (s : State) (o : Acted) → ((t : State) → f (waits ws t) ≡ waits ws (f t)) → led_by f (waits ws s) (acted_in ws o) ≡ waits ws (led_by f s o)
 led-act ws f s (went t es rs) h = h t
 led-act ws f s (full line live) h = refl
 
-led-kind : (p : Params) (ws ns : List PlainNode) → ((t : State) → led_through p ns (waits ws t) ≡ waits ws (led_through p ns t)) → (s : State) (k : PlainKind) → led_past p (led_through p ns) (waits ws s) k ≡ waits ws (led_past p (led_through p ns) s k)
-led-kind p ws ns ih s (plain (hbox w h d)) = refl
-led-kind p ws ns ih s (plain (rule w h d)) = refl
-led-kind p ws ns ih s (plain (skip g)) = ih s
-led-kind p ws ns ih s (plain (kerned g)) = ih s
-led-kind p ws ns ih s (plain (pen q)) = ih s
-led-kind p ws ns ih s (plain (mark w)) = ih s
-led-kind p ws ns ih s (plain (note w)) = ih s
-led-kind p ws ns ih s (plain whatsit) = ih s
-led-kind p ws ns ih s (ins i) = refl
-led-kind p ws ns ih s (act a) = ap (led_by (led_through p ns) (waits ws s)) (act-in p s ws a) ∙ led-act ws (led_through p ns) s (act_on p s a) ih
+led-kind : (ws ns : List PlainNode) → ((t : State) → led_through ns (waits ws t) ≡ waits ws (led_through ns t)) → (s : State) (k : PlainKind) → led_past (led_through ns) (waits ws s) k ≡ waits ws (led_past (led_through ns) s k)
+led-kind ws ns ih s (plain (hbox w h d)) = refl
+led-kind ws ns ih s (plain (rule w h d)) = refl
+led-kind ws ns ih s (plain (skip g)) = ih s
+led-kind ws ns ih s (plain (kerned g)) = ih s
+led-kind ws ns ih s (plain (pen q)) = ih s
+led-kind ws ns ih s (plain (mark w)) = ih s
+led-kind ws ns ih s (plain (note w)) = ih s
+led-kind ws ns ih s (plain whatsit) = ih s
+led-kind ws ns ih s (ins i) = refl
+led-kind ws ns ih s (act a) = ap (led_by (led_through ns) (waits ws s)) (act-in s.params s ws a) ∙ led-act ws (led_through ns) s (act_on s.params s a) ih
 
 -- the acts before the first box of a page do not look at what waits
-led-waits : (p : Params) (ws ns : List PlainNode) (s : State) → led_through p ns (waits ws s) ≡ waits ws (led_through p ns s)
-led-waits p ws [] s = refl
-led-waits p ws (n ∷ ns) s = led-kind p ws ns (led-waits p ws ns) s n.kind
+led-waits : (ws ns : List PlainNode) (s : State) → led_through ns (waits ws s) ≡ waits ws (led_through ns s)
+led-waits ws [] s = refl
+led-waits ws (n ∷ ns) s = led-kind ws ns (led-waits ws ns) s n.kind
 
 -- so what a page is made for depends on what waits only by what these acts lead to
-pub asked-in : (p : Params) (s : State) (ws vs : List PlainNode) → led_through p ws s ≡ led_through p vs s → ask_for p (waits ws s) ≡ ask_for p (waits vs s)
-asked-in p s ws vs h = ap (ask_of p) (led-waits p ws ws s) ∙ ap (ask_of p) h ∙ sym (ap (ask_of p) (led-waits p vs vs s))
+pub asked-in : (s : State) (ws vs : List PlainNode) → led_through ws s ≡ led_through vs s → ask_for (waits ws s) ≡ ask_for (waits vs s)
+asked-in s ws vs h = ap (λ t. ask_of t.params t) (led-waits ws ws s) ∙ ap (λ t. ask_of t.params t) h ∙ sym (ap (λ t. ask_of t.params t) (led-waits vs vs s))
 
 out-in : (p : Params) (s : State) (f : Fired) (ws : List PlainNode) → out p (waits ws s) f ≡ out p s f
 unfolding out
 out-in p s f ws = refl
 
-fire-in : (p : Params) (a : Ask) (w : Reach) (q : Progress) (ws : List PlainNode) → unlimited_fire p a w (progress_in ws q) ≡ unlimited_fire p a w q
-fire-in p a w q ws =
-    ap (λ x. if int_lt (pos q.state.dead_cycles) p.maxdeadcycles then unlimited_firing q.events q.records x else ends q.events q.records (dead_cycles q.state.dead_cycles))
-    (out-in p q.state (fired_of a q.state.classes q.state.boxes w) ws)
+fire-in : (a : Ask) (w : Reach) (q : Progress) (ws : List PlainNode) → unlimited_fire a w (progress_in ws q) ≡ unlimited_fire a w q
+fire-in a w q ws =
+    ap (λ x. if int_lt (pos q.state.dead_cycles) q.state.params.maxdeadcycles then unlimited_firing q.events q.records x else ends q.events q.records (dead_cycles q.state.dead_cycles))
+    (out-in q.state.params q.state (fired_of a q.state.classes q.state.boxes w) ws)
 
-by-fault : (p : Params) (a : Ask) (w : Reach) (q : Progress) (ws : List PlainNode) (o : Option (ℕ × ℕ)) → unlimited_progress p a w (progress_in ws q) o ≡ unlimited_progress p a w q o
-by-fault p a w q ws None = ap (λ x. if w.fires then x else ends q.events (q.records ++ emptied q.state.floats ∷ []) (done w.passed)) (fire-in p a w q ws)
-by-fault p a w q ws (Some f) = refl
+by-fault : (a : Ask) (w : Reach) (q : Progress) (ws : List PlainNode) (o : Option (ℕ × ℕ)) → unlimited_progress a w (progress_in ws q) o ≡ unlimited_progress a w q o
+by-fault a w q ws None = ap (λ x. if w.fires then x else ends q.events (q.records ++ emptied q.state.floats ∷ []) (done w.passed)) (fire-in a w q ws)
+by-fault a w q ws (Some f) = refl
 
 -- a step depends on what waits only by what its page is made for and what it reaches
-step-in : (p : Params) (s : State) (ws : List PlainNode) → ask_for p (waits ws s) ≡ ask_for p s → reach_of (ask_for p s) s.classes s.boxes [] ws ≡ reach_in p s → unlimited_step p (waits ws s) ≡ unlimited_step p s
+step-in : (s : State) (ws : List PlainNode) → ask_for (waits ws s) ≡ ask_for s → reach_of (ask_for s) s.classes s.boxes [] ws ≡ reach_in s → unlimited_step (waits ws s) ≡ unlimited_step s
 unfolding unlimited_step
-step-in p s ws asked h =
-    let q = progress p (reach_in p s).reached awful_bad s in
-    ap (λ a. unlimited_step_of p (waits ws s) a (reach_of a s.classes s.boxes [] ws)) asked
-    ∙ ap (unlimited_step_of p (waits ws s) (ask_for p s)) h
-    ∙ ap (λ x. unlimited_progress p (ask_for p s) (reach_in p s) x x.fault) (progress-in p (reach_in p s).reached awful_bad s ws)
-    ∙ by-fault p (ask_for p s) (reach_in p s) q ws q.fault
+step-in s ws asked h =
+    let q = progress (reach_in s).reached awful_bad s in
+    ap (λ a. unlimited_step_of (waits ws s) a (reach_of a s.classes s.boxes [] ws)) asked
+    ∙ ap (unlimited_step_of (waits ws s) (ask_for s)) h
+    ∙ ap (λ x. unlimited_progress (ask_for s) (reach_in s) x x.fault) (progress-in (reach_in s).reached awful_bad s ws)
+    ∙ by-fault (ask_for s) (reach_in s) q ws q.fault
 
-same-demerits : (p : Params) (places : List PlacePenalty) (s : State) (ws : List PlainNode) (x : Step) → step_demerits p places (waits ws s) x ≡ step_demerits p places s x
-same-demerits p places s ws (ends es rs e) = refl
-same-demerits p places s ws (goes_on es rs t) = refl
+same-demerits : (places : List PlacePenalty) (s : State) (ws : List PlainNode) (x : Step) → step_demerits places (waits ws s) x ≡ step_demerits places s x
+same-demerits places s ws (ends es rs e) = refl
+same-demerits places s ws (goes_on es rs t) = refl
 
 -- so do the demerits of a run
-pub run-in : (p : Params) (places : List PlacePenalty) (k : ℕ) (s : State) (ws : List PlainNode) → ask_for p (waits ws s) ≡ ask_for p s → reach_of (ask_for p s) s.classes s.boxes [] ws ≡ reach_in p s
-    → unlimited_demerits_from p places k (waits ws s) ≡ unlimited_demerits_from p places k s
+pub run-in : (places : List PlacePenalty) (k : ℕ) (s : State) (ws : List PlainNode) → ask_for (waits ws s) ≡ ask_for s → reach_of (ask_for s) s.classes s.boxes [] ws ≡ reach_in s
+    → unlimited_demerits_from places k (waits ws s) ≡ unlimited_demerits_from places k s
 unfolding unlimited_demerits_from
-run-in p places zero s ws asked h = refl
-run-in p places (suc k) s ws asked h =
-    ap (λ x. demerits_after (λ t. unlimited_demerits_from p places k t) (step_demerits p places (waits ws s) x) x) (step-in p s ws asked h)
-    ∙ ap (λ d. demerits_after (λ t. unlimited_demerits_from p places k t) d (unlimited_step p s)) (same-demerits p places s ws (unlimited_step p s))
+run-in places zero s ws asked h = refl
+run-in places (suc k) s ws asked h =
+    ap (λ x. demerits_after (λ t. unlimited_demerits_from places k t) (step_demerits places (waits ws s) x) x) (step-in s ws asked h)
+    ∙ ap (λ d. demerits_after (λ t. unlimited_demerits_from places k t) d (unlimited_step s)) (same-demerits places s ws (unlimited_step s))
 
 -- before the first box of a page a break that is put in changes nothing
-pub break-vanishes : (p : Params) (places : List PlacePenalty) (k : ℕ) (s : State) (line : ℕ) (q : ℤ) (xs ys : List PlainNode) → holds_box xs ≡ false
-    → unlimited_demerits_from p places k (waits (xs ++ record { line = line; kind = plain (pen q) } ∷ ys) s) ≡ unlimited_demerits_from p places k (waits (xs ++ ys) s)
-break-vanishes p places k s line q xs ys h =
-    let made = ask_for p (waits (xs ++ ys) s) in
-    run-in p places k (waits (xs ++ ys) s) (xs ++ record { line = line; kind = plain (pen q) } ∷ ys)
-    (asked-in p s (xs ++ record { line = line; kind = plain (pen q) } ∷ ys) (xs ++ ys) (led-front p xs (record { line = line; kind = plain (pen q) } ∷ ys) ys s (λ t. refl)))
+pub break-vanishes : (places : List PlacePenalty) (k : ℕ) (s : State) (line : ℕ) (q : ℤ) (xs ys : List PlainNode) → holds_box xs ≡ false
+    → unlimited_demerits_from places k (waits (xs ++ record { line = line; kind = plain (pen q) } ∷ ys) s) ≡ unlimited_demerits_from places k (waits (xs ++ ys) s)
+break-vanishes places k s line q xs ys h =
+    let made = ask_for (waits (xs ++ ys) s) in
+    run-in places k (waits (xs ++ ys) s) (xs ++ record { line = line; kind = plain (pen q) } ∷ ys)
+    (asked-in s (xs ++ record { line = line; kind = plain (pen q) } ∷ ys) (xs ++ ys) (led-front xs (record { line = line; kind = plain (pen q) } ∷ ys) ys s (λ t. refl)))
     (ap (reach_from made.max_depth (terms_after (frozen_for made s.classes s.boxes)) []) (penalty-vanishes made.top_skip line q xs ys h))

@@ -46,11 +46,11 @@ nothing-paid e = omega (arith, ints)
 module _ (g : Galley) where
   -- the demerits from a state
   abbrev from : ℕ → State → Option ℤ
-  from k s = unlimited_demerits_from g.params (place_penalties g.items) k s
+  from k s = unlimited_demerits_from (place_penalties g.items) k s
 
   -- the demerits of a page that fires
   abbrev page_demerits : State → State → List RunEvent → List Recorded → ℤ
-  page_demerits s t es rs = step_demerits g.params (place_penalties g.items) s (goes_on es rs t)
+  page_demerits s t es rs = step_demerits (place_penalties g.items) s (goes_on es rs t)
 
   -- the way here: which items were marked, how many pages were filled, and what they cost; whatever comes, its run from here is the last part of the run from the beginning
   record Way (s : State) (cs : List Ahead) (d : ℤ) (breaks : List ℕ) : Type 0 where
@@ -104,14 +104,14 @@ module _ (g : Galley) where
   }
 
   -- a page is filled, whatever is behind
-  filled-so : (s t : State) (es : List RunEvent) (rs : List Recorded) (more : List _) (k : ℕ) (e : ℤ) → (reach_in g.params s).fires ≡ true → unlimited_step g.params s ≡ goes_on es rs t
+  filled-so : (s t : State) (es : List RunEvent) (rs : List Recorded) (more : List _) (k : ℕ) (e : ℤ) → (reach_in s).fires ≡ true → unlimited_step s ≡ goes_on es rs t
       → from k (state_with more t) ≡ Some e → from (suc k) (state_with more s) ≡ Some (page_demerits s t es rs +ℤ e)
   filled-so s t es rs more k e fires h later =
-      fill-step g.params (place_penalties g.items) k s more fires
-      ∙ ap (λ x. demerits_after (λ u. from k u) (step_demerits g.params (place_penalties g.items) s x) (step_with more x)) h
+      fill-step (place_penalties g.items) k s more fires
+      ∙ ap (λ x. demerits_after (λ u. from k u) (step_demerits (place_penalties g.items) s x) (step_with more x)) h
       ∙ ap (more_demerits (page_demerits s t es rs)) later
 
-  way-filled : (s t : State) (cs : List Ahead) (d : ℤ) (breaks : List ℕ) (es : List RunEvent) (rs : List Recorded) → (reach_in g.params s).fires ≡ true → unlimited_step g.params s ≡ goes_on es rs t → Way s cs d breaks
+  way-filled : (s t : State) (cs : List Ahead) (d : ℤ) (breaks : List ℕ) (es : List RunEvent) (rs : List Recorded) → (reach_in s).fires ≡ true → unlimited_step s ≡ goes_on es rs t → Way s cs d breaks
       → Way t cs (d +ℤ page_demerits s t es rs) breaks
   way-filled s t cs d breaks es rs fires h w = record {
     marks = w.marks;
@@ -148,11 +148,11 @@ module _ (g : Galley) where
 
   marks-plan : (ms : List Bool) → AreMarks (all_ahead g) ms → IsPlan g (numbers_of (all_ahead g) ms)
   unfolding places_of all_ahead
-  marks-plan ms h = numbers-are-plan g.params (last_ahead g) refl false befores.Nothing 0 g.items ms h
+  marks-plan ms h = numbers-are-plan g.params (last_ahead g) refl g.params false befores.Nothing 0 g.items ms h
 
   plan-of-marks : (ms : List Bool) → AreMarks (all_ahead g) ms → plan_marks g (numbers_of (all_ahead g) ms) ≡ ms
   unfolding all_ahead
-  plan-of-marks ms h = numbers-are-marks g.params (last_ahead g) refl false befores.Nothing 0 g.items ms h
+  plan-of-marks ms h = numbers-are-marks g.params (last_ahead g) refl g.params false befores.Nothing 0 g.items ms h
 
   in-all : (d paid : ℤ) (m n : ℕ) → d ≡ (paid +ℤ pos (1000 * m)) → m ≡ n → (pos (1000 * n) +ℤ (paid +ℤ pos 0)) ≡ d
   in-all d paid m n h k = omega (arith, ints, h, k)
@@ -170,14 +170,14 @@ module _ (g : Galley) where
         is,
         ap (more_demerits (breaks_cost plan))
             (plan-run g plan is ∙ ap (λ l. from (plan_fuel g) (state_with (planned l (all_ahead g)) (empty_start g))) same
-            ∙ enough-fuel g.params (place_penalties g.items) k (plan_fuel g) (state_with (planned ms (all_ahead g)) (empty_start g)) (paid +ℤ pos 0) (omega arith) (omega arith) h)
+            ∙ enough-fuel (place_penalties g.items) k (plan_fuel g) (state_with (planned ms (all_ahead g)) (empty_start g)) (paid +ℤ pos 0) (omega arith) (omega arith) h)
             ∙ ap Some (in-all d paid (marked ms) (length plan) sum (ap marked (sym same) ∙ marks-are-counted g plan is)),
       )
 
-  end-so : (s : State) (es : List RunEvent) (rs : List Recorded) (left : List _) → unlimited_step g.params s ≡ ends es rs (done left) → from 1 (state_with [] s) ≡ Some (pos 0)
+  end-so : (s : State) (es : List RunEvent) (rs : List Recorded) (left : List _) → unlimited_step s ≡ ends es rs (done left) → from 1 (state_with [] s) ≡ Some (pos 0)
   end-so s es rs left h =
-      ap (from 1) (nothing-behind s) ∙ one-step g.params (place_penalties g.items) 0 s
-      ∙ ap (λ x. demerits_after (λ u. from 0 u) (step_demerits g.params (place_penalties g.items) s x) x) h
+      ap (from 1) (nothing-behind s) ∙ one-step (place_penalties g.items) 0 s
+      ∙ ap (λ x. demerits_after (λ u. from 0 u) (step_demerits (place_penalties g.items) s x) x) h
 
   -- what is reached at an end is a plan with these demerits
   pub ends-are-plans : (d : ℤ) (breaks : List ℕ) → IsEnd g d breaks → IsPlan g (reverse breaks) × (plan_demerits g (reverse breaks) ≡ Some d)

@@ -10,6 +10,7 @@ use Rattle.tb_items.specs.RunEvents.{RunEvent}
 use Rattle.tb_steps.specs.Run.{done, ends, goes_on}
 use Rattle.tb_rate.specs.Places.{place_penalties}
 use Rattle.tb_best.specs.PlanDemerits.{reach_in, unlimited_step, step_demerits, unlimited_demerits_from}
+use Rattle.tb_best.specs.Sides.{may_alternate, KeepSides}
 use Rattle.tb_best.specs.ItemsAhead.{Ahead, all_ahead, empty_start, forced, state_with}
 
 -- what a table knows: a state with these items ahead was reached at these demerits with these breaks, the last one first, or by a better way
@@ -40,11 +41,11 @@ rows_know (r ∷ rs) s cs d breaks = IsRowOf r s cs d breaks ⊎ rows_know rs s 
 
 -- the demerits of a run of this galley from a state, with these nodes behind
 abbrev pub demerits_with : Galley → ℕ → List PlainNode → State → Option ℤ
-demerits_with g fuel more s = unlimited_demerits_from g.params (place_penalties g.items) fuel (state_with more s)
+demerits_with g fuel more s = unlimited_demerits_from (place_penalties g.items) fuel (state_with more s)
 
--- whatever is behind, the run from the second state has no more demerits than that from the first
+-- whatever is behind, the run from the second state has no more demerits than that from the first; if marginal notes keep their sides in the galley, the nodes behind let them do so too
 abbrev pub IsAsGood : Galley → State → State → Type 0
-IsAsGood g s t = (fuel : ℕ) (more : List PlainNode) (d : ℤ) → demerits_with g fuel more s ≡ Some d → (e : ℤ) × (demerits_with g fuel more t ≡ Some e) × (e ≤ℤ d)
+IsAsGood g s t = (fuel : ℕ) (more : List PlainNode) (d : ℤ) → KeepSides (may_alternate g) more → demerits_with g fuel more s ≡ Some d → (e : ℤ) × (demerits_with g fuel more t ≡ Some e) × (e ≤ℤ d)
 
 -- whatever is behind, both have the same
 abbrev pub AreAlike : Galley → State → State → Type 0
@@ -61,15 +62,15 @@ pub record IsClosed (g : Galley) (total : ℤ) (best : List ℕ) (Known : Table)
   -- the beginning, with all items ahead
   pub begins : Known (empty_start g) (all_ahead g) (pos 0) []
   -- an item is taken
-  pub takes : (s : State) (c : Ahead) (cs : List Ahead) (d : ℤ) (breaks : List ℕ) → Known s (c ∷ cs) d breaks → (reach_in g.params s).fires ≡ false → Known (state_with c.nodes s) cs d breaks
+  pub takes : (s : State) (c : Ahead) (cs : List Ahead) (d : ℤ) (breaks : List ℕ) → Known s (c ∷ cs) d breaks → (reach_in s).fires ≡ false → Known (state_with c.nodes s) cs d breaks
   -- a break is put in after the first box of a page, and the item is taken
-  pub cuts : (s : State) (c : Ahead) (cs : List Ahead) (d : ℤ) (breaks : List ℕ) → Known s (c ∷ cs) d breaks → (reach_in g.params s).fires ≡ false → c.is_place ≡ true → holds_box s.waiting ≡ true
+  pub cuts : (s : State) (c : Ahead) (cs : List Ahead) (d : ℤ) (breaks : List ℕ) → Known s (c ∷ cs) d breaks → (reach_in s).fires ≡ false → c.is_place ≡ true → holds_box s.waiting ≡ true
       → Known (state_with (forced c ∷ c.nodes) s) cs (d +ℤ pos 1000) (c.number ∷ breaks) ⊎ (total <ℤ (d +ℤ pos 1000))
   -- a page is filled
-  pub fills : (s t : State) (cs : List Ahead) (d : ℤ) (breaks : List ℕ) (es : List RunEvent) (rs : List Recorded) → Known s cs d breaks → (reach_in g.params s).fires ≡ true → unlimited_step g.params s ≡ goes_on es rs t
-      → KnowsAsGood g Known t cs (d +ℤ step_demerits g.params (place_penalties g.items) s (goes_on es rs t)) breaks ⊎ (total <ℤ (d +ℤ step_demerits g.params (place_penalties g.items) s (goes_on es rs t)))
+  pub fills : (s t : State) (cs : List Ahead) (d : ℤ) (breaks : List ℕ) (es : List RunEvent) (rs : List Recorded) → Known s cs d breaks → (reach_in s).fires ≡ true → unlimited_step s ≡ goes_on es rs t
+      → KnowsAsGood g Known t cs (d +ℤ step_demerits (place_penalties g.items) s (goes_on es rs t)) breaks ⊎ (total <ℤ (d +ℤ step_demerits (place_penalties g.items) s (goes_on es rs t)))
   -- the run ends well
-  pub finishes : (s : State) (d : ℤ) (breaks : List ℕ) (es : List RunEvent) (rs : List Recorded) (left : List PlainNode) → Known s [] d breaks → (reach_in g.params s).fires ≡ false → unlimited_step g.params s ≡ ends es rs (done left)
+  pub finishes : (s : State) (d : ℤ) (breaks : List ℕ) (es : List RunEvent) (rs : List Recorded) (left : List PlainNode) → Known s [] d breaks → (reach_in s).fires ≡ false → unlimited_step s ≡ ends es rs (done left)
       → IsNoBetter total best d breaks
 
 -- a state with these items ahead is reached by moves from the beginning, or is like one that is, at these demerits and with these breaks, the last one first
@@ -78,8 +79,8 @@ module _ (g : Galley) where
     begun : Reaches (empty_start g) (all_ahead g) (pos 0) []
     takes : (s : State) (c : Ahead) (cs : List Ahead) (d : ℤ) (breaks : List ℕ) → Reaches s (c ∷ cs) d breaks → Reaches (state_with c.nodes s) cs d breaks
     cuts : (s : State) (c : Ahead) (cs : List Ahead) (d : ℤ) (breaks : List ℕ) → Reaches s (c ∷ cs) d breaks → c.is_place ≡ true → Reaches (state_with (forced c ∷ c.nodes) s) cs (d +ℤ pos 1000) (c.number ∷ breaks)
-    fills : (s t : State) (cs : List Ahead) (d : ℤ) (breaks : List ℕ) (es : List RunEvent) (rs : List Recorded) → Reaches s cs d breaks → (reach_in g.params s).fires ≡ true → unlimited_step g.params s ≡ goes_on es rs t
-        → Reaches t cs (d +ℤ step_demerits g.params (place_penalties g.items) s (goes_on es rs t)) breaks
+    fills : (s t : State) (cs : List Ahead) (d : ℤ) (breaks : List ℕ) (es : List RunEvent) (rs : List Recorded) → Reaches s cs d breaks → (reach_in s).fires ≡ true → unlimited_step s ≡ goes_on es rs t
+        → Reaches t cs (d +ℤ step_demerits (place_penalties g.items) s (goes_on es rs t)) breaks
     merges : (s t : State) (cs : List Ahead) (d : ℤ) (breaks : List ℕ) → Reaches s cs d breaks → AreAlike g s t → Reaches t cs d breaks
 
 -- the run ends well at these demerits and with these breaks, the last one first
@@ -89,4 +90,4 @@ pub record IsEnd (g : Galley) (d : ℤ) (breaks : List ℕ) : Type 0 where
   pub records : List Recorded
   pub left : List PlainNode
   pub reached : Reaches g state [] d breaks
-  pub ends_well : unlimited_step g.params state ≡ ends events records (done left)
+  pub ends_well : unlimited_step state ≡ ends events records (done left)

@@ -1,8 +1,6 @@
 -- The counts of a state: how many pages were shipped, the number of the next page, and the firings since a page was shipped. A
 -- run looks at them only for its limits, and at the number for the sides of marginal notes.
-use Rattle.std.specs.Prelude.{◌≡◌, ◌≤◌, ℕ, ◌%◌, true}
-use Rattle.tb_param.specs.declared.Params.{Params}
-use Rattle.tb_margin.specs.Margin.{is_on}
+use Rattle.std.specs.Prelude.{◌≡◌, ◌≤◌, ℕ, ◌%◌, Bool, true}
 use Rattle.tb_output.specs.State.{State}
 
 -- the counts of a state
@@ -19,8 +17,8 @@ counts_of s = record { page = s.page; number = s.number; dead_cycles = s.dead_cy
 abbrev pub with_counts : Counts → State → State
 with_counts c s = record s { page = c.page; number = c.number; dead_cycles = c.dead_cycles }
 
--- the first counts are no greater than the second, and marginal notes go to the same sides; the numbers themselves are only shown
-pub record AreNoGreater (p : Params) (c e : Counts) : Type 0 where
+-- the first counts are no greater than the second, and if marginal notes may change sides from page to page, they go to the same sides; the numbers themselves are only shown
+pub record AreNoGreater (may : Bool) (c e : Counts) : Type 0 where
   pub pages : c.page ≤ e.page
   pub dead_cycles : c.dead_cycles ≤ e.dead_cycles
-  pub sides : is_on p.mparswitch ≡ true → (c.number % 2) ≡ (e.number % 2)
+  pub sides : may ≡ true → (c.number % 2) ≡ (e.number % 2)

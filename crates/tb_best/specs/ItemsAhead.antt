@@ -4,7 +4,7 @@ use Rattle.tb_node.specs.PlainNodes.{pen, plain, PlainNode, on_line, clearpage_k
 use Rattle.tb_param.specs.declared.Params.{Params}
 use Rattle.tb_galley.specs.declared.Item.{Item}
 use Rattle.tb_galley.specs.declared.Galley.{Galley}
-use Rattle.tb_galley.specs.GalleyNodes.{item_kinds, two_after}
+use Rattle.tb_galley.specs.GalleyNodes.{item_kinds, two_after, params_after}
 use Rattle.tb_items.specs.Classes.{classes_of}
 use Rattle.tb_output.specs.State.{State, first_state}
 use Rattle.tb_plans.specs.declared.walk.Before.{Before}
@@ -18,15 +18,15 @@ pub record Ahead : Type 0 where
   pub nodes : List PlainNode
   pub is_place : Bool
 
--- the item with this number, by what is before it and whether glue comes next
-abbrev pub item_ahead : Params → Bool → Before → ℕ → Item → List Item → Ahead
-item_ahead p two b k n ns =
-    record { number = k; line = n.line; nodes = on_line n.line (item_kinds p two n.kind); is_place = is_place (is_glue_next p two ns) b n.kind }
+-- the item with this number, by the parameters of the galley, those that hold before the item, what is before it, and whether glue comes next
+abbrev pub item_ahead : Params → Params → Bool → Before → ℕ → Item → List Item → Ahead
+item_ahead p q two b k n ns =
+    record { number = k; line = n.line; nodes = on_line n.line (item_kinds q two n.kind); is_place = is_place (is_glue_next p two ns) b n.kind }
 
--- the items, the first of which has the number k, and what comes at the end
-abbrev pub ahead_from : Params → Ahead → Bool → Before → ℕ → List Item → List Ahead
-ahead_from p last two b k [] = last ∷ []
-ahead_from p last two b k (n ∷ ns) = item_ahead p two b k n ns ∷ ahead_from p last (two_after two n.kind) (before_after p two b n.kind) (suc k) ns
+-- the items, the first of which has the number k, and what comes at the end; the places are those of the galley's parameters, and the nodes those of the parameters that hold before the items
+abbrev pub ahead_from : Params → Params → Ahead → Bool → Before → ℕ → List Item → List Ahead
+ahead_from p q last two b k [] = last ∷ []
+ahead_from p q last two b k (n ∷ ns) = item_ahead p q two b k n ns ∷ ahead_from p (params_after q n.kind) last (two_after two n.kind) (before_after p two b n.kind) (suc k) ns
 
 -- the clear at the end of a galley, before which no break may be put in
 abbrev pub last_ahead : Galley → Ahead
@@ -34,7 +34,7 @@ last_ahead g = record { number = length g.items; line = g.end_line; nodes = on_l
 
 -- all items of a galley and the clear at its end
 unfoldable pub all_ahead : Galley → List Ahead
-all_ahead g = ahead_from g.params (last_ahead g) false befores.Nothing 0 g.items
+all_ahead g = ahead_from g.params g.params (last_ahead g) false befores.Nothing 0 g.items
 
 -- the state in which the run of a galley begins, with all its items ahead
 abbrev pub empty_start : Galley → State

@@ -1,6 +1,7 @@
 pub mod PlanDemerits
 pub mod BestPlan
 pub mod ItemsAhead
+pub mod Sides
 pub mod ClosedTables
 pub mod Counts
 pub mod Tidied

@@ -6,7 +6,6 @@ ghost use Rattle.tb_node.specs.PlainNodes.{PlainNode, on_line};
 ghost use Rattle.tb_node.specs.declared.Act.{Act};
 ghost use Rattle.tb_galley.specs.GalleyNodes.{with_firings};
 ghost use Rattle.tb_builder.specs.Reach.{holds_box};
-ghost use Rattle.tb_param.specs.declared.Params.{Params};
 ghost use Rattle.tb_column.specs.Column.{PlainColumn};
 ghost use Rattle.tb_output.specs.State.{State, Recorded};
 ghost use Rattle.tb_items.specs.RunEvents.{RunEvent};
@@ -17,7 +16,8 @@ ghost use Rattle.tb_rate.specs.RatedRun.{demerits, more_demerits};
 ghost use Rattle.tb_best.specs.PlanDemerits.{reach_in, unlimited_step, step_demerits, breaks_cost, plan_demerits};
 ghost use Rattle.tb_best.specs.BestPlan.{IsBest, HasNoPlan, with_limit};
 ghost use Rattle.tb_best.specs.BestOf.{RatedPlan, best_of};
-ghost use Rattle.tb_best.specs.ItemsAhead.{Ahead, forced, state_with};
+ghost use Rattle.tb_best.specs.ItemsAhead.{Ahead, all_ahead, empty_start, forced, state_with};
+ghost use Rattle.tb_best.specs.Sides.{may_alternate, AheadKeep, KeepSides, KeepsSides};
 ghost use Rattle.tb_best.specs.Counts.{counts_of, with_counts, AreNoGreater, Counts};
 ghost use Rattle.tb_best.specs.ClosedTables.{Row, rows_know, AreAlike, IsAsGood, IsClosed, Reaches, IsEnd};
 ghost use Rattle.tb_best.specs.Tidied.{tidied};
@@ -49,9 +49,9 @@ pub fn ends_are_plans()
 /// A step of a run looks no further than the place at which its page fires: with more nodes behind the page fires too, the run
 /// goes on in the same state with these nodes behind, and the step has the same demerits.
 pub fn steps_look_no_further()
-    ensures fires { (p : Params) (s t : State) (es : List RunEvent) (rs : List Recorded) (more : List PlainNode) → step p s ≡ goes_on es rs t → (reach_in p (state_with more s)).fires ≡ true }
-    ensures run { (p : Params) (s t : State) (es : List RunEvent) (rs : List Recorded) (more : List PlainNode) → step p s ≡ goes_on es rs t → unlimited_step p (state_with more s) ≡ goes_on es rs (state_with more t) }
-    ensures demerits { (p : Params) (places : List PlacePenalty) (s t : State) (es : List RunEvent) (rs : List Recorded) (more : List PlainNode) → step p s ≡ goes_on es rs t → step_demerits p places (state_with more s) (goes_on es rs (state_with more t)) ≡ step_demerits p places s (goes_on es rs t) }
+    ensures fires { (s t : State) (es : List RunEvent) (rs : List Recorded) (more : List PlainNode) → step s ≡ goes_on es rs t → (reach_in (state_with more s)).fires ≡ true }
+    ensures run { (s t : State) (es : List RunEvent) (rs : List Recorded) (more : List PlainNode) → step s ≡ goes_on es rs t → unlimited_step (state_with more s) ≡ goes_on es rs (state_with more t) }
+    ensures demerits { (places : List PlacePenalty) (s t : State) (es : List RunEvent) (rs : List Recorded) (more : List PlainNode) → step s ≡ goes_on es rs t → step_demerits places (state_with more s) (goes_on es rs (state_with more t)) ≡ step_demerits places s (goes_on es rs t) }
 {}
 
 /// A state may stand for another: without the glue, kerns and penalties before the first box that waits, it has the same runs.
@@ -65,21 +65,31 @@ pub fn left_columns_are_alike()
 {}
 
 /// A state is as good as one whose counts are no smaller: the run from it has no more demerits. So a search may leave out one
-/// that has shipped more pages, or has fired more often since, for no gain.
+/// that has shipped more pages, or has fired more often since, for no gain. If marginal notes may change sides from page to
+/// page somewhere in the galley, they must go to the same sides in both.
 pub fn smaller_counts_are_as_good()
-    ensures { (g : Galley) (s : State) (c : Counts) → AreNoGreater g.params c (counts_of s) → IsAsGood g s (with_counts c s) }
+    ensures { (g : Galley) (s : State) (c : Counts) → KeepsSides (may_alternate g) s → AreNoGreater (may_alternate g) c (counts_of s) → IsAsGood g s (with_counts c s) }
+{}
+
+/// Marginal notes keep their sides throughout a run of a galley whose parameters do not let them change sides from page to page
+/// and whose items do not either: they do where it begins, with the nodes of each item, and after each step.
+pub fn notes_keep_sides()
+    ensures begins { (g : Galley) → KeepsSides (may_alternate g) (empty_start g) }
+    ensures items { (g : Galley) → AheadKeep (may_alternate g) (all_ahead g) }
+    ensures takes { (may : Bool) (s : State) (more : List PlainNode) → KeepsSides may s → KeepSides may more → KeepsSides may (state_with more s) }
+    ensures steps { (may : Bool) (s t : State) (es : List RunEvent) (rs : List Recorded) → KeepsSides may s → unlimited_step s ≡ goes_on es rs t → KeepsSides may t }
 {}
 
 /// A page with a box fires where a break is put in, and any page fires at a float or marginal note that has firings of its own.
 pub fn breaks_fire()
-    ensures put_in { (p : Params) (s : State) (c : Ahead) → holds_box s.waiting ≡ true → (reach_in p (state_with (forced c ∷ c.nodes) s)).fires ≡ true }
-    ensures called { (p : Params) (s : State) (line : ℕ) (a : Act) (vert : Bool) → (reach_in p (state_with (on_line line (with_firings a vert)) s)).fires ≡ true }
+    ensures put_in { (s : State) (c : Ahead) → holds_box s.waiting ≡ true → (reach_in (state_with (forced c ∷ c.nodes) s)).fires ≡ true }
+    ensures called { (s : State) (line : ℕ) (a : Act) (vert : Bool) → (reach_in (state_with (on_line line (with_firings a vert)) s)).fires ≡ true }
 {}
 
 /// Where a step ends a run well no page fires, and the number of nodes was not met.
 pub fn good_ends_are_quiet()
-    ensures quiet { (p : Params) (s : State) (es : List RunEvent) (rs : List Recorded) (left : List PlainNode) → step p s ≡ ends es rs (done left) → (reach_in p s).fires ≡ false }
-    ensures run { (p : Params) (s : State) (es : List RunEvent) (rs : List Recorded) (left : List PlainNode) → step p s ≡ ends es rs (done left) → unlimited_step p s ≡ ends es rs (done left) }
+    ensures quiet { (s : State) (es : List RunEvent) (rs : List Recorded) (left : List PlainNode) → step s ≡ ends es rs (done left) → (reach_in s).fires ≡ false }
+    ensures run { (s : State) (es : List RunEvent) (rs : List Recorded) (left : List PlainNode) → step s ≡ ends es rs (done left) → unlimited_step s ≡ ends es rs (done left) }
 {}
 
 /// If the run with the breaks ends well, the demerits of the plan are those of that run, and 1000 for each break.

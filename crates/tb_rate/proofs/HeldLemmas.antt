@@ -10,7 +10,7 @@ use Rattle.tb_param.specs.Release.{has_second}
 use Rattle.tb_galley.specs.declared.Item.{Item}
 use Rattle.tb_galley.specs.declared.ItemKind.{ItemKind}
 use Rattle.tb_galley.specs.declared.ItemKind.TheVariants as items
-use Rattle.tb_galley.specs.GalleyNodes.{item_kinds, item_nodes, with_firings, two_after}
+use Rattle.tb_galley.specs.GalleyNodes.{item_kinds, item_nodes, with_firings, two_after, params_after}
 use Rattle.tb_items.specs.declared.items_left.ItemsLeft.{ItemsLeft}
 use Rattle.tb_items.specs.ItemsLeft.{nodes_of}
 use Rattle.tb_rate.specs.RatedRun.{is_inserted, inserted_first, insertions_first}
@@ -27,13 +27,13 @@ one-item p two line k ns = refl
 feet-items : (p : Params) (two : Bool) (ns : List Item) (end : List PlainNode) → insertions_first end ≡ 0 → insertions_first (item_nodes p two ns ++ end) ≡ inserted_first ns
 feet-items p two [] end h = h
 feet-items p two (n ∷ ns) end h =
-    ap insertions_first (append_assoc (on_line n.line (item_kinds p two n.kind)) (item_nodes p (two_after two n.kind) ns) end)
-    ∙ one-item p two n.line n.kind (item_nodes p (two_after two n.kind) ns ++ end)
-    ∙ ap (λ m. if is_inserted n.kind then suc m else 0) (feet-items p (two_after two n.kind) ns end h)
+    ap insertions_first (append_assoc (on_line n.line (item_kinds p two n.kind)) (item_nodes (params_after p n.kind) (two_after two n.kind) ns) end)
+    ∙ one-item p two n.line n.kind (item_nodes (params_after p n.kind) (two_after two n.kind) ns ++ end)
+    ∙ ap (λ m. if is_inserted n.kind then suc m else 0) (feet-items (params_after p n.kind) (two_after two n.kind) ns end h)
 
 -- the insertions that come first among the nodes of items are the items that are insertions and come first
 pub feet-are : (l : ItemsLeft) → insertions_first (nodes_of l) ≡ inserted_first l.items.now
-feet-are l = feet-items l.galley.now.params l.two l.items.now (on_line l.galley.now.end_line clearpage_kinds) refl
+feet-are l = feet-items l.params l.two l.items.now (on_line l.galley.now.end_line clearpage_kinds) refl
 
 -- ---- a walk over items
 

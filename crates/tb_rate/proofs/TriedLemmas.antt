@@ -6,7 +6,6 @@ use Rattle.tb_scaled.specs.Scaled.{awful_bad, inf_bad, inf_penalty, badness_rati
 use Rattle.tb_node.specs.Shape.{Shape, box, glue, kern, penalty, other}
 use Rattle.tb_node.specs.declared.Sums.{Sums}
 use Rattle.tb_node.specs.PlainNodes.{PlainKind, plain, ins, act, PlainNode, node_shape, without_acts}
-use Rattle.tb_param.specs.declared.Params.{Params}
 use Rattle.tb_break.specs.Best.{Breakpoint, is_stop}
 use Rattle.tb_break.specs.Cost.{finite_stretch, stretches_infinitely, page_badness}
 use Rattle.tb_break.specs.Places.{begins_with_glue, ends_lasting, legal_penalty}
@@ -143,23 +142,23 @@ warned-tried : (ws : List Warn) → AreTried (map (λ w. sent (warned w)) ws)
 warned-tried [] = tt
 warned-tried (w ∷ ws) = warned-tried ws
 
-abbrev trying : (p : Params) → RunLaw p
-trying p = record {
+abbrev trying : RunLaw
+trying = record {
   shows = record { holds = λ es rs. AreTried es; none = tt; both = λ es fs rs qs h k. both-tried es fs h k };
   between = λ s. Unit {0};
   within = λ o rs s. ArePlaces rs;
-  begins = λ s h. reached-places (ask_for p s).max_depth (terms_after (frozen_for (ask_for p s) s.classes s.boxes)) [] (laid_out (ask_for p s).top_skip [] s.waiting);
+  begins = λ s h. reached-places (ask_for s).max_depth (terms_after (frozen_for (ask_for s) s.classes s.boxes)) [] (laid_out (ask_for s).top_skip [] s.waiting);
   tries = λ o line b least rs s h. ((record { badness = h.0.0; penalty = h.0.1 }, tt), h.1);
   acts = λ o s t a ws records rs m h. (warned-tried ws, h.1);
-  fires = λ o s h. (sent-tried (served_at p o s).sent, tt);
+  fires = λ o s h. (sent-tried (served_at o s).sent, tt);
   stops = λ o s h. tt;
 }
 
 -- each place that is tried in a step
-pub step-tried : (p : Params) (s : State) → AreTried (step_events (step p s))
-step-tried p s = by_step (step p s) (step-holds (trying p) (step-is p s) tt)
+pub step-tried : (s : State) → AreTried (step_events (step s))
+step-tried s = by_step (step s) (step-holds trying (step-is s) tt)
   where
-    by_step : (x : Step) → StepHolds (trying p) x → AreTried (step_events x)
+    by_step : (x : Step) → StepHolds trying x → AreTried (step_events x)
     by_step (ends es rs e) h = h
     by_step (goes_on es rs t) h = h.0
 

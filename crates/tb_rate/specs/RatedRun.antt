@@ -1,6 +1,5 @@
 -- A run with the ratings of its text columns, and its demerits.
 use Rattle.std.specs.Prelude.{ℕ, zero, suc, ◌+◌, ℤ, pos, ◌+ℤ◌, Bool, true, false, List, [], ◌∷◌, ◌++◌, map, length, Option, Some, None, int_lt, if◌then◌else◌}
-use Rattle.tb_param.specs.declared.Params.{Params}
 use Rattle.tb_galley.specs.declared.Item.{Item}
 use Rattle.tb_galley.specs.declared.ItemKind.{ItemKind}
 use Rattle.tb_galley.specs.declared.ItemKind.TheVariants as items
@@ -40,14 +39,14 @@ abbrev pub inserted_first : List Item → ℕ
 inserted_first [] = 0
 inserted_first (n ∷ ns) = if is_inserted n.kind then suc (inserted_first ns) else 0
 
--- the rating of the column that a step from this state put out, which is on the first page that the step shipped, or on the page that is made after it; a step that ends the run puts out none, or one that does not count
-abbrev pub rating_by : Params → List PlacePenalty → State → Step → Option Rating
-rating_by p places s (ends es rs e) = None
-rating_by p places s (goes_on es rs t) = rating p places (first_number t.number es) (last_champion es) (floats_waiting t.floats) (insertions_first t.waiting)
+-- the rating of the column that a step put out, by the parameters that hold then; it is on the first page that the step shipped, or on the page that is made after it; a step that ends the run puts out none, or one that does not count
+abbrev pub rating_by : List PlacePenalty → State → Step → Option Rating
+rating_by places s (ends es rs e) = None
+rating_by places s (goes_on es rs t) = rating t.params places (first_number t.number es) (last_champion es) (floats_waiting t.floats) (insertions_first t.waiting)
 
 -- the rating of the step from a state
-abbrev pub step_rating : Params → List PlacePenalty → State → Option Rating
-step_rating p places s = rating_by p places s (step p s)
+abbrev pub step_rating : List PlacePenalty → State → Option Rating
+step_rating places s = rating_by places s (step s)
 
 -- ---- what is shown
 
@@ -62,8 +61,8 @@ if_rated None = []
 if_rated (Some r) = rates r ∷ []
 
 -- a step's events, and then its rating
-abbrev pub step_rated : Params → List PlacePenalty → State → List Rated
-step_rated p places s = map (λ e. happens e) (step_events (step p s)) ++ if_rated (step_rating p places s)
+abbrev pub step_rated : List PlacePenalty → State → List Rated
+step_rated places s = map (λ e. happens e) (step_events (step s)) ++ if_rated (step_rating places s)
 
 -- the run by its first step
 abbrev pub rated_after : (State → List Rated) → Step → List Rated
@@ -71,9 +70,9 @@ rated_after later (ends es rs e) = []
 rated_after later (goes_on es rs t) = later t
 
 -- the run from a state with its ratings, with as much fuel as the run
-unfoldable pub rated_from : Params → List PlacePenalty → ℕ → State → List Rated
-rated_from p places zero s = []
-rated_from p places (suc fuel) s = step_rated p places s ++ rated_after (λ t. rated_from p places fuel t) (step p s)
+unfoldable pub rated_from : List PlacePenalty → ℕ → State → List Rated
+rated_from places zero s = []
+rated_from places (suc fuel) s = step_rated places s ++ rated_after (λ t. rated_from places fuel t) (step s)
 
 -- ---- the demerits
 
@@ -98,23 +97,23 @@ demerits_after later d (ends es rs e) = demerits_at e
 demerits_after later d (goes_on es rs t) = more_demerits d (later t)
 
 -- the demerits of the columns of a run from a state, with as much fuel as the run; none if the run does not end well
-unfoldable pub demerits_from : Params → List PlacePenalty → ℕ → State → Option ℤ
-demerits_from p places zero s = None
-demerits_from p places (suc fuel) s = demerits_after (λ t. demerits_from p places fuel t) (demerits_if (step_rating p places s)) (step p s)
+unfoldable pub demerits_from : List PlacePenalty → ℕ → State → Option ℤ
+demerits_from places zero s = None
+demerits_from places (suc fuel) s = demerits_after (λ t. demerits_from places fuel t) (demerits_if (step_rating places s)) (step s)
 
 -- ---- the run of a galley
 
 -- what is shown of a run from a state, which ends at once if it holds too many nodes
-abbrev pub rated_of_state : Params → List PlacePenalty → State → List Rated
-rated_of_state p places s =
-    let shown = rated_from p places (suc (firings_left p s)) s in
-    if int_lt p.maxnodes (pos (held_count s)) then [] else shown
+abbrev pub rated_of_state : List PlacePenalty → State → List Rated
+rated_of_state places s =
+    let shown = rated_from places (suc (firings_left s)) s in
+    if int_lt s.params.maxnodes (pos (held_count s)) then [] else shown
 
 -- its demerits
-abbrev pub demerits_of_state : Params → List PlacePenalty → State → Option ℤ
-demerits_of_state p places s =
-    let sum = demerits_from p places (suc (firings_left p s)) s in
-    if int_lt p.maxnodes (pos (held_count s)) then None else sum
+abbrev pub demerits_of_state : List PlacePenalty → State → Option ℤ
+demerits_of_state places s =
+    let sum = demerits_from places (suc (firings_left s)) s in
+    if int_lt s.params.maxnodes (pos (held_count s)) then None else sum
 
 -- the state in which the run of a galley begins
 abbrev pub start_of : Galley → State
@@ -122,11 +121,11 @@ start_of g = first_state g.params (classes_of g) (expanded g)
 
 -- the run of a galley with the ratings of its text columns
 unfoldable pub rated_run : Galley → List Rated
-rated_run g = rated_of_state g.params (place_penalties g.items) (start_of g)
+rated_run g = rated_of_state (place_penalties g.items) (start_of g)
 
 -- the demerits of the pages of a galley; none if its run does not end well
 unfoldable pub demerits : Galley → Option ℤ
-demerits g = demerits_of_state g.params (place_penalties g.items) (start_of g)
+demerits g = demerits_of_state (place_penalties g.items) (start_of g)
 
 -- the events among what is shown
 abbrev pub happened_among : List Rated → List RunEvent

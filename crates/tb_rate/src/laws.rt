@@ -1,7 +1,6 @@
 //! Laws of a run with its ratings: each function is a theorem, stated by its contract, and does nothing.
 
 ghost use Rattle.std.specs.Prelude.{◌≡◌, IfSome};
-ghost use Rattle.tb_param.specs.declared.Params.{Params};
 ghost use Rattle.tb_galley.specs.declared.Galley.{Galley};
 ghost use Rattle.tb_output.specs.State.{State};
 ghost use Rattle.tb_steps.specs.Run.{run_of, step, step_events};
@@ -16,5 +15,5 @@ pub fn ratings_change_nothing()
 
 /// The place at which a page breaks is as [`rate`](crate::rate) asks for it.
 pub fn breaks_can_be_rated()
-    ensures { (p : Params) (s : State) → IfSome (last_champion (step_events (step p s))) IsTried }
+    ensures { (s : State) → IfSome (last_champion (step_events (step s))) IsTried }
 {}

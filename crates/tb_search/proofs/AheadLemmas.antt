@@ -6,7 +6,7 @@ use Rattle.std.specs.Borrow.{Bor}
 use Rattle.tb_param.specs.declared.Params.{Params}
 use Rattle.tb_galley.specs.declared.Item.{Item}
 use Rattle.tb_galley.specs.declared.Galley.{Galley}
-use Rattle.tb_galley.specs.GalleyNodes.{two_after}
+use Rattle.tb_galley.specs.GalleyNodes.{two_after, params_after}
 use Rattle.tb_items.specs.declared.items_left.ItemsLeft.{ItemsLeft}
 use Rattle.tb_items.specs.ItemsLeft.{first_nodes, IsPastNext}
 use Rattle.tb_plans.specs.declared.walk.Before.{Before}
@@ -18,26 +18,26 @@ use Rattle.tb_search.specs.Branches.{next_of, break_before, first_break, IsPast}
 
 -- ---- how many there are, and their numbers
 
-length-from : (p : Params) (last : Ahead) (two : Bool) (b : Before) (k : ℕ) (ns : List Item) → length (ahead_from p last two b k ns) ≡ suc (length ns)
-length-from p last two b k [] = refl
-length-from p last two b k (n ∷ ns) = ap suc (length-from p last (two_after two n.kind) (before_after p two b n.kind) (suc k) ns)
+length-from : (p q : Params) (last : Ahead) (two : Bool) (b : Before) (k : ℕ) (ns : List Item) → length (ahead_from p q last two b k ns) ≡ suc (length ns)
+length-from p q last two b k [] = refl
+length-from p q last two b k (n ∷ ns) = ap suc (length-from p (params_after q n.kind) last (two_after two n.kind) (before_after p two b n.kind) (suc k) ns)
 
 -- the items and the clear
 pub all-counted : (g : Galley) → length (all_ahead g) ≡ suc (length g.items)
 unfolding all_ahead
-all-counted g = length-from g.params (last_ahead g) false befores.Nothing 0 g.items
+all-counted g = length-from g.params g.params (last_ahead g) false befores.Nothing 0 g.items
 
-numbers-from : (p : Params) (last : Ahead) (two : Bool) (b : Before) (k : ℕ) (ns : List Item) (j : ℕ) → last.number ≡ k + length ns → j ≤ length ns → (get_or (ahead_from p last two b k ns) j last).number ≡ k + j
-numbers-from p last two b k [] zero e h = omega (arith, e)
-numbers-from p last two b k [] (suc j) e h = absurd (omega (arith, h))
-numbers-from p last two b k (n ∷ ns) zero e h = omega arith
-numbers-from p last two b k (n ∷ ns) (suc j) e h =
-    numbers-from p last (two_after two n.kind) (before_after p two b n.kind) (suc k) ns j (omega (arith, e)) (omega (arith, h)) ∙ omega arith
+numbers-from : (p q : Params) (last : Ahead) (two : Bool) (b : Before) (k : ℕ) (ns : List Item) (j : ℕ) → last.number ≡ k + length ns → j ≤ length ns → (get_or (ahead_from p q last two b k ns) j last).number ≡ k + j
+numbers-from p q last two b k [] zero e h = omega (arith, e)
+numbers-from p q last two b k [] (suc j) e h = absurd (omega (arith, h))
+numbers-from p q last two b k (n ∷ ns) zero e h = omega arith
+numbers-from p q last two b k (n ∷ ns) (suc j) e h =
+    numbers-from p (params_after q n.kind) last (two_after two n.kind) (before_after p two b n.kind) (suc k) ns j (omega (arith, e)) (omega (arith, h)) ∙ omega arith
 
 -- each has its number
 pub number-is : (g : Galley) (j : ℕ) → j < length (all_ahead g) → (get_or (all_ahead g) j (last_ahead g)).number ≡ j
 unfolding all_ahead
-number-is g j h = let n = all-counted g in numbers-from g.params (last_ahead g) false befores.Nothing 0 g.items j (omega arith) (omega (arith, n)) ∙ omega arith
+number-is g j h = let n = all-counted g in numbers-from g.params g.params (last_ahead g) false befores.Nothing 0 g.items j (omega arith) (omega (arith, n)) ∙ omega arith
 
 -- ---- so many of the last
 
@@ -70,7 +70,7 @@ module _ (g : Galley) (l : ItemsLeft) (b : Before) (m : ℕ) (galley : l.galley.
   -- the clear
   taken-clear : (c : Ahead) (cs : List Ahead) (p : Option ItemsLeft) → c ∷ cs ≡ last_ahead g ∷ [] → l.items.now ≡ [] → IsPastNext l p → IsNextTaken g c cs (Some l) p
   taken-clear c cs None e none past = record {
-    nodes = (λ i. first_nodes (galley i) l.two (none i)) ∙ ap (λ (d : Ahead). d.nodes) (sym same);
+    nodes = (λ i. first_nodes (galley i) l.params l.two (none i)) ∙ ap (λ (d : Ahead). d.nodes) (sym same);
     break = λ h. absurd (true≢false (sym h ∙ ap (λ (d : Ahead). d.is_place) same));
     after = cc;
   }
@@ -80,23 +80,23 @@ module _ (g : Galley) (l : ItemsLeft) (b : Before) (m : ℕ) (galley : l.galley.
   taken-clear c cs (Some r) e none past = absurd (let is = past.1.items in let no : [] ≡ past.0 ∷ r.items.now = sym none ∙ is in (cc))
 
   -- an item
-  taken-item : (c : Ahead) (cs : List Ahead) (p : Option ItemsLeft) (n : Item) (ns : List Item) → c ∷ cs ≡ ahead_from g.params (last_ahead g) l.two b m (n ∷ ns) → l.items.now ≡ n ∷ ns → IsPastNext l p → IsNextTaken g c cs (Some l) p
+  taken-item : (c : Ahead) (cs : List Ahead) (p : Option ItemsLeft) (n : Item) (ns : List Item) → c ∷ cs ≡ ahead_from g.params l.params (last_ahead g) l.two b m (n ∷ ns) → l.items.now ≡ n ∷ ns → IsPastNext l p → IsNextTaken g c cs (Some l) p
   taken-item c cs None n ns e is past = absurd (let no : [] ≡ n ∷ ns = sym past ∙ is in (cc))
   taken-item c cs (Some r) n ns e is past = record {
-    nodes = (λ i. first_nodes (galley i) l.two (is i)) ∙ ap (λ (d : Ahead). d.nodes) (sym same);
+    nodes = (λ i. first_nodes (galley i) l.params l.two (is i)) ∙ ap (λ (d : Ahead). d.nodes) (sym same);
     break = λ h. ap first_break is ∙ ap (λ (d : Ahead). forced d ∷ []) (sym same);
     after = record {
       number = suc m;
       before = before_after g.params l.two b n.kind;
       galley = ap (λ (x : Bor Galley). x.now) past.1.galley ∙ galley;
-      ahead = behind ∙ (λ i. ahead_from g.params (last_ahead g) (sym two-is i) (before_after g.params l.two b n.kind) (suc m) (sym items-are i));
+      ahead = behind ∙ (λ i. ahead_from g.params (sym params-are i) (last_ahead g) (sym two-is i) (before_after g.params l.two b n.kind) (suc m) (sym items-are i));
     };
   }
     where
-      same : c ≡ item_ahead g.params l.two b m n ns
+      same : c ≡ item_ahead g.params l.params l.two b m n ns
       same = cc
 
-      behind : cs ≡ ahead_from g.params (last_ahead g) (two_after l.two n.kind) (before_after g.params l.two b n.kind) (suc m) ns
+      behind : cs ≡ ahead_from g.params (params_after l.params n.kind) (last_ahead g) (two_after l.two n.kind) (before_after g.params l.two b n.kind) (suc m) ns
       behind = cc
 
       both : n ∷ ns ≡ past.0 ∷ r.items.now
@@ -108,6 +108,9 @@ module _ (g : Galley) (l : ItemsLeft) (b : Before) (m : ℕ) (galley : l.galley.
       kind-is : past.0 ≡ n
       kind-is = cc
 
+      params-are : r.params ≡ params_after l.params n.kind
+      params-are = past.1.params ∙ ap (λ (x : Item). params_after l.params x.kind) kind-is
+
       two-is : r.two ≡ two_after l.two n.kind
       two-is = past.1.two ∙ ap (λ (x : Item). two_after l.two x.kind) kind-is
 
@@ -117,21 +120,21 @@ taken g c cs None p h past = absurd (cc)
 taken g c cs (Some l) p h past = by l.items.now refl
   where
     by : (ns : List Item) → l.items.now ≡ ns → IsNextTaken g c cs (Some l) p
-    by [] e = taken-clear g l h.before h.number h.galley c cs p (h.ahead ∙ ap (ahead_from g.params (last_ahead g) l.two h.before h.number) e) e past
-    by (n ∷ ns) e = taken-item g l h.before h.number h.galley c cs p n ns (h.ahead ∙ ap (ahead_from g.params (last_ahead g) l.two h.before h.number) e) e past
+    by [] e = taken-clear g l h.before h.number h.galley c cs p (h.ahead ∙ ap (ahead_from g.params l.params (last_ahead g) l.two h.before h.number) e) e past
+    by (n ∷ ns) e = taken-item g l h.before h.number h.galley c cs p n ns (h.ahead ∙ ap (ahead_from g.params l.params (last_ahead g) l.two h.before h.number) e) e past
 
 -- of a state that has one item more than these ahead in code
 pub next-taken : (g : Galley) (k : ℕ) (o p : Option ItemsLeft) → suc k ≤ length (all_ahead g) → HasAhead g o (items_ahead g (suc k)) → IsPast o p → IsNextTaken g (next_ahead g k) (items_ahead g k) o p
 next-taken g k o p h ahead past = taken g (next_ahead g k) (items_ahead g k) o p (subst (HasAhead g o) (next-is g k h) ahead) past
 
 -- where all items of a galley are ahead in code
-pub begins-with-all : (g : Galley) (l : ItemsLeft) → l.galley.now ≡ g → l.items.now ≡ g.items → l.two ≡ false → HasAhead g (Some l) (all_ahead g)
+pub begins-with-all : (g : Galley) (l : ItemsLeft) → l.galley.now ≡ g → l.params ≡ g.params → l.items.now ≡ g.items → l.two ≡ false → HasAhead g (Some l) (all_ahead g)
 unfolding all_ahead
-begins-with-all g l galley items two = record {
+begins-with-all g l galley params items two = record {
   number = 0;
   before = befores.Nothing;
   galley = galley;
-  ahead = λ i. ahead_from g.params (last_ahead g) (sym two i) befores.Nothing 0 (sym items i);
+  ahead = λ i. ahead_from g.params (sym params i) (last_ahead g) (sym two i) befores.Nothing 0 (sym items i);
 }
 
 -- by the flags of all, whether a break may be put in before it

@@ -4,7 +4,6 @@ use Rattle.std.specs.Prelude.{ℤ, pos, ◌+ℤ◌, ◌≤ℤ◌, reverse}
 use Rattle.std.proofs.lemmas.Int.{ints}
 use Rattle.std.specs.Borrow.{Bor}
 use Rattle.tb_galley.specs.declared.Galley.{Galley}
-use Rattle.tb_param.specs.declared.Params.{Params}
 use Rattle.tb_steps.specs.Run.{done, End, Step, ends, goes_on, firings_left}
 use Rattle.tb_rate.specs.declared.PlacePenalty.{PlacePenalty}
 use Rattle.tb_rate.specs.Places.{place_penalties}
@@ -15,6 +14,8 @@ use Rattle.tb_output.specs.State.{State}
 use Rattle.tb_best.specs.BestPlan.{IsBest}
 use Rattle.tb_best.specs.PlanDemerits.{reach_in, step_demerits, unlimited_step, unlimited_demerits_from, unlimited_demerits, plan_demerits}
 use Rattle.tb_best.specs.ItemsAhead.{Ahead, all_ahead, empty_start}
+use Rattle.tb_best.specs.Sides.{may_alternate, KeepsSides}
+use Rattle.tb_best.proofs.SideItems.{start-keeps}
 use Rattle.tb_best.specs.ClosedTables.{Row, rows_know, Reaches, begun}
 use Rattle.tb_search.specs.declared.branch.Branch.{Branch}
 use Rattle.tb_search.specs.declared.table.Way.{Way}
@@ -28,7 +29,7 @@ use Rattle.tb_search.proofs.AheadLemmas.{all-counted, all-are-ahead}
 use Rattle.tb_search.proofs.SearchedLemmas.{searched-best}
 
 -- no page fires where nothing waits
-empty-quiet : (g : Galley) → (reach_in g.params (empty_start g)).fires ≡ false
+empty-quiet : (g : Galley) → (reach_in (empty_start g)).fires ≡ false
 empty-quiet g = refl
 
 module _ (g : Galley) (left : ℕ) (b : Branch) (w : Way) (state : shown b ≡ empty_start g) (all : left ≡ length (all_ahead g)) (none : w.breaks.items ≡ []) (zero-way : w.demerits ≡ pos 0) where
@@ -43,14 +44,14 @@ module _ (g : Galley) (left : ℕ) (b : Branch) (w : Way) (state : shown b ≡ e
       (subst (λ (bs : List ℕ). Reaches g (empty_start g) (all_ahead g) (pos 0) (reverse bs)) (sym none) begun)))
 
   -- it can be kept
-  pub first-start : (bound : ℤ) → IsBranch b → HasAhead g b.ahead (all_ahead g) → b.routine.machine.params ≡ g.params → pos 0 ≤ℤ bound → IsStart g bound left (record { branch = b; way = w })
-  first-start bound branch ahead params low = record {
+  pub first-start : (bound : ℤ) → IsBranch b → HasAhead g b.ahead (all_ahead g) → pos 0 ≤ℤ bound → IsStart g bound left (record { branch = b; way = w })
+  first-start bound branch ahead low = record {
     branch = branch;
-    params = params;
     ahead = subst (HasAhead g b.ahead) (sym all-left) ahead;
     classes = ap (λ (s : State). s.classes) state;
+    sides = subst (KeepsSides (may_alternate g)) (sym state) (start-keeps g);
     some = let n = all-counted g in omega (arith, n, all);
-    quiet = inl (ap (λ (s : State). (reach_in g.params s).fires) state ∙ empty-quiet g);
+    quiet = inl (ap (λ (s : State). (reach_in s).fires) state ∙ empty-quiet g);
     reached = first-reached;
     low = omega (arith, ints, zero-way);
     high = subst (λ (d : ℤ). d ≤ℤ bound) (sym zero-way) low;
@@ -95,22 +96,22 @@ end-low other d h = let no : ⊥ = none-some d h in absurd no
     none-some : (x : ℤ) → None ≡ Some x → ⊥
     none-some x e = cc
 
-from-low : (p : Params) (places : List PlacePenalty) (fuel : ℕ) (s : State) (d : ℤ) → unlimited_demerits_from p places fuel s ≡ Some d → pos 0 ≤ℤ d
+from-low : (places : List PlacePenalty) (fuel : ℕ) (s : State) (d : ℤ) → unlimited_demerits_from places fuel s ≡ Some d → pos 0 ≤ℤ d
 unfolding unlimited_demerits_from
-from-low p places zero s d h = let no : ⊥ = none-some d h in absurd no
+from-low places zero s d h = let no : ⊥ = none-some d h in absurd no
   where
     none-some : (x : ℤ) → None ≡ Some x → ⊥
     none-some x e = cc
-from-low p places (suc fuel) s d h = by (unlimited_step p s) (step-low p places s (unlimited_step p s)) (λ t e i. from-low p places fuel t e i) h
+from-low places (suc fuel) s d h = by (unlimited_step s) (step-low places s (unlimited_step s)) (λ t e i. from-low places fuel t e i) h
   where
-    by : (x : Step) → pos 0 ≤ℤ step_demerits p places s (unlimited_step p s) → ((t : State) (e : ℤ) → unlimited_demerits_from p places fuel t ≡ Some e → pos 0 ≤ℤ e)
-        → demerits_after (λ t. unlimited_demerits_from p places fuel t) (step_demerits p places s (unlimited_step p s)) x ≡ Some d → pos 0 ≤ℤ d
+    by : (x : Step) → pos 0 ≤ℤ step_demerits places s (unlimited_step s) → ((t : State) (e : ℤ) → unlimited_demerits_from places fuel t ≡ Some e → pos 0 ≤ℤ e)
+        → demerits_after (λ t. unlimited_demerits_from places fuel t) (step_demerits places s (unlimited_step s)) x ≡ Some d → pos 0 ≤ℤ d
     by (ends es rs e) low later k = end-low e d k
-    by (goes_on es rs t) low later k = more-low (step_demerits p places s (unlimited_step p s)) (unlimited_demerits_from p places fuel t) d low (later t) k
+    by (goes_on es rs t) low later k = more-low (step_demerits places s (unlimited_step s)) (unlimited_demerits_from places fuel t) d low (later t) k
 
 -- nor are those of a plan
 pub plan-low : (g : Galley) (plan : List ℕ) (d : ℤ) → plan_demerits g plan ≡ Some d → pos 0 ≤ℤ d
 unfolding plan_demerits unlimited_demerits
 plan-low g plan d h =
     more-low (pos (1000 * length plan)) (unlimited_demerits (with_breaks g plan)) d (omega (arith, ints))
-    (λ e i. from-low (with_breaks g plan).params (place_penalties (with_breaks g plan).items) (suc (firings_left (with_breaks g plan).params (start_of (with_breaks g plan)))) (start_of (with_breaks g plan)) e i) h
+    (λ e i. from-low (place_penalties (with_breaks g plan).items) (suc (firings_left (start_of (with_breaks g plan)))) (start_of (with_breaks g plan)) e i) h

@@ -1,13 +1,13 @@
 -- Items that are taken before a page can fire.
-use Rattle.std.proofs.Common.{◌≡◌, refl, sym, ◌∙◌, ap, subst, ℕ, suc, ◌≤◌, Bool, true, false, true≢false, List, [], ◌∷◌, ◌++◌, append_assoc, append-nil, length, ◌-◌, ◌<◌, ◌⊎◌, inl, inr, ℤ, arith}
+use Rattle.std.proofs.Common.{◌≡◌, refl, sym, ◌∙◌, ap, subst, ℕ, suc, ◌≤◌, Bool, true, false, true≢false, List, [], ◌∷◌, ◌++◌, append_assoc, append-nil, length, ◌-◌, ◌<◌, inl, inr, arith}
 use Rattle.std.specs.Prelude.{reverse}
 use Rattle.tb_node.specs.PlainNodes.{PlainNode}
-use Rattle.tb_param.specs.declared.Params.{Params}
 use Rattle.tb_galley.specs.declared.Galley.{Galley}
 use Rattle.tb_builder.specs.Reach.{Reach}
 use Rattle.tb_builder.specs.FiredPages.{reach_of}
 use Rattle.tb_output.specs.State.{State}
 use Rattle.tb_best.specs.PlanDemerits.{reach_in}
+use Rattle.tb_best.specs.Sides.{may_alternate, KeepsSides}
 use Rattle.tb_best.specs.ItemsAhead.{Ahead, all_ahead, state_with}
 use Rattle.tb_best.proofs.FiredMore.{begun-more}
 use Rattle.tb_best.proofs.StepMore.{asked-more}
@@ -27,23 +27,23 @@ use Rattle.tb_search.proofs.ReachedWays.{reached-taken, shown-taken}
 use Rattle.tb_search.proofs.ExpandLemmas.{taken-done}
 
 -- a page that fires does so whatever waits behind
-pub fires-more : (p : Params) (s : State) (more : List PlainNode) → (reach_in p s).fires ≡ true → (reach_in p (state_with more s)).fires ≡ true
-fires-more p s more fires =
-    ap (λ a. (reach_of a s.classes s.boxes [] (s.waiting ++ more)).fires) (asked-more p s more fires)
-    ∙ ap (λ (w : Reach). w.fires) (begun-more (ask_for p s) s.classes s.boxes s.waiting more fires)
+pub fires-more : (s : State) (more : List PlainNode) → (reach_in s).fires ≡ true → (reach_in (state_with more s)).fires ≡ true
+fires-more s more fires =
+    ap (λ a. (reach_of a s.classes s.boxes [] (s.waiting ++ more)).fires) (asked-more s more fires)
+    ∙ ap (λ (w : Reach). w.fires) (begun-more (ask_for s) s.classes s.boxes s.waiting more fires)
     ∙ fires
 
 -- so if no page fires behind more nodes, none fires before them
-pub quiet-before : (p : Params) (s : State) (more : List PlainNode) → (reach_in p (state_with more s)).fires ≡ false → (reach_in p s).fires ≡ false
-quiet-before p s more quiet = by (reach_in p s).fires refl
+pub quiet-before : (s : State) (more : List PlainNode) → (reach_in (state_with more s)).fires ≡ false → (reach_in s).fires ≡ false
+quiet-before s more quiet = by (reach_in s).fires refl
   where
-    by : (b : Bool) → (reach_in p s).fires ≡ b → (reach_in p s).fires ≡ false
-    by true e = absurd (true≢false (sym (fires-more p s more e) ∙ quiet))
+    by : (b : Bool) → (reach_in s).fires ≡ b → (reach_in s).fires ≡ false
+    by true e = absurd (true≢false (sym (fires-more s more e) ∙ quiet))
     by false e = e
 
 -- no page fires now
-pub calm-now : (p : Params) (s : State) (cs : List Ahead) (k : ℕ) → IsCalm p s cs k → (reach_in p s).fires ≡ false
-calm-now p s cs k h = quiet-before p s (nodes_of_first k cs) h
+pub calm-now : (s : State) (cs : List Ahead) (k : ℕ) → IsCalm s cs k → (reach_in s).fires ≡ false
+calm-now s cs k h = quiet-before s (nodes_of_first k cs) h
 
 module _ (g : Galley) (left : ℕ) (s t : State) (some : suc left ≤ length (all_ahead g)) (taken : t ≡ state_with (next_ahead g left).nodes s) where
   -- the state once more items are taken is the same before and after the first of them
@@ -60,13 +60,13 @@ none-behind s = ap (λ ws. record s { waiting = ws }) (append-nil s.waiting)
 -- ---- in code
 
 -- a copy is reached in the same way
-pub reached-copy : (g : Galley) (left : ℕ) (x : Start) (c : Branch) → IsReached g left x → IsBranch c → shown c ≡ shown x.branch → c.ahead ≡ x.branch.ahead → c.routine.machine.params ≡ x.branch.routine.machine.params
+pub reached-copy : (g : Galley) (left : ℕ) (x : Start) (c : Branch) → IsReached g left x → IsBranch c → shown c ≡ shown x.branch → c.ahead ≡ x.branch.ahead
     → IsReached g left (record { branch = c; way = x.way })
-reached-copy g left x c h is state ahead params = record {
+reached-copy g left x c h is state ahead = record {
   branch = is;
-  params = params ∙ h.params;
   ahead = subst (λ o. HasAhead g o (items_ahead g left)) (sym ahead) h.ahead;
   classes = ap (λ (s : State). s.classes) state ∙ h.classes;
+  sides = subst (KeepsSides (may_alternate g)) (sym state) h.sides;
   reached = subst (λ s. Reaches g s (items_ahead g left) x.way.demerits (reverse x.way.breaks.items)) (sym state) h.reached;
   low = h.low;
 }
@@ -89,13 +89,13 @@ module _ (g : Galley) (x : Start) (behind : ℕ) (c : Branch) (inside : behind �
       ∙ same-far g (behind - 1) (shown x.branch) (shown c) within (shown-taken g (behind - 1) x c within (subst (λ n. IsReached g n x) one-more reached) taken) k
 
   -- there is one fewer of the items before a page can fire
-  pub one-calm : (p : Params) (j k : ℕ) → j ≡ suc k → IsCalm p (shown x.branch) (items_ahead g behind) j → IsCalm p (shown c) (items_ahead g (behind - 1)) k
-  one-calm p j k e h = subst (λ s. (reach_in p s).fires ≡ false) (one-far j k e) h
+  pub one-calm : (j k : ℕ) → j ≡ suc k → IsCalm (shown x.branch) (items_ahead g behind) j → IsCalm (shown c) (items_ahead g (behind - 1)) k
+  one-calm j k e h = subst (λ s. (reach_in s).fires ≡ false) (one-far j k e) h
 
 -- the state at which no page fires is that behind so many items
-pub far-calm : (p q : Params) (s t : State) (cs ds : List Ahead) (j k : ℕ) → state_with (nodes_of_first j cs) s ≡ state_with (nodes_of_first k ds) t → k ≡ 0 → q ≡ p → (reach_in q t).fires ≡ false → IsCalm p s cs j
-far-calm p q s t cs ds j k same none params quiet =
-    subst (λ x. (reach_in p x).fires ≡ false) (sym (same ∙ ap (λ n. state_with (nodes_of_first n ds) t) none ∙ none-behind t)) (subst (λ x. (reach_in x t).fires ≡ false) params quiet)
+pub far-calm : (s t : State) (cs ds : List Ahead) (j k : ℕ) → state_with (nodes_of_first j cs) s ≡ state_with (nodes_of_first k ds) t → k ≡ 0 → (reach_in t).fires ≡ false → IsCalm s cs j
+far-calm s t cs ds j k same none quiet =
+    subst (λ x. (reach_in x).fires ≡ false) (sym (same ∙ ap (λ n. state_with (nodes_of_first n ds) t) none ∙ none-behind t)) quiet
 
 -- if the state up to which items were taken is searched, so is the first
 pub taken-joined : (t : Table) (left : ℕ) (x : Start) (u : Table) (behind : ℕ) (y : Start) → IsTakenOn t left x u behind y → (v : Table) → HasSearched (row_of u.galley.now behind y ∷ []) u v → HasSearched (row_of t.galley.now left x ∷ []) t v

@@ -1,8 +1,6 @@
 -- The lists of a page that was shipped are closed: the state after it stays as it was.
-use Rattle.std.proofs.Common.{◌≡◌, refl, sym, subst, ◌∙◌, ap, ◌++◌, ℤ, List, Option, None}
-use Rattle.tb_output.specs.Machine.{MachineView}
+use Rattle.std.proofs.Common.{◌≡◌, refl, sym, subst, ◌∙◌, ap, ◌++◌, ℤ, List, Option}
 use Rattle.tb_output.specs.State.{State}
-use Rattle.tb_param.specs.declared.Params.{Params}
 use Rattle.tb_items.specs.declared.items_left.ItemsLeft.{ItemsLeft}
 use Rattle.tb_items.specs.ItemsLeft.{nodes_left, AreItemsLeft}
 use Rattle.tb_run.specs.declared.routine.Routine.{Routine}
@@ -16,26 +14,25 @@ use Rattle.tb_search.specs.Branches.{shown, IsBranch}
 use Rattle.tb_search.specs.FilledBranches.{HasFired}
 
 -- a branch that shows the same, with the same ahead
-pub fired-copied : (p : Params) (places : List PlacePenalty) (d : ℤ) (b c e : Branch) → IsBranch e → shown e ≡ shown c → e.ahead ≡ c.ahead → e.routine.machine.params ≡ c.routine.machine.params
-    → HasFired p places d b c → HasFired p places d b e
-fired-copied p places d b c e branch state ahead params h = record {
+pub fired-copied : (places : List PlacePenalty) (d : ℤ) (b c e : Branch) → IsBranch e → shown e ≡ shown c → e.ahead ≡ c.ahead
+    → HasFired places d b c → HasFired places d b e
+fired-copied places d b c e branch state ahead h = record {
   events = h.events;
   records = h.records;
   fires = h.fires;
-  step = subst (λ s. unlimited_step p (shown b) ≡ goes_on h.events h.records s) (sym state) h.step;
-  demerits = subst (λ s. d ≡ step_demerits p places (shown b) (goes_on h.events h.records s)) (sym state) h.demerits;
+  step = subst (λ s. unlimited_step (shown b) ≡ goes_on h.events h.records s) (sym state) h.step;
+  demerits = subst (λ s. d ≡ step_demerits places (shown b) (goes_on h.events h.records s)) (sym state) h.demerits;
   low = h.low;
   high = h.high;
   branch = branch;
   ahead = ahead ∙ h.ahead;
-  params = params ∙ h.params;
   classes = ap (λ (s : State). s.classes) state ∙ h.classes;
 }
 
 -- a routine that shows the same, over other lists
-pub fired-closed : (p : Params) (places : List PlacePenalty) (d : ℤ) (b : Branch) (r : Routine) (o : Option ItemsLeft) (q : Routine) → IsReady q → state_of q ≡ state_of r → q.machine ≡ r.machine → q.left ≡ r.left
-    → HasFired p places d b (record { routine = r; ahead = o }) → HasFired p places d b (record { routine = q; ahead = o })
-fired-closed p places d b r o q ready state machine left h =
+pub fired-closed : (places : List PlacePenalty) (d : ℤ) (b : Branch) (r : Routine) (o : Option ItemsLeft) (q : Routine) → IsReady q → state_of q ≡ state_of r → q.left ≡ r.left
+    → HasFired places d b (record { routine = r; ahead = o }) → HasFired places d b (record { routine = q; ahead = o })
+fired-closed places d b r o q ready state left h =
     let branch : IsBranch (record { routine = q; ahead = o }) = record {
       ready = ready;
       none = left ∙ h.branch.none;
@@ -43,4 +40,4 @@ fired-closed p places d b r o q ready state machine left h =
       served = subst (λ (s : State). IsServed (s.waiting ++ nodes_left o) s) (sym state) h.branch.served;
       few = h.branch.few;
     } in
-    fired-copied p places d b (record { routine = r; ahead = o }) (record { routine = q; ahead = o }) branch state refl (ap (λ (m : MachineView). m.params) machine) h
+    fired-copied places d b (record { routine = r; ahead = o }) (record { routine = q; ahead = o }) branch state refl h

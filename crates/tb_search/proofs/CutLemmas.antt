@@ -25,11 +25,10 @@ use Rattle.tb_search.proofs.ReachedWays.{shown-cut}
 use Rattle.tb_search.proofs.SearchSteps.{over-searched, refused-searched, fired-searched, cut-searched, cut-quiet, fired-refused}
 
 -- what was taken from a copy was taken from the first
-pub taken-copy : (b c e : Branch) → shown c ≡ shown b → c.ahead ≡ b.ahead → c.routine.machine.params ≡ b.routine.machine.params → HasTaken (break_before c.ahead ++ next_of c.ahead) c e → HasTaken (break_before b.ahead ++ next_of b.ahead) b e
-taken-copy b c e state ahead params h = record {
+pub taken-copy : (b c e : Branch) → shown c ≡ shown b → c.ahead ≡ b.ahead → HasTaken (break_before c.ahead ++ next_of c.ahead) c e → HasTaken (break_before b.ahead ++ next_of b.ahead) b e
+taken-copy b c e state ahead h = record {
   state = h.state ∙ (λ i. state_with (break_before (ahead i) ++ next_of (ahead i)) (state i));
   ahead = subst (λ o. IsPast o e.ahead) ahead h.ahead;
-  params = h.params ∙ params;
 }
 
 -- there is a flag for each item ahead
@@ -84,7 +83,7 @@ module _ (t : Table) (k : ℕ) (x : Start) (some : suc k ≤ length (all_ahead t
     shown-is = shown-cut t.galley.now k x page some reached place taken
 
     -- the page fired, and the state after it is searched
-    pub cut-fired : (u : Table) (after : Branch) (a : ℤ) → IsLater t u → HasFired t.galley.now.params (place_penalties t.galley.now.items) a page after
+    pub cut-fired : (u : Table) (after : Branch) (a : ℤ) → IsLater t u → HasFired (place_penalties t.galley.now.items) a page after
         → IsSearchedAsGoodBy u (shown after) (items_ahead t.galley.now k) ((x.way.demerits +ℤ pos 1000) +ℤ a) (c.number ∷ reverse x.way.breaks.items)
         → IsCutSearched u s (items_ahead t.galley.now (suc k)) x.way.demerits (reverse x.way.breaks.items)
     cut-fired u after a later fired h =
@@ -94,34 +93,34 @@ module _ (t : Table) (k : ℕ) (x : Start) (some : suc k ≤ length (all_ahead t
         (fired-searched t u later page after (items_ahead t.galley.now k) a (x.way.demerits +ℤ pos 1000) (c.number ∷ reverse x.way.breaks.items) fired h))
 
     -- the page fired, and costs too much
-    pub cut-paid-over : (after : Branch) (a : ℤ) → HasFired t.galley.now.params (place_penalties t.galley.now.items) a page after → t.bound <ℤ ((x.way.demerits +ℤ pos 1000) +ℤ a)
+    pub cut-paid-over : (after : Branch) (a : ℤ) → HasFired (place_penalties t.galley.now.items) a page after → t.bound <ℤ ((x.way.demerits +ℤ pos 1000) +ℤ a)
         → IsCutSearched t s (items_ahead t.galley.now (suc k)) x.way.demerits (reverse x.way.breaks.items)
     cut-paid-over after a fired h =
         cut-fired t after a (later-itself t) fired
         (over-searched t t (later-itself t) (shown after) (items_ahead t.galley.now k) ((x.way.demerits +ℤ pos 1000) +ℤ a) (c.number ∷ reverse x.way.breaks.items) h)
 
     -- no run goes on after the break
-    pub cut-refused : IsRefusal (unlimited_step t.galley.now.params (shown page)) → IsCutSearched t s (items_ahead t.galley.now (suc k)) x.way.demerits (reverse x.way.breaks.items)
+    pub cut-refused : IsRefusal (unlimited_step (shown page)) → IsCutSearched t s (items_ahead t.galley.now (suc k)) x.way.demerits (reverse x.way.breaks.items)
     cut-refused h =
         cut-searched t t.galley.now k s x.way.demerits (reverse x.way.breaks.items) some
         (λ _ box.
         refused-searched t t (later-itself t) cut_state (items_ahead t.galley.now k) (x.way.demerits +ℤ pos 1000) (c.number ∷ reverse x.way.breaks.items)
-        (fired-refused t.galley.now.params cut_state (cut-fires t.galley.now.params s c box) (subst (λ z. IsRefusal (unlimited_step t.galley.now.params z)) shown-is h)))
+        (fired-refused cut_state (cut-fires s c box) (subst (λ z. IsRefusal (unlimited_step z)) shown-is h)))
 
     -- a page fires where a break is put in
-    pub cut-not-quiet : IsQuiet t.galley.now.params (shown page) → IsCutSearched t s (items_ahead t.galley.now (suc k)) x.way.demerits (reverse x.way.breaks.items)
+    pub cut-not-quiet : IsQuiet (shown page) → IsCutSearched t s (items_ahead t.galley.now (suc k)) x.way.demerits (reverse x.way.breaks.items)
     cut-not-quiet h =
         cut-searched t t.galley.now k s x.way.demerits (reverse x.way.breaks.items) some
         (λ _ box.
-        cut-quiet (IsSearchedBy t cut_state (items_ahead t.galley.now k) (x.way.demerits +ℤ pos 1000) (c.number ∷ reverse x.way.breaks.items)) t.galley.now.params s c box
-        (subst (λ z. (reach_in t.galley.now.params z).fires ≡ false) shown-is h.quiet))
+        cut-quiet (IsSearchedBy t cut_state (items_ahead t.galley.now k) (x.way.demerits +ℤ pos 1000) (c.number ∷ reverse x.way.breaks.items)) s c box
+        (subst (λ z. (reach_in z).fires ≡ false) shown-is h.quiet))
 
     -- the page did not fire
-    pub cut-unfired : (f : Filled) (after : Branch) → (f ≡ filled.Quiet) ⊎ ((f ≡ filled.Full) ⊎ (f ≡ filled.Refused)) → FillsTo t.galley.now.params (place_penalties t.galley.now.items) page f after
+    pub cut-unfired : (f : Filled) (after : Branch) → (f ≡ filled.Quiet) ⊎ ((f ≡ filled.Full) ⊎ (f ≡ filled.Refused)) → FillsTo (place_penalties t.galley.now.items) page f after
         → IsCutSearched t s (items_ahead t.galley.now (suc k)) x.way.demerits (reverse x.way.breaks.items)
-    cut-unfired f after (inl e) h = cut-not-quiet (subst (λ r. FillsTo t.galley.now.params (place_penalties t.galley.now.items) page r after) e h)
-    cut-unfired f after (inr (inl e)) h = let full = subst (λ r. FillsTo t.galley.now.params (place_penalties t.galley.now.items) page r after) e h in cut-refused full.step
-    cut-unfired f after (inr (inr e)) h = let refused = subst (λ r. FillsTo t.galley.now.params (place_penalties t.galley.now.items) page r after) e h in cut-refused refused.step
+    cut-unfired f after (inl e) h = cut-not-quiet (subst (λ r. FillsTo (place_penalties t.galley.now.items) page r after) e h)
+    cut-unfired f after (inr (inl e)) h = let full = subst (λ r. FillsTo (place_penalties t.galley.now.items) page r after) e h in cut-refused full.step
+    cut-unfired f after (inr (inr e)) h = let refused = subst (λ r. FillsTo (place_penalties t.galley.now.items) page r after) e h in cut-refused refused.step
 
 -- ---- a break in code
 
@@ -135,9 +134,9 @@ pub record IsCutBefore (t : Table) (left number : ℕ) (x : Start) (page : Branc
 
 -- so it is after a break was put into a copy
 pub cut-before : (t : Table) (left number : ℕ) (x : Start) (c e : Branch) → IsTable t → 0 < left → left ≤ length (all_ahead t.galley.now) → number + left ≡ length (all_ahead t.galley.now)
-    → get_or t.is_place.items number false ≡ true → IsReached t.galley.now left x → shown c ≡ shown x.branch → c.ahead ≡ x.branch.ahead → c.routine.machine.params ≡ x.branch.routine.machine.params
+    → get_or t.is_place.items number false ≡ true → IsReached t.galley.now left x → shown c ≡ shown x.branch → c.ahead ≡ x.branch.ahead
     → HasTaken (break_before c.ahead ++ next_of c.ahead) c e → IsCutBefore t left number x e
-cut-before t left number x c e table some inside count flag reached state ahead params taken =
+cut-before t left number x c e table some inside count flag reached state ahead taken =
     let within : suc (left - 1) ≤ length (all_ahead t.galley.now) = omega (arith, some, inside) in
     let next : left ≡ suc (left - 1) = omega (arith, some) in
     let counted : number + suc (left - 1) ≡ length (all_ahead t.galley.now) = omega (arith, some, count) in
@@ -147,7 +146,7 @@ cut-before t left number x c e table some inside count flag reached state ahead 
       reached = subst (λ n. IsReached t.galley.now n x) next reached;
       place = sym (next-flag t number (left - 1) table counted) ∙ flag;
       numbered = number-of-next t.galley.now (left - 1) within ∙ difference;
-      taken = taken-copy x.branch c e state ahead params taken;
+      taken = taken-copy x.branch c e state ahead taken;
     }
 
 -- breaks with one more behind them, read from the last

@@ -3,7 +3,6 @@ use Rattle.std.proofs.Common.{◌≡◌, refl, sym, ◌∙◌, subst, ℕ, suc, 
 use Rattle.std.proofs.lemmas.Int.{ints}
 use Rattle.std.specs.Prelude.{pos, ◌+ℤ◌, ◌≤ℤ◌, reverse}
 use Rattle.std.specs.Int.{w128}
-use Rattle.tb_galley.specs.declared.Galley.{Galley}
 use Rattle.tb_rate.specs.Places.{place_penalties}
 use Rattle.tb_best.specs.PlanDemerits.{unlimited_step}
 use Rattle.tb_best.specs.ItemsAhead.{all_ahead}
@@ -25,7 +24,7 @@ pub none-taken : (t : Table) (left : ℕ) (x : Start) → IsReached t.galley.now
 none-taken t left x h k = record { searched = searched-itself t; levels = refl; reached = h; below = omega arith; high = k; back = λ v on s. s }
 
 -- one more is taken, after the ways with a break before it were searched
-pub one-taken : (t : Table) (left : ℕ) (x : Start) (u v : Table) (behind : ℕ) (y : Start) (c : Branch) → suc behind ≤ length (all_ahead u.galley.now) → IsTakenOn t left x u (suc behind) y → MayTake u.galley.now (shown y.branch) → Continues u v
+pub one-taken : (t : Table) (left : ℕ) (x : Start) (u v : Table) (behind : ℕ) (y : Start) (c : Branch) → suc behind ≤ length (all_ahead u.galley.now) → IsTakenOn t left x u (suc behind) y → MayTake (shown y.branch) → Continues u v
     → IsCutSearched v (shown y.branch) (items_ahead u.galley.now (suc behind)) y.way.demerits (reverse y.way.breaks.items) → HasTaken (next_of y.branch.ahead) y.branch c → IsBranch c → IsTakenOn t left x v behind (record { branch = c; way = y.way })
 one-taken t left x u v behind y c some h may on cut taken is = record {
   searched = searched-through [] t u v h.searched (continues-searched u v on);
@@ -52,7 +51,7 @@ pub level-now : (t : Table) (left : ℕ) (x : Start) (u : Table) (behind : ℕ) 
 level-now t left x u behind y h level = let k = h.below in let e = h.levels in omega (arith, k, e, level)
 
 -- the same as in `one-taken`, if something is ahead
-pub next-taken-on : (t : Table) (left : ℕ) (x : Start) (u v : Table) (behind : ℕ) (y : Start) (c : Branch) → left ≤ length (all_ahead t.galley.now) → 0 < behind → IsTakenOn t left x u behind y → MayTake u.galley.now (shown y.branch) → Continues u v
+pub next-taken-on : (t : Table) (left : ℕ) (x : Start) (u v : Table) (behind : ℕ) (y : Start) (c : Branch) → left ≤ length (all_ahead t.galley.now) → 0 < behind → IsTakenOn t left x u behind y → MayTake (shown y.branch) → Continues u v
     → IsCutSearched v (shown y.branch) (items_ahead u.galley.now behind) y.way.demerits (reverse y.way.breaks.items) → HasTaken (next_of y.branch.ahead) y.branch c → IsBranch c → IsTakenOn t left x v (behind - 1) (record { branch = c; way = y.way })
 next-taken-on t left x u v behind y c inside some h may on cut taken is =
     let e : behind ≡ suc (behind - 1) = omega (arith, some) in
@@ -66,30 +65,30 @@ module _ (t : Table) (left : ℕ) (x : Start) (u : Table) (behind : ℕ) (y : St
   taken-done v on s = one-searched t v (row_of t.galley.now left x) (searched-through [] t u v h.searched on) (h.back v on s)
 
   -- its page fired, and the state after it is searched
-  pub taken-fired : (c : Branch) (d : ℤ) (v : Table) → HasFired u.galley.now.params (place_penalties u.galley.now.items) d y.branch c → Continues u v
+  pub taken-fired : (c : Branch) (d : ℤ) (v : Table) → HasFired (place_penalties u.galley.now.items) d y.branch c → Continues u v
       → IsSearchedAsGoodBy v (shown c) (items_ahead u.galley.now behind) (y.way.demerits +ℤ d) (reverse y.way.breaks.items) → HasSearched (row_of t.galley.now left x ∷ []) t v
   taken-fired c d v k on s =
       taken-done v (continues-searched u v on)
       (fired-searched u v on.later y.branch c (items_ahead u.galley.now behind) d y.way.demerits (reverse y.way.breaks.items) k s)
 
   -- no run goes on from it
-  pub taken-refused : IsRefused u.galley.now.params (shown y.branch) → HasSearched (row_of t.galley.now left x ∷ []) t u
+  pub taken-refused : IsRefused (shown y.branch) → HasSearched (row_of t.galley.now left x ∷ []) t u
   taken-refused k = taken-done u (searched-itself u) (refused-searched u u (later-itself u) (shown y.branch) (items_ahead u.galley.now behind) y.way.demerits (reverse y.way.breaks.items) k)
 
   -- nothing is ahead, and the run ends well
-  pub taken-ended : (v : Table) → behind ≡ 0 → IsQuiet u.galley.now.params (shown y.branch) → Continues u v → IsNoWorseWay v.best y.way → HasSearched (row_of t.galley.now left x ∷ []) t v
+  pub taken-ended : (v : Table) → behind ≡ 0 → IsQuiet (shown y.branch) → Continues u v → IsNoWorseWay v.best y.way → HasSearched (row_of t.galley.now left x ∷ []) t v
   taken-ended v none quiet on best =
       taken-done v (continues-searched u v on)
       (subst (λ n. IsSearchedFrom u.galley.now n y v) (sym none) (end-searched u v on.later (shown y.branch) y.way quiet best))
 
   -- nothing is ahead, and the run does not end well
-  pub taken-left : behind ≡ 0 → MayTake u.galley.now (shown y.branch) → IsRefusal (unlimited_step u.galley.now.params (shown y.branch)) → HasSearched (row_of t.galley.now left x ∷ []) t u
+  pub taken-left : behind ≡ 0 → MayTake (shown y.branch) → IsRefusal (unlimited_step (shown y.branch)) → HasSearched (row_of t.galley.now left x ∷ []) t u
   taken-left none may k =
       taken-done u (searched-itself u)
       (subst (λ n. IsSearchedFrom u.galley.now n y u) (sym none) (no-end-searched u u (later-itself u) (shown y.branch) y.way.demerits (reverse y.way.breaks.items) may k))
 
   -- its page fired: the demerits are summed in code
-  module _ (range : u.bound ≤ℤ pos 1000000000000000000000000000) (c : Branch) (d : ℤ) (k : HasFired u.galley.now.params (place_penalties u.galley.now.items) d y.branch c) where
+  module _ (range : u.bound ≤ℤ pos 1000000000000000000000000000) (c : Branch) (d : ℤ) (k : HasFired (place_penalties u.galley.now.items) d y.branch c) where
     within : y.way.demerits ≤ℤ pos 1000000000000000000000000000
     within = within-range y.way.demerits u.bound (pos 1000000000000000000000000000) h.high range
 

@@ -18,7 +18,6 @@ use Rattle.tb_items.specs.declared.happenings.Happening.{Happening}
 use Rattle.tb_items.specs.GalleyNodes.{IsGalleyNode}
 use Rattle.tb_items.specs.Happenings.{events_of}
 use Rattle.tb_items.specs.ItemsLeft.{AreItemsLeft}
-use Rattle.tb_steps.specs.Run.{goes_on}
 use Rattle.tb_run.specs.declared.routine.Routine.{Routine}
 use Rattle.tb_run.specs.declared.routine.Ending.{Ending}
 use Rattle.tb_run.specs.declared.routine.Ending.TheVariants as endings
@@ -34,13 +33,12 @@ use Rattle.tb_rate.specs.declared.PlacePenalty.{PlacePenalty}
 use Rattle.tb_rate.specs.Rating.{rating}
 use Rattle.tb_rate.specs.RatedRun.{demerits_if, floats_waiting, insertions_first}
 use Rattle.tb_rate.specs.Tries.{last_champion, first_number}
-use Rattle.tb_best.specs.PlanDemerits.{reach_in, unlimited_step}
 use Rattle.tb_best.specs.ItemsAhead.{state_with}
 use Rattle.tb_best.proofs.FiredMore.{fired_with}
 use Rattle.tb_best.proofs.StepMore.{work_with}
 use Rattle.tb_search.specs.declared.branch.Branch.{Branch}
 use Rattle.tb_search.specs.Branches.{shown, nodes_ahead, IsBranch}
-use Rattle.tb_search.specs.FilledBranches.{HasFired, HasTooMany, IsQuiet, IsFull, IsRefused, stopped, unfired, unserved, FillsTo}
+use Rattle.tb_search.specs.FilledBranches.{HasFired, stopped, unfired, unserved, FillsTo}
 use Rattle.tb_search.proofs.QuietLemmas.{is-quiet, is-full, is-refused}
 use Rattle.tb_search.proofs.FiredLemmas.{events_now, records_now, refused-so, goes-step, events-are}
 use Rattle.tb_search.proofs.RatingLemmas.{page-any}
@@ -142,50 +140,49 @@ module _ (b : Branch) (h : IsBranch b) (q : Routine) (page : Page) (hs : List Ha
 
   -- ---- it fired
 
-  module _ (places : List PlacePenalty) (p : Params) (same : b.routine.machine.params ≡ p) (params : d.machine.params ≡ q.machine.params) (new : List Happening) (k : HasSent page q d hs new) where
-    pub has-fired : (z : ℤ) → z ≡ demerits_if (rating p places 0 (last_champion (events_of d.store new)) (floats_waiting (state_of d).floats) (insertions_first (state_of d).waiting)) → pos 0 ≤ℤ z → z ≤ℤ pos 352689971456 → HasFired p places z b after
+  module _ (places : List PlacePenalty) (new : List Happening) (k : HasSent page q d hs new) where
+    pub has-fired : (z : ℤ) → z ≡ demerits_if (rating (state_of d).params places 0 (last_champion (events_of d.store new)) (floats_waiting (state_of d).floats) (insertions_first (state_of d).waiting)) → pos 0 ≤ℤ z → z ≤ℤ pos 352689971456 → HasFired places z b after
     has-fired z value low high =
         let es = events_now b.routine q page hs f in
         let rs = records_now b.routine q page hs f in
         record {
           events = es;
           records = rs;
-          fires = subst (λ x. (reach_in x s).fires ≡ true) same f.fires.fires;
-          step = subst (λ x. unlimited_step x s ≡ goes_on es rs (state_of d)) same (goes-step b.routine q page hs f d g);
+          fires = f.fires.fires;
+          step = goes-step b.routine q page hs f d g;
           demerits =
               value
-              ∙ ap (λ es. demerits_if (rating p places 0 (last_champion es) (floats_waiting (state_of d).floats) (insertions_first (state_of d).waiting))) (events-are b.routine q page hs f d g new k)
-              ∙ page-any p places 0 (first_number (state_of d).number es) (floats_waiting (state_of d).floats) (insertions_first (state_of d).waiting) (last_champion es);
+              ∙ ap (λ es. demerits_if (rating (state_of d).params places 0 (last_champion es) (floats_waiting (state_of d).floats) (insertions_first (state_of d).waiting))) (events-are b.routine q page hs f d g new k)
+              ∙ page-any (state_of d).params places 0 (first_number (state_of d).number es) (floats_waiting (state_of d).floats) (insertions_first (state_of d).waiting) (last_champion es);
           low = low;
           high = high;
           branch = fired-branch;
           ahead = refl;
-          params = params ∙ f.filled.params;
           classes = classes ∙ f.classes;
         }
 
 -- ---- it did not
 
-module _ (p : Params) (places : List PlacePenalty) (b : Branch) (same : b.routine.machine.params ≡ p) (c : Branch) (q : Routine) (hs : List Happening) where
-  stopped-by : (e : Ending) → e ≢ endings.Done → IsFilledLast true b.routine e q hs → (kern : Bool) → kern_last false (shown b).waiting ≡ kern → FillsTo p places b (stopped kern) c
-  stopped-by e other h true is = subst (λ x. IsFull x (shown b)) same (is-full b.routine q e hs h other is)
-  stopped-by e other h false is = subst (λ x. IsRefused x (shown b)) same (is-refused b.routine q e hs h other is)
+module _ (places : List PlacePenalty) (b : Branch) (c : Branch) (q : Routine) (hs : List Happening) where
+  stopped-by : (e : Ending) → e ≢ endings.Done → IsFilledLast true b.routine e q hs → (kern : Bool) → kern_last false (shown b).waiting ≡ kern → FillsTo places b (stopped kern) c
+  stopped-by e other h true is = is-full b.routine q e hs h other is
+  stopped-by e other h false is = is-refused b.routine q e hs h other is
 
-  pub unfired-so : (e : Ending) → IsFilledLast true b.routine e q hs → (kern : Bool) → kern ≡ kern_last false (shown b).waiting → FillsTo p places b (unfired e kern) c
-  unfired-so endings.Done h kern is = subst (λ x. IsQuiet x (shown b)) same (is-quiet b.routine q endings.Done hs h refl)
+  pub unfired-so : (e : Ending) → IsFilledLast true b.routine e q hs → (kern : Bool) → kern ≡ kern_last false (shown b).waiting → FillsTo places b (unfired e kern) c
+  unfired-so endings.Done h kern is = is-quiet b.routine q endings.Done hs h refl
   unfired-so (endings.PoolFull line live) h kern is = stopped-by (endings.PoolFull line live) (λ e. cc) h kern (sym is)
   unfired-so (endings.Fault f) h kern is = stopped-by (endings.Fault f) (λ e. cc) h kern (sym is)
   unfired-so (endings.NodeLimit n) h kern is = stopped-by (endings.NodeLimit n) (λ e. cc) h kern (sym is)
 
   module _ (page : Page) (f : IsFiring true b.routine page q hs) (d : Routine) where
-    pub unserved-so : (e : Ending) → ServesUnlimited page q (Some e) d → FillsTo p places b (unserved e) c
+    pub unserved-so : (e : Ending) → ServesUnlimited page q (Some e) d → FillsTo places b (unserved e) c
     unserved-so endings.Done h = absurd h
     unserved-so (endings.PoolFull line live) h = absurd h
-    unserved-so (endings.Fault x) h = subst (λ y. IsRefused y (shown b)) same (refused-so b.routine q page hs f x h)
-    unserved-so (endings.NodeLimit n) h = subst (λ y. HasTooMany y (shown b)) same (record {
+    unserved-so (endings.Fault x) h = refused-so b.routine q page hs f x h
+    unserved-so (endings.NodeLimit n) h = record {
       events = events_now b.routine q page hs f;
       records = records_now b.routine q page hs f;
       state = state_of d;
       step = goes-step b.routine q page hs f d h.0;
       many = h.1.more;
-    })
+    }

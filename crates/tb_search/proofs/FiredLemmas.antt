@@ -5,7 +5,6 @@ use Rattle.std.proofs.lemmas.Int.{ints}
 use Rattle.tb_pool.specs.Lists.{Lists}
 use Rattle.tb_node.specs.declared.Node.{Node}
 use Rattle.tb_node.specs.PlainNodes.{PlainNode}
-use Rattle.tb_param.specs.declared.Params.{Params}
 use Rattle.tb_builder.specs.declared.Page.{Page}
 use Rattle.tb_builder.specs.FiredPages.{Fired, Boxed}
 use Rattle.tb_output.specs.declared.RunFault.{RunFault}
@@ -52,24 +51,21 @@ all-noted (offered t ∷ es) = ap (λ fs. offered t ∷ fs) (all-noted es)
 all-noted (sent e ∷ es) = ap (λ fs. sent e ∷ fs) (all-noted es)
 
 -- the firing of a page in this state, after these events and records, if it is allowed
-abbrev firing_from : Params → List RunEvent → List Recorded → State → Fired → Step
-firing_from p es rs t f = if int_lt (pos t.dead_cycles) p.maxdeadcycles then unlimited_firing es rs (out p t f) else ends es rs (dead_cycles t.dead_cycles)
+abbrev firing_from : List RunEvent → List Recorded → State → Fired → Step
+firing_from es rs t f = if int_lt (pos t.dead_cycles) t.params.maxdeadcycles then unlimited_firing es rs (out t.params t f) else ends es rs (dead_cycles t.dead_cycles)
 
 -- what waits and what is in boxes is of no account to it
-from-same : (p : Params) (es : List RunEvent) (rs : List Recorded) (store : Lists Node) (bs cs : List Boxed) (ns ms : List PlainNode) (m : MachineView) (f : Fired)
-    → firing_from p es rs (state_shown store bs ns m) f ≡ firing_from p es rs (state_shown store cs ms m) f
+from-same : (es : List RunEvent) (rs : List Recorded) (store : Lists Node) (bs cs : List Boxed) (ns ms : List PlainNode) (m : MachineView) (f : Fired)
+    → firing_from es rs (state_shown store bs ns m) f ≡ firing_from es rs (state_shown store cs ms m) f
 unfolding out
-from-same p es rs store bs cs ns ms m f = refl
+from-same es rs store bs cs ns ms m f = refl
 
 module _ (r q : Routine) (page : Page) (hs : List Happening) (h : IsFiring true r page q hs) where
-  abbrev p : Params
-  p = r.machine.params
-
   abbrev s : State
   s = state_of r
 
   abbrev so_far : Progress
-  so_far = progress_in p s
+  so_far = progress_in s
 
   abbrev w : Work
   w = out q.machine.params (state_of q) (fired_whole q page)
@@ -81,22 +77,21 @@ module _ (r q : Routine) (page : Page) (hs : List Happening) (h : IsFiring true 
   abbrev pub records_now : List Recorded
   records_now = so_far.records ++ w.records
 
-  unlimited-is : unlimited_step p s ≡ firing_from q.machine.params so_far.events so_far.records (state_of q) (fired_whole q page)
+  unlimited-is : unlimited_step s ≡ firing_from so_far.events so_far.records (state_of q) (fired_whole q page)
   unfolding unlimited_step
   unlimited-is =
-      ap (unlimited_progress p (ask_for p s) (reach_in p s) so_far) h.fires.none
-      ∙ then-step (reach_in p s).fires (unlimited_fire p (ask_for p s) (reach_in p s) so_far) _ h.fires.fires
-      ∙ (λ i. firing_from p so_far.events so_far.records (sym h.filled.state i) (sym h.fires.fired i))
-      ∙ from-same p so_far.events so_far.records q.store s.boxes (held_in q).boxes s.waiting (held_in q).waiting q.machine (fired_whole q page)
-      ∙ ap (λ x. firing_from x so_far.events so_far.records (state_of q) (fired_whole q page)) (sym h.filled.params)
+      ap (unlimited_progress (ask_for s) (reach_in s) so_far) h.fires.none
+      ∙ then-step (reach_in s).fires (unlimited_fire (ask_for s) (reach_in s) so_far) _ h.fires.fires
+      ∙ (λ i. firing_from so_far.events so_far.records (sym h.filled.state i) (sym h.fires.fired i))
+      ∙ from-same so_far.events so_far.records q.store s.boxes (held_in q).boxes s.waiting (held_in q).waiting q.machine (fired_whole q page)
 
   -- the firing was allowed
-  allowed : pos q.machine.dead_cycles <ℤ q.machine.params.maxdeadcycles → unlimited_step p s ≡ unlimited_firing so_far.events so_far.records w
+  allowed : pos q.machine.dead_cycles <ℤ q.machine.params.maxdeadcycles → unlimited_step s ≡ unlimited_firing so_far.events so_far.records w
   allowed alive = unlimited-is ∙ then-step (int_lt (pos q.machine.dead_cycles) q.machine.params.maxdeadcycles) (unlimited_firing so_far.events so_far.records w) _ (below-test q.machine.dead_cycles q.machine.params.maxdeadcycles alive)
 
   -- ---- the run does not go on
 
-  refused-step : (f : RunFault) → IsRefusedBy f page q → IsRefusal (unlimited_step p s)
+  refused-step : (f : RunFault) → IsRefusedBy f page q → IsRefusal (unlimited_step s)
   refused-step (faults.DeadCycles n) k =
       subst IsRefusal (sym (unlimited-is ∙ else-step (int_lt (pos q.machine.dead_cycles) q.machine.params.maxdeadcycles) (unlimited_firing so_far.events so_far.records w) _ (not-below q.machine.dead_cycles q.machine.params.maxdeadcycles k)))
       (dead-end so_far.events so_far.records q.machine.dead_cycles)
@@ -105,23 +100,23 @@ module _ (r q : Routine) (page : Page) (hs : List Happening) (h : IsFiring true 
       (limit-end events_now records_now (pred w.state.page))
   refused-step faults.Memory k = absurd k
 
-  pub refused-so : (f : RunFault) → IsRefusedBy f page q → IsRefused p s
+  pub refused-so : (f : RunFault) → IsRefusedBy f page q → IsRefused s
   refused-so f k = record { step = refused-step f k; later = inl h.fires.fires }
 
   -- ---- it goes on
 
   module _ (d : Routine) (g : HasGoneOn page q d) where
-    pub goes-step : unlimited_step p s ≡ goes_on events_now records_now (state_of d)
+    pub goes-step : unlimited_step s ≡ goes_on events_now records_now (state_of d)
     goes-step =
         allowed g.alive
         ∙ else-step w.refused (ends events_now records_now (page_limit (pred w.state.page))) (goes_on events_now records_now w.state) g.done
         ∙ ap (goes_on events_now records_now) (sym g.state)
 
     -- the events of the step, whatever the limit on nodes is
-    events-same : step_events (step p s) ≡ events_now
+    events-same : step_events (step s) ≡ events_now
     events-same =
         ap step_events (step-is true r q page hs h)
-        ∙ firing-events q.machine.params so_far.events so_far.records (state_of q) (fired_whole q page)
+        ∙ firing-events so_far.events so_far.records (state_of q) (fired_whole q page)
         ∙ ap (λ t. so_far.events ++ map sent (if t then w.sent else [])) (below-test q.machine.dead_cycles q.machine.params.maxdeadcycles g.alive)
 
     module _ (new : List Happening) (k : HasSent page q d hs new) where
@@ -133,4 +128,4 @@ module _ (r q : Routine) (page : Page) (hs : List Happening) (h : IsFiring true 
 
       -- the place at which the page broke is as the page builder tries it
       pub broke-tried : IfSome (last_champion (events_of d.store new)) IsTried
-      broke-tried = subst (λ es. IfSome (last_champion es) IsTried) (sym events-are) (last-tried events_now (subst AreTried events-same (step-tried p s)))
+      broke-tried = subst (λ es. IfSome (last_champion es) IsTried) (sym events-are) (last-tried events_now (subst AreTried events-same (step-tried s)))

@@ -1,7 +1,6 @@
 -- Each page that fires lowers what is left of the firings, so the search comes to an end.
 use Rattle.std.proofs.Common.{◌≡◌, subst, ◌≤◌, List}
 use Rattle.std.specs.Prelude.{◌<◌, ℤ}
-use Rattle.tb_param.specs.declared.Params.{Params}
 use Rattle.tb_output.specs.State.{State, Recorded}
 use Rattle.tb_items.specs.RunEvents.{RunEvent}
 use Rattle.tb_steps.specs.Run.{goes_on, firings_left}
@@ -14,13 +13,13 @@ use Rattle.tb_search.specs.Branches.{shown, IsBranch}
 use Rattle.tb_search.specs.FilledBranches.{HasFired}
 
 -- a step that goes on from a state whose page has a number
-pub fewer-left : (p : Params) (s t : State) (es : List RunEvent) (rs : List Recorded) → 1 ≤ s.page → unlimited_step p s ≡ goes_on es rs t → firings_left p t < firings_left p s
-fewer-left p s t es rs one h = (subst (Turns p s) h (step-turns p s one)).1
+pub fewer-left : (s t : State) (es : List RunEvent) (rs : List Recorded) → 1 ≤ s.page → unlimited_step s ≡ goes_on es rs t → firings_left t < firings_left s
+fewer-left s t es rs one h = (subst (Turns s) h (step-turns s one)).1
 
 -- the page of a state has a number
 pub numbered : (b : Branch) → IsBranch b → 1 ≤ (shown b).page
 numbered b h = h.ready.settled.whole.machine.first
 
 -- a page that was filled and fired
-pub fired-fewer : (p : Params) (places : List PlacePenalty) (d : ℤ) (b c : Branch) → IsBranch b → HasFired p places d b c → firings_left p (shown c) < firings_left p (shown b)
-fired-fewer p places d b c h f = fewer-left p (shown b) (shown c) f.events f.records (numbered b h) f.step
+pub fired-fewer : (places : List PlacePenalty) (d : ℤ) (b c : Branch) → IsBranch b → HasFired places d b c → firings_left (shown c) < firings_left (shown b)
+fired-fewer places d b c h f = fewer-left (shown b) (shown c) f.events f.records (numbered b h) f.step

@@ -6,10 +6,10 @@ use Rattle.std.specs.declared.alloc.Global.{Global}
 use Rattle.std.specs.declared.vec.Vec.{Vec}
 use Rattle.std.proofs.lemmas.List.{get_or-set_same, length-set}
 use Rattle.tb_galley.specs.declared.Galley.{Galley}
-use Rattle.tb_param.specs.declared.Params.{Params}
 use Rattle.tb_output.specs.State.{State}
 use Rattle.tb_best.specs.ItemsAhead.{Ahead}
 use Rattle.tb_best.specs.ClosedTables.{Row, rows_know, IsAsGood}
+use Rattle.tb_best.specs.Sides.{may_alternate, KeepsSides}
 use Rattle.tb_best.specs.Counts.{counts_of, AreNoGreater}
 use Rattle.tb_best.proofs.CountedFirings.{counted}
 use Rattle.tb_best.proofs.CountedStates.{counts-good}
@@ -131,11 +131,11 @@ set-known g vs k w h =
 -- ---- a state that may stand for another
 
 -- a state that is the same but for the left column and for counts that are no greater is as good
-pub counts-as-good : (g : Galley) (s t : State) → without_counts t ≡ without_counts s → AreNoGreater g.params (counts_of t) (counts_of s) → IsAsGood g s t
-counts-as-good g s t e h = subst (λ (u : State). IsAsGood g s u) (ap (λ (u : State). counted t.left_column (counts_of t) u) (sym e)) (counts-good g s t.left_column (counts_of t) h)
+pub counts-as-good : (g : Galley) (s t : State) → without_counts t ≡ without_counts s → KeepsSides (may_alternate g) s → AreNoGreater (may_alternate g) (counts_of t) (counts_of s) → IsAsGood g s t
+counts-as-good g s t e keep h = subst (λ (u : State). IsAsGood g s u) (ap (λ (u : State). counted u.params.maxnodes t.left_column (counts_of t) u) (sym e)) (counts-good g s t.left_column (counts_of t) keep h)
 
-pub stands-as-good : (g : Galley) (x y : Start) → x.branch.routine.machine.params ≡ g.params → MayStandFor x y → IsAsGood g (shown y.branch) (shown x.branch)
-stands-as-good g x y params h = counts-as-good g (shown y.branch) (shown x.branch) h.same (subst (λ (p : Params). AreNoGreater p (counts_of (shown x.branch)) (counts_of (shown y.branch))) params h.counts)
+pub stands-as-good : (g : Galley) (x y : Start) → KeepsSides (may_alternate g) (shown y.branch) → MayStandFor (may_alternate g) x y → IsAsGood g (shown y.branch) (shown x.branch)
+stands-as-good g x y keep h = counts-as-good g (shown y.branch) (shown x.branch) h.same keep h.counts
 
 -- ---- a table of which one level is set
 
@@ -179,10 +179,10 @@ module _ (t : Table) (left : ℕ) (inside : left < length t.starts.items) (table
         none-known (rows_of t) (shown x.branch) (items_ahead t.galley.now left) x.way.demerits (reverse x.way.breaks.items) none (item-known x.way (no-better-same x.way.demerits (reverse x.way.breaks.items)))
 
     -- if this state may stand for another, the table knows one that is as good as that
-    pub stands-known : MayStandFor x y → HasRowAsGood t left (shown y.branch) y.way
-    stands-known h = (
+    pub stands-known : KeepsSides (may_alternate t.galley.now) (shown y.branch) → MayStandFor t.may_alternate x y → HasRowAsGood t left (shown y.branch) y.way
+    stands-known keep h = (
       shown x.branch,
-      stands-as-good t.galley.now x y (all-at (IsStart t.galley.now t.bound left) v.items k y (level-starts v is) here).params h,
+      stands-as-good t.galley.now x y keep (subst (λ may. MayStandFor may x y) table.alternate h),
       item-known y.way h.way,
     )
 
@@ -193,6 +193,7 @@ module _ (t : Table) (left : ℕ) (inside : left < length t.starts.items) (table
     pub set-table : AllByRecursion (IsStart t.galley.now t.bound left) w.items → IsTable after
     set-table all = record {
       mild = table.mild;
+      alternate = table.alternate;
       range = table.range;
       penalties = table.penalties;
       places = table.places;
@@ -230,21 +231,21 @@ module _ (t : Table) (left : ℕ) (inside : left < length t.starts.items) (table
   here-too k h = subst (λ zs. k < length zs) seen h
 
   -- one of them may stand for a state: the table knows one that is as good
-  pub found-known : (y : Start) (k : ℕ) → StandsAt xs k y → HasRowAsGood t left (shown y.branch) y.way
-  found-known y k h = stands-known t left inside table v is k y (here-too k h.inside) (subst (λ zs. MayStandFor (get_or zs k y) y) seen (h.stands y))
+  pub found-known : (y : Start) (k : ℕ) → KeepsSides (may_alternate t.galley.now) (shown y.branch) → StandsAt t.may_alternate xs k y → HasRowAsGood t left (shown y.branch) y.way
+  found-known y k keep h = stands-known t left inside table v is k y (here-too k h.inside) keep (subst (λ zs. MayStandFor t.may_alternate (get_or zs k y) y) seen (h.stands y))
 
   -- and it has rows
-  pub found-rows : (y : Start) (k : ℕ) → StandsAt xs k y → rows_of t ≡ [] → ⊥
+  pub found-rows : (y : Start) (k : ℕ) → StandsAt t.may_alternate xs k y → rows_of t ≡ [] → ⊥
   found-rows y k h none = some-rows t left inside table v is k y (here-too k h.inside) none
 
 -- ---- a state is left out for one that may stand for it
 
-module _ (g : Galley) (bound : ℤ) (left k : ℕ) (xs : List Start) (y : Start) (h : IsNeedlessAt xs k y) (start : IsStart g bound left y) where
+module _ (g : Galley) (bound : ℤ) (left k : ℕ) (xs : List Start) (y : Start) (h : IsNeedlessAt (may_alternate g) xs k y) (start : IsStart g bound left y) where
   replaced-all : AllByRecursion (IsStart g bound left) xs → AllByRecursion (IsStart g bound left) (set xs k y)
   replaced-all all = all-set (IsStart g bound left) xs k y all start
 
-  replaced-more : KnowsAsMuch g (map (row_of g left) xs) (map (row_of g left) (set xs k y))
-  replaced-more = known-set g left xs k y y (stands-as-good g y (get_or xs k y) start.params (h.stands y)) (h.stands y).way
+  replaced-more : AllByRecursion (IsStart g bound left) xs → KnowsAsMuch g (map (row_of g left) xs) (map (row_of g left) (set xs k y))
+  replaced-more all = known-set g left xs k y y (stands-as-good g y (get_or xs k y) (all-at (IsStart g bound left) xs k y all h.inside).sides (h.stands y)) (h.stands y).way
 
   replaced-known : rows_know (map (row_of g left) (set xs k y)) (shown y.branch) (items_ahead g left) y.way.demerits (reverse y.way.breaks.items)
   replaced-known =
@@ -252,15 +253,15 @@ module _ (g : Galley) (bound : ℤ) (left k : ℕ) (xs : List Start) (y : Start)
 
 -- the same of the level that is changed, which is the one that was looked through
 module _ (t : Table) (left : ℕ) (inside : left < length t.starts.items) (table : IsTable t) (u v : Vec Start Global) (first : u ≡ get_or t.starts.items left u) (is : v ≡ get_or t.starts.items left v) (xs : List Start) (seen : xs ≡ u.items)
-    (k : ℕ) (y : Start) (found : IsNeedlessAt xs k y) (start : IsStart t.galley.now t.bound left y) where
-  needless : IsNeedlessAt v.items k y
-  needless = subst (λ zs. IsNeedlessAt zs k y) (seen ∙ ap (λ (w : Vec Start Global). w.items) (same-item t.starts.items left u v inside first is)) found
+    (k : ℕ) (y : Start) (found : IsNeedlessAt t.may_alternate xs k y) (start : IsStart t.galley.now t.bound left y) where
+  needless : IsNeedlessAt (may_alternate t.galley.now) v.items k y
+  needless = subst (λ may. IsNeedlessAt may v.items k y) table.alternate (subst (λ zs. IsNeedlessAt t.may_alternate zs k y) (seen ∙ ap (λ (w : Vec Start Global). w.items) (same-item t.starts.items left u v inside first is)) found)
 
   pub level-all : AllByRecursion (IsStart t.galley.now t.bound left) (set v.items k y)
   level-all = replaced-all t.galley.now t.bound left k v.items y needless start (level-starts t left inside table v is)
 
   pub level-more : KnowsAsMuch t.galley.now (map (row_of t.galley.now left) v.items) (map (row_of t.galley.now left) (set v.items k y))
-  level-more = replaced-more t.galley.now t.bound left k v.items y needless start
+  level-more = replaced-more t.galley.now t.bound left k v.items y needless start (level-starts t left inside table v is)
 
   pub level-keeps : rows_know (map (row_of t.galley.now left) (set v.items k y)) (shown y.branch) (items_ahead t.galley.now left) y.way.demerits (reverse y.way.breaks.items)
   level-keeps = replaced-known t.galley.now t.bound left k v.items y needless start

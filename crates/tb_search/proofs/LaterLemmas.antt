@@ -1,6 +1,6 @@
 -- A table after parts of the search, one after the other.
-use Rattle.std.proofs.Common.{◌≡◌, refl, sym, ◌∙◌, ap, subst, ◌⊎◌, inl, inr, ℕ, suc, ◌+◌, ℤ, List, [], ◌∷◌, ◌++◌, map, length, arith}
-use Rattle.std.specs.Prelude.{pos, ◌+ℤ◌, ◌≤ℤ◌, ◌<ℤ◌, reverse}
+use Rattle.std.proofs.Common.{◌≡◌, refl, sym, ◌∙◌, subst, ◌⊎◌, inl, inr, ℕ, suc, ◌+◌, ℤ, List, [], ◌∷◌, ◌++◌, map, length, arith}
+use Rattle.std.specs.Prelude.{reverse}
 use Rattle.std.specs.declared.alloc.Global.{Global}
 use Rattle.std.specs.declared.vec.Vec.{Vec}
 use Rattle.tb_galley.specs.declared.Galley.{Galley}
@@ -11,7 +11,7 @@ use Rattle.tb_search.specs.declared.table.Table.{Table}
 use Rattle.tb_search.specs.declared.table.Start.{Start}
 use Rattle.tb_search.specs.Starts.{row_of, rows_from, rows_of}
 use Rattle.tb_search.specs.Searched.{IsSearched, waits, stands, KnowsMore}
-use Rattle.tb_search.specs.Continues.{IsSearchedBy, IsNoWorse, IsLater, Continues, HasSearched}
+use Rattle.tb_search.specs.Continues.{IsSearchedBy, IsLater, Continues, HasSearched}
 use Rattle.tb_search.proofs.OrderLemmas.{no-better-same, no-better-through}
 use Rattle.tb_search.proofs.SearchedLemmas.{as-good-itself, as-good-through, searched-worse, searched-later}
 

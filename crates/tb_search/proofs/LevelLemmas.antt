@@ -1,5 +1,5 @@
 -- The last level of states is taken out of a table, and the last state of a level.
-use Rattle.std.proofs.Common.{◌≡◌, refl, sym, ◌∙◌, ap, subst, ℕ, suc, ◌+◌, ◌<◌, ◌≤◌, ℤ, List, [], ◌∷◌, ◌++◌, length, Option, Some, None, arith}
+use Rattle.std.proofs.Common.{◌≡◌, refl, sym, ap, subst, ℕ, suc, ◌+◌, ℤ, List, [], ◌∷◌, ◌++◌, length, arith}
 use Rattle.std.proofs.lemmas.List.{length-append}
 use Rattle.std.specs.List.{AllByRecursion}
 use Rattle.std.specs.declared.alloc.Global.{Global}
@@ -36,6 +36,7 @@ module _ (t : Table) (w : Vec (Vec Start Global) Global) (v : Vec Start Global) 
   pub without-last : IsTable (record t { starts = w })
   without-last = record {
     mild = h.mild;
+    alternate = h.alternate;
     range = h.range;
     penalties = h.penalties;
     places = h.places;

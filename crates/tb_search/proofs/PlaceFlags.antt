@@ -9,7 +9,7 @@ use Rattle.tb_galley.specs.declared.ItemKind.{ItemKind}
 use Rattle.tb_galley.specs.declared.ItemKind.TheVariants as items
 use Rattle.tb_galley.specs.Valid.{IsValid, weight, weight_of}
 use Rattle.tb_galley.specs.declared.Galley.{Galley}
-use Rattle.tb_galley.specs.GalleyNodes.{two_after}
+use Rattle.tb_galley.specs.GalleyNodes.{two_after, params_after}
 use Rattle.tb_plans.specs.declared.walk.Before.{Before}
 use Rattle.tb_plans.specs.declared.walk.Before.TheVariants as befores
 use Rattle.tb_plans.specs.Places.{is_glue_next, is_place, before_after, if_place, places_from, places_of}
@@ -26,21 +26,21 @@ one-more pre fs true ns = ap (λ gs. marked gs ns) (set-append_seam pre false fs
 one-more pre fs false ns = ap (λ gs. marked gs ns) (sym (append_assoc pre (false ∷ []) fs))
 
 module _ (p : Params) (last : Ahead) (clear : last.is_place ≡ false) where
-  flags-from : (pre : List Bool) (two : Bool) (b : Before) (k : ℕ) (ns : List Item) → k ≡ length pre
-      → marked (pre ++ replicate (suc (length ns)) false) (places_from p two b k ns) ≡ pre ++ map place_at (ahead_from p last two b k ns)
-  flags-from pre two b k [] e = ap (λ (f : Bool). pre ++ f ∷ []) (sym clear)
-  flags-from pre two b k (n ∷ ns) e =
+  flags-from : (q : Params) (pre : List Bool) (two : Bool) (b : Before) (k : ℕ) (ns : List Item) → k ≡ length pre
+      → marked (pre ++ replicate (suc (length ns)) false) (places_from p two b k ns) ≡ pre ++ map place_at (ahead_from p q last two b k ns)
+  flags-from q pre two b k [] e = ap (λ (f : Bool). pre ++ f ∷ []) (sym clear)
+  flags-from q pre two b k (n ∷ ns) e =
       let here : Bool = is_place (is_glue_next p two ns) b n.kind in
       let more : suc k ≡ length (pre ++ here ∷ []) = let l = length-append pre (here ∷ []) in omega (arith, l, e) in
       ap (λ j. marked (pre ++ false ∷ replicate (suc (length ns)) false) (if_place j here ++ places_from p (two_after two n.kind) (before_after p two b n.kind) (suc k) ns)) e
       ∙ one-more pre (replicate (suc (length ns)) false) here (places_from p (two_after two n.kind) (before_after p two b n.kind) (suc k) ns)
-      ∙ flags-from (pre ++ here ∷ []) (two_after two n.kind) (before_after p two b n.kind) (suc k) ns more
-      ∙ append_assoc pre (here ∷ []) (map place_at (ahead_from p last (two_after two n.kind) (before_after p two b n.kind) (suc k) ns))
+      ∙ flags-from (params_after q n.kind) (pre ++ here ∷ []) (two_after two n.kind) (before_after p two b n.kind) (suc k) ns more
+      ∙ append_assoc pre (here ∷ []) (map place_at (ahead_from p (params_after q n.kind) last (two_after two n.kind) (before_after p two b n.kind) (suc k) ns))
 
 -- the places of a galley, marked among as many flags as it has items ahead
 pub flags-are : (g : Galley) → marked (replicate (length g.items + 1) false) (places_of g) ≡ map (λ (c : Ahead). c.is_place) (all_ahead g)
 unfolding places_of all_ahead
-flags-are g = ap (λ n. marked (replicate n false) (places_from g.params false befores.Nothing 0 g.items)) (add-one (length g.items)) ∙ flags-from g.params (last_ahead g) refl [] false befores.Nothing 0 g.items refl
+flags-are g = ap (λ n. marked (replicate n false) (places_from g.params false befores.Nothing 0 g.items)) (add-one (length g.items)) ∙ flags-from g.params (last_ahead g) refl g.params [] false befores.Nothing 0 g.items refl
 
 -- ---- how many items a galley has
 

@@ -2,7 +2,6 @@
 use Rattle.std.proofs.Common.{◌≡◌, ◌≢◌, refl, sym, subst, ◌∙◌, ap, inl, inr, ◌⊎◌, ℕ, Bool, true, false, List, [], ◌∷◌, ◌++◌, Option, None, Some, true≢false}
 use Rattle.std.specs.Prelude.{if◌then◌else◌}
 use Rattle.tb_node.specs.PlainNodes.{PlainNode}
-use Rattle.tb_param.specs.declared.Params.{Params}
 use Rattle.tb_output.specs.declared.RunFault.{RunFault}
 use Rattle.tb_output.specs.declared.RunFault.TheVariants as faults
 use Rattle.tb_output.specs.State.{State, emptied}
@@ -28,12 +27,12 @@ refusal-with more (ends es rs e) h = h
 refusal-with more (goes_on es rs t) h = h
 
 -- if a page fires, the run is refused whatever comes behind
-pub refused-more : (p : Params) (s : State) → (reach_in p s).fires ≡ true → IsRefusal (unlimited_step p s) → (more : List PlainNode) → IsRefusal (unlimited_step p (state_with more s))
-refused-more p s fires h more = subst IsRefusal (sym (step-more p s more fires)) (refusal-with more (unlimited_step p s) h)
+pub refused-more : (s : State) → (reach_in s).fires ≡ true → IsRefusal (unlimited_step s) → (more : List PlainNode) → IsRefusal (unlimited_step (state_with more s))
+refused-more s fires h more = subst IsRefusal (sym (step-more s more fires)) (refusal-with more (unlimited_step s) h)
 
 -- the same at a full pool
-pub full-refused : (p : Params) (s : State) → IsFull p s → (reach_in p s).fires ≡ true → IsRefused p s
-full-refused p s h fires = record { step = h.step; later = inl fires }
+pub full-refused : (s : State) → IsFull s → (reach_in s).fires ≡ true → IsRefused s
+full-refused s h fires = record { step = h.step; later = inl fires }
 
 -- ---- no page fired
 
@@ -42,47 +41,44 @@ else-step true x y e = absurd (true≢false e)
 else-step false x y e = refl
 
 module _ (r q : Routine) (e : Ending) (hs : List Happening) (h : IsFilledLast true r e q hs) where
-  abbrev p : Params
-  p = r.machine.params
-
   abbrev s : State
   s = state_of r
 
   abbrev so_far : Progress
-  so_far = progress_in p s
+  so_far = progress_in s
 
   -- the step where no page fires and the pool was not full, and where it was full
   abbrev over : Step
-  over = ends so_far.events (so_far.records ++ emptied so_far.state.floats ∷ []) (done (reach_in p s).passed)
+  over = ends so_far.events (so_far.records ++ emptied so_far.state.floats ∷ []) (done (reach_in s).passed)
 
   abbrev full : ℕ × ℕ → Step
   full x = ends so_far.events so_far.records (pool_full x.0 x.1)
 
-  over-step : so_far.fault ≡ None → step p s ≡ over
+  over-step : so_far.fault ≡ None → step s ≡ over
   unfolding step
-  over-step none = ap (after_progress p (ask_for p s) (reach_in p s) so_far) none ∙ else-step (reach_in p s).fires (fire p (ask_for p s) (reach_in p s) so_far) over (h.none none)
+  over-step none = ap (after_progress (ask_for s) (reach_in s) so_far) none ∙ else-step (reach_in s).fires (fire (ask_for s) (reach_in s) so_far) over (h.none none)
 
-  over-unlimited : so_far.fault ≡ None → unlimited_step p s ≡ over
+  over-unlimited : so_far.fault ≡ None → unlimited_step s ≡ over
   unfolding unlimited_step
-  over-unlimited none = ap (unlimited_progress p (ask_for p s) (reach_in p s) so_far) none ∙ else-step (reach_in p s).fires (unlimited_fire p (ask_for p s) (reach_in p s) so_far) over (h.none none)
+  over-unlimited none = ap (unlimited_progress (ask_for s) (reach_in s) so_far) none ∙ else-step (reach_in s).fires (unlimited_fire (ask_for s) (reach_in s) so_far) over (h.none none)
 
-  full-step : (x : ℕ × ℕ) → so_far.fault ≡ Some x → step p s ≡ full x
+  full-step : (x : ℕ × ℕ) → so_far.fault ≡ Some x → step s ≡ full x
   unfolding step
-  full-step x some = ap (after_progress p (ask_for p s) (reach_in p s) so_far) some
+  full-step x some = ap (after_progress (ask_for s) (reach_in s) so_far) some
 
-  full-unlimited : (x : ℕ × ℕ) → so_far.fault ≡ Some x → unlimited_step p s ≡ full x
+  full-unlimited : (x : ℕ × ℕ) → so_far.fault ≡ Some x → unlimited_step s ≡ full x
   unfolding unlimited_step
-  full-unlimited x some = ap (unlimited_progress p (ask_for p s) (reach_in p s) so_far) some
+  full-unlimited x some = ap (unlimited_progress (ask_for s) (reach_in s) so_far) some
 
   -- the run ended well
-  pub is-quiet : e ≡ endings.Done → IsQuiet p s
+  pub is-quiet : e ≡ endings.Done → IsQuiet s
   is-quiet done_so = by so_far.fault refl
     where
-      by : (o : Option (ℕ × ℕ)) → so_far.fault ≡ o → IsQuiet p s
+      by : (o : Option (ℕ × ℕ)) → so_far.fault ≡ o → IsQuiet s
       by None none = record {
         events = so_far.events;
         records = so_far.records ++ emptied so_far.state.floats ∷ [];
-        left = (reach_in p s).passed;
+        left = (reach_in s).passed;
         quiet = h.none none;
         step = over-unlimited none;
       }
@@ -101,28 +97,28 @@ module _ (r q : Routine) (e : Ending) (hs : List Happening) (h : IsFilledLast tr
 
   module _ (other : e ≢ endings.Done) where
     -- it ended at a full pool
-    found-full : (x : ℕ × ℕ) → so_far.fault ≡ Some x → IsRefusal (unlimited_step p s)
+    found-full : (x : ℕ × ℕ) → so_far.fault ≡ Some x → IsRefusal (unlimited_step s)
     found-full x some = subst IsRefusal (sym (full-unlimited x some)) (full-end so_far.events so_far.records x.0 x.1)
 
     not-over : so_far.fault ≡ None → ⊥
-    not-over none = no-end e (reach_in p s).passed other (subst (EndsAs q (Some e)) (over-step none) h.ended)
+    not-over none = no-end e (reach_in s).passed other (subst (EndsAs q (Some e)) (over-step none) h.ended)
 
     -- behind a kern more may come
-    pub is-full : kern_last false s.waiting ≡ true → IsFull p s
+    pub is-full : kern_last false s.waiting ≡ true → IsFull s
     is-full kern = by so_far.fault refl
       where
-        by : (o : Option (ℕ × ℕ)) → so_far.fault ≡ o → IsFull p s
+        by : (o : Option (ℕ × ℕ)) → so_far.fault ≡ o → IsFull s
         by None none = absurd (not-over none)
         by (Some x) some = record { step = found-full x some; kern = kern }
 
     -- else it is so whatever comes behind
-    pub is-refused : kern_last false s.waiting ≡ false → IsRefused p s
+    pub is-refused : kern_last false s.waiting ≡ false → IsRefused s
     is-refused last = by so_far.fault refl
       where
-        by : (o : Option (ℕ × ℕ)) → so_far.fault ≡ o → IsRefused p s
+        by : (o : Option (ℕ × ℕ)) → so_far.fault ≡ o → IsRefused s
         by None none = absurd (not-over none)
-        by (Some x) some = record { step = found-full x some; later = by_firing (reach_in p s).fires refl }
+        by (Some x) some = record { step = found-full x some; later = by_firing (reach_in s).fires refl }
           where
-            by_firing : (t : Bool) → (reach_in p s).fires ≡ t → ((reach_in p s).fires ≡ true) ⊎ ((more : List PlainNode) → IsRefusal (unlimited_step p (state_with more s)))
+            by_firing : (t : Bool) → (reach_in s).fires ≡ t → ((reach_in s).fires ≡ true) ⊎ ((more : List PlainNode) → IsRefusal (unlimited_step (state_with more s)))
             by_firing true fires = inl fires
-            by_firing false quiet = inr (λ more. full-on p x s more last quiet some)
+            by_firing false quiet = inr (λ more. full-on x s more last quiet some)

@@ -1,20 +1,14 @@
 -- One part of the search: what it shows of the state from which it goes on.
-use Rattle.std.proofs.Common.{◌≡◌, refl, sym, ◌∙◌, ap, subst, ◌⊎◌, inl, inr, ℕ, suc, ◌<◌, ◌≤◌, ℤ, Bool, true, false, List, [], ◌∷◌, ◌++◌, length, arith}
+use Rattle.std.proofs.Common.{◌≡◌, refl, sym, subst, inl, inr, ℕ, suc, ◌<◌, ◌≤◌, ℤ, Bool, true, false, List, [], ◌∷◌, length, arith}
 use Rattle.std.proofs.Common.{Result, Ok, Err}
-use Rattle.std.specs.Prelude.{pos, ◌+ℤ◌, ◌≤ℤ◌, ◌<ℤ◌, reverse, OnOk}
-use Rattle.std.proofs.lemmas.Int.{ints}
-use Rattle.tb_node.specs.PlainNodes.{PlainNode}
-use Rattle.tb_param.specs.declared.Params.{Params}
+use Rattle.std.specs.Prelude.{pos, ◌+ℤ◌, ◌<ℤ◌, reverse, OnOk}
 use Rattle.tb_galley.specs.declared.Galley.{Galley}
 use Rattle.tb_builder.specs.Reach.{holds_box}
-use Rattle.tb_output.specs.State.{State, Recorded}
-use Rattle.tb_items.specs.RunEvents.{RunEvent}
-use Rattle.tb_steps.specs.Run.{done, ends, goes_on}
+use Rattle.tb_output.specs.State.{State}
 use Rattle.tb_rate.specs.Places.{place_penalties}
-use Rattle.tb_best.specs.PlanDemerits.{reach_in, unlimited_step, step_demerits}
+use Rattle.tb_best.specs.PlanDemerits.{reach_in, unlimited_step}
 use Rattle.tb_best.specs.ItemsAhead.{Ahead, all_ahead, forced, state_with}
-use Rattle.tb_best.specs.ClosedTables.{Row, rows_know, KnowsAsGood, IsNoBetter}
-use Rattle.tb_best.specs.PageTables.{with_page}
+use Rattle.tb_best.specs.ClosedTables.{rows_know, IsNoBetter}
 use Rattle.tb_best.proofs.CutPages.{cut-fires}
 use Rattle.tb_search.specs.declared.branch.Branch.{Branch}
 use Rattle.tb_search.specs.declared.table.Table.{Table}
@@ -22,13 +16,13 @@ use Rattle.tb_search.specs.declared.table.Way.{Way}
 use Rattle.tb_search.specs.Branches.{shown}
 use Rattle.tb_search.specs.FilledBranches.{IsRefusal, IsRefused, IsQuiet, IsFull, HasFired}
 use Rattle.tb_search.specs.AheadInCode.{items_ahead}
-use Rattle.tb_search.specs.Searched.{IsSearched, over, waits, stuck, fills, takes, ended}
+use Rattle.tb_search.specs.Searched.{over, waits, stuck, fills, takes, ended}
 use Rattle.tb_search.specs.Starts.{rows_of, MayTake}
 use Rattle.tb_search.specs.KeptStarts.{IsNoWorseWay, HasRowAsGood}
-use Rattle.tb_search.specs.Continues.{IsSearchedBy, IsSearchedAsGoodBy, IsLater, Continues, HasSearched, IsCutSearched}
+use Rattle.tb_search.specs.Continues.{IsSearchedBy, IsSearchedAsGoodBy, IsLater, HasSearched, IsCutSearched}
 use Rattle.tb_search.proofs.AheadLemmas.{none-ahead, next-is, next_ahead}
 use Rattle.tb_search.proofs.SearchedLemmas.{as-good-itself, refused-ends}
-use Rattle.tb_search.proofs.LaterLemmas.{continues-searched, still-searched, searched-through}
+use Rattle.tb_search.proofs.LaterLemmas.{still-searched}
 
 -- a state that is searched stands for itself
 pub as-searched : (u : Table) (s : State) (cs : List Ahead) (d : ℤ) (breaks : List ℕ) → IsSearchedBy u s cs d breaks → IsSearchedAsGoodBy u s cs d breaks
@@ -47,8 +41,8 @@ module _ (t u : Table) (later : IsLater t u) where
   over-searched s cs d breaks h = as-searched u s cs d breaks (over s cs d breaks (subst (λ b. b <ℤ d) (sym later.bound) h))
 
   -- no run goes on
-  pub refused-searched : (s : State) (cs : List Ahead) (d : ℤ) (breaks : List ℕ) → IsRefused g.params s → IsSearchedBy u s cs d breaks
-  refused-searched s cs d breaks h = stuck s cs d breaks (in-galley (λ a. IsRefused a.params s) h)
+  pub refused-searched : (s : State) (cs : List Ahead) (d : ℤ) (breaks : List ℕ) → IsRefused s → IsSearchedBy u s cs d breaks
+  refused-searched s cs d breaks h = stuck s cs d breaks h
 
   -- the state was kept
   pub kept-searched : (left : ℕ) (s : State) (w : Way) → HasRowAsGood u left s w → IsSearchedAsGoodBy u s (items_ahead g left) w.demerits (reverse w.breaks.items)
@@ -56,33 +50,33 @@ module _ (t u : Table) (later : IsLater t u) where
       (h.0, h.1, waits h.0 (items_ahead g left) w.demerits (reverse w.breaks.items) (subst (λ a. rows_know (rows_of u) h.0 (items_ahead a.now left) w.demerits (reverse w.breaks.items)) later.galley h.2))
 
   -- the run ended well
-  pub end-searched : (s : State) (w : Way) → IsQuiet g.params s → IsNoWorseWay u.best w → IsSearchedBy u s (items_ahead g 0) w.demerits (reverse w.breaks.items)
+  pub end-searched : (s : State) (w : Way) → IsQuiet s → IsNoWorseWay u.best w → IsSearchedBy u s (items_ahead g 0) w.demerits (reverse w.breaks.items)
   end-searched s w h k =
       subst (λ cs. IsSearchedBy u s cs w.demerits (reverse w.breaks.items)) (sym (none-ahead g))
-      (ended s w.demerits (reverse w.breaks.items) (in-galley (λ a. (reach_in a.params s).fires ≡ false) h.quiet) (λ es rs left e. k))
+      (ended s w.demerits (reverse w.breaks.items) h.quiet (λ es rs left e. k))
 
   -- nothing is ahead, and the run does not end well
-  pub no-end-searched : (s : State) (d : ℤ) (breaks : List ℕ) → MayTake g s → IsRefusal (unlimited_step g.params s) → IsSearchedBy u s (items_ahead g 0) d breaks
+  pub no-end-searched : (s : State) (d : ℤ) (breaks : List ℕ) → MayTake s → IsRefusal (unlimited_step s) → IsSearchedBy u s (items_ahead g 0) d breaks
   no-end-searched s d breaks (inl quiet) h =
       subst (λ cs. IsSearchedBy u s cs d breaks) (sym (none-ahead g))
-      (ended s d breaks (in-galley (λ a. (reach_in a.params s).fires ≡ false) quiet)
-      (λ es rs left. refused-ends (IsNoBetter u.best.demerits (reverse u.best.breaks.items) d breaks) (unlimited_step u.galley.now.params s) es rs left (in-galley (λ a. IsRefusal (unlimited_step a.params s)) h)))
+      (ended s d breaks quiet
+      (λ es rs left. refused-ends (IsNoBetter u.best.demerits (reverse u.best.breaks.items) d breaks) (unlimited_step s) es rs left h))
   no-end-searched s d breaks (inr refused) h = refused-searched s (items_ahead g 0) d breaks refused
 
   -- a page fired, and the state after it is searched
-  pub fired-searched : (b c : Branch) (cs : List Ahead) (a d : ℤ) (breaks : List ℕ) → HasFired g.params (place_penalties g.items) a b c → IsSearchedAsGoodBy u (shown c) cs (d +ℤ a) breaks → IsSearchedBy u (shown b) cs d breaks
+  pub fired-searched : (b c : Branch) (cs : List Ahead) (a d : ℤ) (breaks : List ℕ) → HasFired (place_penalties g.items) a b c → IsSearchedAsGoodBy u (shown c) cs (d +ℤ a) breaks → IsSearchedBy u (shown b) cs d breaks
   fired-searched b c cs a d breaks first h =
-      let k = in-galley (λ x. HasFired x.params (place_penalties x.items) a b c) first in
+      let k = in-galley (λ x. HasFired (place_penalties x.items) a b c) first in
       fills (shown b) (shown c) h.0 cs d breaks k.events k.records k.fires k.step h.1 (subst (λ e. IsSearchedBy u h.0 cs (d +ℤ e) breaks) k.demerits h.2)
 
   -- an item was taken, and the state after it is searched
-  pub taken-searched : (middle : Table) (left : ℕ) (s : State) (d : ℤ) (breaks : List ℕ) → suc left ≤ length (all_ahead g) → MayTake g s → HasSearched [] middle u → IsCutSearched middle s (items_ahead g (suc left)) d breaks
+  pub taken-searched : (middle : Table) (left : ℕ) (s : State) (d : ℤ) (breaks : List ℕ) → suc left ≤ length (all_ahead g) → MayTake s → HasSearched [] middle u → IsCutSearched middle s (items_ahead g (suc left)) d breaks
       → IsSearchedBy u (state_with (next_ahead g left).nodes s) (items_ahead g left) d breaks → IsSearchedBy u s (items_ahead g (suc left)) d breaks
   taken-searched middle left s d breaks some (inr refused) on cut h = refused-searched s (items_ahead g (suc left)) d breaks refused
   taken-searched middle left s d breaks some (inl quiet) on cut h =
       let put_in = subst (λ cs. IsCutSearched middle s cs d breaks) (next-is g left some) cut in
       subst (λ cs. IsSearchedBy u s cs d breaks) (sym (next-is g left some))
-      (takes s (next_ahead g left) (items_ahead g left) d breaks (in-galley (λ a. (reach_in a.params s).fires ≡ false) quiet)
+      (takes s (next_ahead g left) (items_ahead g left) d breaks quiet
       (λ place box.
       still-searched middle u on (state_with (forced (next_ahead g left) ∷ (next_ahead g left).nodes) s) (items_ahead g left) (d +ℤ pos 1000) ((next_ahead g left).number ∷ breaks) (put_in place box))
       h)
@@ -97,19 +91,19 @@ pub cut-searched : (u : Table) (g : Galley) (left : ℕ) (s : State) (d : ℤ) (
 cut-searched u g left s d breaks some h = subst (λ cs. IsCutSearched u s cs d breaks) (sym (next-is g left some)) h
 
 -- a page with a break put in and a box fires
-pub cut-quiet : (X : Type 0) (p : Params) (s : State) (c : Ahead) → holds_box s.waiting ≡ true → (reach_in p (state_with (forced c ∷ c.nodes) s)).fires ≡ false → X
-cut-quiet X p s c box quiet = let fires = cut-fires p s c box in let no : ⊥ = grind (arith, fires, quiet) in absurd no
+pub cut-quiet : (X : Type 0) (s : State) (c : Ahead) → holds_box s.waiting ≡ true → (reach_in (state_with (forced c ∷ c.nodes) s)).fires ≡ false → X
+cut-quiet X s c box quiet = let fires = cut-fires s c box in let no : ⊥ = grind (arith, fires, quiet) in absurd no
 
 -- if a page fires, no run goes on from there whatever comes behind
-pub fired-refused : (p : Params) (s : State) → (reach_in p s).fires ≡ true → IsRefusal (unlimited_step p s) → IsRefused p s
-fired-refused p s fires h = record { step = h; later = inl fires }
+pub fired-refused : (s : State) → (reach_in s).fires ≡ true → IsRefusal (unlimited_step s) → IsRefused s
+fired-refused s fires h = record { step = h; later = inl fires }
 
 -- a run does not go on or end well here; perhaps items may be taken
-pub full-may : (g : Galley) (s : State) → IsFull g.params s → MayTake g s
-full-may g s h = by (reach_in g.params s).fires refl
+pub full-may : (s : State) → IsFull s → MayTake s
+full-may s h = by (reach_in s).fires refl
   where
-    by : (b : Bool) → (reach_in g.params s).fires ≡ b → MayTake g s
-    by true e = inr (fired-refused g.params s e h.step)
+    by : (b : Bool) → (reach_in s).fires ≡ b → MayTake s
+    by true e = inr (fired-refused s e h.step)
     by false e = inl e
 
 -- ---- results

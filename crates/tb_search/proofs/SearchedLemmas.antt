@@ -3,7 +3,6 @@ use Rattle.std.proofs.Common.{◌≡◌, refl, sym, ◌∙◌, ap, subst, ◌⊎
 use Rattle.std.specs.Prelude.{pos, ◌+ℤ◌, ◌≤ℤ◌, ◌<ℤ◌, reverse}
 use Rattle.std.proofs.lemmas.Int.{ints}
 use Rattle.tb_node.specs.PlainNodes.{PlainNode}
-use Rattle.tb_param.specs.declared.Params.{Params}
 use Rattle.tb_galley.specs.declared.Galley.{Galley}
 use Rattle.tb_builder.specs.Reach.{holds_box}
 use Rattle.tb_output.specs.State.{State, Recorded}
@@ -13,6 +12,8 @@ use Rattle.tb_plans.specs.Plans.{IsPlan}
 use Rattle.tb_rate.specs.Places.{place_penalties}
 use Rattle.tb_best.specs.PlanDemerits.{reach_in, unlimited_step, step_demerits, plan_demerits}
 use Rattle.tb_best.specs.BestPlan.{IsBest}
+use Rattle.tb_best.specs.Sides.{may_alternate, AheadKeep}
+use Rattle.tb_best.proofs.SideItems.{items-keep}
 use Rattle.tb_best.specs.ItemsAhead.{Ahead, all_ahead, empty_start, forced, state_with}
 use Rattle.tb_best.specs.ClosedTables.{Row, rows_know, IsAsGood, IsNoBetter}
 use Rattle.tb_best.specs.PageTables.{with_page}
@@ -25,12 +26,12 @@ use Rattle.tb_search.specs.Searched.{IsSearched, over, waits, stuck, fills, take
 use Rattle.tb_search.proofs.OrderLemmas.{no-better-through, no-better-after, no-better-with}
 
 pub as-good-itself : (g : Galley) (t : State) → IsAsGood g t t
-as-good-itself g t fuel behind d h = (d, h, omega (arith, ints))
+as-good-itself g t fuel behind d keep h = (d, h, omega (arith, ints))
 
 pub as-good-through : (g : Galley) (s t u : State) → IsAsGood g s t → IsAsGood g t u → IsAsGood g s u
-as-good-through g s t u h k fuel behind d e =
-    let a = h fuel behind d e in
-    let b = k fuel behind a.0 a.1 in
+as-good-through g s t u h k fuel behind d keep e =
+    let a = h fuel behind d keep e in
+    let b = k fuel behind a.0 keep a.1 in
     (b.0, b.1, no-more b.0 a.0 d b.2 a.2)
   where
     no-more : (x y z : ℤ) → x ≤ℤ y → y ≤ℤ z → x ≤ℤ z
@@ -54,7 +55,7 @@ module _ (g : Galley) (bound total : ℤ) (best : List ℕ) (waiting : List Row)
   searched-worse _ _ _ _ (stuck s cs d breaks h) e others k = stuck s cs e others h
   searched-worse _ _ _ _ (fills s t u cs d breaks es rs fires is good h) e others k =
       fills s t u cs e others es rs fires is good
-      (searched-worse u cs (with_page g d s es rs t) breaks h (with_page g e s es rs t) others (no-better-after d e (step_demerits g.params (place_penalties g.items) s (goes_on es rs t)) breaks others k))
+      (searched-worse u cs (with_page g d s es rs t) breaks h (with_page g e s es rs t) others (no-better-after d e (step_demerits (place_penalties g.items) s (goes_on es rs t)) breaks others k))
   searched-worse _ _ _ _ (takes s c cs d breaks quiet put h) e others k =
       takes s c cs e others quiet
       (λ place box. searched-worse (state_with (forced c ∷ c.nodes) s) cs (d +ℤ pos 1000) (c.number ∷ breaks) (put place box) (e +ℤ pos 1000) (c.number ∷ others) (no-better-with (d +ℤ pos 1000) (e +ℤ pos 1000) c.number breaks others (no-better-after d e (pos 1000) breaks others k)))
@@ -84,16 +85,16 @@ module _ (g : Galley) (bound total after : ℤ) (best later : List ℕ) (better 
 more-more : (s : State) (ns ms : List PlainNode) → state_with ms (state_with ns s) ≡ state_with (ns ++ ms) s
 more-more s ns ms = ap (λ ws. record s { waiting = ws }) (append_assoc s.waiting ns ms)
 
-not-fires : (p : Params) (s : State) (X : Type 0) → (reach_in p s).fires ≡ true → (reach_in p s).fires ≡ false → X
-not-fires p s X h k = let no : ⊥ = grind (arith, h, k) in absurd no
+not-fires : (s : State) (X : Type 0) → (reach_in s).fires ≡ true → (reach_in s).fires ≡ false → X
+not-fires s X h k = let no : ⊥ = grind (arith, h, k) in absurd no
 
 -- a page fires, or from it no run goes on whatever comes behind
-pub refused-with : (p : Params) (s : State) (ns : List PlainNode) → (reach_in p s).fires ≡ false → IsRefused p s → IsRefused p (state_with ns s)
-refused-with p s ns quiet h = by h.later
+pub refused-with : (s : State) (ns : List PlainNode) → (reach_in s).fires ≡ false → IsRefused s → IsRefused (state_with ns s)
+refused-with s ns quiet h = by h.later
   where
-    by : ((reach_in p s).fires ≡ true) ⊎ ((more : List PlainNode) → IsRefusal (unlimited_step p (state_with more s))) → IsRefused p (state_with ns s)
-    by (inl fires) = not-fires p s (IsRefused p (state_with ns s)) fires quiet
-    by (inr later) = record { step = later ns; later = inr (λ more. subst (λ t. IsRefusal (unlimited_step p t)) (sym (more-more s ns more)) (later (ns ++ more))) }
+    by : ((reach_in s).fires ≡ true) ⊎ ((more : List PlainNode) → IsRefusal (unlimited_step (state_with more s))) → IsRefused (state_with ns s)
+    by (inl fires) = not-fires s (IsRefused (state_with ns s)) fires quiet
+    by (inr later) = record { step = later ns; later = inr (λ more. subst (λ t. IsRefusal (unlimited_step t)) (sym (more-more s ns more)) (later (ns ++ more))) }
 
 refused-goes-on : (X : Type 0) (x : Step) (es : List RunEvent) (rs : List Recorded) (t : State) → IsRefusal x → x ≡ goes_on es rs t → X
 refused-goes-on X x es rs t h e = absurd (subst IsRefusal e h)
@@ -110,7 +111,7 @@ after-or s (goes_on es rs t) = t
 
 module _ (g : Galley) (bound total : ℤ) (best : List ℕ) (high : total ≤ℤ bound) where
   abbrev Ways : ℕ → State → List Ahead → List Bool → ℤ → Type 0
-  Ways = Path g.params (place_penalties g.items)
+  Ways = Path (place_penalties g.items)
 
   -- a way from a state that was reached at these demerits and with these breaks ends no better than the best
   abbrev EndsNoBetter : ℤ → List ℕ → List Ahead → List Bool → ℤ → Type 0
@@ -124,52 +125,52 @@ module _ (g : Galley) (bound total : ℤ) (best : List ℕ) (high : total ≤ℤ
   over-low a d h k = grind (arith, ints, high, h, k)
 
   -- no way leads from a state from which no run goes on
-  refused-way : {X : Type 0} (k : ℕ) (s : State) (cs : List Ahead) (ms : List Bool) (d : ℤ) → Ways k s cs ms d → IsRefused g.params s → X
-  refused-way _ _ _ _ _ (finished k s es rs left quiet e) h = refused-ends _ (unlimited_step g.params s) es rs left h.step e
-  refused-way _ _ _ _ _ (taken k s c cs ms d quiet w) h = refused-way k (state_with c.nodes s) cs ms d w (refused-with g.params s c.nodes quiet h)
-  refused-way _ _ _ _ _ (cut k s c cs ms d quiet place box w) h = refused-way k (state_with (forced c ∷ c.nodes) s) cs ms d w (refused-with g.params s (forced c ∷ c.nodes) quiet h)
-  refused-way _ _ _ _ _ (filled k s cs ms d es rs t fires e w) h = refused-goes-on _ (unlimited_step g.params s) es rs t h.step e
+  refused-way : {X : Type 0} (k : ℕ) (s : State) (cs : List Ahead) (ms : List Bool) (d : ℤ) → Ways k s cs ms d → IsRefused s → X
+  refused-way _ _ _ _ _ (finished k s es rs left quiet e) h = refused-ends _ (unlimited_step s) es rs left h.step e
+  refused-way _ _ _ _ _ (taken k s c cs ms d quiet w) h = refused-way k (state_with c.nodes s) cs ms d w (refused-with s c.nodes quiet h)
+  refused-way _ _ _ _ _ (cut k s c cs ms d quiet place box w) h = refused-way k (state_with (forced c ∷ c.nodes) s) cs ms d w (refused-with s (forced c ∷ c.nodes) quiet h)
+  refused-way _ _ _ _ _ (filled k s cs ms d es rs t fires e w) h = refused-goes-on _ (unlimited_step s) es rs t h.step e
 
   -- a page is filled
-  filled-way : (k : ℕ) (s : State) (cs : List Ahead) (ms : List Bool) (d : ℤ) → Ways k s cs ms d → (a : ℤ) (breaks : List ℕ) (t : State) (es : List RunEvent) (rs : List Recorded) → (reach_in g.params s).fires ≡ true → unlimited_step g.params s ≡ goes_on es rs t
+  filled-way : (k : ℕ) (s : State) (cs : List Ahead) (ms : List Bool) (d : ℤ) → Ways k s cs ms d → (a : ℤ) (breaks : List ℕ) (t : State) (es : List RunEvent) (rs : List Recorded) → (reach_in s).fires ≡ true → unlimited_step s ≡ goes_on es rs t
       → AllEnd t cs (with_page g a s es rs t) breaks → EndsNoBetter a breaks cs ms d
-  filled-way _ _ _ _ _ (finished k s _ _ left quiet i) a breaks t es rs fires e rest = not-fires g.params s _ fires quiet
-  filled-way _ _ _ _ _ (taken k s c cs ms d quiet w) a breaks t es rs fires e rest = not-fires g.params s _ fires quiet
-  filled-way _ _ _ _ _ (cut k s c cs ms d quiet place box w) a breaks t es rs fires e rest = not-fires g.params s _ fires quiet
+  filled-way _ _ _ _ _ (finished k s _ _ left quiet i) a breaks t es rs fires e rest = not-fires s _ fires quiet
+  filled-way _ _ _ _ _ (taken k s c cs ms d quiet w) a breaks t es rs fires e rest = not-fires s _ fires quiet
+  filled-way _ _ _ _ _ (cut k s c cs ms d quiet place box w) a breaks t es rs fires e rest = not-fires s _ fires quiet
   filled-way _ _ _ _ _ (filled k s cs ms d os qs v _ i w) a breaks t es rs fires e rest =
       let same = sym e ∙ i in
-      let r = step_demerits g.params (place_penalties g.items) s (goes_on es rs t) in
-      subst (λ x. IsNoBetter total best (a +ℤ ((x +ℤ d) +ℤ pos (1000 * marked ms))) (breaks_after breaks cs ms)) (ap (λ x. step_demerits g.params (place_penalties g.items) s x) same)
+      let r = step_demerits (place_penalties g.items) s (goes_on es rs t) in
+      subst (λ x. IsNoBetter total best (a +ℤ ((x +ℤ d) +ℤ pos (1000 * marked ms))) (breaks_after breaks cs ms)) (ap (λ x. step_demerits (place_penalties g.items) s x) same)
       (subst (λ x. IsNoBetter total best x (breaks_after breaks cs ms)) (in-fill a r d (pos (1000 * marked ms)))
       (rest k ms d (subst (λ u. Ways k u cs ms d) (sym (ap (after-or s) same)) w)))
 
   -- an item is taken, or a break is put in and the item is taken
-  taken-way : (k : ℕ) (s : State) (c : Ahead) (cs : List Ahead) (ms : List Bool) (d : ℤ) → Ways k s (c ∷ cs) ms d → (a : ℤ) (breaks : List ℕ) → (reach_in g.params s).fires ≡ false
+  taken-way : (k : ℕ) (s : State) (c : Ahead) (cs : List Ahead) (ms : List Bool) (d : ℤ) → Ways k s (c ∷ cs) ms d → (a : ℤ) (breaks : List ℕ) → (reach_in s).fires ≡ false
       → (c.is_place ≡ true → holds_box s.waiting ≡ true → AllEnd (state_with (forced c ∷ c.nodes) s) cs (a +ℤ pos 1000) (c.number ∷ breaks)) → AllEnd (state_with c.nodes s) cs a breaks → EndsNoBetter a breaks (c ∷ cs) ms d
   taken-way _ _ _ _ _ _ (taken k s c cs ms d quiet w) a breaks still put rest = rest k ms d w
   taken-way _ _ _ _ _ _ (cut k s c cs ms d quiet place box w) a breaks still put rest =
       subst (λ x. IsNoBetter total best x (breaks_after (c.number ∷ breaks) cs ms)) (in-cut total a d (marked ms)) (put place box k ms d w)
-  taken-way _ _ c cs _ _ (filled k s _ ms d es rs t fires e w) a breaks still put rest = not-fires g.params s _ fires still
+  taken-way _ _ c cs _ _ (filled k s _ ms d es rs t fires e w) a breaks still put rest = not-fires s _ fires still
 
   -- the run ends
-  ended-way : (k : ℕ) (s : State) (ms : List Bool) (d : ℤ) → Ways k s [] ms d → (a : ℤ) (breaks : List ℕ) → (reach_in g.params s).fires ≡ false
-      → ((es : List RunEvent) (rs : List Recorded) (left : List PlainNode) → unlimited_step g.params s ≡ ends es rs (done left) → IsNoBetter total best a breaks) → EndsNoBetter a breaks [] ms d
+  ended-way : (k : ℕ) (s : State) (ms : List Bool) (d : ℤ) → Ways k s [] ms d → (a : ℤ) (breaks : List ℕ) → (reach_in s).fires ≡ false
+      → ((es : List RunEvent) (rs : List Recorded) (left : List PlainNode) → unlimited_step s ≡ ends es rs (done left) → IsNoBetter total best a breaks) → EndsNoBetter a breaks [] ms d
   ended-way _ _ _ _ (finished k s es rs left quiet e) a breaks still h = subst (λ x. IsNoBetter total best x breaks) (nothing-more a) (h es rs left e)
-  ended-way _ _ _ _ (filled k s _ ms d es rs t fires e w) a breaks still h = not-fires g.params s _ fires still
+  ended-way _ _ _ _ (filled k s _ ms d es rs t fires e w) a breaks still h = not-fires s _ fires still
 
   -- no way from a state that is searched ends better
-  no-better-way : (s : State) (cs : List Ahead) (a : ℤ) (breaks : List ℕ) → IsSearched g bound total best [] s cs a breaks → AllEnd s cs a breaks
-  no-better-way _ _ _ _ (over s cs a breaks h) k ms d way = inl (over-low a (d +ℤ pos (1000 * marked ms)) h (way-low g.params (place_penalties g.items) k s cs ms d way))
-  no-better-way _ _ _ _ (waits s cs a breaks h) k ms d way = absurd h
-  no-better-way _ _ _ _ (stuck s cs a breaks h) k ms d way = refused-way k s cs ms d way h
-  no-better-way _ _ _ _ (fills s t u cs a breaks es rs fires is good h) k ms d way =
+  no-better-way : (s : State) (cs : List Ahead) (a : ℤ) (breaks : List ℕ) → AheadKeep (may_alternate g) cs → IsSearched g bound total best [] s cs a breaks → AllEnd s cs a breaks
+  no-better-way _ _ _ _ keep (over s cs a breaks h) k ms d way = inl (over-low a (d +ℤ pos (1000 * marked ms)) h (way-low (place_penalties g.items) k s cs ms d way))
+  no-better-way _ _ _ _ keep (waits s cs a breaks h) k ms d way = absurd h
+  no-better-way _ _ _ _ keep (stuck s cs a breaks h) k ms d way = refused-way k s cs ms d way h
+  no-better-way _ _ _ _ keep (fills s t u cs a breaks es rs fires is good h) k ms d way =
       filled-way k s cs ms d way a breaks t es rs fires is
-      (λ l others e w. as-good-way g total best l t u cs others e (with_page g a s es rs t) breaks w good (λ marks f v. no-better-way u cs (with_page g a s es rs t) breaks h l marks f v))
-  no-better-way _ _ _ _ (takes s c cs a breaks quiet put h) k ms d way =
-      taken-way k s c cs ms d way a breaks quiet (λ place box. no-better-way (state_with (forced c ∷ c.nodes) s) cs (a +ℤ pos 1000) (c.number ∷ breaks) (put place box)) (no-better-way (state_with c.nodes s) cs a breaks h)
-  no-better-way _ _ _ _ (stands s t cs a breaks good h) k ms d way = as-good-way g total best k s t cs ms d a breaks way good (λ others e w. no-better-way t cs a breaks h k others e w)
-  no-better-way _ _ _ _ (ended s a breaks quiet h) k ms d way = ended-way k s ms d way a breaks quiet h
+      (λ l others e w. as-good-way g total best l t u cs others e (with_page g a s es rs t) breaks w keep good (λ marks f v. no-better-way u cs (with_page g a s es rs t) breaks keep h l marks f v))
+  no-better-way _ _ _ _ keep (takes s c cs a breaks quiet put h) k ms d way =
+      taken-way k s c cs ms d way a breaks quiet (λ place box. no-better-way (state_with (forced c ∷ c.nodes) s) cs (a +ℤ pos 1000) (c.number ∷ breaks) keep.1 (put place box)) (no-better-way (state_with c.nodes s) cs a breaks keep.1 h)
+  no-better-way _ _ _ _ keep (stands s t cs a breaks good h) k ms d way = as-good-way g total best k s t cs ms d a breaks way keep good (λ others e w. no-better-way t cs a breaks keep h k others e w)
+  no-better-way _ _ _ _ keep (ended s a breaks quiet h) k ms d way = ended-way k s ms d way a breaks quiet h
 
 -- if nothing waits any more and the beginning is searched, the best way is the best plan
 pub searched-best : (g : Galley) (bound total : ℤ) (plan : List ℕ) → total ≤ℤ bound → IsPlan g plan → plan_demerits g plan ≡ Some total → IsSearched g bound total (reverse plan) [] (empty_start g) (all_ahead g) (pos 0) [] → IsBest g plan total
-searched-best g bound total plan high is sum h = ways-best g plan total is sum (no-better-way g bound total (reverse plan) high (empty_start g) (all_ahead g) (pos 0) [] h)
+searched-best g bound total plan high is sum h = ways-best g plan total is sum (no-better-way g bound total (reverse plan) high (empty_start g) (all_ahead g) (pos 0) [] (items-keep g) h)

@@ -14,7 +14,7 @@ pub record IsAt (g : Galley) (l : ItemsLeft) (cs : List Ahead) : Type 0 where
   pub number : ℕ
   pub before : Before
   pub galley : l.galley.now ≡ g
-  pub ahead : cs ≡ ahead_from g.params (last_ahead g) l.two before number l.items.now
+  pub ahead : cs ≡ ahead_from g.params l.params (last_ahead g) l.two before number l.items.now
 
 -- the same; none are left if there are none
 abbrev pub HasAhead : Galley → Option ItemsLeft → List Ahead → Type 0

@@ -76,7 +76,6 @@ IsPast (Some l) o = IsPastNext l o
 pub record HasTaken (ns : List PlainNode) (b c : Branch) : Type 0 where
   pub state : shown c ≡ state_with ns (shown b)
   pub ahead : IsPast b.ahead c.ahead
-  pub params : c.routine.machine.params ≡ b.routine.machine.params
 
 -- ---- a kern behind which nothing waits but acts
 

@@ -1,7 +1,6 @@
 -- Items that may be taken before a page can fire.
 use Rattle.std.specs.Prelude.{◌≡◌, false, ℕ, zero, suc, List, [], ◌∷◌, ◌++◌}
 use Rattle.tb_node.specs.PlainNodes.{PlainNode}
-use Rattle.tb_param.specs.declared.Params.{Params}
 use Rattle.tb_output.specs.State.{State}
 use Rattle.tb_best.specs.PlanDemerits.{reach_in}
 use Rattle.tb_best.specs.ItemsAhead.{Ahead, state_with}
@@ -13,5 +12,5 @@ nodes_of_first (suc k) [] = []
 nodes_of_first (suc k) (c ∷ cs) = c.nodes ++ nodes_of_first k cs
 
 -- no page fires in the state once the first so many of these items were taken
-abbrev pub IsCalm : Params → State → List Ahead → ℕ → Type 0
-IsCalm p s cs k = (reach_in p (state_with (nodes_of_first k cs) s)).fires ≡ false
+abbrev pub IsCalm : State → List Ahead → ℕ → Type 0
+IsCalm s cs k = (reach_in (state_with (nodes_of_first k cs) s)).fires ≡ false

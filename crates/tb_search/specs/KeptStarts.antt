@@ -1,5 +1,5 @@
 -- States that are kept in a table of the search.
-use Rattle.std.specs.Prelude.{◌≡◌, ◌⊎◌, ◌<◌, ℕ, List, length, reverse, slice_index_or}
+use Rattle.std.specs.Prelude.{◌≡◌, ◌⊎◌, ◌<◌, Bool, ℕ, List, length, reverse, slice_index_or}
 use Rattle.tb_output.specs.State.{State}
 use Rattle.tb_best.specs.ClosedTables.{rows_know, KnowsAsGood, IsNoBetter}
 use Rattle.tb_best.specs.Counts.{counts_of, AreNoGreater}
@@ -21,21 +21,21 @@ pub record IsBetterOf (v w kept : Way) : Type 0 where
   pub first : IsNoWorseWay kept v
   pub second : IsNoWorseWay kept w
 
--- the first state may stand for the second: they are the same but for the left column, its counts are no greater, and its way is no worse
-pub record MayStandFor (x y : Start) : Type 0 where
+-- the first state may stand for the second: they are the same but for the left column, its counts are no greater, and its way is no worse; if marginal notes may change sides from page to page, they go to the same sides
+pub record MayStandFor (may : Bool) (x y : Start) : Type 0 where
   pub same : without_counts (shown x.branch) ≡ without_counts (shown y.branch)
-  pub counts : AreNoGreater x.branch.routine.machine.params (counts_of (shown x.branch)) (counts_of (shown y.branch))
+  pub counts : AreNoGreater may (counts_of (shown x.branch)) (counts_of (shown y.branch))
   pub way : IsNoWorseWay x.way y.way
 
 -- this one of the states may stand for the given one
-pub record StandsAt (starts : List Start) (k : ℕ) (x : Start) : Type 0 where
+pub record StandsAt (may : Bool) (starts : List Start) (k : ℕ) (x : Start) : Type 0 where
   pub inside : k < length starts
-  pub stands : (d : Start) → MayStandFor (slice_index_or starts k d) x
+  pub stands : (d : Start) → MayStandFor may (slice_index_or starts k d) x
 
 -- the given one may stand for this one of the states
-pub record IsNeedlessAt (starts : List Start) (k : ℕ) (x : Start) : Type 0 where
+pub record IsNeedlessAt (may : Bool) (starts : List Start) (k : ℕ) (x : Start) : Type 0 where
   pub inside : k < length starts
-  pub stands : (d : Start) → MayStandFor x (slice_index_or starts k d)
+  pub stands : (d : Start) → MayStandFor may x (slice_index_or starts k d)
 
 -- the table has a row with this state and so many items ahead, reached in a way that is no worse
 abbrev pub HasRow : Table → ℕ → State → Way → Type 0

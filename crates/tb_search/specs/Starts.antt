@@ -9,6 +9,7 @@ use Rattle.tb_items.specs.Classes.{classes_of}
 use Rattle.tb_plans.specs.Plans.{IsPlan}
 use Rattle.tb_rate.specs.Places.{place_penalties, IsMildPlace}
 use Rattle.tb_best.specs.ItemsAhead.{all_ahead}
+use Rattle.tb_best.specs.Sides.{may_alternate, KeepsSides}
 use Rattle.tb_best.specs.PlanDemerits.{plan_demerits, reach_in}
 use Rattle.tb_best.specs.ClosedTables.{Row, Reaches}
 use Rattle.tb_search.specs.declared.table.Way.{Way}
@@ -34,24 +35,24 @@ rows_of t = rows_from t.galley.now 0 t.starts.items
 -- a state between two pages with so many items of the galley ahead, reached in its way
 pub record IsReached (g : Galley) (left : ℕ) (x : Start) : Type 0 where
   pub branch : IsBranch x.branch
-  pub params : x.branch.routine.machine.params ≡ g.params
   pub ahead : HasAhead g x.branch.ahead (items_ahead g left)
   pub classes : (shown x.branch).classes ≡ classes_of g
+  pub sides : KeepsSides (may_alternate g) (shown x.branch)
   pub reached : Reaches g (shown x.branch) (items_ahead g left) x.way.demerits (reverse x.way.breaks.items)
   pub low : pos 0 ≤ℤ x.way.demerits
 
 -- no page fires in a state, so items may be taken, or from it no run goes on
-abbrev pub MayTake : Galley → State → Type 0
-MayTake g s = ((reach_in g.params s).fires ≡ false) ⊎ IsRefused g.params s
+abbrev pub MayTake : State → Type 0
+MayTake s = ((reach_in s).fires ≡ false) ⊎ IsRefused s
 
 -- a state between two pages in which no page fires, or from which no run goes on, with so many items of the galley ahead, reached in its way
 pub record IsStart (g : Galley) (bound : ℤ) (left : ℕ) (x : Start) : Type 0 where
   pub branch : IsBranch x.branch
-  pub params : x.branch.routine.machine.params ≡ g.params
   pub ahead : HasAhead g x.branch.ahead (items_ahead g left)
   pub classes : (shown x.branch).classes ≡ classes_of g
+  pub sides : KeepsSides (may_alternate g) (shown x.branch)
   pub some : 0 < left
-  pub quiet : MayTake g (shown x.branch)
+  pub quiet : MayTake (shown x.branch)
   pub reached : Reaches g (shown x.branch) (items_ahead g left) x.way.demerits (reverse x.way.breaks.items)
   pub low : pos 0 ≤ℤ x.way.demerits
   pub high : x.way.demerits ≤ℤ bound
@@ -72,6 +73,7 @@ pub record IsTable (t : Table) : Type 0 where
   pub range : t.bound ≤ℤ pos 1000000000000000000000000000
   pub penalties : t.penalties.items ≡ place_penalties t.galley.now.items
   pub places : t.is_place.items ≡ map (λ c. c.is_place) (all_ahead t.galley.now)
+  pub alternate : t.may_alternate ≡ may_alternate t.galley.now
   pub few : length (all_ahead t.galley.now) ≤ 4294967296
   pub levels : length t.starts.items ≤ length (all_ahead t.galley.now) + 1
   pub starts : AreStarts t.galley.now t.bound 0 t.starts.items

@@ -28,7 +28,6 @@ use crate::moves::{ends_in_kern, hand_cut, hand_next, holds_box};
 use std::alloc::{AllocError, Global};
 use tb_galley::Galley;
 use tb_items::{Happening, ItemsLeft, all_items};
-use tb_param::Params;
 use tb_rate::{PlacePenalty, insertions_first, last_champion, rate};
 use tb_run::{Ending, Filled as PageFilled, Routine};
 
@@ -71,7 +70,6 @@ impl<'a> Branch<'a> {
         ensures state { IfOk result (λ b. shown b ≡ empty_start galley.now) }
         ensures ahead { IfOk result (λ b. nodes_ahead b ≡ expanded galley.now) }
         ensures items { IfOk result (λ b. HasAhead galley.now b.ahead (all_ahead galley.now)) }
-        ensures params { IfOk result (λ b. b.routine.machine.params ≡ galley.now.params) }
         ensures branch { IfOk result IsBranch }
     {
         let routine = Routine::empty(alloc, galley)?;
@@ -137,7 +135,6 @@ impl<'a> Branch<'a> {
         ensures branch { IfOk result IsBranch }
         ensures state { IfOk result (λ c. shown c ≡ shown self.now) }
         ensures ahead { IfOk result (λ c. c.ahead ≡ self.now.ahead) }
-        ensures params { IfOk result (λ c. c.routine.machine.params ≡ self.now.routine.machine.params) }
     {
         let routine = self.routine.copy(alloc)?;
         Ok(Branch {
@@ -154,7 +151,6 @@ impl<'a> Branch<'a> {
         ensures branch { OnOk result (IsBranch self.new) }
         ensures state { OnOk result (shown self.new ≡ shown other.now) }
         ensures ahead { OnOk result (self.new.ahead ≡ other.now.ahead) }
-        ensures params { OnOk result (self.new.routine.machine.params ≡ other.now.routine.machine.params) }
     {
         copy_routine(alloc, &mut self.routine, &other.routine)?;
         self.ahead = other.ahead;
@@ -166,7 +162,7 @@ impl<'a> Branch<'a> {
     pub(crate) fn stop_line(&mut self, alloc: Global) -> Result<Option<u32>, AllocError>
         requires { IsBranch self.old }
 
-        ensures { IfOk result (λ o. o ≡ None → (reach_in self.old.routine.machine.params (shown self.old)).fires ≡ false) }
+        ensures { IfOk result (λ o. o ≡ None → (reach_in (shown self.old)).fires ≡ false) }
     {
         let mut happened = Vec::new(alloc);
         let filled = self.routine.fill(true, &mut happened)?;
@@ -176,20 +172,14 @@ impl<'a> Branch<'a> {
         }
     }
 
-    /// Fills the page of what waits and serves it if it fires. `params` are the galley's, `places` the penalties at its places.
+    /// Fills the page of what waits and serves it if it fires. `places` are the penalties at the galley's places.
     ///
     /// If it does not fire, the search goes on from a copy that was made before. It fails only if memory runs out.
-    pub fn fill(
-        &mut self,
-        alloc: Global,
-        params: &Params,
-        places: &[PlacePenalty],
-    ) -> Result<Filled, AllocError>
+    pub fn fill(&mut self, alloc: Global, places: &[PlacePenalty]) -> Result<Filled, AllocError>
         requires branch { IsBranch self.old }
-        requires params { self.old.routine.machine.params ≡ params.now }
         requires mild { AllByRecursion IsMildPlace places.now }
 
-        ensures { IfOk result (λ f. FillsTo params.now places.now self.old f self.new) }
+        ensures { IfOk result (λ f. FillsTo places.now self.old f self.new) }
     {
         let kern = self.ends_in_kern();
         let mut happened = Vec::new(alloc);
@@ -200,7 +190,7 @@ impl<'a> Branch<'a> {
         if let Some(ending) = self.routine.serve_unlimited(page, &mut happened)? {
             return Ok(unserved(ending));
         }
-        let demerits = page_demerits(&self.routine, params, places, &happened);
+        let demerits = page_demerits(&self.routine, places, &happened);
         // What was shipped is closed, so that no copy holds it.
         self.routine.done_with(&happened);
         Ok(Filled::Fired { demerits })
@@ -256,22 +246,18 @@ fn unserved(ending: Ending) -> Filled
 }
 
 // The demerits of the page that a routine served last, by what happened.
-fn page_demerits(
-    routine: &Routine<'_>,
-    params: &Params,
-    places: &[PlacePenalty],
-    happened: &[Happening],
-) -> i128
+fn page_demerits(routine: &Routine<'_>, places: &[PlacePenalty], happened: &[Happening]) -> i128
     requires ready { IsReady routine.now }
     requires tried { IfSome (last_champion (events_of routine.now.store happened.now)) IsTried }
     requires mild { AllByRecursion IsMildPlace places.now }
 
-    ensures value { result ≡ demerits_if (rating params.now places.now 0 (last_champion (events_of routine.now.store happened.now)) (floats_waiting (state_of routine.now).floats) (insertions_first (state_of routine.now).waiting)) }
+    ensures value { result ≡ demerits_if (rating (state_of routine.now).params places.now 0 (last_champion (events_of routine.now.store happened.now)) (floats_waiting (state_of routine.now).floats) (insertions_first (state_of routine.now).waiting)) }
     ensures low { pos 0 ≤ℤ result }
     ensures high { result ≤ℤ pos 352689971456 }
 {
     let held = insertions_first(&routine.store, routine.builder.waiting(), &routine.left);
     let waiting = routine.machine.floats_waiting();
+    let params = routine.machine.params();
     // The number of the page is not among the demerits.
     match rate(params, places, 0, last_champion(happened), waiting, held) {
         Some(rating) => rating.demerits,

@@ -45,7 +45,7 @@ impl<'a> Table<'a> {
         requires reached { IsReached self.now.galley.now left start.now }
 
         ensures fewer { IfOk result (λ k. k < left) }
-        ensures calm { IfOk result (λ k. 0 < k → IsCalm self.now.galley.now.params (shown start.now.branch) (items_ahead self.now.galley.now left) k) }
+        ensures calm { IfOk result (λ k. 0 < k → IsCalm (shown start.now.branch) (items_ahead self.now.galley.now left) k) }
     {
         let mut count = MANY_ITEMS;
         'tries: for _ in 0..TRIES {
@@ -96,7 +96,7 @@ impl<'a> Table<'a> {
         requires fewer { count < left }
         requires reached { IsReached self.now.galley.now left start.now }
 
-        ensures { IfOk result (λ o. o ≡ None → IsCalm self.now.galley.now.params (shown start.now.branch) (items_ahead self.now.galley.now left) count) }
+        ensures { IfOk result (λ o. o ≡ None → IsCalm (shown start.now.branch) (items_ahead self.now.galley.now left) count) }
     {
         trial.copy_from(&start.branch, alloc)?;
         let last = left - count;

@@ -26,10 +26,12 @@ impl Branch<'_> {
     }
 
     /// Whether no count of a state is greater than that of another of the same galley, and its marginal notes go to the same
-    /// sides.
-    pub fn counts_within(&self, other: &Branch<'_>) -> bool
-        ensures { IsTrue result ↔ AreNoGreater self.now.routine.machine.params (counts_of (shown self.now)) (counts_of (shown other.now)) }
+    /// sides, if they may change sides from page to page in the galley.
+    pub fn counts_within(&self, other: &Branch<'_>, may_alternate: bool) -> bool
+        ensures { IsTrue result ↔ AreNoGreater may_alternate (counts_of (shown self.now)) (counts_of (shown other.now)) }
     {
-        self.routine.machine.counts_within(&other.routine.machine)
+        self.routine
+            .machine
+            .counts_within(&other.routine.machine, may_alternate)
     }
 }

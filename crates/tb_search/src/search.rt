@@ -362,7 +362,7 @@ impl<'a> Table<'a> {
             return Err(BestFault::Choices);
         }
         let breaks = breaks_with(alloc, way.breaks.as_slice(), Some(number as u32))?;
-        match trial.fill(alloc, &self.galley.params, self.penalties.as_slice())? {
+        match trial.fill(alloc, self.penalties.as_slice())? {
             Filled::Fired { demerits } => {
                 let way = Way {
                     breaks,
@@ -427,7 +427,7 @@ impl<'a> Table<'a> {
         requires table { IsTable self.old }
         requires level { left < length self.old.starts.items }
         requires reached { IsReached self.old.galley.now left (record { branch = branch; way = way }) }
-        requires quiet { IsQuiet self.old.galley.now.params (shown branch) }
+        requires quiet { IsQuiet (shown branch) }
         requires high { way.demerits ≤ℤ self.old.bound }
 
         ensures table { OnOk result (IsTable self.new) }
@@ -450,12 +450,11 @@ impl<'a> Table<'a> {
     ) -> Result<Filled, BestFault>
         requires table { IsTable self.now }
         requires branch { IsBranch branch.now }
-        requires params { branch.now.routine.machine.params ≡ self.now.galley.now.params }
 
-        ensures { IfOk result (λ f. FillsTo self.now.galley.now.params (place_penalties self.now.galley.now.items) branch.now f trial.new) }
+        ensures { IfOk result (λ f. FillsTo (place_penalties self.now.galley.now.items) branch.now f trial.new) }
     {
         trial.copy_from(branch, alloc)?;
-        let filled = trial.fill(alloc, &self.galley.params, self.penalties.as_slice())?;
+        let filled = trial.fill(alloc, self.penalties.as_slice())?;
         Ok(filled)
     }
 }

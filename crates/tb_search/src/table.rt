@@ -5,6 +5,8 @@ ghost use Rattle.std.specs.Prelude.{◌≡◌, ◌<◌, ◌+◌, pos, ◌≤ℤ�
 ghost use Rattle.tb_galley.specs.Valid.{IsValid};
 ghost use Rattle.tb_lines.specs.LeastSolution.{is_greater};
 ghost use Rattle.tb_best.specs.ItemsAhead.{all_ahead};
+ghost use Rattle.tb_best.specs.Sides.{has_switch, is_switch, is_switch_item, may_alternate};
+ghost use Rattle.tb_margin.specs.Margin.{is_on};
 ghost use Rattle.tb_best.specs.PlanDemerits.{plan_demerits};
 ghost use Rattle.tb_search.specs.Branches.{shown, IsBranch};
 ghost use Rattle.tb_search.specs.Continues.{Continues};
@@ -15,7 +17,8 @@ ghost use Rattle.tb_search.specs.Ways.{marked, with_last};
 use crate::Branch;
 use crate::search::BestFault;
 use std::alloc::{AllocError, Global};
-use tb_galley::Galley;
+use tb_galley::{Galley, Item, ItemKind};
+use tb_param::{Choice, Field};
 use tb_rate::{PlacePenalty, place_penalties};
 
 /// A way that the search went: the breaks that were put in, and the demerits so far.
@@ -43,6 +46,8 @@ pub(crate) struct Table<'a> {
     pub(crate) galley: &'a Galley,
     /// The penalties of its own at its places.
     pub(crate) penalties: Vec<PlacePenalty>,
+    /// Whether marginal notes may change sides from page to page.
+    pub(crate) may_alternate: bool,
     /// Whether a break may be put in before each item, and before the clear at the end.
     pub(crate) is_place: Vec<bool>,
     /// The states by how many items are ahead, the clear at the end too.
@@ -129,29 +134,29 @@ impl Way {
 }
 
 impl Start<'_> {
-    // Whether this state may stand for another: they are the same but for the left column, no count of it is greater, and its
-    // way is no worse.
-    fn stands_for(&self, other: &Start<'_>) -> bool
+    // Whether this state may stand for another: they are the same but for the left column, no count of it is greater, marginal
+    // notes go to the same sides if they may change sides, and its way is no worse.
+    fn stands_for(&self, other: &Start<'_>, may_alternate: bool) -> bool
         requires mine { IsBranch self.now.branch }
         requires others { IsBranch other.now.branch }
         requires classes { (shown self.now.branch).classes ≡ (shown other.now.branch).classes }
-        ensures { result ≡ true → MayStandFor self.now other.now }
+        ensures { result ≡ true → MayStandFor may_alternate self.now other.now }
     {
         !other.way.is_better(&self.way)
-            && self.branch.counts_within(&other.branch)
+            && self.branch.counts_within(&other.branch, may_alternate)
             && self.branch.is_same(&other.branch)
     }
 }
 
 // The place of a state that may stand for this one.
-fn place_for(starts: &[Start<'_>], start: &Start<'_>) -> Option<usize>
+fn place_for(starts: &[Start<'_>], start: &Start<'_>, may_alternate: bool) -> Option<usize>
     requires starts { AllByRecursion (λ x. IsBranch x.branch) starts.now }
     requires classes { AllByRecursion (λ x. (shown x.branch).classes ≡ (shown start.now.branch).classes) starts.now }
     requires start { IsBranch start.now.branch }
-    ensures { IfSome result (λ k. StandsAt starts.now k start.now) }
+    ensures { IfSome result (λ k. StandsAt may_alternate starts.now k start.now) }
 {
     for (k, other) in starts.iter().enumerate() {
-        if other.stands_for(start) {
+        if other.stands_for(start, may_alternate) {
             return Some(k);
         }
     }
@@ -159,14 +164,14 @@ fn place_for(starts: &[Start<'_>], start: &Start<'_>) -> Option<usize>
 }
 
 // The place of a state for which this one may stand.
-fn needless_place(starts: &[Start<'_>], start: &Start<'_>) -> Option<usize>
+fn needless_place(starts: &[Start<'_>], start: &Start<'_>, may_alternate: bool) -> Option<usize>
     requires starts { AllByRecursion (λ x. IsBranch x.branch) starts.now }
     requires classes { AllByRecursion (λ x. (shown x.branch).classes ≡ (shown start.now.branch).classes) starts.now }
     requires start { IsBranch start.now.branch }
-    ensures { IfSome result (λ k. IsNeedlessAt starts.now k start.now) }
+    ensures { IfSome result (λ k. IsNeedlessAt may_alternate starts.now k start.now) }
 {
     for (k, other) in starts.iter().enumerate() {
-        if start.stands_for(other) {
+        if start.stands_for(other, may_alternate) {
             return Some(k);
         }
     }
@@ -208,9 +213,11 @@ impl<'a> Table<'a> {
         let count = galley.items.len() + 1;
         let is_place = flags(alloc, count, places.as_slice())?;
         let starts = no_starts(alloc, count + 1)?;
+        let alternate = may_alternate(galley);
         Ok(Table {
             galley,
             penalties,
+            may_alternate: alternate,
             is_place,
             starts,
             count: 0,
@@ -240,7 +247,7 @@ impl<'a> Table<'a> {
         ensures first { rows_of self.old ≡ [] → OnOk result (HasRow self.new left (shown branch.entry) way) }
     {
         let start = Start { branch, way };
-        match place_for(self.starts[left].as_slice(), &start) {
+        match place_for(self.starts[left].as_slice(), &start, self.may_alternate) {
             Some(_) => Ok(()),
             None => self.insert(left, start),
         }
@@ -256,7 +263,7 @@ impl<'a> Table<'a> {
         ensures continues { OnOk result (Continues self.old self.new) }
         ensures known { OnOk result (HasRow self.new left (shown start.entry.branch) start.entry.way) }
     {
-        match needless_place(self.starts[left].as_slice(), &start) {
+        match needless_place(self.starts[left].as_slice(), &start, self.may_alternate) {
             Some(k) => {
                 self.starts[left][k] = start;
                 Ok(())
@@ -295,6 +302,41 @@ impl<'a> Table<'a> {
     {
         self.best.offer(way);
     }
+}
+
+// Whether marginal notes may change sides from page to page in a galley: from its beginning, or from an item on.
+fn may_alternate(galley: &Galley) -> bool
+    ensures { result ≡ may_alternate galley.now }
+{
+    is_on(galley.params.mparswitch) || has_switch(galley.items.as_slice())
+}
+
+// Whether one of these items says that they do or do not.
+fn has_switch(items: &[Item]) -> bool
+    ensures { result ≡ has_switch items.now }
+{
+    items.iter().any(|item| is_switch_item(&item.kind))
+}
+
+fn is_switch_item(kind: &ItemKind) -> bool
+    ensures { result ≡ is_switch_item kind.now }
+{
+    match kind {
+        ItemKind::Set(change) => is_switch(change.field),
+        _ => false,
+    }
+}
+
+fn is_switch(field: Field) -> bool
+    ensures { result ≡ is_switch field }
+{
+    matches!(field, Field::Mparswitch)
+}
+
+fn is_on(choice: Choice) -> bool
+    ensures { result ≡ is_on choice }
+{
+    matches!(choice, Choice::On)
 }
 
 // So many lists without a state.

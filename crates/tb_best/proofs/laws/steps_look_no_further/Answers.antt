@@ -8,4 +8,4 @@ pub returns-clause-run : goal.returns-clause-run
 returns-clause-run c = turn-goes-on
 
 pub returns-clause-demerits : goal.returns-clause-demerits
-returns-clause-demerits c = λ p places s t es rs more h. turn-demerits p s t es rs more h places
+returns-clause-demerits c = λ places s t es rs more h. turn-demerits s t es rs more h places

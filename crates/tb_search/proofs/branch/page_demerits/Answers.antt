@@ -27,16 +27,18 @@ rate-requires-clause-few c =
 pub returns-in-Some-clause-value : goal.returns-in-Some-clause-value
 returns-in-Some-clause-value c =
     let store = c.args.routine.now.store in
+    let params = c.params-params.ensures in
     let place = c.last_champion.ensures store in
     let waiting = c.floats_waiting-waiting.ensures.value in
     let held = c.insertions_first-held.ensures ∙ ap (λ l. insertions_first (plain_list store l ++ nodes_left c.args.routine.now.left)) c.waiting.ensures in
     let fits : FitsSigned w128 c.in-Some.rating.demerits = search rules in
-    simp to_z-of_z (ap demerits_if (sym c.in-Some.is ∙ c.rate.ensures.value ∙ (λ i. rating c.args.params.now c.args.places.now 0 (place i) (waiting i) (held i))))
+    simp to_z-of_z (ap demerits_if (sym c.in-Some.is ∙ c.rate.ensures.value ∙ (λ i. rating (params i) c.args.places.now 0 (place i) (waiting i) (held i))))
 
 pub returns-in-None-clause-value : goal.returns-in-None-clause-value
 returns-in-None-clause-value c =
     let store = c.args.routine.now.store in
+    let params = c.params-params.ensures in
     let place = c.last_champion.ensures store in
     let waiting = c.floats_waiting-waiting.ensures.value in
     let held = c.insertions_first-held.ensures ∙ ap (λ l. insertions_first (plain_list store l ++ nodes_left c.args.routine.now.left)) c.waiting.ensures in
-    ap demerits_if (sym c.in-None.is ∙ c.rate.ensures.value ∙ (λ i. rating c.args.params.now c.args.places.now 0 (place i) (waiting i) (held i)))
+    ap demerits_if (sym c.in-None.is ∙ c.rate.ensures.value ∙ (λ i. rating (params i) c.args.places.now 0 (place i) (waiting i) (held i)))

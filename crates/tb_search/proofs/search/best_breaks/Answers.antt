@@ -1,7 +1,7 @@
 use Rattle.tb_items.proofs.GalleyItems.{galley-items}
 use Rattle.tb_items.proofs.GalleyNodeLemmas.{galley-nodes}
 use Rattle.tb_run.proofs.ServedAgain.GalleyRuns.{galley-classes}
-use Rattle.tb_laws.proofs.Defined.RunParams.{params-runnable}
+use Rattle.tb_steps.proofs.RunParams.{params-runnable}
 use Rattle.tb_search.proofs.search.best_breaks.Goals as goal
 
 pub start-requires-clause-params : goal.start-requires-clause-params

@@ -23,8 +23,8 @@ returns-in-Ends c =
     let hs = c.fill.new.happened.items in
     let now : Branch = record { routine = q; ahead = b.ahead } in
     let last : IsFilledLast true b.routine c.in-Ends.ending q hs = subst (λ o. Fills true b.routine o q hs) c.in-Ends.is c.in_ok-page.ensures in
-    subst (λ o. FillsTo c.args.params.now c.args.places.now b o now) (sym c.unfired.ensures)
-    (unfired-so c.args.params.now c.args.places.now b c.requires.params now q hs c.in-Ends.ending last c.ends_in_kern-kern.result c.ends_in_kern-kern.ensures)
+    subst (λ o. FillsTo c.args.places.now b o now) (sym c.unfired.ensures)
+    (unfired-so c.args.places.now b now q hs c.in-Ends.ending last c.ends_in_kern-kern.result c.ends_in_kern-kern.ensures)
 
 pub returns-in-Some : goal.returns-in-Some
 returns-in-Some c =
@@ -35,8 +35,8 @@ returns-in-Some c =
     let page = c.in-Fires.page in
     let now : Branch = record { routine = d; ahead = b.ahead } in
     let firing : IsFiring true b.routine page q hs = subst (λ o. Fills true b.routine o q hs) c.in-Fires.is c.in_ok-page.ensures in
-    subst (λ o. FillsTo c.args.params.now c.args.places.now b o now) (sym c.unserved.ensures)
-    (unserved-so c.args.params.now c.args.places.now b c.requires.params now q hs page firing d c.in-Some.ending
+    subst (λ o. FillsTo c.args.places.now b o now) (sym c.unserved.ensures)
+    (unserved-so c.args.places.now b now q hs page firing d c.in-Some.ending
     (subst (λ o. ServesUnlimited page q o d) c.in-Some.is c.in_ok-ending.ensures.served))
 
 pub page_demerits-demerits-requires-clause-tried : goal.page_demerits-demerits-requires-clause-tried
@@ -64,9 +64,9 @@ returns c =
     let goes : HasGoneOn page q d = subst (λ o. ServesUnlimited page q o d) c.in_default.is c.in_ok-ending.ensures.served in
     let sent : HasSent page q d hs new = subst (λ o. IfNone o (HasSent page q d hs new)) c.in_default.is c.in_ok-ending.ensures.sent in
     let ready : IsReady d = subst (λ o. IfNone o (IsReady d)) c.in_default.is c.in_ok-ending.ensures.ready in
-    let value = c.page_demerits-demerits.ensures.value ∙ ap (λ xs. demerits_if (rating c.args.params.now c.args.places.now 0 (last_champion (events_of d.store xs)) (floats_waiting (state_of d).floats) (insertions_first (state_of d).waiting))) c.deref.ensures.value in
+    let value = c.page_demerits-demerits.ensures.value ∙ ap (λ xs. demerits_if (rating (state_of d).params c.args.places.now 0 (last_champion (events_of d.store xs)) (floats_waiting (state_of d).floats) (insertions_first (state_of d).waiting))) c.deref.ensures.value in
     let fits : FitsSigned w128 c.page_demerits-demerits.result = search rules in
     let closed = c.done_with.ensures in
     simp to_z-of_z
-    (fired-closed c.args.params.now c.args.places.now c.page_demerits-demerits.result b d b.ahead c.done_with.new.self closed.ready closed.state closed.machine closed.left
-    (has-fired b c.requires.branch q page hs firing d goes ready c.in_ok-ending.ensures.classes c.args.places.now c.args.params.now c.requires.params c.in_ok-ending.ensures.params new sent c.page_demerits-demerits.result value c.page_demerits-demerits.ensures.low c.page_demerits-demerits.ensures.high))
+    (fired-closed c.args.places.now c.page_demerits-demerits.result b d b.ahead c.done_with.new.self closed.ready closed.state closed.left
+    (has-fired b c.requires.branch q page hs firing d goes ready c.in_ok-ending.ensures.classes c.args.places.now new sent c.page_demerits-demerits.result value c.page_demerits-demerits.ensures.low c.page_demerits-demerits.ensures.high))

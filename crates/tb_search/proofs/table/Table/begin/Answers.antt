@@ -5,7 +5,7 @@ use Rattle.tb_galley.specs.declared.Galley.{Galley}
 use Rattle.tb_items.proofs.GalleyItems.{galley-items}
 use Rattle.tb_items.proofs.GalleyNodeLemmas.{galley-nodes}
 use Rattle.tb_run.proofs.ServedAgain.GalleyRuns.{galley-classes}
-use Rattle.tb_laws.proofs.Defined.RunParams.{params-runnable}
+use Rattle.tb_steps.proofs.RunParams.{params-runnable}
 use Rattle.tb_best.specs.ItemsAhead.{all_ahead}
 use Rattle.tb_best.specs.ClosedTables.{rows_know}
 use Rattle.tb_search.specs.declared.table.Way.{Way}
@@ -50,7 +50,7 @@ keep-requires-clause-start c =
     let w : Way = record { breaks = c.new.result; demerits = pos 0 } in
     subst (λ (g : Galley). IsStart g c.args.self.now.bound (c.len.result + 1) (record { branch = c.in_ok-first.first; way = w })) (sym c.requires.galley)
     (first-start c.args.galley.now (c.len.result + 1) c.in_ok-first.first w c.in_ok-first.ensures.state (all-items (goal.at.keep-requires-clause-start c).After-len) c.new.ensures.items refl c.args.self.now.bound c.in_ok-first.ensures.branch
-    c.in_ok-first.ensures.items c.in_ok-first.ensures.params c.requires.low)
+    c.in_ok-first.ensures.items c.requires.low)
 
 pub returns-clause-begun : goal.returns-clause-begun
 returns-clause-begun c =

@@ -1,11 +1,5 @@
-use Rattle.std.proofs.Common.{◌≡◌, refl, sym, ◌∙◌, ap, subst, suc, ◌-◌, ◌+◌, ◌<◌, ◌≤◌, false, true, length, get_or, reverse, arith}
-use Rattle.tb_best.specs.ItemsAhead.{all_ahead}
+use Rattle.std.proofs.Common.{◌≡◌, sym, ◌∙◌, ap, ◌-◌, false, true, get_or, arith}
 use Rattle.tb_search.specs.declared.table.Start.{Start}
-use Rattle.tb_search.specs.declared.table.Table.{Table}
-use Rattle.tb_search.specs.Branches.{shown}
-use Rattle.tb_search.specs.AheadInCode.{items_ahead}
-use Rattle.tb_search.specs.Continues.{IsCutSearched}
-use Rattle.tb_search.proofs.AheadLemmas.{next_ahead}
 use Rattle.tb_search.proofs.LaterLemmas.{continues-itself}
 use Rattle.tb_search.proofs.CutLemmas.{flags-counted, next-flag, not-place, no-box, cut-over, of-next, get-any}
 use Rattle.tb_search.proofs.SumLemmas.{cost-fits, cost-above, cost-within}

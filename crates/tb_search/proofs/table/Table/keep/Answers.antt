@@ -17,7 +17,7 @@ returns-in-Some-clause-continues c = continues-itself c.args.self.now
 
 pub returns-in-Some-clause-known : goal.returns-in-Some-clause-known
 returns-in-Some-clause-known c =
-    found-known c.args.self.now c.args.left c.requires.left c.requires.table c.index.result.now c.index.ensures c.as_slice.result.now c.as_slice.ensures.value (record { branch = c.args.branch; way = c.args.way }) _ c.in-Some.ensures
+    found-known c.args.self.now c.args.left c.requires.left c.requires.table c.index.result.now c.index.ensures c.as_slice.result.now c.as_slice.ensures.value (record { branch = c.args.branch; way = c.args.way }) _ c.requires.start.sides c.in-Some.ensures
 
 pub returns-in-Some-clause-first : goal.returns-in-Some-clause-first
 returns-in-Some-clause-first c none =

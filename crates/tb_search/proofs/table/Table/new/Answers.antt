@@ -29,6 +29,7 @@ returns-clause-table c =
           c.in_ok-is_place.ensures
           ∙ (λ i. marked (replicate (count i) false) ((c.as_slice-2.ensures.value ∙ c.in_ok-places.ensures) i))
           ∙ flags-are g;
+      alternate = c.may_alternate-alternate.ensures;
       few = let few = few-items g c.requires.valid in omega (arith, all, few);
       levels = let l = c.in_ok-starts.ensures.count in omega (arith, all, l, count);
       starts = none-start g (to_z w128 (of_z w128 c.args.bound)) 0 c.in_ok-starts.starts.items c.in_ok-starts.ensures.empty;

@@ -6,7 +6,6 @@ use Rattle.tb_search.proofs.table.Table.page.Goals as goal
 
 pub returns : goal.returns
 returns c =
-    let p = c.args.self.now.galley.now.params in
     let copy = c.in_ok-copy_from.ensures in
-    fills-copy p (place_penalties c.args.self.now.galley.now.items) c.args.branch.now c.copy_from.new.self c.fill.new.self c.in_ok-filled.filled copy.state copy.ahead copy.params
-    (subst (λ ps. FillsTo p ps c.copy_from.new.self c.in_ok-filled.filled c.fill.new.self) (c.as_slice.ensures.value ∙ c.requires.table.penalties) c.in_ok-filled.ensures)
+    fills-copy (place_penalties c.args.self.now.galley.now.items) c.args.branch.now c.copy_from.new.self c.fill.new.self c.in_ok-filled.filled copy.state copy.ahead
+    (subst (λ ps. FillsTo ps c.copy_from.new.self c.in_ok-filled.filled c.fill.new.self) (c.as_slice.ensures.value ∙ c.requires.table.penalties) c.in_ok-filled.ensures)

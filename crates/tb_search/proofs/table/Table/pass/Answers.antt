@@ -1,7 +1,6 @@
-use Rattle.std.proofs.Common.{◌≡◌, sym, subst, inl, suc, ◌-◌, ◌<◌, ◌≤◌, length, arith}
+use Rattle.std.proofs.Common.{◌≡◌, sym, subst, inl, suc, ◌-◌, ◌<◌, arith}
 use Rattle.std.specs.Borrow.{Bor}
 use Rattle.tb_galley.specs.declared.Galley.{Galley}
-use Rattle.tb_best.specs.ItemsAhead.{all_ahead}
 use Rattle.tb_search.specs.declared.table.Start.{Start}
 use Rattle.tb_search.specs.Branches.{shown}
 use Rattle.tb_search.specs.AheadInCode.{items_ahead}
@@ -60,16 +59,16 @@ items-preserved c =
     let one : c.items.calm ≡ suc (c.items.calm - 1) = omega (arith, test) in
     let taken = c.in_ok-take.ensures.taken in
     let inside = inside-now c.args.self.now c.args.left c.args.start t c.items.left x i.on c.requires.inside in
-    let calm : IsCalm u.galley.now.params (shown c.take.new.self) (items_ahead u.galley.now (c.items.left - 1)) (c.items.calm - 1) =
-    subst (λ (g : Bor Galley). IsCalm g.now.params (shown c.take.new.self) (items_ahead g.now (c.items.left - 1)) (c.items.calm - 1)) (sym c.in_ok-cut.ensures.continues.later.galley)
-    (one-calm t.galley.now x c.items.left c.take.new.self inside some i.on.reached taken t.galley.now.params c.items.calm (c.items.calm - 1) one (i.calm test))
+    let calm : IsCalm (shown c.take.new.self) (items_ahead u.galley.now (c.items.left - 1)) (c.items.calm - 1) =
+    subst (λ (g : Bor Galley). IsCalm (shown c.take.new.self) (items_ahead g.now (c.items.left - 1)) (c.items.calm - 1)) (sym c.in_ok-cut.ensures.continues.later.galley)
+    (one-calm t.galley.now x c.items.left c.take.new.self inside some i.on.reached taken c.items.calm (c.items.calm - 1) one (i.calm test))
     in
     record {
       table = c.in_ok-cut.ensures.table;
       on =
           next-taken-on c.args.self.now c.args.left c.args.start t u c.items.left x c.take.new.self c.requires.inside some i.on i.may c.in_ok-cut.ensures.continues c.in_ok-cut.ensures.searched taken
           (c.in_ok-take.ensures.branch c.if-not-branch.false);
-      may = inl (calm-now u.galley.now.params (shown c.take.new.self) (items_ahead u.galley.now (c.items.left - 1)) (c.items.calm - 1) calm);
+      may = inl (calm-now (shown c.take.new.self) (items_ahead u.galley.now (c.items.left - 1)) (c.items.calm - 1) calm);
       fewer = omega (arith, test, fewer);
       calm = λ _. calm;
     }

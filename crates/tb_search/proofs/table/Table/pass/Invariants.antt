@@ -11,9 +11,9 @@ abbrev pub invariant-items : goal.invariant-items
 invariant-items l = record {
   table : IsTable l.self;
   on : IsTakenOn l.fn.self l.fn.left l.fn.start l.self l.left (record { branch = l.branch; way = l.way });
-  may : MayTake l.self.galley.now (shown l.branch);
+  may : MayTake (shown l.branch);
   fewer : l.calm < l.left;
-  calm : 0 < l.calm → IsCalm l.self.galley.now.params (shown l.branch) (items_ahead l.self.galley.now l.left) l.calm;
+  calm : 0 < l.calm → IsCalm (shown l.branch) (items_ahead l.self.galley.now l.left) l.calm;
 }
 
 abbrev pub decreases-items : goal.decreases-items

@@ -22,15 +22,14 @@ made : (c : After-fill) → IsCutBefore c.args.self.now c.args.left c.args.numbe
 made c =
     let r = c.requires in
     let copy = c.in_ok-copy_from.ensures in
-    cut-before c.args.self.now c.args.left c.args.number (record { branch = c.args.branch.now; way = c.args.way.now }) c.copy_from.new.self c.cut.new.self r.table r.some r.inside r.number r.place r.reached copy.state copy.ahead copy.params c.in_ok-cut.ensures.taken
+    cut-before c.args.self.now c.args.left c.args.number (record { branch = c.args.branch.now; way = c.args.way.now }) c.copy_from.new.self c.cut.new.self r.table r.some r.inside r.number r.place r.reached copy.state copy.ahead c.in_ok-cut.ensures.taken
 
 -- ---- a page fired
 
-fired : (c : In-Fired) → HasFired c.args.self.now.galley.now.params (place_penalties c.args.self.now.galley.now.items) c.in-Fired.demerits c.cut.new.self c.fill.new.self
+fired : (c : In-Fired) → HasFired (place_penalties c.args.self.now.galley.now.items) c.in-Fired.demerits c.cut.new.self c.fill.new.self
 fired c =
-    let p = c.args.self.now.galley.now.params in
-    subst (λ f. FillsTo p (place_penalties c.args.self.now.galley.now.items) c.cut.new.self f c.fill.new.self) c.in-Fired.is
-    (subst (λ ps. FillsTo p ps c.cut.new.self c.in_ok-demerits.field-0 c.fill.new.self) (c.as_slice-2.ensures.value ∙ c.requires.table.penalties) c.in_ok-demerits.ensures)
+    subst (λ f. FillsTo (place_penalties c.args.self.now.galley.now.items) c.cut.new.self f c.fill.new.self) c.in-Fired.is
+    (subst (λ ps. FillsTo ps c.cut.new.self c.in_ok-demerits.field-0 c.fill.new.self) (c.as_slice-2.ensures.value ∙ c.requires.table.penalties) c.in_ok-demerits.ensures)
 
 pub copy-requires : goal.copy-requires
 copy-requires c = (fired (goal.at.copy-requires c).In-Fired).branch
@@ -48,7 +47,7 @@ settle-requires-clause-reached c =
     let breaks = c.in_ok-breaks.breaks in
     let m = made (goal.at.settle-requires-clause-reached c).After-fill in
     let copy = c.in_ok-next-in-Fired.ensures in
-    let f = fired-copied c.args.self.now.galley.now.params (place_penalties c.args.self.now.galley.now.items) c.in-Fired.demerits c.cut.new.self c.fill.new.self c.in_ok-next-in-Fired.next copy.branch copy.state copy.ahead copy.params (fired (goal.at.settle-requires-clause-reached c).In-Fired) in
+    let f = fired-copied (place_penalties c.args.self.now.galley.now.items) c.in-Fired.demerits c.cut.new.self c.fill.new.self c.in_ok-next-in-Fired.next copy.branch copy.state copy.ahead (fired (goal.at.settle-requires-clause-reached c).In-Fired) in
     let is : IsBranch c.cut.new.self = c.in_ok-cut.ensures.branch c.if-not-branch.false in
     let y : Start = record { branch = c.cut.new.self; way = record { breaks = breaks; demerits = a +ℤ pos 1000 } } in
     let more : breaks.items ≡ c.args.way.now.breaks.items ++ (next_ahead g k).number ∷ [] =
@@ -72,7 +71,7 @@ returns-in_ok-next-in-Fired-clause-searched c =
     let a = c.args.way.now.demerits in
     let m = made (goal.at.returns-in_ok-next-in-Fired-clause-searched c).After-fill in
     let copy = c.in_ok-next-in-Fired.ensures in
-    let f = fired-copied t.galley.now.params (place_penalties t.galley.now.items) c.in-Fired.demerits c.cut.new.self c.fill.new.self c.in_ok-next-in-Fired.next copy.branch copy.state copy.ahead copy.params (fired (goal.at.returns-in_ok-next-in-Fired-clause-searched c).In-Fired) in
+    let f = fired-copied (place_penalties t.galley.now.items) c.in-Fired.demerits c.cut.new.self c.fill.new.self c.in_ok-next-in-Fired.next copy.branch copy.state copy.ahead (fired (goal.at.returns-in_ok-next-in-Fired-clause-searched c).In-Fired) in
     let sum = paid-sum a t.bound c.in-Fired.demerits c.requires.reached.low c.requires.high c.requires.table.range f.low f.high in
     let back : reverse c.in_ok-breaks.breaks.items ≡ (next_ahead t.galley.now k).number ∷ reverse c.args.way.now.breaks.items =
     read-back c.in_ok-breaks.breaks.items c.args.way.now.breaks.items (next_ahead t.galley.now k).number c.args.number
@@ -109,7 +108,7 @@ returns-in-Quiet c =
     let x : Start = record { branch = c.args.branch.now; way = c.args.way.now } in
     let m = made (goal.at.returns-in-Quiet c).After-fill in
     let f =
-    subst (λ ps. FillsTo t.galley.now.params ps c.cut.new.self c.in_ok-demerits.field-0 c.fill.new.self) (c.as_slice-2.ensures.value ∙ c.requires.table.penalties) c.in_ok-demerits.ensures
+    subst (λ ps. FillsTo ps c.cut.new.self c.in_ok-demerits.field-0 c.fill.new.self) (c.as_slice-2.ensures.value ∙ c.requires.table.penalties) c.in_ok-demerits.ensures
     in
     record {
       table = c.requires.table;

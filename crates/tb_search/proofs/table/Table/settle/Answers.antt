@@ -1,22 +1,20 @@
-use Rattle.std.proofs.Common.{◌≡◌, refl, sym, ◌∙◌, ap, subst, ℤ, ◌<◌, ◌≤◌, length, reverse, arith}
+use Rattle.std.proofs.Common.{refl, sym, subst, ℤ, ◌<◌, ◌≤◌, length, arith}
 use Rattle.std.proofs.lemmas.Result.{on_ok_weaker}
-use Rattle.std.specs.Prelude.{pos, ◌+ℤ◌, ◌≤ℤ◌}
-use Rattle.tb_steps.specs.Run.{firings_left}
+use Rattle.std.specs.Prelude.{pos, ◌≤ℤ◌}
 use Rattle.tb_rate.specs.Places.{place_penalties}
 use Rattle.tb_search.specs.declared.table.Start.{Start}
 use Rattle.tb_search.specs.declared.table.Table.{Table}
 use Rattle.tb_search.specs.Branches.{shown}
-use Rattle.tb_search.specs.FilledBranches.{HasFired, IsQuiet, IsFull, IsRefused, FillsTo}
-use Rattle.tb_search.specs.AheadInCode.{items_ahead}
-use Rattle.tb_search.specs.Starts.{IsReached, IsStart, IsTable}
-use Rattle.tb_search.specs.Continues.{Continues, IsSearchedAsGoodBy}
+use Rattle.tb_search.specs.FilledBranches.{HasFired, FillsTo}
+use Rattle.tb_search.specs.Starts.{IsTable}
+use Rattle.tb_search.specs.Continues.{Continues}
 use Rattle.tb_search.proofs.ClosedLemmas.{fired-copied}
 use Rattle.tb_search.proofs.FuelLemmas.{fired-fewer}
 use Rattle.tb_search.proofs.LaterLemmas.{continues-itself}
 use Rattle.tb_search.proofs.ReachedWays.{start-of}
 use Rattle.tb_search.proofs.SearchSteps.{if-both, full-may, kept-searched}
 use Rattle.tb_search.proofs.SettleLemmas.{IsFilledOn, IsStartSearched, none-filled, one-filled, filled-over, filled-refused, filled-full}
-use Rattle.tb_search.proofs.SumLemmas.{held, within-bound, above-bound, sum-fits, sum-is, within-range, page-few}
+use Rattle.tb_search.proofs.SumLemmas.{within-bound, above-bound, sum-fits, sum-is, within-range, page-few}
 use Rattle.tb_search.proofs.table.Table.settle.Goals as goal
 
 -- ---- the loop
@@ -30,13 +28,10 @@ page-requires-clause-table c = subst IsTable (sym c.fires.invariant.same) c.requ
 pub page-requires-clause-branch : goal.page-requires-clause-branch
 page-requires-clause-branch c = c.fires.invariant.on.reached.branch
 
-pub page-requires-clause-params : goal.page-requires-clause-params
-page-requires-clause-params c = c.fires.invariant.on.reached.params
-
 -- ---- a page fired
 
-fired : (c : goal.After-struct_told-in-Fired-1) → HasFired c.fires.self.galley.now.params (place_penalties c.fires.self.galley.now.items) c.in-Fired.demerits c.fires.branch c.page.new.trial
-fired c = subst (λ f. FillsTo c.fires.self.galley.now.params (place_penalties c.fires.self.galley.now.items) c.fires.branch f c.page.new.trial) c.in-Fired.is c.in_ok-filled.ensures
+fired : (c : goal.After-struct_told-in-Fired-1) → HasFired (place_penalties c.fires.self.galley.now.items) c.in-Fired.demerits c.fires.branch c.page.new.trial
+fired c = subst (λ f. FillsTo (place_penalties c.fires.self.galley.now.items) c.fires.branch f c.page.new.trial) c.in-Fired.is c.in_ok-filled.ensures
 
 range : (c : goal.After-struct_told-in-Fired-1) → c.fires.self.bound ≤ℤ pos 1000000000000000000000000000
 range c = (subst IsTable (sym c.fires.invariant.same) c.requires.table).range
@@ -45,16 +40,15 @@ within : (c : goal.After-struct_told-in-Fired-1) → c.fires.way.demerits ≤ℤ
 within c = within-bound c.fires.way.demerits c.fires.self.bound c.fires.invariant.on.reached.low c.fires.invariant.on.high (range c) c.fires-test.true
 
 -- the state that goes on is a copy of the one after it
-copied : (c : goal.After-struct_told-in-Fired-1) → HasFired c.fires.self.galley.now.params (place_penalties c.fires.self.galley.now.items) c.in-Fired.demerits c.fires.branch c.copy_from.new.self
+copied : (c : goal.After-struct_told-in-Fired-1) → HasFired (place_penalties c.fires.self.galley.now.items) c.in-Fired.demerits c.fires.branch c.copy_from.new.self
 copied c =
     let copy = c.in_ok-copy_from-in-Fired.ensures in
-    fired-copied c.fires.self.galley.now.params (place_penalties c.fires.self.galley.now.items) c.in-Fired.demerits c.fires.branch c.page.new.trial c.copy_from.new.self copy.branch copy.state copy.ahead copy.params (fired c)
+    fired-copied (place_penalties c.fires.self.galley.now.items) c.in-Fired.demerits c.fires.branch c.page.new.trial c.copy_from.new.self copy.branch copy.state copy.ahead (fired c)
 
 pub copy_from-requires : goal.copy_from-requires
 copy_from-requires c =
-    let p = c.fires.self.galley.now.params in
     let places = place_penalties c.fires.self.galley.now.items in
-    let after : HasFired p places c.in-Fired.demerits c.fires.branch c.page.new.trial = subst (λ f. FillsTo p places c.fires.branch f c.page.new.trial) c.in-Fired.is c.in_ok-filled.ensures in
+    let after : HasFired places c.in-Fired.demerits c.fires.branch c.page.new.trial = subst (λ f. FillsTo places c.fires.branch f c.page.new.trial) c.in-Fired.is c.in_ok-filled.ensures in
     after.branch
 
 pub overflow_add-way : goal.overflow_add-way
@@ -62,7 +56,7 @@ overflow_add-way c =
     sum-fits c.fires.way.demerits c.in-Fired.demerits c.fires.invariant.on.reached.low (within-range c.fires.way.demerits c.fires.self.bound (pos 1000000000000000000000000000) (within c) (range c)) (fired c).low (page-few c.in-Fired.demerits (fired c).high)
 
 pub fires-smaller : goal.fires-smaller
-fires-smaller c = fired-fewer c.fires.self.galley.now.params (place_penalties c.fires.self.galley.now.items) c.in-Fired.demerits c.fires.branch c.copy_from.new.self c.fires.invariant.on.reached.branch (copied c)
+fires-smaller c = fired-fewer (place_penalties c.fires.self.galley.now.items) c.in-Fired.demerits c.fires.branch c.copy_from.new.self c.fires.invariant.on.reached.branch (copied c)
 
 pub fires-preserved : goal.fires-preserved
 fires-preserved c =
@@ -111,8 +105,8 @@ keep-requires-clause-left c = subst (λ (t : Table). c.args.left < length t.star
 pub keep-requires-clause-start : goal.keep-requires-clause-start
 keep-requires-clause-start c =
     let on = c.fires.invariant.on in
-    let full = subst (λ f. FillsTo c.fires.self.galley.now.params (place_penalties c.fires.self.galley.now.items) c.fires.branch f c.page.new.trial) c.in-Full.is c.in_ok-filled.ensures in
-    start-of c.fires.self.galley.now c.fires.self.bound c.args.left (record { branch = c.fires.branch; way = c.fires.way }) on.reached c.if-left-gt0.true (full-may c.fires.self.galley.now (shown c.fires.branch) full)
+    let full = subst (λ f. FillsTo (place_penalties c.fires.self.galley.now.items) c.fires.branch f c.page.new.trial) c.in-Full.is c.in_ok-filled.ensures in
+    start-of c.fires.self.galley.now c.fires.self.bound c.args.left (record { branch = c.fires.branch; way = c.fires.way }) on.reached c.if-left-gt0.true (full-may (shown c.fires.branch) full)
     (within-bound c.fires.way.demerits c.fires.self.bound on.reached.low on.high (subst IsTable (sym c.fires.invariant.same) c.requires.table).range c.fires-test.true)
 
 pub returns-then-left-gt0-clause-continues : goal.returns-then-left-gt0-clause-continues
@@ -134,7 +128,7 @@ returns-in-Full-clause-continues c = subst (λ (t : Table). Continues t c.fires.
 
 pub returns-in-Full-clause-searched : goal.returns-in-Full-clause-searched
 returns-in-Full-clause-searched c =
-    let full = subst (λ f. FillsTo c.fires.self.galley.now.params (place_penalties c.fires.self.galley.now.items) c.fires.branch f c.page.new.trial) c.in-Full.is c.in_ok-filled.ensures in
+    let full = subst (λ f. FillsTo (place_penalties c.fires.self.galley.now.items) c.fires.branch f c.page.new.trial) c.in-Full.is c.in_ok-filled.ensures in
     subst (λ (t : Table). IsStartSearched t.galley.now c.args.left (record { branch = c.args.branch; way = c.args.way }) c.fires.self) c.fires.invariant.same
     (filled-full c.fires.self c.args.left (record { branch = c.args.branch; way = c.args.way }) (record { branch = c.fires.branch; way = c.fires.way }) c.fires.invariant.on (let e = c.if-left-gt0.false in omega (arith, e)) full)
 
@@ -148,7 +142,7 @@ returns-in-Refused-clause-continues c = subst (λ (t : Table). Continues t c.fir
 
 pub returns-in-Refused-clause-searched : goal.returns-in-Refused-clause-searched
 returns-in-Refused-clause-searched c =
-    let refused = subst (λ f. FillsTo c.fires.self.galley.now.params (place_penalties c.fires.self.galley.now.items) c.fires.branch f c.page.new.trial) c.in-Refused.is c.in_ok-filled.ensures in
+    let refused = subst (λ f. FillsTo (place_penalties c.fires.self.galley.now.items) c.fires.branch f c.page.new.trial) c.in-Refused.is c.in_ok-filled.ensures in
     subst (λ (t : Table). IsStartSearched t.galley.now c.args.left (record { branch = c.args.branch; way = c.args.way }) c.fires.self) c.fires.invariant.same
     (filled-refused c.fires.self c.args.left (record { branch = c.args.branch; way = c.args.way }) (record { branch = c.fires.branch; way = c.fires.way }) c.fires.invariant.on refused)
 

@@ -1,4 +1,4 @@
-use Rattle.std.proofs.Common.{◌≡◌, ℕ}
+use Rattle.std.proofs.Common.{◌≡◌}
 use Rattle.tb_steps.specs.Run.{firings_left}
 use Rattle.tb_search.specs.Branches.{shown}
 use Rattle.tb_search.proofs.SettleLemmas.{IsFilledOn}
@@ -12,4 +12,4 @@ invariant-fires l = record {
 }
 
 abbrev pub decreases-fires : goal.decreases-fires
-decreases-fires l = firings_left l.self.galley.now.params (shown l.branch)
+decreases-fires l = firings_left (shown l.branch)

@@ -1,4 +1,4 @@
-use Rattle.std.proofs.Common.{◌≡◌, ◌∙◌, subst, ◌⊎◌, inl, inr, ◌-◌, ◌<◌, arith}
+use Rattle.std.proofs.Common.{◌≡◌, ◌∙◌, subst, inl, inr, ◌-◌, arith}
 use Rattle.std.proofs.lemmas.Result.{on_ok_weaker}
 use Rattle.tb_rate.specs.Places.{place_penalties}
 use Rattle.tb_best.specs.PlanDemerits.{unlimited_step}
@@ -55,44 +55,37 @@ taken c =
 pub page-requires-clause-branch : goal.page-requires-clause-branch
 page-requires-clause-branch c = c.in_ok-take.ensures.branch c.if-not-branch.false
 
-pub page-requires-clause-params : goal.page-requires-clause-params
-page-requires-clause-params c = (taken (goal.at.page-requires-clause-params c).Else-not-branch).reached.params
-
 -- ---- a page fired
 
 pub overflow_add-way : goal.overflow_add-way
 overflow_add-way c =
     let e = (goal.at.overflow_add-way c).Else-not-branch in
-    let p = c.cut.new.self.galley.now.params in
     let places = place_penalties c.cut.new.self.galley.now.items in
-    let fired : HasFired p places c.in-Fired.demerits c.take.new.self c.page.new.trial = subst (λ f. FillsTo p places c.take.new.self f c.page.new.trial) c.in-Fired.is c.in_ok-filled.ensures in
+    let fired : HasFired places c.in-Fired.demerits c.take.new.self c.page.new.trial = subst (λ f. FillsTo places c.take.new.self f c.page.new.trial) c.in-Fired.is c.in_ok-filled.ensures in
     summed-fits c.args.self.now c.args.left c.args.start c.cut.new.self (c.items.left - 1) (after e) (taken e) c.in_ok-cut.ensures.table.range c.page.new.trial c.in-Fired.demerits fired
 
 pub copy-requires : goal.copy-requires
 copy-requires c =
-    let p = c.cut.new.self.galley.now.params in
     let places = place_penalties c.cut.new.self.galley.now.items in
-    let fired : HasFired p places c.in-Fired.demerits c.take.new.self c.page.new.trial = subst (λ f. FillsTo p places c.take.new.self f c.page.new.trial) c.in-Fired.is c.in_ok-filled.ensures in
+    let fired : HasFired places c.in-Fired.demerits c.take.new.self c.page.new.trial = subst (λ f. FillsTo places c.take.new.self f c.page.new.trial) c.in-Fired.is c.in_ok-filled.ensures in
     fired.branch
 
 pub settle-requires-clause-reached : goal.settle-requires-clause-reached
 settle-requires-clause-reached c =
     let e = (goal.at.settle-requires-clause-reached c).Else-not-branch in
-    let p = c.cut.new.self.galley.now.params in
     let places = place_penalties c.cut.new.self.galley.now.items in
-    let fired : HasFired p places c.in-Fired.demerits c.take.new.self c.page.new.trial = subst (λ f. FillsTo p places c.take.new.self f c.page.new.trial) c.in-Fired.is c.in_ok-filled.ensures in
+    let fired : HasFired places c.in-Fired.demerits c.take.new.self c.page.new.trial = subst (λ f. FillsTo places c.take.new.self f c.page.new.trial) c.in-Fired.is c.in_ok-filled.ensures in
     let copy = c.in_ok-next-in-Fired.ensures in
-    let next : HasFired p places c.in-Fired.demerits c.take.new.self c.in_ok-next-in-Fired.next = fired-copied p places c.in-Fired.demerits c.take.new.self c.page.new.trial c.in_ok-next-in-Fired.next copy.branch copy.state copy.ahead copy.params fired in
+    let next : HasFired places c.in-Fired.demerits c.take.new.self c.in_ok-next-in-Fired.next = fired-copied places c.in-Fired.demerits c.take.new.self c.page.new.trial c.in_ok-next-in-Fired.next copy.branch copy.state copy.ahead fired in
     summed-reached c.args.self.now c.args.left c.args.start c.cut.new.self (c.items.left - 1) (after e) (taken e) c.in_ok-cut.ensures.table.range c.in_ok-next-in-Fired.next c.in-Fired.demerits next
 
 pub settle-requires-clause-high : goal.settle-requires-clause-high
 settle-requires-clause-high c =
     let e = (goal.at.settle-requires-clause-high c).Else-not-branch in
-    let p = c.cut.new.self.galley.now.params in
     let places = place_penalties c.cut.new.self.galley.now.items in
-    let fired : HasFired p places c.in-Fired.demerits c.take.new.self c.page.new.trial = subst (λ f. FillsTo p places c.take.new.self f c.page.new.trial) c.in-Fired.is c.in_ok-filled.ensures in
+    let fired : HasFired places c.in-Fired.demerits c.take.new.self c.page.new.trial = subst (λ f. FillsTo places c.take.new.self f c.page.new.trial) c.in-Fired.is c.in_ok-filled.ensures in
     let copy = c.in_ok-next-in-Fired.ensures in
-    let next : HasFired p places c.in-Fired.demerits c.take.new.self c.in_ok-next-in-Fired.next = fired-copied p places c.in-Fired.demerits c.take.new.self c.page.new.trial c.in_ok-next-in-Fired.next copy.branch copy.state copy.ahead copy.params fired in
+    let next : HasFired places c.in-Fired.demerits c.take.new.self c.in_ok-next-in-Fired.next = fired-copied places c.in-Fired.demerits c.take.new.self c.page.new.trial c.in_ok-next-in-Fired.next copy.branch copy.state copy.ahead fired in
     summed-high c.args.self.now c.args.left c.args.start c.cut.new.self (c.items.left - 1) (after e) (taken e) c.in_ok-cut.ensures.table.range c.in_ok-next-in-Fired.next c.in-Fired.demerits next
 
 pub settle-requires-clause-level : goal.settle-requires-clause-level
@@ -108,11 +101,10 @@ returns-in-Fired-clause-levels c = on_ok_weaker c.settle.result (λ on. on.level
 pub returns-in-Fired-clause-searched : goal.returns-in-Fired-clause-searched
 returns-in-Fired-clause-searched c =
     let e = (goal.at.returns-in-Fired-clause-searched c).Else-not-branch in
-    let p = c.cut.new.self.galley.now.params in
     let places = place_penalties c.cut.new.self.galley.now.items in
-    let fired : HasFired p places c.in-Fired.demerits c.take.new.self c.page.new.trial = subst (λ f. FillsTo p places c.take.new.self f c.page.new.trial) c.in-Fired.is c.in_ok-filled.ensures in
+    let fired : HasFired places c.in-Fired.demerits c.take.new.self c.page.new.trial = subst (λ f. FillsTo places c.take.new.self f c.page.new.trial) c.in-Fired.is c.in_ok-filled.ensures in
     let copy = c.in_ok-next-in-Fired.ensures in
-    let next : HasFired p places c.in-Fired.demerits c.take.new.self c.in_ok-next-in-Fired.next = fired-copied p places c.in-Fired.demerits c.take.new.self c.page.new.trial c.in_ok-next-in-Fired.next copy.branch copy.state copy.ahead copy.params fired in
+    let next : HasFired places c.in-Fired.demerits c.take.new.self c.in_ok-next-in-Fired.next = fired-copied places c.in-Fired.demerits c.take.new.self c.page.new.trial c.in_ok-next-in-Fired.next copy.branch copy.state copy.ahead fired in
     if-both c.settle.result _ _ _ c.settle.ensures.continues c.settle.ensures.searched
     (λ on searched. summed-searched c.args.self.now c.args.left c.args.start c.cut.new.self (c.items.left - 1) (after e) (taken e) c.in_ok-cut.ensures.table.range c.in_ok-next-in-Fired.next c.in-Fired.demerits next c.settle.new.self on searched)
 
@@ -122,9 +114,8 @@ pub end-requires-clause-rated : goal.end-requires-clause-rated
 end-requires-clause-rated c =
     let e = (goal.at.end-requires-clause-rated c).Else-not-branch in
     let none : c.items.left - 1 ≡ 0 = let t = c.if-left-eq0.true in omega (arith, t) in
-    let p = c.cut.new.self.galley.now.params in
     let places = place_penalties c.cut.new.self.galley.now.items in
-    let quiet : IsQuiet p (shown c.take.new.self) = subst (λ f. FillsTo p places c.take.new.self f c.page.new.trial) c.in-Quiet.is c.in_ok-filled.ensures in
+    let quiet : IsQuiet (shown c.take.new.self) = subst (λ f. FillsTo places c.take.new.self f c.page.new.trial) c.in-Quiet.is c.in_ok-filled.ensures in
     end-rated c.cut.new.self.galley.now (after e) (subst (λ n. IsReached c.cut.new.self.galley.now n (after e)) none (taken e).reached) quiet
 
 pub end-requires-clause-bounded : goal.end-requires-clause-bounded
@@ -137,9 +128,8 @@ pub returns-then-left-eq0-clause-searched : goal.returns-then-left-eq0-clause-se
 returns-then-left-eq0-clause-searched c =
     let e = (goal.at.returns-then-left-eq0-clause-searched c).Else-not-branch in
     let none : c.items.left - 1 ≡ 0 = let t = c.if-left-eq0.true in omega (arith, t) in
-    let p = c.cut.new.self.galley.now.params in
     let places = place_penalties c.cut.new.self.galley.now.items in
-    let quiet : IsQuiet p (shown c.take.new.self) = subst (λ f. FillsTo p places c.take.new.self f c.page.new.trial) c.in-Quiet.is c.in_ok-filled.ensures in
+    let quiet : IsQuiet (shown c.take.new.self) = subst (λ f. FillsTo places c.take.new.self f c.page.new.trial) c.in-Quiet.is c.in_ok-filled.ensures in
     taken-ended c.args.self.now c.args.left c.args.start c.cut.new.self (c.items.left - 1) (after e) (taken e) c.end.new.self none quiet c.end.ensures.continues c.end.ensures.best
 
 -- ---- no run goes on
@@ -150,26 +140,23 @@ returns-in-Refused-clause-levels c = (taken (goal.at.returns-in-Refused-clause-l
 pub returns-in-Refused-clause-searched : goal.returns-in-Refused-clause-searched
 returns-in-Refused-clause-searched c =
     let e = (goal.at.returns-in-Refused-clause-searched c).Else-not-branch in
-    let p = c.cut.new.self.galley.now.params in
     let places = place_penalties c.cut.new.self.galley.now.items in
-    let refused : IsRefused p (shown c.take.new.self) = subst (λ f. FillsTo p places c.take.new.self f c.page.new.trial) c.in-Refused.is c.in_ok-filled.ensures in
+    let refused : IsRefused (shown c.take.new.self) = subst (λ f. FillsTo places c.take.new.self f c.page.new.trial) c.in-Refused.is c.in_ok-filled.ensures in
     taken-refused c.args.self.now c.args.left c.args.start c.cut.new.self (c.items.left - 1) (after e) (taken e) refused
 
 -- ---- the next item
 
 pub items-preserved-else-left-eq0 : goal.items-preserved-else-left-eq0
 items-preserved-else-left-eq0 c =
-    let p = c.cut.new.self.galley.now.params in
     let places = place_penalties c.cut.new.self.galley.now.items in
-    let quiet : IsQuiet p (shown c.take.new.self) = subst (λ f. FillsTo p places c.take.new.self f c.page.new.trial) c.in-Quiet.is c.in_ok-filled.ensures in
+    let quiet : IsQuiet (shown c.take.new.self) = subst (λ f. FillsTo places c.take.new.self f c.page.new.trial) c.in-Quiet.is c.in_ok-filled.ensures in
     record { table = c.in_ok-cut.ensures.table; on = taken (goal.at.items-preserved-else-left-eq0 c).Else-not-branch; may = inl quiet.quiet; some = inl (let t = c.if-left-eq0.false in omega (arith, t)) }
 
 pub items-preserved : goal.items-preserved
 items-preserved c =
-    let p = c.cut.new.self.galley.now.params in
     let places = place_penalties c.cut.new.self.galley.now.items in
-    let full : IsFull p (shown c.take.new.self) = subst (λ f. FillsTo p places c.take.new.self f c.page.new.trial) c.in-Full.is c.in_ok-filled.ensures in
-    record { table = c.in_ok-cut.ensures.table; on = taken (goal.at.items-preserved c).Else-not-branch; may = full-may c.cut.new.self.galley.now (shown c.take.new.self) full; some = inr full.step }
+    let full : IsFull (shown c.take.new.self) = subst (λ f. FillsTo places c.take.new.self f c.page.new.trial) c.in-Full.is c.in_ok-filled.ensures in
+    record { table = c.in_ok-cut.ensures.table; on = taken (goal.at.items-preserved c).Else-not-branch; may = full-may (shown c.take.new.self) full; some = inr full.step }
 
 pub returns-clause-levels : goal.returns-clause-levels
 returns-clause-levels c = c.items.invariant.on.levels
@@ -177,5 +164,5 @@ returns-clause-levels c = c.items.invariant.on.levels
 pub returns-clause-searched : goal.returns-clause-searched
 returns-clause-searched c =
     let none : c.items.left ≡ 0 = let t = c.items-test.false in omega (arith, t) in
-    let left : IsRefusal (unlimited_step c.items.self.galley.now.params (shown c.items.branch)) = elim c.items.invariant.some [ inl some ↦ absurd (omega (arith, none, some)) | inr k ↦ k ] in
+    let left : IsRefusal (unlimited_step (shown c.items.branch)) = elim c.items.invariant.some [ inl some ↦ absurd (omega (arith, none, some)) | inr k ↦ k ] in
     taken-left c.args.self.now c.args.left c.args.start c.items.self c.items.left (record { branch = c.items.branch; way = c.args.start.way }) c.items.invariant.on none c.items.invariant.may left

@@ -11,8 +11,8 @@ abbrev pub invariant-items : goal.invariant-items
 invariant-items l = record {
   table : IsTable l.self;
   on : IsTakenOn l.fn.self l.fn.left l.fn.start l.self l.left (record { branch = l.branch; way = l.way });
-  may : MayTake l.self.galley.now (shown l.branch);
-  some : (0 < l.left) ⊎ IsRefusal (unlimited_step l.self.galley.now.params (shown l.branch));
+  may : MayTake (shown l.branch);
+  some : (0 < l.left) ⊎ IsRefusal (unlimited_step (shown l.branch));
 }
 
 abbrev pub decreases-items : goal.decreases-items

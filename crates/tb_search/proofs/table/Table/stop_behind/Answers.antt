@@ -1,4 +1,4 @@
-use Rattle.std.proofs.Common.{◌≡◌, sym, ◌∙◌, suc, ◌-◌, ◌<◌, ◌≤◌, length, arith}
+use Rattle.std.proofs.Common.{◌≡◌, sym, ◌∙◌, ◌-◌, ◌<◌, ◌≤◌, length, arith}
 use Rattle.tb_best.specs.ItemsAhead.{all_ahead, state_with}
 use Rattle.tb_search.specs.declared.table.Start.{Start}
 use Rattle.tb_search.specs.Branches.{shown}
@@ -14,7 +14,7 @@ items-init c =
     let fewer = c.requires.fewer in
     let all : c.args.count ≡ c.args.left - (c.args.left - c.args.count) = omega (arith, fewer) in
     record {
-      reached = reached-copy g c.args.left c.args.start.now c.copy_from.new.self c.requires.reached copy.branch copy.state copy.ahead copy.params;
+      reached = reached-copy g c.args.left c.args.start.now c.copy_from.new.self c.requires.reached copy.branch copy.state copy.ahead;
       above = omega arith;
       below = omega arith;
       same = λ i. state_with (nodes_of_first (all i) (items_ahead g c.args.left)) (sym copy.state i);
@@ -50,5 +50,5 @@ returns c none =
     let g = c.args.self.now.galley.now in
     let i = c.items.invariant in
     let test = c.items-test.false in
-    far-calm g.params c.items.trial.routine.machine.params (shown c.args.start.now.branch) (shown c.items.trial) (items_ahead g c.args.left) (items_ahead g c.items.behind) c.args.count (c.items.behind - (c.args.left - c.args.count)) i.same
-    (omega (arith, test)) i.reached.params (c.in_ok-line.ensures none)
+    far-calm (shown c.args.start.now.branch) (shown c.items.trial) (items_ahead g c.args.left) (items_ahead g c.items.behind) c.args.count (c.items.behind - (c.args.left - c.args.count)) i.same
+    (omega (arith, test)) (c.in_ok-line.ensures none)
