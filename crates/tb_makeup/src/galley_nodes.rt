@@ -105,6 +105,7 @@ fn acts_of(kind: &ItemKind) -> u64
         ItemKind::TwoColumn => 1,
         ItemKind::Suppress(_) => 1,
         ItemKind::Page(_) => 1,
+        ItemKind::Set(_) => 1,
         ItemKind::Head(_) => 1,
         _ => 0,
     }

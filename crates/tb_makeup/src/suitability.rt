@@ -36,6 +36,7 @@ fn is_suited(kind: &ItemKind) -> bool
         ItemKind::TwoColumn => false,
         ItemKind::Suppress(_) => false,
         ItemKind::Page(_) => false,
+        ItemKind::Set(_) => false,
         ItemKind::Head(_) => false,
         ItemKind::Enlarge { .. } => false,
         _ => true,

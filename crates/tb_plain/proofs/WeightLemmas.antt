@@ -133,6 +133,7 @@ put-weight v p s (acts.Take f) none = taken-weight v p s f
 put-weight v p s (acts.TakeMargin m) none = sym (none m.line)
 put-weight v p s (acts.Suppress area) none = refl
 put-weight v p s (acts.Page n) none = refl
+put-weight v p s (acts.Set c) none = refl
 put-weight v p s (acts.Head f) none = taken-weight v p s f
 put-weight v p s (acts.Columns two) none = refl
 

@@ -50,6 +50,7 @@ IsTake (acts.Take f) = IsExtent f.height
 IsTake (acts.TakeMargin m) = ⊥
 IsTake (acts.Suppress area) = ⊥
 IsTake (acts.Page n) = ⊥
+IsTake (acts.Set c) = ⊥
 IsTake (acts.Head f) = ⊥
 IsTake (acts.Columns two) = ⊥
 

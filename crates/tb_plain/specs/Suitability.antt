@@ -14,6 +14,7 @@ is_suited items.OneColumn = false
 is_suited items.TwoColumn = false
 is_suited (items.Suppress area) = false
 is_suited (items.Page n) = false
+is_suited (items.Set c) = false
 is_suited (items.Head f) = false
 is_suited (items.Enlarge by star) = false
 is_suited _ = true

@@ -72,5 +72,6 @@ act_nodes p s (acts.Take f) = taken_nodes p s f
 act_nodes p s (acts.TakeMargin m) = []
 act_nodes p s (acts.Suppress area) = []
 act_nodes p s (acts.Page n) = []
+act_nodes p s (acts.Set c) = []
 act_nodes p s (acts.Head f) = taken_nodes p s f
 act_nodes p s (acts.Columns two) = []

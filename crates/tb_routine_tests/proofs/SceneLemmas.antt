@@ -111,6 +111,7 @@ acted-classes store boxes waiting m now (acts.Take f) h = taken-classes _ _ _ _ 
 acted-classes store boxes waiting m now (acts.TakeMargin n) h = taken-classes _ _ _ _ _ _ store boxes waiting m now refl h
 acted-classes store boxes waiting m now (acts.Suppress area) h = ap (λ (v : State). v.classes) h.state
 acted-classes store boxes waiting m now (acts.Page n) h = ap (λ (v : State). v.classes) h.state
+acted-classes store boxes waiting m now (acts.Set c) h = ap (λ (v : State). v.classes) h.state
 acted-classes store boxes waiting m now (acts.Head f) h = taken-classes _ _ _ _ _ _ store boxes waiting m now refl h
 acted-classes store boxes waiting m now (acts.Columns two) h = ap (λ (v : State). v.classes) h.state
 

@@ -9,7 +9,7 @@ use std::process::Abort;
 use std::test::Fail;
 use tb_worked_rows::{
     BEST_ROWS, COLUMN_END_ROWS, COLUMN_ROWS, ENLARGE_ROWS, FLOAT_ROWS, HEADING_ROWS, INPUT,
-    MODE_ROWS, ModeRow, NONE, PAGE_NUMBER_ROWS, RATE_ROWS, REPORT, ROWS, Row, TITLE_ROWS,
+    MODE_ROWS, ModeRow, NONE, PAGE_NUMBER_ROWS, RATE_ROWS, REPORT, ROWS, Row, SET_ROWS, TITLE_ROWS,
     VERSION_ROWS, WHY_ROWS, long_galley, long_report, run_by, run_on, run_with, words_of,
 };
 
@@ -43,6 +43,11 @@ fn rows_of_version_3_give_what_they_say(rt: HostRuntime) -> Result<(), Fail> {
 #[test]
 fn higher_pages_give_what_they_say(rt: HostRuntime) -> Result<(), Fail> {
     check(&rt, rt.alloc(), &ENLARGE_ROWS, 50)
+}
+
+#[test]
+fn parameters_set_among_the_items_give_what_they_say(rt: HostRuntime) -> Result<(), Fail> {
+    check(&rt, rt.alloc(), &SET_ROWS, 50)
 }
 
 #[test]

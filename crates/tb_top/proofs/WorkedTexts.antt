@@ -6,6 +6,7 @@ pub mod EnlargeRowLemmas
 pub mod ColumnRowLemmas
 pub mod ColumnEndRowLemmas
 pub mod TitleRowLemmas
+pub mod SetRowLemmas
 pub mod VersionRowLemmas
 pub mod RateRowLemmas
 pub mod BestRowLemmas

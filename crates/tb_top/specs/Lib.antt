@@ -19,6 +19,7 @@ pub mod EnlargeRows
 pub mod ColumnRows
 pub mod ColumnEndRows
 pub mod TitleRows
+pub mod SetRows
 pub mod VersionRows
 pub mod RateRows
 pub mod BestRows

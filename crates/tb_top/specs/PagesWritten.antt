@@ -22,7 +22,7 @@ use Rattle.tb_top.specs.Views.{viewed, FailsToShow}
 
 -- the run of a routine from here on
 abbrev pub run_on : Routine → Run
-run_on r = run_of_state r.machine.params (state_of r)
+run_on r = run_of_state (state_of r)
 
 -- the fault of pages whose text was not written
 abbrev pub write_fault : SinkFault → PageFault

@@ -1,6 +1,5 @@
 -- The report of a run with the ratings of its text columns.
 use Rattle.std.specs.Prelude.{ℕ, List, [], ◌∷◌, ◌++◌, codes}
-use Rattle.tb_param.specs.declared.Params.{Params}
 use Rattle.tb_galley.specs.declared.Galley.{Galley}
 use Rattle.tb_output.specs.State.{State}
 use Rattle.tb_steps.specs.Run.{run_of_state}
@@ -21,10 +20,10 @@ all_rated_lines [] = []
 all_rated_lines (x ∷ xs) = rated_lines x ++ all_rated_lines xs
 
 -- the report of the run from a state with a line for each text column, and after its last line the demerits of the run
-abbrev pub rated_text : Params → List PlacePenalty → State → List ℕ
-rated_text p places s =
-    codes "report 1\n" ++ (all_rated_lines (rated_of_state p places s) ++ (closing_lines (run_of_state p s).end (run_of_state p s).events ++ demerits_lines (demerits_of_state p places s)))
+abbrev pub rated_text : List PlacePenalty → State → List ℕ
+rated_text places s =
+    codes "report 1\n" ++ (all_rated_lines (rated_of_state places s) ++ (closing_lines (run_of_state s).end (run_of_state s).events ++ demerits_lines (demerits_of_state places s)))
 
 -- the same of the run of a galley
 unfoldable pub rated_report : Galley → List ℕ
-rated_report g = rated_text g.params (place_penalties g.items) (start_of g)
+rated_report g = rated_text (place_penalties g.items) (start_of g)

@@ -1,6 +1,5 @@
 -- The report of a run with what is told of it: what `trace` shows with the tales between, and the summary before the last lines.
 use Rattle.std.specs.Prelude.{ℕ, List, ◌++◌, codes}
-use Rattle.tb_param.specs.declared.Params.{Params}
 use Rattle.tb_galley.specs.declared.Galley.{Galley}
 use Rattle.tb_output.specs.State.{State}
 use Rattle.tb_steps.specs.Run.{Run, run_of, run_of_state}
@@ -14,8 +13,8 @@ abbrev pub shown_text : List Shown → Run → List ℕ
 shown_text xs r = codes "report 1\n" ++ (all_shown_lines xs ++ (summary_lines xs ++ closing_lines r.end r.events))
 
 -- the same of the run from a state
-abbrev pub why_text : Params → State → List ℕ
-why_text p s = shown_text (shown_of_state p s) (run_of_state p s)
+abbrev pub why_text : State → List ℕ
+why_text s = shown_text (shown_of_state s) (run_of_state s)
 
 -- the same of the run of a galley
 unfoldable pub why_report : Galley → List ℕ

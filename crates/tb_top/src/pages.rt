@@ -66,7 +66,7 @@ pub fn paginate<K: Sink>(
 
     ensures done { IfOk result (Paginates view (run_of galley.now) (K.held out.old) (K.held out.new)) }
     ensures laws { IfOk result (KeepsLaws galley.now) }
-    ensures limits { WithinLimits galley.now.params (run_of galley.now) }
+    ensures limits { WithinLimits (run_of galley.now) }
     ensures cycles { HasRoomForCycles galley.now → IfErr result IsNoCycleFault }
     ensures refused { IfErr result (Refuses view (run_of galley.now) (K.held out.old) (K.held out.new)) }
 

@@ -36,7 +36,6 @@ use tb_galley::Galley;
 use tb_io::{Sink, SinkFault, SureSink};
 use tb_items::Happening;
 use tb_node::Node;
-use tb_param::Params;
 use tb_pool::Lists;
 use tb_rate::{
     PlacePenalty, Rating, first_number, insertions_first, last_champion, place_penalties,
@@ -67,7 +66,7 @@ pub fn rate_pages<K: Sink>(alloc: Global, galley: &Galley, out: &mut K) -> Resul
     ensures done { IfOk result (Rates (run_of galley.now).end (demerits galley.now) (rated_report galley.now) (K.held out.old) (K.held out.new)) }
     ensures range { IfOk result IsGreedy }
     ensures laws { IfOk result (λ d. KeepsLaws galley.now (totals_of (run_of galley.now).events)) }
-    ensures limits { WithinLimits galley.now.params (run_of galley.now) }
+    ensures limits { WithinLimits (run_of galley.now) }
     ensures cycles { HasRoomForCycles galley.now → IfErr result IsNoCycleFault }
     ensures refused { IfErr result (RefusesText (run_of galley.now).end (rated_report galley.now) (K.held out.old) (K.held out.new)) }
 
@@ -77,14 +76,7 @@ pub fn rate_pages<K: Sink>(alloc: Global, galley: &Galley, out: &mut K) -> Resul
     let places = place_penalties(alloc, galley.items.as_slice())?;
     let mut routine = Routine::new(alloc, galley)?;
     let mut columns = Vec::new(alloc);
-    run_on(
-        alloc,
-        &galley.params,
-        places.as_slice(),
-        &mut routine,
-        &mut columns,
-        out,
-    )
+    run_on(alloc, places.as_slice(), &mut routine, &mut columns, out)
 }
 
 /// The columns that are rated of a galley that can be run, in their order. The run ends well or is refused as in [`rate_pages`].
@@ -100,7 +92,6 @@ pub(crate) fn rated_columns(alloc: Global, galley: &Galley) -> Result<Vec<RatedC
     let mut unseen = SureSink::new(alloc);
     run_on(
         alloc,
-        &galley.params,
         places.as_slice(),
         &mut routine,
         &mut columns,
@@ -112,23 +103,21 @@ pub(crate) fn rated_columns(alloc: Global, galley: &Galley) -> Result<Vec<RatedC
 // Runs a routine from its first page on to its end, and appends the columns that are rated.
 fn run_on<K: Sink>(
     alloc: Global,
-    params: &Params,
     places: &[PlacePenalty],
     routine: &mut Routine<'_>,
     columns: &mut Vec<RatedColumn>,
     out: &mut K,
 ) -> Result<i128, PageFault>
     requires ready { IsReady routine.old }
-    requires params { routine.old.machine.params ≡ params.now }
-    requires ranges { IsTrue (are_params params.now) }
+    requires ranges { IsTrue (are_params routine.old.machine.params) }
     requires page { (state_of routine.old).page ≡ 1 }
     requires cycles { (state_of routine.old).dead_cycles ≡ 0 }
     requires mild { AllByRecursion IsMildPlace places.now }
 
-    ensures done { IfOk result (Rates (run_of_state params.now (state_of routine.old)).end (demerits_of_state params.now places.now (state_of routine.old)) (rated_text params.now places.now (state_of routine.old)) (K.held out.old) (K.held out.new)) }
+    ensures done { IfOk result (Rates (run_of_state (state_of routine.old)).end (demerits_of_state places.now (state_of routine.old)) (rated_text places.now (state_of routine.old)) (K.held out.old) (K.held out.new)) }
     ensures range { IfOk result IsGreedy }
-    ensures columns { OnOk result (shown_columns columns.new.items ≡ shown_columns columns.old.items ++ broken_columns None (rated_of_state params.now places.now (state_of routine.old))) }
-    ensures refused { IfErr result (RefusesText (run_of_state params.now (state_of routine.old)).end (rated_text params.now places.now (state_of routine.old)) (K.held out.old) (K.held out.new)) }
+    ensures columns { OnOk result (shown_columns columns.new.items ≡ shown_columns columns.old.items ++ broken_columns None (rated_of_state places.now (state_of routine.old))) }
+    ensures refused { IfErr result (RefusesText (run_of_state (state_of routine.old)).end (rated_text places.now (state_of routine.old)) (K.held out.old) (K.held out.new)) }
     ensures cause { result ≡ Err PageFault.WriteFault → Rose (K.faults out.old) (K.faults out.new) }
     ensures later { K.faults out.old ≤ K.faults out.new }
 {
@@ -142,7 +131,7 @@ fn run_on<K: Sink>(
     }
     'firing: loop {
         let ending = routine.turn(true, &mut happened)?;
-        let rating = rating_of(params, places, routine, &happened, ending);
+        let rating = rating_of(places, routine, &happened, ending);
         send(
             &routine.store,
             &happened,
@@ -162,7 +151,6 @@ fn run_on<K: Sink>(
 
 // The rating of the column that the last turn put out. A turn that ends the run puts out none, or one that does not count.
 fn rating_of(
-    params: &Params,
     places: &[PlacePenalty],
     routine: &Routine<'_>,
     happened: &[Happening],
@@ -171,12 +159,13 @@ fn rating_of(
     requires ready { IfNone ending (IsReady routine.now) }
     requires tried { IfSome (last_champion (events_of routine.now.store happened.now)) IsTried }
     requires mild { AllByRecursion IsMildPlace places.now }
-    ensures value { result ≡ unless_ended ending (rating params.now places.now (first_number (state_of routine.now).number (events_of routine.now.store happened.now)) (last_champion (events_of routine.now.store happened.now)) (floats_waiting (state_of routine.now).floats) (insertions_first (state_of routine.now).waiting)) }
+    ensures value { result ≡ unless_ended ending (rating (state_of routine.now).params places.now (first_number (state_of routine.now).number (events_of routine.now.store happened.now)) (last_champion (events_of routine.now.store happened.now)) (floats_waiting (state_of routine.now).floats) (insertions_first (state_of routine.now).waiting)) }
     ensures range { IfSome result IsRated }
 {
     if let Some(_) = ending {
         return None;
     }
+    let params = routine.machine.params();
     let held = insertions_first(&routine.store, routine.builder.waiting(), &routine.left);
     let waiting = routine.machine.floats_waiting();
     let page = first_number(happened, routine.machine.standing().number);

@@ -5,6 +5,7 @@ ghost use Rattle.tb_top.specs.EnlargeRows.{EnlargeRows};
 ghost use Rattle.tb_top.specs.ColumnRows.{ColumnRows};
 ghost use Rattle.tb_top.specs.ColumnEndRows.{ColumnEndRows};
 ghost use Rattle.tb_top.specs.TitleRows.{TitleRows};
+ghost use Rattle.tb_top.specs.SetRows.{SetRows};
 ghost use Rattle.tb_top.specs.VersionRows.{VersionRows};
 ghost use Rattle.tb_top.specs.RateRows.{RateRows};
 ghost use Rattle.tb_top.specs.BestRows.{BestRows};
@@ -25,6 +26,7 @@ pub fn check_rows()
     ensures columns { ColumnRows }
     ensures column_ends { ColumnEndRows }
     ensures titles { TitleRows }
+    ensures sets { SetRows }
     ensures versions { VersionRows }
     ensures ratings { RateRows }
     ensures best { BestRows }

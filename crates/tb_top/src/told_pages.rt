@@ -51,7 +51,7 @@ pub fn why_pages<K: Sink>(alloc: Global, galley: &Galley, out: &mut K) -> Result
 
     ensures done { IfOk result (Explains (run_of galley.now) (why_report galley.now) (K.held out.old) (K.held out.new)) }
     ensures laws { IfOk result (KeepsLaws galley.now) }
-    ensures limits { WithinLimits galley.now.params (run_of galley.now) }
+    ensures limits { WithinLimits (run_of galley.now) }
     ensures cycles { HasRoomForCycles galley.now → IfErr result IsNoCycleFault }
     ensures refused { IfErr result (RefusesText (run_of galley.now).end (why_report galley.now) (K.held out.old) (K.held out.new)) }
 
@@ -73,8 +73,8 @@ fn run_on<K: Sink>(
     requires page { (state_of routine.old).page ≡ 1 }
     requires cycles { (state_of routine.old).dead_cycles ≡ 0 }
 
-    ensures done { IfOk result (Explains (run_on routine.old) (why_text routine.old.machine.params (state_of routine.old)) (K.held out.old) (K.held out.new)) }
-    ensures refused { IfErr result (RefusesText (run_on routine.old).end (why_text routine.old.machine.params (state_of routine.old)) (K.held out.old) (K.held out.new)) }
+    ensures done { IfOk result (Explains (run_on routine.old) (why_text (state_of routine.old)) (K.held out.old) (K.held out.new)) }
+    ensures refused { IfErr result (RefusesText (run_on routine.old).end (why_text (state_of routine.old)) (K.held out.old) (K.held out.new)) }
     ensures cause { result ≡ Err PageFault.WriteFault → Rose (K.faults out.old) (K.faults out.new) }
     ensures later { K.faults out.old ≤ K.faults out.new }
 {

@@ -1,5 +1,5 @@
 -- The lines of what happens are kept, and those that are told are left out, if no name in them has a line feed.
-use Rattle.std.proofs.Common.{refl, ℕ, ℤ, Bool, true, false, List, [], ◌∷◌, ◌++◌, map, Option, Some, None}
+use Rattle.std.proofs.Common.{refl, ℕ, ℤ, Bool, true, false, List, [], ◌∷◌, ◌++◌, map}
 use Rattle.std.specs.Prelude.{codes, int_le, ◌==◌, if◌then◌else◌}
 use Rattle.std.proofs.lemmas.List.Folds.{list_all-append}
 use Rattle.tb_scaled.specs.Scaled.{awful_bad, is_zero}
@@ -9,7 +9,6 @@ use Rattle.tb_text.specs.Lines.{IsUnended}
 use Rattle.tb_text.specs.Fields.{and_number, and_count, and_text, line}
 use Rattle.tb_node.specs.declared.RuleOf.{RuleOf}
 use Rattle.tb_node.specs.declared.RuleOf.TheVariants.{Item, Footnotes, Floats}
-use Rattle.tb_node.specs.declared.Name.{Name}
 use Rattle.tb_node.specs.declared.What.{What}
 use Rattle.tb_node.specs.declared.What.TheVariants as what
 use Rattle.tb_node.specs.declared.Where.{Where}

@@ -55,7 +55,7 @@ use Rattle.tb_why.specs.Placements.{placements_of, placement_if, placement_in, p
 
 placements-append : (rs qs : List Recorded) → placements_of (rs ++ qs) ≡ placements_of rs ++ placements_of qs
 placements-append [] qs = refl
-placements-append (placed f w l h ∷ rs) qs = ap (λ ps. record { float = f; place = w } ∷ ps) (placements-append rs qs)
+placements-append (placed p f w l h ∷ rs) qs = ap (λ ps. record { float = f; place = w } ∷ ps) (placements-append rs qs)
 placements-append (output c ∷ rs) qs = placements-append rs qs
 placements-append (emptied l ∷ rs) qs = placements-append rs qs
 
@@ -178,7 +178,7 @@ placed-told : (p : Params) (place : Where) (f : Float) (left : FloatLists) (ts :
 placed-told p place f left ts w only is = by_place (is_placed place) w.refused ∙ ap (λ xs. placements_of w.records ++ xs) (sym (by_over w.refused))
   where
     r : Recorded
-    r = placed f place w.state.floats (column_height_of p w.state.floats)
+    r = placed p f place w.state.floats (column_height_of p w.state.floats)
 
     by_place : (b t : Bool) → placements_of (if b then (if t then w else record w { records = w.records ++ r ∷ [] }) else w).records ≡ placements_of w.records ++ (if t then [] else (if b then record { float = f; place = place } ∷ [] else []))
     by_place true true = sym (append-nil (placements_of w.records))

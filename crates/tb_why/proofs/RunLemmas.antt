@@ -1,7 +1,6 @@
 -- What is told changes nothing: without it, what is shown of a run are the run's events.
 use Rattle.std.proofs.Common.{◌≡◌, List, [], ◌∷◌, ◌++◌, map, drop, length, refl, ap, ◌∙◌}
 use Rattle.std.proofs.lemmas.List.{append-nil}
-use Rattle.tb_param.specs.declared.Params.{Params}
 use Rattle.tb_node.specs.declared.Float.{Float}
 use Rattle.tb_galley.specs.declared.Galley.{Galley}
 use Rattle.tb_sheet.specs.Sheet.{PlainSent}
@@ -48,25 +47,25 @@ woven_sends (NextSent ∷ ps) (e ∷ es) = ap (λ fs. sent e ∷ fs) (woven_send
 
 -- ---- a step
 
-page_happens : (p : Params) (s : State) (xs : List Shown) → happened_among (shown_with p s xs) ≡ (page_filled p s).events ++ happened_among xs
-page_happens p s xs =
-    let q = page_filled p s in
+page_happens : (s : State) (xs : List Shown) → happened_among (shown_with s xs) ≡ (page_filled s).events ++ happened_among xs
+page_happens s xs =
+    let q = page_filled s in
     happened_append (all_happen q.events) (wait_tales s q.state ++ xs)
     ∙ ap (λ l. l ++ happened_among (wait_tales s q.state ++ xs)) (happened_all q.events)
     ∙ ap (λ l. q.events ++ l) (happened_append (wait_tales s q.state) xs ∙ ap (λ l. l ++ happened_among xs) (happened_tales _ (drop (length s.floats.second) q.state.floats.second)))
 
-served_happens : (p : Params) (s : State) → happened_among (shown_with p s (served_shown p s)) ≡ (page_filled p s).events ++ map sent (page_served p s).sent
-served_happens p s = page_happens p s (served_shown p s) ∙ ap (λ l. (page_filled p s).events ++ l) (woven_sends (firing_pieces p (page_filled p s).state (fired_at p s (page_filled p s).state)) (page_served p s).sent)
+served_happens : (s : State) → happened_among (shown_with s (served_shown s)) ≡ (page_filled s).events ++ map sent (page_served s).sent
+served_happens s = page_happens s (served_shown s) ∙ ap (λ l. (page_filled s).events ++ l) (woven_sends (firing_pieces (page_filled s).state.params (page_filled s).state (fired_at s (page_filled s).state)) (page_served s).sent)
 
 -- without what is told, what is shown of a step are its events
-step_happens : {p : Params} {s : State} {x : Step} {xs : List Shown} → StepShows p s x xs → happened_among xs ≡ step_events x
-step_happens {p = p} {s = s} (shows_going e f r rs) = served_happens p s
-step_happens {p = p} {s = s} (shows_ending e f rs d) = served_happens p s
-step_happens {p = p} {s = s} (shows_page rs d) = page_happens p s [] ∙ append-nil (page_filled p s).events
+step_happens : {s : State} {x : Step} {xs : List Shown} → StepShows s x xs → happened_among xs ≡ step_events x
+step_happens {s = s} (shows_going e f r rs) = served_happens s
+step_happens {s = s} (shows_ending e f rs d) = served_happens s
+step_happens {s = s} (shows_page rs d) = page_happens s [] ∙ append-nil (page_filled s).events
 
 -- ---- the run
 
-happens_so : {p : Params} {s : State} {r : Run} {xs : List Shown} → RunShows p s r xs → happened_among xs ≡ r.events
+happens_so : {s : State} {r : Run} {xs : List Shown} → RunShows s r xs → happened_among xs ≡ r.events
 happens_so (shows_none s e) = refl
 happens_so (shows_last {xs = xs} x) = happened_append xs [] ∙ append-nil (happened_among xs) ∙ step_happens x
 happens_so (shows_more {xs = xs} {ys = ys} x y z) = happened_append xs ys ∙ (λ i. step_happens x i ++ happens_so z i)

@@ -91,8 +91,8 @@ recorded-seen r w = by_refused w.refused
 
 gone-seen : (p : Params) (a : AreaPlace) (f : Float) (before rest : List Float) (w : Work) →
     Seen.seen_of (FloatMoves.place_waiting parts.Deferred p (where_of a) f before rest w) ≡ Seen.with_lists (gone_to a f before rest w.state.floats) (Seen.seen_of w)
-gone-seen p at_top f before rest w = ap (Seen.with_lists (gone_to at_top f before rest w.state.floats)) (recorded-seen (placed f places.Top w.state.floats (column_height_of p w.state.floats)) w)
-gone-seen p at_bottom f before rest w = ap (Seen.with_lists (gone_to at_bottom f before rest w.state.floats)) (recorded-seen (placed f places.Bottom w.state.floats (column_height_of p w.state.floats)) w)
+gone-seen p at_top f before rest w = ap (Seen.with_lists (gone_to at_top f before rest w.state.floats)) (recorded-seen (placed p f places.Top w.state.floats (column_height_of p w.state.floats)) w)
+gone-seen p at_bottom f before rest w = ap (Seen.with_lists (gone_to at_bottom f before rest w.state.floats)) (recorded-seen (placed p f places.Bottom w.state.floats (column_height_of p w.state.floats)) w)
 gone-seen p deferred f before rest w = refl
 
 still-seen : (a : AreaPlace) (f : Float) (before : List Float) → FloatMoves.still_deferred (where_of a) f before ≡ still_before a f before
@@ -133,8 +133,8 @@ free-doubled from p s before (f ∷ rest) l =
 
 gone_double-seen : (from : Part) → IsWaiting from → (p : Params) (b : Bool) (f : Float) (before rest : List Float) (w : Work) →
     Seen.seen_of (FloatMoves.place_waiting from p (if b then places.Double else places.Deferred) f before rest w) ≡ Seen.with_lists (gone_double from b f before rest w.state.floats) (Seen.seen_of w)
-gone_double-seen parts.Deferred q p true f before rest w = ap (Seen.with_lists (gone_double parts.Deferred true f before rest w.state.floats)) (recorded-seen (placed f places.Double w.state.floats (column_height_of p w.state.floats)) w)
-gone_double-seen parts.Second q p true f before rest w = ap (Seen.with_lists (gone_double parts.Second true f before rest w.state.floats)) (recorded-seen (placed f places.Double w.state.floats (column_height_of p w.state.floats)) w)
+gone_double-seen parts.Deferred q p true f before rest w = ap (Seen.with_lists (gone_double parts.Deferred true f before rest w.state.floats)) (recorded-seen (placed p f places.Double w.state.floats (column_height_of p w.state.floats)) w)
+gone_double-seen parts.Second q p true f before rest w = ap (Seen.with_lists (gone_double parts.Second true f before rest w.state.floats)) (recorded-seen (placed p f places.Double w.state.floats (column_height_of p w.state.floats)) w)
 gone_double-seen parts.Deferred q p false f before rest w = refl
 gone_double-seen parts.Second q p false f before rest w = refl
 gone_double-seen from q p b f before rest w = absurd q

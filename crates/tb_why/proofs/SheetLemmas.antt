@@ -5,10 +5,11 @@ use Rattle.std.proofs.lemmas.Int.{ints}
 use Rattle.tb_scaled.specs.Scaled.{awful_bad, eject_penalty}
 use Rattle.tb_node.specs.declared.Float.{Float}
 use Rattle.tb_node.specs.declared.Where.TheVariants as places
+use Rattle.tb_node.specs.declared.Act.{Act}
 use Rattle.tb_param.specs.declared.Params.{Params}
 use Rattle.tb_builder.specs.declared.Ask.{Ask}
 use Rattle.tb_builder.specs.FiredPages.{Fired, reach_of, fired_of}
-use Rattle.tb_builder.specs.Reach.{Reach}
+use Rattle.tb_builder.specs.Reach.{Reached, Reach}
 use Rattle.tb_float.specs.declared.Entry.{Entry}
 use Rattle.tb_float.specs.declared.Entry.TheVariants as entries
 use Rattle.tb_float.specs.declared.Part.{Part}
@@ -20,14 +21,17 @@ use Rattle.tb_fpage.specs.declared.Wanted.{Wanted}
 use Rattle.tb_fpage.specs.Company.{Choice, left_floats}
 use Rattle.tb_sheet.specs.Asked.{clear_penalty, par_penalty, vert_penalty}
 use Rattle.tb_sheet.specs.Sheet.{PlainSent}
+use Rattle.tb_sheet.specs.declared.Warn.{Warn}
 use Rattle.tb_output.specs.declared.reading.Reading.{Reading}
-use Rattle.tb_output.specs.State.{State, begun}
+use Rattle.tb_output.specs.State.{State, Recorded, begun}
 use Rattle.tb_output.specs.Pages.{wide_wanted}
 use Rattle.tb_output.specs.Columns.{single_wanted}
 use Rattle.tb_output.specs.Clear.{deferred_again, double_again}
 use Rattle.tb_output.specs.Output.{is_int, after_page, out}
 use Rattle.tb_items.specs.RunEvents.{RunEvent}
 use Rattle.tb_steps.specs.Run.{Progress, progress, ask_for}
+use Rattle.tb_steps.proofs.RunTree.{ActMove, sets_parameter, page-is}
+use Rattle.tb_steps.proofs.RunFolds.{nothing_shown, PageLaw, progress-holds}
 use Rattle.tb_told.specs.declared.Spot.{Spot}
 use Rattle.tb_told.specs.declared.Tale.{Tale}
 use Rattle.tb_told.specs.declared.Tale.TheVariants.{Waits, Decides, Begins, InColumn, Back, Stands, PutOut}
@@ -341,30 +345,48 @@ woven-sheets n (Says t ∷ ps) es = let a = tale-sheets n t in let b = woven-she
 woven-sheets n (NextSent ∷ ps) [] = let a = woven-sheets n ps [] in omega (arith, a)
 woven-sheets n (NextSent ∷ ps) (e ∷ es) = let a = woven-sheets n ps es in omega (arith, a)
 
+-- ---- a step
+
+-- the page limit is a parameter of the whole galley: no act changes it
+act-limit : {k : ℤ} {s t : State} {a : Act} {ws : List Warn} {rs : List Recorded} → ActMove s.params s a t ws rs → s.params.maxpages ≡ k → t.params.maxpages ≡ k
+act-limit (sets_parameter c) e = e
+act-limit m e = e
+
+abbrev keeps_limit : ℤ → PageLaw
+keeps_limit k = record {
+  shows = nothing_shown;
+  holds = λ rs s. s.params.maxpages ≡ k;
+  tries = λ line b least rs s e. (tt, e);
+  acts = λ s t a ws records rs m e. (tt, act-limit m e);
+}
+
+page-limit : (rs : List Reached) (least : ℤ) (s : State) → (progress rs least s).state.params.maxpages ≡ s.params.maxpages
+page-limit rs least s = (progress-holds (keeps_limit s.params.maxpages) (page-is rs least s) refl).1.1
+
 -- a step puts out few sheets
-pub step-few : (p : Params) (s : State) (n : ℕ) → sheets_of n (step_shown p s) ≤ n + (2 * nat_abs p.maxpages + 4)
+pub step-few : (s : State) (n : ℕ) → sheets_of n (step_shown s) ≤ n + (2 * nat_abs s.params.maxpages + 4)
 unfolding step_shown
-step-few p s n =
-    let made = ask_for p s in
+step-few s n =
+    let made = ask_for s in
     let w = reach_of made s.classes s.boxes [] s.waiting in
-    let q = progress p w.reached awful_bad s in
-    let fired = by_fault made w q q.fault in
+    let q = progress w.reached awful_bad s in
+    let fired = by_fault made w q (page-limit w.reached awful_bad s) q.fault in
     let events = all_happen q.events in
     let waits = wait_tales s q.state in
-    let a = sheets-join n events (waits ++ fired_shown p made w q q.fault) in
-    let b = sheets-join n waits (fired_shown p made w q q.fault) in
+    let a = sheets-join n events (waits ++ fired_shown made w q q.fault) in
+    let b = sheets-join n waits (fired_shown made w q q.fault) in
     let c = happen-sheets n q.events in
     let d = wait-sheets n q.state (drop (length s.floats.second) q.state.floats.second) in
-    subst (λ k. k ≤ n + (2 * nat_abs p.maxpages + 4)) (sym (a ∙ ap (λ k. sheets_of k (waits ++ fired_shown p made w q q.fault)) c ∙ b ∙ ap (λ k. sheets_of k (fired_shown p made w q q.fault)) d)) fired
+    subst (λ k. k ≤ n + (2 * nat_abs s.params.maxpages + 4)) (sym (a ∙ ap (λ k. sheets_of k (waits ++ fired_shown made w q q.fault)) c ∙ b ∙ ap (λ k. sheets_of k (fired_shown made w q q.fault)) d)) fired
   where
-    allowed : (t : Bool) (u : State) (f : Fired) → sheets_of n (if t then all_shown (woven (firing_pieces p u f) (out p u f).sent) else []) ≤ n + (2 * nat_abs p.maxpages + 4)
-    allowed true u f = let e = woven-sheets n (firing_pieces p u f) (out p u f).sent in let few = firing-few p u f in omega (arith, e, few)
+    allowed : (t : Bool) (u : State) (f : Fired) → sheets_of n (if t then all_shown (woven (firing_pieces u.params u f) (out u.params u f).sent) else []) ≤ n + (2 * nat_abs u.params.maxpages + 4)
+    allowed true u f = let e = woven-sheets n (firing_pieces u.params u f) (out u.params u f).sent in let few = firing-few u.params u f in omega (arith, e, few)
     allowed false u f = omega arith
 
-    by_fires : (t : Bool) (u : State) (f : Fired) → sheets_of n (if t then firing_shown p u f else []) ≤ n + (2 * nat_abs p.maxpages + 4)
-    by_fires true u f = allowed (int_lt (pos u.dead_cycles) p.maxdeadcycles) u f
+    by_fires : (t : Bool) (u : State) (f : Fired) → sheets_of n (if t then firing_shown u f else []) ≤ n + (2 * nat_abs u.params.maxpages + 4)
+    by_fires true u f = allowed (int_lt (pos u.dead_cycles) u.params.maxdeadcycles) u f
     by_fires false u f = omega arith
 
-    by_fault : (a : Ask) (w : Reach) (q : Progress) (o : Option (ℕ × ℕ)) → sheets_of n (fired_shown p a w q o) ≤ n + (2 * nat_abs p.maxpages + 4)
-    by_fault a w q None = by_fires w.fires q.state (fired_of a q.state.classes q.state.boxes w)
-    by_fault a w q (Some f) = omega arith
+    by_fault : (a : Ask) (w : Reach) (q : Progress) → q.state.params.maxpages ≡ s.params.maxpages → (o : Option (ℕ × ℕ)) → sheets_of n (fired_shown a w q o) ≤ n + (2 * nat_abs s.params.maxpages + 4)
+    by_fault a w q e None = subst (λ k. sheets_of n (fired_shown a w q None) ≤ n + (2 * nat_abs k + 4)) e (by_fires w.fires q.state (fired_of a q.state.classes q.state.boxes w))
+    by_fault a w q e (Some f) = omega arith

@@ -7,7 +7,6 @@ use Rattle.tb_break.proofs.EachLemmas.{all-front, all-back, all-join}
 use Rattle.tb_pool.specs.Lists.{Lists}
 use Rattle.tb_node.specs.declared.Node.{Node}
 use Rattle.tb_node.specs.PlainNodes.{PlainNode}
-use Rattle.tb_param.specs.declared.Params.{Params}
 use Rattle.tb_builder.specs.declared.Page.{Page}
 use Rattle.tb_builder.specs.FiredPages.{Boxed, Fired}
 use Rattle.tb_sheet.specs.Sheet.{PlainSent}
@@ -20,7 +19,7 @@ use Rattle.tb_steps.specs.Run.{Progress, ask_for}
 use Rattle.tb_run.specs.declared.routine.Routine.{Routine}
 use Rattle.tb_run.specs.declared.routine.Ending.{Ending}
 use Rattle.tb_run.specs.Routine.{held_in, state_of}
-use Rattle.tb_run.specs.FilledPages.{sent_happenings, reach_in, progress_in, fired_whole, IsFilled, IsFiring, IsFilledLast, HasServed}
+use Rattle.tb_run.specs.FilledPages.{sent_happenings, reach_in, progress_in, params_in, fired_whole, IsFilled, IsFiring, IsFilledLast, HasServed}
 use Rattle.tb_told.specs.declared.Tale.TheVariants.{Waits}
 use Rattle.tb_told.specs.declared.Piece.{Piece}
 use Rattle.tb_why.specs.declared.shown.Showing.{Showing}
@@ -48,17 +47,18 @@ allowed-list false ps es = refl
 -- ---- a page is filled
 
 module _ (r q : Routine) (hs : List Happening) (filled : IsFilled true r q hs) where
-  abbrev p : Params
-  p = r.machine.params
-
   abbrev s : State
   s = state_of r
 
   abbrev w : Progress
-  w = progress_in p s
+  w = progress_in s
 
   abbrev waited : ℕ
   waited = length r.machine.pool.lists.second
+
+  -- the parameters that hold once the page is filled
+  pub filled-params : q.machine.params ≡ params_in s
+  filled-params = ap (λ (x : State). x.params) filled.state
 
   waits-are : wait_tales s w.state ≡ map (λ f. tells (Waits (spot_in q.machine) f)) (drop waited q.machine.pool.lists.second)
   waits-are = ap (wait_tales s) (sym filled.state)
@@ -69,7 +69,7 @@ module _ (r q : Routine) (hs : List Happening) (filled : IsFilled true r q hs) w
       ∙ (λ i. (happens-shown store hs ∙ ap all_happen (filled.events store ∙ all-noted w.events)) i ++ (waits-shown store (spot_in q.machine) (drop waited q.machine.pool.lists.second) ∙ sym waits-are) i)
 
   -- with what is shown of the firing, it is what is shown of the step
-  step-is : (store : Lists Node) (more : List Shown) → fired_shown p (ask_for p s) (reach_in p s) w w.fault ≡ more → all_shown_of store (filled_shown waited q.machine hs) ++ more ≡ step_shown p s
+  step-is : (store : Lists Node) (more : List Shown) → fired_shown (ask_for s) (reach_in s) w w.fault ≡ more → all_shown_of store (filled_shown waited q.machine hs) ++ more ≡ step_shown s
   unfolding step_shown
   step-is store more is =
       ap (λ xs. xs ++ more) (filled-is store)
@@ -79,20 +79,22 @@ module _ (r q : Routine) (hs : List Happening) (filled : IsFilled true r q hs) w
   pub filled-pages : (store : Lists Node) → ArePages store hs → AreShownPages store (filled_shown waited q.machine hs)
   filled-pages store k = all-join (IsShownPage store) (all_happens hs) (waits_from waited q.machine) (happens-pages store hs k) (waits-pages store (spot_in q.machine) (drop waited q.machine.pool.lists.second))
 
+-- and those after the firing are the same
+pub served-params : {E : Type 0} (r q now : Routine) (hs : List Happening) → IsFilled true r q hs → (x : Result (Option Ending) E) → OnOk x (now.machine.params ≡ q.machine.params) → OnOk x (now.machine.params ≡ params_in (state_of r))
+served-params r q now hs h (Ok o) e = e ∙ filled-params r q hs h
+served-params r q now hs h (Err x) e = tt
+
 -- ---- no page fires
 
 module _ (r q : Routine) (e : Ending) (hs : List Happening) (h : IsFilledLast true r e q hs) where
-  abbrev start-params : Params
-  start-params = r.machine.params
-
   abbrev done-so-far : Progress
-  done-so-far = progress_in start-params (state_of r)
+  done-so-far = progress_in (state_of r)
 
-  none-fired : (o : Option (ℕ × ℕ)) → (o ≡ None → (reach_in start-params (state_of r)).fires ≡ false) → fired_shown start-params (ask_for start-params (state_of r)) (reach_in start-params (state_of r)) done-so-far o ≡ []
-  none-fired None f = else-list (reach_in start-params (state_of r)).fires _ (f refl)
+  none-fired : (o : Option (ℕ × ℕ)) → (o ≡ None → (reach_in (state_of r)).fires ≡ false) → fired_shown (ask_for (state_of r)) (reach_in (state_of r)) done-so-far o ≡ []
+  none-fired None f = else-list (reach_in (state_of r)).fires _ (f refl)
   none-fired (Some x) f = refl
 
-  pub last-shown : (shown : List Showing) → shown ≡ filled_shown (length r.machine.pool.lists.second) q.machine hs → all_shown_of q.store shown ≡ step_shown r.machine.params (state_of r)
+  pub last-shown : (shown : List Showing) → shown ≡ filled_shown (length r.machine.pool.lists.second) q.machine hs → all_shown_of q.store shown ≡ step_shown (state_of r)
   last-shown shown is =
       ap (all_shown_of q.store) is
       ∙ sym (append-nil (all_shown_of q.store (filled_shown (length r.machine.pool.lists.second) q.machine hs)))
@@ -101,30 +103,26 @@ module _ (r q : Routine) (e : Ending) (hs : List Happening) (h : IsFilledLast tr
 -- ---- the page fires
 
 -- what waits and what is in boxes is of no account to what is shown of a firing
-firing-same : (p : Params) (store : Lists Node) (bs cs : List Boxed) (ns ms : List PlainNode) (m : MachineView) (f : Fired) → firing_shown p (state_shown store bs ns m) f ≡ firing_shown p (state_shown store cs ms m) f
+firing-same : (store : Lists Node) (bs cs : List Boxed) (ns ms : List PlainNode) (m : MachineView) (f : Fired) → firing_shown (state_shown store bs ns m) f ≡ firing_shown (state_shown store cs ms m) f
 unfolding out firing_pieces
-firing-same p store bs cs ns ms m f = refl
+firing-same store bs cs ns ms m f = refl
 
 module _ (r q : Routine) (page : Page) (hs : List Happening) (h : IsFiring true r page q hs) where
-  abbrev own-params : Params
-  own-params = r.machine.params
-
   abbrev own-page : Progress
-  own-page = progress_in own-params (state_of r)
+  own-page = progress_in (state_of r)
 
-  fired-is : fired_shown own-params (ask_for own-params (state_of r)) (reach_in own-params (state_of r)) own-page own-page.fault ≡ firing_shown q.machine.params (state_of q) (fired_whole q page)
+  fired-is : fired_shown (ask_for (state_of r)) (reach_in (state_of r)) own-page own-page.fault ≡ firing_shown (state_of q) (fired_whole q page)
   fired-is =
-      ap (fired_shown own-params (ask_for own-params (state_of r)) (reach_in own-params (state_of r)) own-page) h.fires.none
-      ∙ then-list (reach_in own-params (state_of r)).fires _ h.fires.fires
-      ∙ (λ i. firing_shown own-params (sym h.filled.state i) (sym h.fires.fired i))
-      ∙ firing-same own-params q.store (state_of r).boxes (held_in q).boxes (state_of r).waiting (held_in q).waiting q.machine (fired_whole q page)
-      ∙ ap (λ x. firing_shown x (state_of q) (fired_whole q page)) (sym h.filled.params)
+      ap (fired_shown (ask_for (state_of r)) (reach_in (state_of r)) own-page) h.fires.none
+      ∙ then-list (reach_in (state_of r)).fires _ h.fires.fires
+      ∙ (λ i. firing_shown (sym h.filled.state i) (sym h.fires.fired i))
+      ∙ firing-same q.store (state_of r).boxes (held_in q).boxes (state_of r).waiting (held_in q).waiting q.machine (fired_whole q page)
 
-  pub fired-shown : (store : Lists Node) (before shown : List Showing) → before ≡ filled_shown (length r.machine.pool.lists.second) q.machine hs → all_shown_of store shown ≡ all_shown_of store before ++ firing_shown q.machine.params (state_of q) (fired_whole q page) → all_shown_of store shown ≡ step_shown r.machine.params (state_of r)
+  pub fired-shown : (store : Lists Node) (before shown : List Showing) → before ≡ filled_shown (length r.machine.pool.lists.second) q.machine hs → all_shown_of store shown ≡ all_shown_of store before ++ firing_shown (state_of q) (fired_whole q page) → all_shown_of store shown ≡ step_shown (state_of r)
   fired-shown store before shown is grown =
       grown
-      ∙ ap (λ xs. all_shown_of store xs ++ firing_shown q.machine.params (state_of q) (fired_whole q page)) is
-      ∙ step-is r q hs h.filled store (firing_shown q.machine.params (state_of q) (fired_whole q page)) fired-is
+      ∙ ap (λ xs. all_shown_of store xs ++ firing_shown (state_of q) (fired_whole q page)) is
+      ∙ step-is r q hs h.filled store (firing_shown (state_of q) (fired_whole q page)) fired-is
 
 -- ---- the page is served
 
@@ -136,7 +134,7 @@ module _ (page : Page) (q now : Routine) (o : Option Ending) (before after : Lis
   sent-is : hs ≡ sent_happenings h.sent
   sent-is = rest ∙ ap (drop (length before)) h.grown ∙ drop_at before (sent_happenings h.sent) (length before) refl
 
-  pub sent-woven : all_shown_of now.store new ≡ all_shown_of now.store old ++ firing_shown q.machine.params (state_of q) (fired_whole q page)
+  pub sent-woven : all_shown_of now.store new ≡ all_shown_of now.store old ++ firing_shown (state_of q) (fired_whole q page)
   sent-woven =
       ap (all_shown_of now.store) is
       ∙ shown-append now.store old (woven_shown ps hs)

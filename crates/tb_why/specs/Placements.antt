@@ -19,7 +19,7 @@ pub record Placement : Type 0 where
 -- the placements that a run records
 abbrev pub placements_of : List Recorded → List Placement
 placements_of [] = []
-placements_of (placed f w l h ∷ rs) = record { float = f; place = w } ∷ placements_of rs
+placements_of (placed p f w l h ∷ rs) = record { float = f; place = w } ∷ placements_of rs
 placements_of (output c ∷ rs) = placements_of rs
 placements_of (emptied l ∷ rs) = placements_of rs
 

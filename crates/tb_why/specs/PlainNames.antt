@@ -4,7 +4,6 @@ use Rattle.std.specs.List.{AllByRecursion}
 use Rattle.tb_text.specs.Lines.{IsUnended}
 use Rattle.tb_node.specs.declared.RuleOf.{RuleOf}
 use Rattle.tb_node.specs.declared.RuleOf.TheVariants.{Item, Footnotes, Floats}
-use Rattle.tb_node.specs.declared.Name.{Name}
 use Rattle.tb_node.specs.declared.Float.{Float}
 use Rattle.tb_node.specs.declared.What.{What}
 use Rattle.tb_node.specs.declared.What.TheVariants as what

@@ -1,7 +1,6 @@
 -- A run with what is told of it.
 use Rattle.std.specs.Prelude.{ℕ, zero, suc, pos, List, [], ◌∷◌, ◌++◌, length, drop, map, Option, Some, None, int_lt, if◌then◌else◌}
 use Rattle.tb_scaled.specs.Scaled.{awful_bad}
-use Rattle.tb_param.specs.declared.Params.{Params}
 use Rattle.tb_galley.specs.declared.Galley.{Galley}
 use Rattle.tb_galley.specs.GalleyNodes.{expanded}
 use Rattle.tb_builder.specs.declared.Ask.{Ask}
@@ -53,24 +52,24 @@ abbrev pub wait_tales : State → State → List Shown
 wait_tales s now = map (λ f. tells (Waits (spot_of now) f)) (drop (length s.floats.second) now.floats.second)
 
 -- a firing, if it is allowed
-abbrev pub firing_shown : Params → State → Fired → List Shown
-firing_shown p s f =
-    if int_lt (pos s.dead_cycles) p.maxdeadcycles then all_shown (woven (firing_pieces p s f) (out p s f).sent) else []
+abbrev pub firing_shown : State → Fired → List Shown
+firing_shown s f =
+    if int_lt (pos s.dead_cycles) s.params.maxdeadcycles then all_shown (woven (firing_pieces s.params s f) (out s.params s f).sent) else []
 
 -- the firing of the page that is reached, which was made for this, if one fires
-abbrev pub fired_shown : Params → Ask → Reach → Progress → Option (ℕ × ℕ) → List Shown
-fired_shown p a w q None = if w.fires then firing_shown p q.state (fired_of a q.state.classes q.state.boxes w) else []
-fired_shown p a w q (Some f) = []
+abbrev pub fired_shown : Ask → Reach → Progress → Option (ℕ × ℕ) → List Shown
+fired_shown a w q None = if w.fires then firing_shown q.state (fired_of a q.state.classes q.state.boxes w) else []
+fired_shown a w q (Some f) = []
 
 -- a step by what its page is made for and what is reached of it: what happens while the page is filled, the wide floats that wait from now on, and the firing
-abbrev pub shown_by : Params → State → Ask → Reach → List Shown
-shown_by p s a w =
-    let q = progress p w.reached awful_bad s in
-    all_happen q.events ++ (wait_tales s q.state ++ fired_shown p a w q q.fault)
+abbrev pub shown_by : State → Ask → Reach → List Shown
+shown_by s a w =
+    let q = progress w.reached awful_bad s in
+    all_happen q.events ++ (wait_tales s q.state ++ fired_shown a w q q.fault)
 
 -- one step of a run with what is told of it
-unfoldable pub step_shown : Params → State → List Shown
-step_shown p s = shown_by p s (ask_for p s) (reach_of (ask_for p s) s.classes s.boxes [] s.waiting)
+unfoldable pub step_shown : State → List Shown
+step_shown s = shown_by s (ask_for s) (reach_of (ask_for s) s.classes s.boxes [] s.waiting)
 
 -- ---- the run
 
@@ -80,16 +79,16 @@ shown_after later (ends es rs e) = []
 shown_after later (goes_on es rs s) = later s
 
 -- what is shown of the run from a state
-unfoldable pub shown_from : Params → ℕ → State → List Shown
-shown_from p zero s = []
-shown_from p (suc fuel) s = step_shown p s ++ shown_after (λ s'. shown_from p fuel s') (step p s)
+unfoldable pub shown_from : ℕ → State → List Shown
+shown_from zero s = []
+shown_from (suc fuel) s = step_shown s ++ shown_after (λ s'. shown_from fuel s') (step s)
 
 -- what is shown of the run from a state, which ends at once if it holds too many nodes
-abbrev pub shown_of_state : Params → State → List Shown
-shown_of_state p s =
-    let shown = shown_from p (suc (firings_left p s)) s in
-    if int_lt p.maxnodes (pos (held_count s)) then [] else shown
+abbrev pub shown_of_state : State → List Shown
+shown_of_state s =
+    let shown = shown_from (suc (firings_left s)) s in
+    if int_lt s.params.maxnodes (pos (held_count s)) then [] else shown
 
 -- what is shown of the run of a galley: its events, with what is told between them
 unfoldable pub shown_run : Galley → List Shown
-shown_run g = shown_of_state g.params (first_state g.params (classes_of g) (expanded g))
+shown_run g = shown_of_state (first_state g.params (classes_of g) (expanded g))

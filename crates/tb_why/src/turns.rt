@@ -2,7 +2,7 @@
 
 ghost use Rattle.std.specs.Prelude.{◌≡◌, ◌++◌, [], IfNone, IfOk, OnOk, true};
 ghost use Rattle.tb_items.specs.Happenings.{happened_lists, ArePages};
-ghost use Rattle.tb_run.specs.FilledPages.{fired_whole, CanServe, HasServed};
+ghost use Rattle.tb_run.specs.FilledPages.{params_in, fired_whole, CanServe, HasServed};
 ghost use Rattle.tb_run.specs.Routine.{AreHappened, IsEnded, IsReady, IsTurned, state_of};
 ghost use Rattle.tb_why.specs.ShownOf.{all_shown_of, AreShownPages};
 ghost use Rattle.tb_why.specs.ShownTurns.{filled_shown, spot_in, waits_from};
@@ -33,12 +33,12 @@ pub fn told_turn(
 
     ensures turned { IfOk result (λ o. IsTurned true routine.old happened.new.items o routine.new) }
     ensures ready { IfOk result (λ o. IfNone o (IsReady routine.new)) }
-    ensures params { OnOk result (routine.new.machine.params ≡ routine.old.machine.params) }
+    ensures params { OnOk result (routine.new.machine.params ≡ params_in (state_of routine.old)) }
     ensures ended { OnOk result (IsEnded routine.new) }
     ensures pages { OnOk result (ArePages routine.new.store happened.new.items) }
     ensures lists { IfOk result (λ o. IfNone o (AreHappened routine.new happened.new.items)) }
 
-    ensures shown { OnOk result (all_shown_of routine.new.store shown.new.items ≡ step_shown routine.old.machine.params (state_of routine.old)) }
+    ensures shown { OnOk result (all_shown_of routine.new.store shown.new.items ≡ step_shown (state_of routine.old)) }
     ensures shown_pages { OnOk result (AreShownPages routine.new.store shown.new.items) }
 {
     shown.clear();
@@ -110,7 +110,7 @@ fn serve_shown(
     ensures pages { OnOk result (ArePages routine.new.store happened.new.items) }
     ensures lists { IfOk result (λ o. IfNone o (AreHappened routine.new happened.new.items)) }
 
-    ensures shown { OnOk result (all_shown_of routine.new.store shown.new.items ≡ all_shown_of routine.new.store shown.old.items ++ firing_shown routine.old.machine.params (state_of routine.old) (fired_whole routine.old page)) }
+    ensures shown { OnOk result (all_shown_of routine.new.store shown.new.items ≡ all_shown_of routine.new.store shown.old.items ++ firing_shown (state_of routine.old) (fired_whole routine.old page)) }
     ensures shown_pages { OnOk result (AreShownPages routine.new.store shown.old.items → AreShownPages routine.new.store shown.new.items) }
 {
     let pieces = told_pieces(alloc, routine, &page)?;

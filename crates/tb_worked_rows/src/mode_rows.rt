@@ -17,7 +17,7 @@ pub struct ModeRow {
 }
 
 /// The worked rows of each mode, and of words that are refused.
-pub const MODE_ROWS: [ModeRow; 38] = [
+pub const MODE_ROWS: [ModeRow; 39] = [
     ModeRow {
         name: "galley of one generated item",
         words: &["--mode", "gen", "--count", "1"],
@@ -320,6 +320,14 @@ pub const MODE_ROWS: [ModeRow; 38] = [
         input: b"galley 3\nset pool 3\ntwocolumn\nhead T 30\nenlarge 1pt star\nenlarge -3\npage 7\nfloat F 1 single th! 20 vert nobreak\nend\n",
         status: 0,
         out: b"galley 3\nset textheight 36044800\nset topskip 655360\nset maxdepth 327680\nset baselineskip 786432\nset bottom ragged\nset topnumber 2\nset bottomnumber 1\nset totalnumber 3\nset dbltopnumber 2\nset topfraction 45875/65536\nset bottomfraction 19661/65536\nset textfraction 13107/65536\nset floatpagefraction 32768/65536\nset dbltopfraction 45875/65536\nset dblfloatpagefraction 32768/65536\nset floatsep 786432 plus 131072 minus 131072\nset textfloatsep 1310720 plus 131072 minus 262144\nset intextsep 786432 plus 131072 minus 131072\nset dblfloatsep 786432 plus 131072 minus 131072\nset dbltextfloatsep 1310720 plus 131072 minus 262144\nset fptop 0 plus 65536sfil minus 0\nset fpsep 524288 plus 131072sfil minus 0\nset fpbot 0 plus 65536sfil minus 0\nset dblfptop 0 plus 65536sfil minus 0\nset dblfpsep 524288 plus 131072sfil minus 0\nset dblfpbot 0 plus 65536sfil minus 0\nset skipfootins 589824 plus 262144 minus 131072\nset footlimit 37890293\nset footsplittop 435814\nset footsplitdepth 186778\nset footfloating 20000\nset splittopskip 655360\nset splitmaxdepth 1073741823\nset floatingpenalty 0\nset interlinepenalty 0\nset parskip 0 plus 65536 minus 0\nset marginparpush 327680\nset mparswitch off\nset reversemargin off\nset pool 3\nset maxdeadcycles 100\nset maxpages 1000000\nset maxnodes 4194304\nset release 2015\nset texttop 0 plus 0 minus 0\nset textbottom 0 plus 0 minus 0\nset footrule -196608 26214 170394\nset toprule none\nset bottomrule none\nset dblrule none\nset footdepth keep\nset footfill 0 plus 0 minus 0\nset footplace above\ntwocolumn\nhead T 30\nenlarge 65536 star\nenlarge -3\npage 7\nfloat F 1 single !ht 20 vert nobreak\nend\n",
+        err: b"",
+    },
+    ModeRow {
+        name: "print of parameters that are set among the items",
+        words: &["--mode", "print"],
+        input: b"galley 3\nset footrule 0 1pt -2\ntwocolumn\nset dbltextfloatsep 7 plus 1fil\nset topfraction .5\nhead T 30\nenlarge 1pt star\nenlarge -3\npage 7\nfloat F 1 single th! 20 vert nobreak\nmargin N 1 2 3 4 par nobreak\nset topskip 5\nset footrule none\nset bottom flush\nend\n",
+        status: 0,
+        out: b"galley 3\nset textheight 36044800\nset topskip 655360\nset maxdepth 327680\nset baselineskip 786432\nset bottom ragged\nset topnumber 2\nset bottomnumber 1\nset totalnumber 3\nset dbltopnumber 2\nset topfraction 45875/65536\nset bottomfraction 19661/65536\nset textfraction 13107/65536\nset floatpagefraction 32768/65536\nset dbltopfraction 45875/65536\nset dblfloatpagefraction 32768/65536\nset floatsep 786432 plus 131072 minus 131072\nset textfloatsep 1310720 plus 131072 minus 262144\nset intextsep 786432 plus 131072 minus 131072\nset dblfloatsep 786432 plus 131072 minus 131072\nset dbltextfloatsep 1310720 plus 131072 minus 262144\nset fptop 0 plus 65536sfil minus 0\nset fpsep 524288 plus 131072sfil minus 0\nset fpbot 0 plus 65536sfil minus 0\nset dblfptop 0 plus 65536sfil minus 0\nset dblfpsep 524288 plus 131072sfil minus 0\nset dblfpbot 0 plus 65536sfil minus 0\nset skipfootins 589824 plus 262144 minus 131072\nset footlimit 37890293\nset footsplittop 435814\nset footsplitdepth 186778\nset footfloating 20000\nset splittopskip 655360\nset splitmaxdepth 1073741823\nset floatingpenalty 0\nset interlinepenalty 0\nset parskip 0 plus 65536 minus 0\nset marginparpush 327680\nset mparswitch off\nset reversemargin off\nset pool 18\nset maxdeadcycles 100\nset maxpages 1000000\nset maxnodes 4194304\nset release 2015\nset texttop 0 plus 0 minus 0\nset textbottom 0 plus 0 minus 0\nset footrule 0 65536 -2\nset toprule none\nset bottomrule none\nset dblrule none\nset footdepth keep\nset footfill 0 plus 0 minus 0\nset footplace above\ntwocolumn\nset dbltextfloatsep 7 plus 65536sfil minus 0\nset topfraction 32768/65536\nhead T 30\nenlarge 65536 star\nenlarge -3\npage 7\nfloat F 1 single !ht 20 vert nobreak\nmargin N 1 2 3 4 par nobreak\nset topskip 5\nset footrule none\nset bottom flush\nend\n",
         err: b"",
     },
 ];

@@ -31,6 +31,7 @@ kinds-end d p l (items.Float f vert) e = absurd (true≢false (sym e))
 kinds-end d p l (items.Kern w) e = absurd (true≢false (sym e))
 kinds-end d p l (items.Suppress area) e = absurd (true≢false (sym e))
 kinds-end d p l (items.Page n) e = absurd (true≢false (sym e))
+kinds-end d p l (items.Set c) e = absurd (true≢false (sym e))
 kinds-end d p l (items.Head f) e = absurd (true≢false (sym e))
 kinds-end d p l k e = refl
 

@@ -22,7 +22,7 @@ use Rattle.tb_galley.specs.declared.Item.{Item}
 use Rattle.tb_galley.specs.declared.ItemKind.{ItemKind}
 use Rattle.tb_galley.specs.declared.ItemKind.TheVariants as items
 use Rattle.tb_galley.specs.declared.Galley.{Galley}
-use Rattle.tb_galley.specs.GalleyNodes.{plain_leaf, with_firings, item_kinds, item_nodes, two_after}
+use Rattle.tb_galley.specs.GalleyNodes.{plain_leaf, with_firings, item_kinds, item_nodes, two_after, params_after}
 use Rattle.tb_galley.specs.Valid.{weight_of, weight, IsValid}
 use Rattle.tb_items.specs.WaitingNodes.{IsItem, AreItems}
 use Rattle.tb_items.specs.GalleyNodes.{IsGalleyNode, AreFootParams}
@@ -78,8 +78,9 @@ module _ (cs : List Class) (p : Params) where
   float-height l f vert true h = (h 0 (record { line = l; kind = act (acts.Take f) }) (omega arith)).servable
   float-height l f vert false h = (h 0 (record { line = l; kind = act (acts.Take f) }) (omega arith)).servable
 
-  -- an item that is served keeps one column, has sized nodes, its act stands behind a whatsit, and its class is known
+  -- an item that is served keeps the parameters and one column, has sized nodes, its act stands behind a whatsit, and its class is known
   record Fits (l : ℕ) (k : ItemKind) : Type 0 where
+    same_params : params_after p k ≡ p
     one_column : two_after false k ≡ false
     nodes : All IsSizedOnPage (on_line l (makeup_kinds p k))
     led : ActsAreLed false (on_line l (makeup_kinds p k))
@@ -89,19 +90,20 @@ module _ (cs : List Class) (p : Params) where
   not-served e = absurd (true≢false (sym e))
 
   fits : (l : ℕ) (k : ItemKind) → is_suited k ≡ true → IsItem cs k → All (IsGalleyNode cs) (on_line l (item_kinds p false k)) → Fits l k
-  fits l (items.Foot class ls) s i a = record { one_column = refl; nodes = sized l (items.Foot class ls) a; led = (tt, tt); item = (foot-known p class s, i.1, i.2) }
+  fits l (items.Foot class ls) s i a = record { same_params = refl; one_column = refl; nodes = sized l (items.Foot class ls) a; led = (tt, tt); item = (foot-known p class s, i.1, i.2) }
   fits l (items.Float f vert) s i a =
-      record { one_column = refl; nodes = taking-sized p l f vert; led = (tt, ((refl, float-height l f vert (has_second p && false && f.wide) a), tt)); item = tt }
+      record { same_params = refl; one_column = refl; nodes = taking-sized p l f vert; led = (tt, ((refl, float-height l f vert (has_second p && false && f.wide) a), tt)); item = tt }
   fits l (items.Margin m vert) s i a = not-served s
-  fits l items.NewPage s i a = record { one_column = refl; nodes = sized l items.NewPage a; led = (tt, (tt, tt)); item = tt }
-  fits l items.ClearPage s i a = record { one_column = refl; nodes = clearing-sized l; led = (tt, (tt, tt)); item = tt }
+  fits l items.NewPage s i a = record { same_params = refl; one_column = refl; nodes = sized l items.NewPage a; led = (tt, (tt, tt)); item = tt }
+  fits l items.ClearPage s i a = record { same_params = refl; one_column = refl; nodes = clearing-sized l; led = (tt, (tt, tt)); item = tt }
   fits l items.OneColumn s i a = not-served s
   fits l items.TwoColumn s i a = not-served s
   fits l (items.Suppress area) s i a = not-served s
   fits l (items.Page n) s i a = not-served s
+  fits l (items.Set c) s i a = not-served s
   fits l (items.Head f) s i a = not-served s
   fits l (items.Enlarge by star) s i a = not-served s
-  fits l k s i a = record { one_column = refl; nodes = sized l k a; led = (tt, tt); item = tt }
+  fits l k s i a = record { same_params = refl; one_column = refl; nodes = sized l k a; led = (tt, tt); item = tt }
 
   -- ---- of all items
 
@@ -115,9 +117,10 @@ module _ (cs : List Class) (p : Params) where
   all-fit (n ∷ ns) s i a =
       let served = suited-next (is_suited n.kind) (unsuited_among ns) n.line s in
       let front = on_line n.line (item_kinds p false n.kind) in
-      let back = item_nodes p (two_after false n.kind) ns in
+      let q = params_after p n.kind in
+      let back = item_nodes q (two_after false n.kind) ns in
       let one = fits n.line n.kind served.0 (All-head (λ (m : Item). IsItem cs m.kind) n ns i) (all-front (IsGalleyNode cs) front back a) in
-      let rest = subst (λ two. All (IsGalleyNode cs) (item_nodes p two ns)) one.one_column (all-back (IsGalleyNode cs) front back a) in
+      let rest = subst (λ r. All (IsGalleyNode cs) (item_nodes r false ns)) one.same_params (subst (λ two. All (IsGalleyNode cs) (item_nodes q two ns)) one.one_column (all-back (IsGalleyNode cs) front back a)) in
       let more = all-fit ns served.1 (All-tail (λ (m : Item). IsItem cs m.kind) n ns i) rest in
       let mine = on_line n.line (makeup_kinds p n.kind) in
       record {

@@ -54,17 +54,18 @@ either-same : (t : Bool) (x y e : Step) → IsSame x y → IsSame (if t then x e
 either-same true x y e h = h
 either-same false x y e h = inr refl
 
-progress-same : (p : Params) (a : Ask) (w : Reach) (q : Progress) (o : Option (ℕ × ℕ)) → IsSame (after_progress p a w q o) (unlimited_progress p a w q o)
-progress-same p a w q (Some f) = inr refl
-progress-same p a w q None =
+progress-same : (a : Ask) (w : Reach) (q : Progress) (o : Option (ℕ × ℕ)) → IsSame (after_progress a w q o) (unlimited_progress a w q o)
+progress-same a w q (Some f) = inr refl
+progress-same a w q None =
+    let p = q.state.params in
     let work = out p q.state (fired_of a q.state.classes q.state.boxes w) in
-    either-same w.fires (fire p a w q) (unlimited_fire p a w q) (ends q.events (q.records ++ emptied q.state.floats ∷ []) (done w.passed))
+    either-same w.fires (fire a w q) (unlimited_fire a w q) (ends q.events (q.records ++ emptied q.state.floats ∷ []) (done w.passed))
     (either-same (int_lt (pos q.state.dead_cycles) p.maxdeadcycles) (after_firing p q.events q.records work) (unlimited_firing q.events q.records work) (ends q.events q.records (dead_cycles q.state.dead_cycles))
     (work-same p q.events q.records work))
 
-step-same : (p : Params) (s : State) → IsSame (step p s) (unlimited_step p s)
+step-same : (s : State) → IsSame (step s) (unlimited_step s)
 unfolding step unlimited_step
-step-same p s = let q = progress p (reach_in p s).reached awful_bad s in progress-same p (ask_for p s) (reach_in p s) q q.fault
+step-same s = let q = progress (reach_in s).reached awful_bad s in progress-same (ask_for s) (reach_in s) q q.fault
 
 -- ---- the run
 
@@ -91,11 +92,11 @@ same-ends : (later : State → Run) (f : State → Option ℤ) (r d : ℤ) (x y 
 same-ends later f r d x y is (inl limited) h = limited-ends later x limited
 same-ends later f r d x y is (inr same) h = subst (λ z. EndsOrIsLimited (run_by later z).end) (sym same) (step-ends later f r d y is h)
 
-from-ends : (p : Params) (places : List PlacePenalty) (k : ℕ) (s : State) (d : ℤ) → unlimited_demerits_from p places k s ≡ Some d → EndsOrIsLimited (run_from p k s).end
+from-ends : (places : List PlacePenalty) (k : ℕ) (s : State) (d : ℤ) → unlimited_demerits_from places k s ≡ Some d → EndsOrIsLimited (run_from k s).end
 unfolding run_from unlimited_demerits_from
-from-ends p places zero s d h = absurd (no-amount h)
-from-ends p places (suc k) s d h =
-    same-ends (λ t. run_from p k t) (λ t. unlimited_demerits_from p places k t) (step_demerits p places s (unlimited_step p s)) d (step p s) (unlimited_step p s) (λ t e x. from-ends p places k t e x) (step-same p s) h
+from-ends places zero s d h = absurd (no-amount h)
+from-ends places (suc k) s d h =
+    same-ends (λ t. run_from k t) (λ t. unlimited_demerits_from places k t) (step_demerits places s (unlimited_step s)) d (step s) (unlimited_step s) (λ t e x. from-ends places k t e x) (step-same s) h
 
 either-ends : (t : Bool) (n : ℕ) (r : Run) → EndsOrIsLimited r.end → EndsOrIsLimited (if t then record { events = []; records = []; end = node_limit n } else r).end
 either-ends true n r h = tt
@@ -105,8 +106,8 @@ galley-ends : (g : Galley) (d : ℤ) → unlimited_demerits g ≡ Some d → End
 unfolding run_of unlimited_demerits
 galley-ends g d h =
     let s = start_of g in
-    let k = suc (firings_left g.params s) in
-    either-ends (int_lt g.params.maxnodes (pos (held_count s))) (held_count s) (run_from g.params k s) (from-ends g.params (place_penalties g.items) k s d h)
+    let k = suc (firings_left s) in
+    either-ends (int_lt g.params.maxnodes (pos (held_count s))) (held_count s) (run_from k s) (from-ends (place_penalties g.items) k s d h)
 
 -- the run with the breaks of a plan that has demerits
 pub plan-ends : (g : Galley) (plan : List ℕ) (d : ℤ) → plan_demerits g plan ≡ Some d → EndsOrIsLimited (run_of (with_breaks g plan)).end

@@ -18,7 +18,7 @@ use Rattle.tb_galley.specs.declared.Item.{Item}
 use Rattle.tb_galley.specs.declared.ItemKind.{ItemKind}
 use Rattle.tb_galley.specs.declared.ItemKind.TheVariants as items
 use Rattle.tb_galley.specs.declared.Galley.{Galley}
-use Rattle.tb_galley.specs.GalleyNodes.{plain_leaf, with_firings, item_kinds, item_nodes, two_after}
+use Rattle.tb_galley.specs.GalleyNodes.{plain_leaf, with_firings, item_kinds, item_nodes, two_after, params_after}
 use Rattle.tb_galley.specs.Valid.{weight_of, weight, IsValid}
 use Rattle.tb_items.specs.Classes.{classes_of}
 use Rattle.tb_items.specs.WaitingNodes.{IsItem}
@@ -27,7 +27,7 @@ use Rattle.tb_items.proofs.GalleyItems.{galley-items, most}
 use Rattle.tb_items.proofs.GalleyNodeLemmas.{galley-nodes}
 use Rattle.tb_items.proofs.ItemLemmas.{expanded-is}
 use Rattle.tb_run.proofs.ServedAgain.GalleyRuns.{galley-classes}
-use Rattle.tb_laws.proofs.Defined.RunParams.{params-runnable}
+use Rattle.tb_steps.proofs.RunParams.{params-runnable}
 use Rattle.tb_plans.specs.declared.walk.Before.{Before}
 use Rattle.tb_plans.specs.declared.walk.Before.TheVariants as befores
 use Rattle.tb_plans.specs.Places.{is_later, is_glue_next, is_place, before_after, if_place, places_from, places_of}
@@ -65,27 +65,30 @@ items-broken P here k (n ∷ ns) (b ∷ bs) h =
 
 -- ---- the nodes
 
-module _ (p : Params) (cs : List Class) where
+module _ (cs : List Class) where
   -- the node of a break
   break-node : (line : ℕ) → IsGalleyNode cs (record { line = line; kind = plain (pen (neg_ℤ (pos 10000))) })
   break-node line = record { sized = record { shape = record { low = omega (arith, ints); high = omega (arith, ints) }; kind = tt }; servable = omega (arith, ints) }
 
-  either-nodes : (two : Bool) (n : Item) (t : Bool) (with_it without : List Item) → All (IsGalleyNode cs) (on_line n.line (item_kinds p two n.kind)) → All (IsGalleyNode cs) (item_nodes p (two_after two n.kind) with_it)
-      → All (IsGalleyNode cs) (item_nodes p (two_after two n.kind) without) → All (IsGalleyNode cs) (item_nodes p two (if t then break_before n ∷ n ∷ with_it else n ∷ without))
-  either-nodes two n true with_it without h x y =
+  either-nodes : (p : Params) (two : Bool) (n : Item) (t : Bool) (with_it without : List Item) → All (IsGalleyNode cs) (on_line n.line (item_kinds p two n.kind))
+      → All (IsGalleyNode cs) (item_nodes (params_after p n.kind) (two_after two n.kind) with_it) → All (IsGalleyNode cs) (item_nodes (params_after p n.kind) (two_after two n.kind) without)
+      → All (IsGalleyNode cs) (item_nodes p two (if t then break_before n ∷ n ∷ with_it else n ∷ without))
+  either-nodes p two n true with_it without h x y =
       let own = on_line n.line (item_kinds p two n.kind) in
-      let rest = item_nodes p (two_after two n.kind) with_it in
+      let rest = item_nodes (params_after p n.kind) (two_after two n.kind) with_it in
       All-cons (IsGalleyNode cs) (record { line = n.line; kind = plain (pen (neg_ℤ (pos 10000))) }) (own ++ rest) (break-node n.line) (All-append (IsGalleyNode cs) own rest h x)
-  either-nodes two n false with_it without h x y = All-append (IsGalleyNode cs) (on_line n.line (item_kinds p two n.kind)) (item_nodes p (two_after two n.kind) without) h y
+  either-nodes p two n false with_it without h x y =
+      All-append (IsGalleyNode cs) (on_line n.line (item_kinds p two n.kind)) (item_nodes (params_after p n.kind) (two_after two n.kind) without) h y
 
-  nodes-broken : (two : Bool) (k : ℕ) (ns : List Item) (bs : List ℕ) → All (IsGalleyNode cs) (item_nodes p two ns) → All (IsGalleyNode cs) (item_nodes p two (broken k ns bs))
-  nodes-broken two k [] bs h = h
-  nodes-broken two k (n ∷ ns) [] h = h
-  nodes-broken two k (n ∷ ns) (b ∷ bs) h =
+  nodes-broken : (p : Params) (two : Bool) (k : ℕ) (ns : List Item) (bs : List ℕ) → All (IsGalleyNode cs) (item_nodes p two ns) → All (IsGalleyNode cs) (item_nodes p two (broken k ns bs))
+  nodes-broken p two k [] bs h = h
+  nodes-broken p two k (n ∷ ns) [] h = h
+  nodes-broken p two k (n ∷ ns) (b ∷ bs) h =
+      let q = params_after p n.kind in
       let after = two_after two n.kind in
       let own = on_line n.line (item_kinds p two n.kind) in
-      let rest = all-right (IsGalleyNode cs) own (item_nodes p after ns) h in
-      either-nodes two n (b == k) (broken (suc k) ns bs) (broken (suc k) ns (b ∷ bs)) (all-left (IsGalleyNode cs) own (item_nodes p after ns) h) (nodes-broken after (suc k) ns bs rest) (nodes-broken after (suc k) ns (b ∷ bs) rest)
+      let rest = all-right (IsGalleyNode cs) own (item_nodes q after ns) h in
+      either-nodes p two n (b == k) (broken (suc k) ns bs) (broken (suc k) ns (b ∷ bs)) (all-left (IsGalleyNode cs) own (item_nodes q after ns) h) (nodes-broken q after (suc k) ns bs rest) (nodes-broken q after (suc k) ns (b ∷ bs) rest)
 
 -- ---- how many nodes there are
 
@@ -106,15 +109,6 @@ module _ (p : Params) where
   item-few two l (items.Enlarge by false) = omega arith
   item-few two l k = omega arith
 
-  items-few : (two : Bool) (ns : List Item) → node_count (item_nodes p two ns) ≤ 6 * weight ns
-  items-few two [] = omega arith
-  items-few two (n ∷ ns) =
-      let after = two_after two n.kind in
-      let one = item-few two n.line n.kind in
-      let more = items-few after ns in
-      let e = count-append (on_line n.line (item_kinds p two n.kind)) (item_nodes p after ns) in
-      omega (arith, one, more, e)
-
   -- before an item with more than five for each line there is no place
   place-few : (next two : Bool) (b : Before) (l : ℕ) (k : ItemKind) → is_place next b k ≡ true → 1 + node_count (on_line l (item_kinds p two k)) ≤ 6 * weight_of k
   place-few next two b l (items.Foot class ls) h = let e = length-map {B = PlainLeaf} ls plain_leaf in omega (arith, e)
@@ -131,56 +125,71 @@ module _ (p : Params) where
   place-few next two b l (items.Enlarge by false) h = omega arith
   place-few next two b l k h = omega arith
 
-  -- ---- one item of a galley with breaks
+items-few : (p : Params) (two : Bool) (ns : List Item) → node_count (item_nodes p two ns) ≤ 6 * weight ns
+items-few p two [] = omega arith
+items-few p two (n ∷ ns) =
+    let q = params_after p n.kind in
+    let after = two_after two n.kind in
+    let one = item-few p two n.line n.kind in
+    let more = items-few q after ns in
+    let e = count-append (on_line n.line (item_kinds p two n.kind)) (item_nodes q after ns) in
+    omega (arith, one, more, e)
 
-  module _ (two : Bool) (b : Before) (k : ℕ) (n : Item) (ns : List Item) where
-    -- the places of the items after it
-    abbrev rest : List ℕ
-    rest = places_from p (two_after two n.kind) (before_after p two b n.kind) (suc k) ns
+-- ---- one item of a galley with breaks
 
+-- the release, by which places are found, holds in the whole galley
+module _ (p : Params) (two : Bool) (b : Before) (k : ℕ) (n : Item) (ns : List Item) where
+  -- the places of the items after it
+  abbrev rest : List ℕ
+  rest = places_from p (two_after two n.kind) (before_after p two b n.kind) (suc k) ns
+
+  -- the parameters that hold before it
+  module _ (r : Params) where
     -- with these breaks the items after it have few nodes
     abbrev IsFew : List ℕ → Type 0
-    IsFew es = IsTrue (is_part es rest) → node_count (item_nodes p (two_after two n.kind) (broken (suc k) ns es)) ≤ 6 * weight ns
+    IsFew es = IsTrue (is_part es rest) → node_count (item_nodes (params_after r n.kind) (two_after two n.kind) (broken (suc k) ns es)) ≤ 6 * weight ns
 
     few-by : (d : ℕ) (ds : List ℕ) (u t : Bool) → is_place (is_glue_next p two ns) b n.kind ≡ u → (d == k) ≡ t → IsFew ds → IsFew (d ∷ ds) → (IsTrue (is_part (d ∷ ds) rest) → suc k ≤ d)
         → IsTrue (is_part (d ∷ ds) (if_place k u ++ rest))
-        → node_count (item_nodes p two (if t then break_before n ∷ n ∷ broken (suc k) ns ds else n ∷ broken (suc k) ns (d ∷ ds))) ≤ 6 * weight (n ∷ ns)
+        → node_count (item_nodes r two (if t then break_before n ∷ n ∷ broken (suc k) ns ds else n ∷ broken (suc k) ns (d ∷ ds))) ≤ 6 * weight (n ∷ ns)
     few-by d ds true true e f with_it without later x =
-        let own = on_line n.line (item_kinds p two n.kind) in
-        let one = place-few (is_glue_next p two ns) two b n.line n.kind e in
+        let own = on_line n.line (item_kinds r two n.kind) in
+        let one = place-few r (is_glue_next p two ns) two b n.line n.kind e in
         let more = with_it (subst (λ t. IsTrue (if t then is_part ds rest else is_part (d ∷ ds) rest)) f x) in
-        let sum = count-append own (item_nodes p (two_after two n.kind) (broken (suc k) ns ds)) in
+        let sum = count-append own (item_nodes (params_after r n.kind) (two_after two n.kind) (broken (suc k) ns ds)) in
         omega (arith, one, more, sum)
     few-by d ds true false e f with_it without later x =
-        let own = on_line n.line (item_kinds p two n.kind) in
-        let one = item-few two n.line n.kind in
+        let own = on_line n.line (item_kinds r two n.kind) in
+        let one = item-few r two n.line n.kind in
         let more = without (subst (λ t. IsTrue (if t then is_part ds rest else is_part (d ∷ ds) rest)) f x) in
-        let sum = count-append own (item_nodes p (two_after two n.kind) (broken (suc k) ns (d ∷ ds))) in
+        let sum = count-append own (item_nodes (params_after r n.kind) (two_after two n.kind) (broken (suc k) ns (d ∷ ds))) in
         omega (arith, one, more, sum)
     few-by d ds false true e f with_it without later x = let above = later x in absurd (grind (arith, f, above))
     few-by d ds false false e f with_it without later x =
-        let own = on_line n.line (item_kinds p two n.kind) in
-        let one = item-few two n.line n.kind in
+        let own = on_line n.line (item_kinds r two n.kind) in
+        let one = item-few r two n.line n.kind in
         let more = without x in
-        let sum = count-append own (item_nodes p (two_after two n.kind) (broken (suc k) ns (d ∷ ds))) in
+        let sum = count-append own (item_nodes (params_after r n.kind) (two_after two n.kind) (broken (suc k) ns (d ∷ ds))) in
         omega (arith, one, more, sum)
 
-    -- its numbers are below this
-    within-by : (m d : ℕ) (ds : List ℕ) (u t : Bool) → (d == k) ≡ t → suc k ≤ m → (IsTrue (is_part ds rest) → IsTrue (list_all (λ j. nat_lt j m) ds)) → (IsTrue (is_part (d ∷ ds) rest) → IsTrue (list_all (λ j. nat_lt j m) (d ∷ ds)))
-        → IsTrue (is_part (d ∷ ds) (if_place k u ++ rest)) → IsTrue (list_all (λ j. nat_lt j m) (d ∷ ds))
-    within-by m d ds true true f below with_it without x =
-        let here : IsTrue (nat_lt d m) = grind (arith, nat_tests, f, below) in
-        both (nat_lt d m) (list_all (λ j. nat_lt j m) ds) here (with_it (subst (λ t. IsTrue (if t then is_part ds rest else is_part (d ∷ ds) rest)) f x))
-    within-by m d ds true false f below with_it without x = without (subst (λ t. IsTrue (if t then is_part ds rest else is_part (d ∷ ds) rest)) f x)
-    within-by m d ds false t f below with_it without x = without x
+  -- its numbers are below this
+  within-by : (m d : ℕ) (ds : List ℕ) (u t : Bool) → (d == k) ≡ t → suc k ≤ m → (IsTrue (is_part ds rest) → IsTrue (list_all (λ j. nat_lt j m) ds)) → (IsTrue (is_part (d ∷ ds) rest) → IsTrue (list_all (λ j. nat_lt j m) (d ∷ ds)))
+      → IsTrue (is_part (d ∷ ds) (if_place k u ++ rest)) → IsTrue (list_all (λ j. nat_lt j m) (d ∷ ds))
+  within-by m d ds true true f below with_it without x =
+      let here : IsTrue (nat_lt d m) = grind (arith, nat_tests, f, below) in
+      both (nat_lt d m) (list_all (λ j. nat_lt j m) ds) here (with_it (subst (λ t. IsTrue (if t then is_part ds rest else is_part (d ∷ ds) rest)) f x))
+  within-by m d ds true false f below with_it without x = without (subst (λ t. IsTrue (if t then is_part ds rest else is_part (d ∷ ds) rest)) f x)
+  within-by m d ds false t f below with_it without x = without x
 
-  nodes-few : (two : Bool) (b : Before) (k : ℕ) (ns : List Item) (ds : List ℕ) → IsTrue (is_part ds (places_from p two b k ns)) → node_count (item_nodes p two (broken k ns ds)) ≤ 6 * weight ns
-  nodes-few two b k [] ds h = omega arith
-  nodes-few two b k (n ∷ ns) [] h = items-few two (n ∷ ns)
-  nodes-few two b k (n ∷ ns) (d ∷ ds) h =
+module _ (p : Params) where
+  nodes-few : (r : Params) (two : Bool) (b : Before) (k : ℕ) (ns : List Item) (ds : List ℕ) → IsTrue (is_part ds (places_from p two b k ns)) → node_count (item_nodes r two (broken k ns ds)) ≤ 6 * weight ns
+  nodes-few r two b k [] ds h = omega arith
+  nodes-few r two b k (n ∷ ns) [] h = items-few r two (n ∷ ns)
+  nodes-few r two b k (n ∷ ns) (d ∷ ds) h =
+      let q = params_after r n.kind in
       let after = two_after two n.kind in
       let then_before = before_after p two b n.kind in
-      few-by two b k n ns d ds (is_place (is_glue_next p two ns) b n.kind) (d == k) refl refl (λ x. nodes-few after then_before (suc k) ns ds x) (λ x. nodes-few after then_before (suc k) ns (d ∷ ds) x)
+      few-by p two b k n ns r d ds (is_place (is_glue_next p two ns) b n.kind) (d == k) refl refl (λ x. nodes-few q after then_before (suc k) ns ds x) (λ x. nodes-few q after then_before (suc k) ns (d ∷ ds) x)
       (λ x. not-before p after then_before (suc k) ns d ds x) h
 
   numbers-within : (m : ℕ) (two : Bool) (b : Before) (k : ℕ) (ns : List Item) (ds : List ℕ) → k + length ns ≤ m → IsTrue (is_part ds (places_from p two b k ns)) → IsTrue (list_all (λ j. nat_lt j m) ds)
@@ -189,7 +198,7 @@ module _ (p : Params) where
   numbers-within m two b k (n ∷ ns) (d ∷ ds) all h =
       let after = two_after two n.kind in
       let then_before = before_after p two b n.kind in
-      within-by two b k n ns m d ds (is_place (is_glue_next p two ns) b n.kind) (d == k) refl (omega (arith, all))
+      within-by p two b k n ns m d ds (is_place (is_glue_next p two ns) b n.kind) (d == k) refl (omega (arith, all))
       (λ x. numbers-within m after then_before (suc k) ns ds (omega (arith, all)) x) (λ x. numbers-within m after then_before (suc k) ns (d ∷ ds) (omega (arith, all)) x) h
 
 -- ---- a galley
@@ -201,7 +210,7 @@ plan-numbers g plan h = numbers-within g.params (length g.items) false befores.N
 
 places-few : (g : Galley) (plan : List ℕ) → IsPlan g plan → node_count (item_nodes g.params false (broken 0 g.items plan)) ≤ 6 * weight g.items
 unfolding places_of
-places-few g plan h = nodes-few g.params false befores.Nothing 0 g.items plan h
+places-few g plan h = nodes-few g.params g.params false befores.Nothing 0 g.items plan h
 
 -- with the breaks of a plan it can be run
 pub broken-runs : (g : Galley) (plan : List ℕ) → IsValid g → IsPlan g plan → CanRun (with_breaks g plan)
@@ -220,7 +229,7 @@ broken-runs g plan v h =
       classes = galley-classes g runnable v;
       items = items-broken (λ (n : Item). IsItem cs n.kind) (λ n. tt) 0 g.items plan (galley-items g v);
       nodes = subst (AreGalleyNodes cs) (expanded-is (with_breaks g plan)) (record {
-        nodes = All-append (IsGalleyNode cs) (item_nodes p false (broken 0 g.items plan)) end (nodes-broken p cs false 0 g.items plan (all-left (IsGalleyNode cs) (item_nodes p false g.items) end all)) (all-right (IsGalleyNode cs) (item_nodes p false g.items) end all);
+        nodes = All-append (IsGalleyNode cs) (item_nodes p false (broken 0 g.items plan)) end (nodes-broken cs p false 0 g.items plan (all-left (IsGalleyNode cs) (item_nodes p false g.items) end all)) (all-right (IsGalleyNode cs) (item_nodes p false g.items) end all);
         few = omega (arith, few, w, e);
       });
     }

@@ -7,7 +7,6 @@ use Rattle.tb_io.specs.declared.sink.SinkFault.{SinkFault}
 use Rattle.tb_io.specs.declared.sink.SinkFault.TheVariants as outputs
 use Rattle.std.proofs.KnownBytes.{Appends-trans}
 use Rattle.tb_io.proofs.Appended.{prefix_whole, prefix_on}
-use Rattle.tb_param.specs.declared.Params.{Params}
 use Rattle.tb_galley.specs.declared.Galley.{Galley}
 use Rattle.tb_galley.specs.GalleyNodes.{expanded}
 use Rattle.tb_output.specs.State.{State, first_state}
@@ -46,14 +45,14 @@ use Rattle.tb_top.proofs.DviFiles.DviSending.{events-append, noted-pages, holds-
 
 -- ---- the run from here
 
-pub record Going (p : Params) (s : State) (start now : Option (List ℕ)) (w : Progress) (whole : Run) : Type 0 where
+pub record Going (s : State) (start now : Option (List ℕ)) (w : Progress) (whole : Run) : Type 0 where
   pub page : 1 ≤ s.page
   pub written : List Page
   pub fuel : ℕ
   pub holds : HoldsPages start now w written
-  pub enough : firings_left p s < fuel
-  pub pages : run_pages whole ≡ written ++ run_pages (run_from p fuel s)
-  pub end : whole.end ≡ (run_from p fuel s).end
+  pub enough : firings_left s < fuel
+  pub pages : run_pages whole ≡ written ++ run_pages (run_from fuel s)
+  pub end : whole.end ≡ (run_from fuel s).end
 
 -- all pages are written, and the run ends so
 pub record Closing (e : End) (start now : Option (List ℕ)) (w : Progress) (whole : Run) : Type 0 where
@@ -67,7 +66,7 @@ pub record ClosesAt (r : Routine) (ending : Ending) (start now : Option (List �
   pub is : IsEnd r ending end
   pub closing : Closing end start now w whole
 
-module _ (p : Params) (start now : Option (List ℕ)) (w : Progress) (whole : Run) where
+module _ (start now : Option (List ℕ)) (w : Progress) (whole : Run) where
   more-pages : (es : List RunEvent) (r q : Run) (written : List Page) → run_pages whole ≡ written ++ run_pages r → r.events ≡ es ++ q.events → run_pages whole ≡ (written ++ event_pages es) ++ run_pages q
   more-pages es r q written pages is =
       pages ∙ ap (λ xs. written ++ event_pages xs) is ∙ ap (λ xs. written ++ xs) (events-append es q.events) ∙ sym (append_assoc written (event_pages es) (run_pages q))
@@ -76,8 +75,8 @@ module _ (p : Params) (start now : Option (List ℕ)) (w : Progress) (whole : Ru
   last-pages es r written pages is = pages ∙ ap (λ xs. written ++ event_pages xs) is
 
   -- a step whose pages are written
-  goes-by : (s t : State) (es : List RunEvent) (new : Option (List ℕ)) (u : Progress) (written : List Page) (fuel : ℕ) → firings_left p s < fuel → run_pages whole ≡ written ++ run_pages (run_from p fuel s) → whole.end ≡ (run_from p fuel s).end → Steps p s t es
-      → HoldsPages start new u (written ++ event_pages es) → Going p t start new u whole
+  goes-by : (s t : State) (es : List RunEvent) (new : Option (List ℕ)) (u : Progress) (written : List Page) (fuel : ℕ) → firings_left s < fuel → run_pages whole ≡ written ++ run_pages (run_from fuel s) → whole.end ≡ (run_from fuel s).end → Steps s t es
+      → HoldsPages start new u (written ++ event_pages es) → Going t start new u whole
   goes-by s t es new u written zero enough pages end st h = absurd (omega arith)
   goes-by s t es new u written (suc fuel) enough pages end st h =
       let fewer = st.fewer in
@@ -87,97 +86,97 @@ module _ (p : Params) (start now : Option (List ℕ)) (w : Progress) (whole : Ru
         fuel = fuel;
         holds = h;
         enough = omega arith;
-        pages = more-pages es (run_from p (suc fuel) s) (run_from p fuel t) written pages (st.later fuel).0;
+        pages = more-pages es (run_from (suc fuel) s) (run_from fuel t) written pages (st.later fuel).0;
         end = end ∙ (st.later fuel).1;
       }
 
-  closes-by : (s : State) (e : End) (es : List RunEvent) (new : Option (List ℕ)) (u : Progress) (written : List Page) (fuel : ℕ) → firings_left p s < fuel → run_pages whole ≡ written ++ run_pages (run_from p fuel s) → whole.end ≡ (run_from p fuel s).end → Stops p s e es
+  closes-by : (s : State) (e : End) (es : List RunEvent) (new : Option (List ℕ)) (u : Progress) (written : List Page) (fuel : ℕ) → firings_left s < fuel → run_pages whole ≡ written ++ run_pages (run_from fuel s) → whole.end ≡ (run_from fuel s).end → Stops s e es
       → HoldsPages start new u (written ++ event_pages es) → Closing e start new u whole
   closes-by s e es new u written zero enough pages end st h = absurd (omega arith)
   closes-by s e es new u written (suc fuel) enough pages end st h = record {
     written = written ++ event_pages es;
     holds = h;
-    pages = last-pages es (run_from p (suc fuel) s) written pages (st.later fuel).0;
+    pages = last-pages es (run_from (suc fuel) s) written pages (st.later fuel).0;
     end = end ∙ (st.later fuel).1;
   }
 
   -- the pages of a step and those after it
-  split-on : (s t : State) (es : List RunEvent) (written : List Page) (fuel : ℕ) → firings_left p s < fuel → run_pages whole ≡ written ++ run_pages (run_from p fuel s) → Steps p s t es → (rest : List Page) × (run_pages whole ≡ (written ++ event_pages es) ++ rest)
+  split-on : (s t : State) (es : List RunEvent) (written : List Page) (fuel : ℕ) → firings_left s < fuel → run_pages whole ≡ written ++ run_pages (run_from fuel s) → Steps s t es → (rest : List Page) × (run_pages whole ≡ (written ++ event_pages es) ++ rest)
   split-on s t es written zero enough pages st = absurd (omega arith)
-  split-on s t es written (suc fuel) enough pages st = (run_pages (run_from p fuel t), more-pages es (run_from p (suc fuel) s) (run_from p fuel t) written pages (st.later fuel).0)
+  split-on s t es written (suc fuel) enough pages st = (run_pages (run_from fuel t), more-pages es (run_from (suc fuel) s) (run_from fuel t) written pages (st.later fuel).0)
 
-  split-last : (s : State) (e : End) (es : List RunEvent) (written : List Page) (fuel : ℕ) → firings_left p s < fuel → run_pages whole ≡ written ++ run_pages (run_from p fuel s) → Stops p s e es → (rest : List Page) × (run_pages whole ≡ (written ++ event_pages es) ++ rest)
+  split-last : (s : State) (e : End) (es : List RunEvent) (written : List Page) (fuel : ℕ) → firings_left s < fuel → run_pages whole ≡ written ++ run_pages (run_from fuel s) → Stops s e es → (rest : List Page) × (run_pages whole ≡ (written ++ event_pages es) ++ rest)
   split-last s e es written zero enough pages st = absurd (omega arith)
-  split-last s e es written (suc fuel) enough pages st = ([], last-pages es (run_from p (suc fuel) s) written pages (st.later fuel).0 ∙ sym (append-nil (written ++ event_pages es)))
+  split-last s e es written (suc fuel) enough pages st = ([], last-pages es (run_from (suc fuel) s) written pages (st.later fuel).0 ∙ sym (append-nil (written ++ event_pages es)))
 
-  split : (s : State) (st : Step) → step p s ≡ st → (g : Going p s start now w whole) → (rest : List Page) × (run_pages whole ≡ (g.written ++ event_pages (step_events st)) ++ rest)
-  split s (goes_on es rs t) is g = split-on s t es g.written g.fuel g.enough g.pages (steps p s t es rs is g.page)
-  split s (ends es rs e) is g = split-last s e es g.written g.fuel g.enough g.pages (stops p s e es rs is)
+  split : (s : State) (st : Step) → step s ≡ st → (g : Going s start now w whole) → (rest : List Page) × (run_pages whole ≡ (g.written ++ event_pages (step_events st)) ++ rest)
+  split s (goes_on es rs t) is g = split-on s t es g.written g.fuel g.enough g.pages (steps s t es rs is g.page)
+  split s (ends es rs e) is g = split-last s e es g.written g.fuel g.enough g.pages (stops s e es rs is)
 
 -- a step with what shows it: the routine after it, what happened, and how the run ended
-module _ (p : Params) (s : State) (start now : Option (List ℕ)) (w : Progress) (whole : Run) (going : Going p s start now w whole) (q : Routine) (hs : List Happening) (o : Option Ending) (wanted : Bool) (shows : ShowsStep p wanted s q hs o) where
-  pages-are : event_pages (events_of q.store hs) ≡ event_pages (step_events (step p s))
-  pages-are = ap event_pages shows.events ∙ noted-pages wanted (step_events (step p s))
+module _ (s : State) (start now : Option (List ℕ)) (w : Progress) (whole : Run) (going : Going s start now w whole) (q : Routine) (hs : List Happening) (o : Option Ending) (wanted : Bool) (shows : ShowsStep wanted s q hs o) where
+  pages-are : event_pages (events_of q.store hs) ≡ event_pages (step_events (step s))
+  pages-are = ap event_pages shows.events ∙ noted-pages wanted (step_events (step s))
 
   -- writing its pages failed, or one is out of range
   pub turn-fails : (e : DviRunFault) (new : Option (List ℕ)) → FailsAmong e start new (going.written ++ event_pages (events_of q.store hs)) → FailsAmong e start new (run_pages whole)
   turn-fails e new h =
-      let c = split p start now w whole s (step p s) refl going in
-      subst (FailsAmong e start new) (sym c.1) (fails-more e start new (going.written ++ event_pages (step_events (step p s))) c.0 (subst (λ ps. FailsAmong e start new (going.written ++ ps)) pages-are h))
+      let c = split start now w whole s (step s) refl going in
+      subst (FailsAmong e start new) (sym c.1) (fails-more e start new (going.written ++ event_pages (step_events (step s))) c.0 (subst (λ ps. FailsAmong e start new (going.written ++ ps)) pages-are h))
 
   module _ (new : Option (List ℕ)) (u : Progress) (h : HoldsPages start new u (going.written ++ event_pages (events_of q.store hs))) where
-    holds : HoldsPages start new u (going.written ++ event_pages (step_events (step p s)))
+    holds : HoldsPages start new u (going.written ++ event_pages (step_events (step s)))
     holds = subst (λ ps. HoldsPages start new u (going.written ++ ps)) pages-are h
 
-    closes-at : (ending : Ending) (st : Step) → step p s ≡ st → EndsAs q (Some ending) st → HoldsPages start new u (going.written ++ event_pages (step_events st)) → ClosesAt q ending start new u whole
+    closes-at : (ending : Ending) (st : Step) → step s ≡ st → EndsAs q (Some ending) st → HoldsPages start new u (going.written ++ event_pages (step_events st)) → ClosesAt q ending start new u whole
     closes-at ending (goes_on es rs t) is k b = absurd k
-    closes-at ending (ends es rs e) is k b = record { end = e; is = k; closing = closes-by p start now w whole s e es new u going.written going.fuel going.enough going.pages going.end (stops p s e es rs is) b }
+    closes-at ending (ends es rs e) is k b = record { end = e; is = k; closing = closes-by start now w whole s e es new u going.written going.fuel going.enough going.pages going.end (stops s e es rs is) b }
 
     pub turn-closing : (ending : Ending) → o ≡ Some ending → ClosesAt q ending start new u whole
-    turn-closing ending some = closes-at ending (step p s) refl (subst (λ x. EndsAs q x (step p s)) some shows.ended) holds
+    turn-closing ending some = closes-at ending (step s) refl (subst (λ x. EndsAs q x (step s)) some shows.ended) holds
 
-    goes-at : (st : Step) → step p s ≡ st → EndsAs q None st → HoldsPages start new u (going.written ++ event_pages (step_events st)) → Going p (state_of q) start new u whole
+    goes-at : (st : Step) → step s ≡ st → EndsAs q None st → HoldsPages start new u (going.written ++ event_pages (step_events st)) → Going (state_of q) start new u whole
     goes-at (ends es rs e) is k b = absurd k
-    goes-at (goes_on es rs t) is k b = subst (λ x. Going p x start new u whole) (sym k) (goes-by p start now w whole s t es new u going.written going.fuel going.enough going.pages going.end (steps p s t es rs is going.page) b)
+    goes-at (goes_on es rs t) is k b = subst (λ x. Going x start new u whole) (sym k) (goes-by start now w whole s t es new u going.written going.fuel going.enough going.pages going.end (steps s t es rs is going.page) b)
 
     -- the lists of what was sent were closed since
-    pub turn-going : (after : State) → after ≡ state_of q → o ≡ None → Going p after start new u whole
-    turn-going after same none = subst (λ x. Going p x start new u whole) (sym same) (goes-at (step p s) refl (subst (λ x. EndsAs q x (step p s)) none shows.ended) holds)
+    pub turn-going : (after : State) → after ≡ state_of q → o ≡ None → Going after start new u whole
+    turn-going after same none = subst (λ x. Going x start new u whole) (sym same) (goes-at (step s) refl (subst (λ x. EndsAs q x (step s)) none shows.ended) holds)
 
 -- ---- the beginning
 
 holds-first : (start now : Option (List ℕ)) (w : Progress) → w ≡ at_first → Appends start now preamble → HoldsPages start now w []
 holds-first start now w is a = record { progress = subst (λ x. HasWritten x []) (sym is) begins_written; held = subst (Appends start now) (sym (append-nil preamble)) a }
 
-begins-by : (p : Params) (s : State) (start now : Option (List ℕ)) (w : Progress) (t : Bool) → int_lt p.maxnodes (pos (held_count s)) ≡ t → 1 ≤ s.page → HoldsPages start now w []
-    → (let whole : Run = (if t then record { events = []; records = []; end = node_limit (held_count s) } else run_from p (suc (firings_left p s)) s) in
-    (t ≡ false → Going p s start now w whole) × (t ≡ true → Closing (node_limit (held_count s)) start now w whole))
-begins-by p s start now w true e page h = ((λ k. cc), (λ k. record { written = []; holds = h; pages = refl; end = refl }))
-begins-by p s start now w false e page h = ((λ k. record { page = page; written = []; fuel = suc (firings_left p s); holds = h; enough = omega arith; pages = refl; end = refl }), (λ k. cc))
+begins-by : (s : State) (start now : Option (List ℕ)) (w : Progress) (t : Bool) → int_lt s.params.maxnodes (pos (held_count s)) ≡ t → 1 ≤ s.page → HoldsPages start now w []
+    → (let whole : Run = (if t then record { events = []; records = []; end = node_limit (held_count s) } else run_from (suc (firings_left s)) s) in
+    (t ≡ false → Going s start now w whole) × (t ≡ true → Closing (node_limit (held_count s)) start now w whole))
+begins-by s start now w true e page h = ((λ k. cc), (λ k. record { written = []; holds = h; pages = refl; end = refl }))
+begins-by s start now w false e page h = ((λ k. record { page = page; written = []; fuel = suc (firings_left s); holds = h; enough = omega arith; pages = refl; end = refl }), (λ k. cc))
 
-module _ (g : Galley) (r : Routine) (start now : Option (List ℕ)) (w : Progress) (o : Option Ending) (is : state_of r ≡ first_state g.params (classes_of g) (expanded g)) (first : w ≡ at_first) (a : Appends start now preamble) (over : o ≡ over_limit g.params (held_count (state_of r))) where
+module _ (g : Galley) (r : Routine) (start now : Option (List ℕ)) (w : Progress) (o : Option Ending) (is : state_of r ≡ first_state g.params (classes_of g) (expanded g)) (first : w ≡ at_first) (a : Appends start now preamble) (over : o ≡ over_limit (state_of r).params (held_count (state_of r))) where
   limit : Bool
-  limit = int_lt g.params.maxnodes (pos (held_count (state_of r)))
+  limit = int_lt (state_of r).params.maxnodes (pos (held_count (state_of r)))
 
   one : 1 ≤ (state_of r).page
   one = omega (arith, ap (λ (x : State). x.page) is)
 
-  begun : (t : Bool) → int_lt g.params.maxnodes (pos (held_count (state_of r))) ≡ t → (t ≡ false → Going g.params (state_of r) start now w (run_of g)) × (t ≡ true → Closing (node_limit (held_count (state_of r))) start now w (run_of g))
+  begun : (t : Bool) → int_lt (state_of r).params.maxnodes (pos (held_count (state_of r))) ≡ t → (t ≡ false → Going (state_of r) start now w (run_of g)) × (t ≡ true → Closing (node_limit (held_count (state_of r))) start now w (run_of g))
   unfolding run_of
   begun t e =
       let s = state_of r in
-      let same : (if t then (let x : Run = record { events = []; records = []; end = node_limit (held_count s) } in x) else run_from g.params (suc (firings_left g.params s)) s) ≡ run_of g =
-      ap (λ b. if b then (let x : Run = record { events = []; records = []; end = node_limit (held_count s) } in x) else run_from g.params (suc (firings_left g.params s)) s) (sym e) ∙ ap (run_of_state g.params) is in
-      let k = begins-by g.params s start now w t e one (holds-first start now w first a) in
-      ((λ x. subst (Going g.params s start now w) same (k.0 x)), (λ x. subst (Closing (node_limit (held_count s)) start now w) same (k.1 x)))
+      let same : (if t then (let x : Run = record { events = []; records = []; end = node_limit (held_count s) } in x) else run_from (suc (firings_left s)) s) ≡ run_of g =
+      ap (λ b. if b then (let x : Run = record { events = []; records = []; end = node_limit (held_count s) } in x) else run_from (suc (firings_left s)) s) (sym e) ∙ ap (run_of_state) is in
+      let k = begins-by s start now w t e one (holds-first start now w first a) in
+      ((λ x. subst (Going s start now w) same (k.0 x)), (λ x. subst (Closing (node_limit (held_count s)) start now w) same (k.1 x)))
 
   pub start-closing : (ending : Ending) → o ≡ Some ending → ClosesAt r ending start now w (run_of g)
   start-closing ending some =
-      let k = over-some g.params (held_count (state_of r)) ending (int_lt g.params.maxnodes (pos (held_count (state_of r)))) refl (sym over ∙ some) in
+      let k = over-some (state_of r).params (held_count (state_of r)) ending (int_lt (state_of r).params.maxnodes (pos (held_count (state_of r)))) refl (sym over ∙ some) in
       record { end = node_limit (held_count (state_of r)); is = rw (k.1) refl; closing = (begun true k.0).1 refl }
 
-  pub start-going : o ≡ None → Going g.params (state_of r) start now w (run_of g)
-  start-going none = (begun false (over-none g.params (held_count (state_of r)) (int_lt g.params.maxnodes (pos (held_count (state_of r)))) refl (sym over ∙ none))).0 refl
+  pub start-going : o ≡ None → Going (state_of r) start now w (run_of g)
+  start-going none = (begun false (over-none (state_of r).params (held_count (state_of r)) (int_lt (state_of r).params.maxnodes (pos (held_count (state_of r)))) refl (sym over ∙ none))).0 refl
 
 -- ---- what the run comes to
 
@@ -201,10 +200,10 @@ module _ (g : Galley) (start : Option (List ℕ)) where
 
   module _ (now : Option (List ℕ)) (w : Progress) where
     -- nothing more is written
-    pub going-short : (p : Params) (s : State) → Going p s start now w (run_of g) → AppendsPrefix start now (dvi_file g.params.textheight (run_of g))
-    going-short p s k =
+    pub going-short : (s : State) → Going s start now w (run_of g) → AppendsPrefix start now (dvi_file g.params.textheight (run_of g))
+    going-short s k =
         subst (λ ps. AppendsPrefix start now (run_bytes g.params.textheight ps (is_done (run_of g).end))) (sym k.pages)
-        (holds-short start now w k.written k.holds g.params.textheight (run_pages (run_from p k.fuel s)) (is_done (run_of g).end))
+        (holds-short start now w k.written k.holds g.params.textheight (run_pages (run_from k.fuel s)) (is_done (run_of g).end))
 
     module _ (e : End) (k : Closing e start now w (run_of g)) where
       near : first_too_far 27 (run_pages (run_of g)) ≡ None

@@ -13,7 +13,7 @@ use Rattle.tb_makeup.specs.declared.makeup.Makeup.{Makeup}
 use Rattle.tb_makeup.specs.Makeup.{AreRunParams, AreRunNodes, node_total, state_of}
 use Rattle.tb_makeup.proofs.FromGalley.StartLemmas.{suited-items, suited-nodes, suited-room}
 use Rattle.tb_top.specs.MakeupWritten.{run_on}
-use Rattle.tb_laws.proofs.Defined.RunParams.{params-runnable}
+use Rattle.tb_steps.proofs.RunParams.{params-runnable}
 
 pub makeup-params : (p : Params) → IsTrue (are_params p) → AreRunParams p
 makeup-params p h =

@@ -67,9 +67,9 @@ rating-placed : (p : Params) (places : List PlacePenalty) (page : ℕ) (o : Opti
 rating-placed p places page None w h = tt
 rating-placed p places page (Some t) w h = either-placed (int_lt t.penalty eject_penalty) t (rated p places page t w h)
 
-step-placed : (p : Params) (places : List PlacePenalty) (s : State) (x : Step) → RatedAt (last_champion (step_events x)) (rating_by p places s x)
-step-placed p places s (ends es rs e) = tt
-step-placed p places s (goes_on es rs t) = rating-placed p places (first_number t.number es) (last_champion es) (floats_waiting t.floats) (insertions_first t.waiting)
+step-placed : (places : List PlacePenalty) (s : State) (x : Step) → RatedAt (last_champion (step_events x)) (rating_by places s x)
+step-placed places s (ends es rs e) = tt
+step-placed places s (goes_on es rs t) = rating-placed t.params places (first_number t.number es) (last_champion es) (floats_waiting t.floats) (insertions_first t.waiting)
 
 own-here : (o best : Option Try) (r : Rating) → RatedAt o (Some r) → later_or o best ≡ o
 own-here None best r h = absurd h
@@ -97,99 +97,102 @@ turn-by best es (Some r) xs h =
 
 -- ---- the run
 
-module _ (p : Params) (places : List PlacePenalty) where
+module _ (places : List PlacePenalty) where
   -- what comes later does not depend on the places before it
   later-any : (f : State → List Rated) (x : Step) (a b : Option Try) → ((t : State) (c : Option Try) → broken_columns c (f t) ≡ broken_columns None (f t)) → broken_columns a (rated_after f x) ≡ broken_columns b (rated_after f x)
   later-any f (ends es rs e) a b is = refl
   later-any f (goes_on es rs t) a b is = is t a ∙ sym (is t b)
 
-  from-any : (k : ℕ) (s : State) (best : Option Try) → broken_columns best (rated_from p places k s) ≡ broken_columns None (rated_from p places k s)
+  from-any : (k : ℕ) (s : State) (best : Option Try) → broken_columns best (rated_from places k s) ≡ broken_columns None (rated_from places k s)
   unfolding rated_from
   from-any zero s best = refl
   from-any (suc k) s best =
-      let x = step p s in
+      let x = step s in
       let es = step_events x in
-      let r = rating_by p places s x in
-      let ys = rated_after (λ t. rated_from p places k t) x in
-      turn-by best es r ys (step-placed p places s x)
-      ∙ ap (λ l. turn_columns es r ++ l) (later-any (λ t. rated_from p places k t) x (after_turn best es r) (after_turn None es r) (λ t c. from-any k t c))
-      ∙ sym (turn-by None es r ys (step-placed p places s x))
+      let r = rating_by places s x in
+      let ys = rated_after (λ t. rated_from places k t) x in
+      turn-by best es r ys (step-placed places s x)
+      ∙ ap (λ l. turn_columns es r ++ l) (later-any (λ t. rated_from places k t) x (after_turn best es r) (after_turn None es r) (λ t c. from-any k t c))
+      ∙ sym (turn-by None es r ys (step-placed places s x))
 
-  columns-by : (s : State) (k : ℕ) (x : Step) → step p s ≡ x → broken_columns None (rated_from p places (suc k) s) ≡ turn_columns (step_events x) (rating_by p places s x) ++ broken_columns None (rated_after (λ t. rated_from p places k t) x)
+  columns-by : (s : State) (k : ℕ) (x : Step) → step s ≡ x → broken_columns None (rated_from places (suc k) s) ≡ turn_columns (step_events x) (rating_by places s x) ++ broken_columns None (rated_after (λ t. rated_from places k t) x)
   unfolding rated_from
   columns-by s k x is =
-      ap (λ y. broken_columns None ((map (λ e. happens e) (step_events y) ++ if_rated (rating_by p places s y)) ++ rated_after (λ t. rated_from p places k t) y)) is
-      ∙ turn-by None (step_events x) (rating_by p places s x) (rated_after (λ t. rated_from p places k t) x) (step-placed p places s x)
-      ∙ ap (λ l. turn_columns (step_events x) (rating_by p places s x) ++ l) (later-any (λ t. rated_from p places k t) x (after_turn None (step_events x) (rating_by p places s x)) None (λ t c. from-any k t c))
+      ap (λ y. broken_columns None ((map (λ e. happens e) (step_events y) ++ if_rated (rating_by places s y)) ++ rated_after (λ t. rated_from places k t) y)) is
+      ∙ turn-by None (step_events x) (rating_by places s x) (rated_after (λ t. rated_from places k t) x) (step-placed places s x)
+      ∙ ap (λ l. turn_columns (step_events x) (rating_by places s x) ++ l) (later-any (λ t. rated_from places k t) x (after_turn None (step_events x) (rating_by places s x)) None (λ t c. from-any k t c))
 
   -- so many columns were found in this state, and the rest follow from it
   pub record ColumnsGoing (s : State) (whole found : List BrokenColumn) : Type 0 where
     pub fuel : ℕ
-    pub enough : firings_left p s < fuel
-    pub left : whole ≡ found ++ broken_columns None (rated_from p places fuel s)
+    pub enough : firings_left s < fuel
+    pub left : whole ≡ found ++ broken_columns None (rated_from places fuel s)
 
-  goes-by : (fuel : ℕ) (s u : State) (es : List RunEvent) (rs : List Recorded) (whole found more : List BrokenColumn) → 1 ≤ s.page → step p s ≡ goes_on es rs u → more ≡ found ++ turn_columns es (rating_by p places s (goes_on es rs u))
-      → firings_left p s < fuel → whole ≡ found ++ broken_columns None (rated_from p places fuel s) → ColumnsGoing u whole more
+  goes-by : (fuel : ℕ) (s u : State) (es : List RunEvent) (rs : List Recorded) (whole found more : List BrokenColumn) → 1 ≤ s.page → step s ≡ goes_on es rs u → more ≡ found ++ turn_columns es (rating_by places s (goes_on es rs u))
+      → firings_left s < fuel → whole ≡ found ++ broken_columns None (rated_from places fuel s) → ColumnsGoing u whole more
   goes-by zero s u es rs whole found more page is put enough left = absurd (omega (arith, enough))
   goes-by (suc fuel) s u es rs whole found more page is put enough left =
-      let fewer = (steps p s u es rs is page).fewer in
-      let now = turn_columns es (rating_by p places s (goes_on es rs u)) in
-      let rest = broken_columns None (rated_from p places fuel u) in
+      let fewer = (steps s u es rs is page).fewer in
+      let now = turn_columns es (rating_by places s (goes_on es rs u)) in
+      let rest = broken_columns None (rated_from places fuel u) in
       record {
         fuel = fuel;
         enough = omega (arith, fewer, enough);
         left = left ∙ ap (λ l. found ++ l) (columns-by s fuel (goes_on es rs u) is) ∙ sym (append_assoc found now rest) ∙ ap (λ l. l ++ rest) (sym put);
       }
 
-  ends-by : (fuel : ℕ) (s : State) (e : End) (es : List RunEvent) (rs : List Recorded) (whole found : List BrokenColumn) → step p s ≡ ends es rs e → firings_left p s < fuel → whole ≡ found ++ broken_columns None (rated_from p places fuel s) → whole ≡ found
+  ends-by : (fuel : ℕ) (s : State) (e : End) (es : List RunEvent) (rs : List Recorded) (whole found : List BrokenColumn) → step s ≡ ends es rs e → firings_left s < fuel → whole ≡ found ++ broken_columns None (rated_from places fuel s) → whole ≡ found
   ends-by zero s e es rs whole found is enough left = absurd (omega (arith, enough))
   ends-by (suc fuel) s e es rs whole found is enough left = left ∙ ap (λ l. found ++ l) (columns-by s fuel (ends es rs e) is) ∙ append-nil found
 
   -- ---- a turn of the routine
 
-  module _ (s : State) (q : Routine) (hs : List Happening) (o : Option Ending) (shows : ShowsStep p true s q hs o) (whole found : List BrokenColumn) (going : ColumnsGoing s whole found) where
-    goes-by-step : (x : Step) → step p s ≡ x → EndsAs q None x → (more : List BrokenColumn) → 1 ≤ s.page → more ≡ found ++ turn_columns (step_events x) (rating_by p places s x) → ColumnsGoing (state_of q) whole more
+  module _ (s : State) (q : Routine) (hs : List Happening) (o : Option Ending) (shows : ShowsStep true s q hs o) (whole found : List BrokenColumn) (going : ColumnsGoing s whole found) where
+    goes-by-step : (x : Step) → step s ≡ x → EndsAs q None x → (more : List BrokenColumn) → 1 ≤ s.page → more ≡ found ++ turn_columns (step_events x) (rating_by places s x) → ColumnsGoing (state_of q) whole more
     goes-by-step (ends es rs e) is h more page put = absurd h
     goes-by-step (goes_on es rs u) is h more page put = subst (λ y. ColumnsGoing y whole more) (sym h) (goes-by going.fuel s u es rs whole found more page is put going.enough going.left)
 
     -- it goes on, with the column that the turn put out
-    pub columns-go : (r : Option Rating) → r ≡ rating_now p places s q o (events_of q.store hs) → (after : State) → after ≡ state_of q → o ≡ None → (more : List BrokenColumn) → 1 ≤ s.page
+    pub columns-go : (r : Option Rating) → r ≡ rating_now places s q o (events_of q.store hs) → (after : State) → after ≡ state_of q → o ≡ None → (more : List BrokenColumn) → 1 ≤ s.page
         → more ≡ found ++ turn_columns (events_of q.store hs) r → ColumnsGoing after whole more
     columns-go r value after is none more low put =
         subst (λ y. ColumnsGoing y whole more) (sym is)
-        (goes-by-step (step p s) refl (subst (λ x. EndsAs q x (step p s)) none shows.ended) more low
-        (put ∙ (λ i. found ++ turn_columns (events-are p places s q hs o shows i) ((value ∙ rating-is p places s q hs o shows) i))))
+        (goes-by-step (step s) refl (subst (λ x. EndsAs q x (step s)) none shows.ended) more low
+        (put ∙ (λ i. found ++ turn_columns (events-are places s q hs o shows i) ((value ∙ rating-is places s q hs o shows) i))))
 
-    ends-by-step : (ending : Ending) (x : Step) → step p s ≡ x → EndsAs q (Some ending) x → whole ≡ found
+    ends-by-step : (ending : Ending) (x : Step) → step s ≡ x → EndsAs q (Some ending) x → whole ≡ found
     ends-by-step ending (goes_on es rs u) is h = absurd h
     ends-by-step ending (ends es rs e) is h = ends-by going.fuel s e es rs whole found is going.enough going.left
 
     -- the turn was the last: all columns were found before it
     pub columns-end : (ending : Ending) → o ≡ Some ending → whole ≡ found
-    columns-end ending some = ends-by-step ending (step p s) refl (subst (λ x. EndsAs q x (step p s)) some shows.ended)
+    columns-end ending some = ends-by-step ending (step s) refl (subst (λ x. EndsAs q x (step s)) some shows.ended)
 
   -- ---- the beginning
 
   module _ (first s : State) (is : s ≡ first) (before : List BrokenColumn) where
     -- it goes on
-    pub columns-begin : int_lt p.maxnodes (pos (held_count s)) ≡ false → ColumnsGoing s (before ++ broken_columns None (rated_of_state p places first)) before
+    pub columns-begin : int_lt s.params.maxnodes (pos (held_count s)) ≡ false → ColumnsGoing s (before ++ broken_columns None (rated_of_state places first)) before
     columns-begin e = record {
-      fuel = suc (firings_left p s);
+      fuel = suc (firings_left s);
       enough = omega arith;
-      left = ap (λ t. before ++ broken_columns None (rated_of_state p places t)) (sym is) ∙ ap (λ (t : Bool). before ++ broken_columns None (if t then [] else rated_from p places (suc (firings_left p s)) s)) e;
+      left = ap (λ t. before ++ broken_columns None (rated_of_state places t)) (sym is) ∙ ap (λ (t : Bool). before ++ broken_columns None (if t then [] else rated_from places (suc (firings_left s)) s)) e;
     }
 
     -- too many nodes wait at the start
-    pub columns-over : int_lt p.maxnodes (pos (held_count s)) ≡ true → before ++ broken_columns None (rated_of_state p places first) ≡ before
+    pub columns-over : int_lt s.params.maxnodes (pos (held_count s)) ≡ true → before ++ broken_columns None (rated_of_state places first) ≡ before
     columns-over e =
-        ap (λ t. before ++ broken_columns None (rated_of_state p places t)) (sym is)
-        ∙ ap (λ (t : Bool). before ++ broken_columns None (if t then [] else rated_from p places (suc (firings_left p s)) s)) e
+        ap (λ t. before ++ broken_columns None (rated_of_state places t)) (sym is)
+        ∙ ap (λ (t : Bool). before ++ broken_columns None (if t then [] else rated_from places (suc (firings_left s)) s)) e
         ∙ append-nil before
 
   -- a routine that shows the first state
-  module _ (first : State) (r : Routine) (is : state_of r ≡ first) (before : List BrokenColumn) (o : Option Ending) (over : o ≡ over_limit p (held_count (state_of r))) where
-    pub columns-start : o ≡ None → ColumnsGoing (state_of r) (before ++ broken_columns None (rated_of_state p places first)) before
+  module _ (first : State) (r : Routine) (is : state_of r ≡ first) (before : List BrokenColumn) (o : Option Ending) (over : o ≡ over_limit (state_of r).params (held_count (state_of r))) where
+    abbrev p : Params
+    p = (state_of r).params
+
+    pub columns-start : o ≡ None → ColumnsGoing (state_of r) (before ++ broken_columns None (rated_of_state places first)) before
     columns-start none = columns-begin first (state_of r) is before (over-none p (held_count (state_of r)) (int_lt p.maxnodes (pos (held_count (state_of r)))) refl (sym over ∙ none))
 
-    pub columns-limited : (ending : Ending) → o ≡ Some ending → before ++ broken_columns None (rated_of_state p places first) ≡ before
+    pub columns-limited : (ending : Ending) → o ≡ Some ending → before ++ broken_columns None (rated_of_state places first) ≡ before
     columns-limited ending some = columns-over first (state_of r) is before (over-some p (held_count (state_of r)) ending (int_lt p.maxnodes (pos (held_count (state_of r)))) refl (sym over ∙ some)).0

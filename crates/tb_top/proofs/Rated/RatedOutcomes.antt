@@ -41,29 +41,29 @@ rated-laws g valid text old new d h = keeps-laws g valid views.Silent None None 
 
 -- a run of these places from the first state of a galley is rated as the galley
 module _ (g : Galley) (s : State) (is : s ≡ first_state g.params (classes_of g) (expanded g)) (places : List PlacePenalty) (placed : places ≡ place_penalties g.items) (old new : Option (List ℕ)) where
-  end-is : (run_of_state g.params s).end ≡ (run_of g).end
+  end-is : (run_of_state s).end ≡ (run_of g).end
   unfolding run_of
-  end-is = ap (λ t. (run_of_state g.params t).end) is
+  end-is = ap (λ t. (run_of_state t).end) is
 
-  sum-is : demerits_of_state g.params places s ≡ demerits g
+  sum-is : demerits_of_state places s ≡ demerits g
   unfolding demerits
-  sum-is = λ i. demerits_of_state g.params (placed i) (is i)
+  sum-is = λ i. demerits_of_state (placed i) (is i)
 
-  text-is : rated_text g.params places s ≡ rated_report g
+  text-is : rated_text places s ≡ rated_report g
   unfolding rated_report
-  text-is = λ i. rated_text g.params (placed i) (is i)
+  text-is = λ i. rated_text (placed i) (is i)
 
-  pub columns-are : broken_columns None (rated_of_state g.params places s) ≡ broken_columns None (rated_run g)
+  pub columns-are : broken_columns None (rated_of_state places s) ≡ broken_columns None (rated_run g)
   unfolding rated_run
-  columns-are = λ i. broken_columns None (rated_of_state g.params (placed i) (is i))
+  columns-are = λ i. broken_columns None (rated_of_state (placed i) (is i))
 
-  pub rates-galley : (d : ℤ) → Rates (run_of_state g.params s).end (demerits_of_state g.params places s) (rated_text g.params places s) old new d → Rates (run_of g).end (demerits g) (rated_report g) old new d
+  pub rates-galley : (d : ℤ) → Rates (run_of_state s).end (demerits_of_state places s) (rated_text places s) old new d → Rates (run_of g).end (demerits g) (rated_report g) old new d
   rates-galley d h = record { ended = ap end_fault (sym end-is) ∙ h.ended; demerits = sym sum-is ∙ h.demerits; written = subst (Appends old new) text-is h.written }
 
-  stops-galley : (e : PageFault) → StopsText (run_of_state g.params s).end (rated_text g.params places s) old new e → StopsText (run_of g).end (rated_report g) old new e
+  stops-galley : (e : PageFault) → StopsText (run_of_state s).end (rated_text places s) old new e → StopsText (run_of g).end (rated_report g) old new e
   stops-galley e h = record { ended = ap end_fault (sym end-is) ∙ h.ended; written = subst (Appends old new) text-is h.written }
 
-  pub refuses-galley : (e : PageFault) → RefusesText (run_of_state g.params s).end (rated_text g.params places s) old new e → RefusesText (run_of g).end (rated_report g) old new e
+  pub refuses-galley : (e : PageFault) → RefusesText (run_of_state s).end (rated_text places s) old new e → RefusesText (run_of g).end (rated_report g) old new e
   refuses-galley (pages.PoolFull line live) h = stops-galley (pages.PoolFull line live) h
   refuses-galley (pages.DeadCycles n) h = stops-galley (pages.DeadCycles n) h
   refuses-galley (pages.PageLimit n) h = stops-galley (pages.PageLimit n) h

@@ -1,5 +1,5 @@
 -- What holds after the run of a galley was told, or not.
-use Rattle.std.proofs.Common.{◌≡◌, refl, subst, ℕ, inr, List, [], Option, None, Some, Ok}
+use Rattle.std.proofs.Common.{◌≡◌, refl, subst, ℕ, inr, List, [], Option, None, Some, Ok, ap}
 use Rattle.tb_galley.specs.declared.Galley.{Galley}
 use Rattle.tb_galley.specs.Grammar.{grammar}
 use Rattle.tb_galley.specs.GalleyNodes.{expanded}
@@ -38,19 +38,19 @@ why-laws g valid text old new t h = keeps-laws g valid views.Silent None None t 
 -- ---- the run of a galley
 
 -- a routine that shows the first state of a galley is told of as the galley
-module _ (g : Galley) (r : Routine) (state : state_of r ≡ first_state g.params (classes_of g) (expanded g)) (params : r.machine.params ≡ g.params) (old new : Option (List ℕ)) where
-  text-is : why_text r.machine.params (state_of r) ≡ why_report g
+module _ (g : Galley) (r : Routine) (state : state_of r ≡ first_state g.params (classes_of g) (expanded g)) (old new : Option (List ℕ)) where
+  text-is : why_text (state_of r) ≡ why_report g
   unfolding why_report run_of shown_run
-  text-is = λ i. why_text (params i) (state i)
+  text-is = ap why_text state
 
-  pub explains-galley : (t : Totals) → Explains (run_on r) (why_text r.machine.params (state_of r)) old new t → Explains (run_of g) (why_report g) old new t
+  pub explains-galley : (t : Totals) → Explains (run_on r) (why_text (state_of r)) old new t → Explains (run_of g) (why_report g) old new t
   explains-galley t h =
-      subst (λ x. Explains x (why_report g) old new t) (runs-galley g r state params)
+      subst (λ x. Explains x (why_report g) old new t) (runs-galley g r state)
       (subst (λ ls. Explains (run_on r) ls old new t) text-is h)
 
-  pub refuses-galley : (e : PageFault) → RefusesText (run_on r).end (why_text r.machine.params (state_of r)) old new e → RefusesText (run_of g).end (why_report g) old new e
+  pub refuses-galley : (e : PageFault) → RefusesText (run_on r).end (why_text (state_of r)) old new e → RefusesText (run_of g).end (why_report g) old new e
   refuses-galley e h =
-      subst (λ x. RefusesText x.end (why_report g) old new e) (runs-galley g r state params)
+      subst (λ x. RefusesText x.end (why_report g) old new e) (runs-galley g r state)
       (subst (λ ls. RefusesText (run_on r).end ls old new e) text-is h)
 
 -- ---- the outcome

@@ -19,7 +19,7 @@ use Rattle.tb_run.specs.declared.routine.Ending.{Ending}
 use Rattle.tb_run.specs.declared.routine.Ending.TheVariants as endings
 use Rattle.tb_steps.specs.Run.{Run, End, done, pool_full, dead_cycles, page_limit, node_limit, Step, ends, goes_on, step, firings_left, held_count, run_of_state}
 use Rattle.tb_run.specs.Routine.{held_in, state_of, IsFaultEnd, IsEnd, EndsAs, over_limit}
-use Rattle.tb_laws.proofs.Defined.RunParams.{AreFewFirings}
+use Rattle.tb_steps.proofs.RunParams.{AreFewFirings}
 use Rattle.tb_story.specs.Summary.{SummaryView, no_stories}
 use Rattle.tb_story.specs.StoryLines.{story_lines}
 use Rattle.tb_why.specs.WhyRun.{Shown, step_shown}
@@ -46,93 +46,96 @@ use Rattle.tb_top.proofs.Why.WhyGoing.{last_text, WhyGoing, WhyClosing, why-goes
 -- ---- a turn
 
 -- the run ends as this ending says, and its summary and last lines are left
-pub record WhyClosesAt (p : Params) (r : Routine) (ending : Ending) (old now : Option (List ℕ)) (m : SummaryView) (all : List RunEvent) (whole : List ℕ) : Type 0 where
+pub record WhyClosesAt (r : Routine) (ending : Ending) (old now : Option (List ℕ)) (m : SummaryView) (all : List RunEvent) (whole : List ℕ) : Type 0 where
   pub end : End
   pub is : IsEnd r ending end
-  pub closing : WhyClosing p end old now m all whole
+  pub closing : WhyClosing end old now m all whole
 
-module _ (p : Params) (s : State) (old now mid : Option (List ℕ)) (m : SummaryView) (all : List RunEvent) (whole : List ℕ) (going : WhyGoing p s old now m all whole) (page : 1 ≤ s.page)
-    (q : Routine) (hs : List Happening) (o : Option Ending) (shows : ShowsStep p true s q hs o) (xs : List Shown) (shown : xs ≡ step_shown p s) where
+module _ (s : State) (old now mid : Option (List ℕ)) (m : SummaryView) (all : List RunEvent) (whole : List ℕ) (going : WhyGoing s old now m all whole) (page : 1 ≤ s.page)
+    (q : Routine) (hs : List Happening) (o : Option Ending) (shows : ShowsStep true s q hs o) (xs : List Shown) (shown : xs ≡ step_shown s) where
   -- writing what is shown was cut short
   pub turn-cut : AppendsPrefix now mid (all_shown_lines xs) → AppendsPrefix old mid whole
-  turn-cut b = why-cut p old now mid m all whole s page going (subst (λ ys. AppendsPrefix now mid (all_shown_lines ys)) shown b)
+  turn-cut b = why-cut old now mid m all whole s page going (subst (λ ys. AppendsPrefix now mid (all_shown_lines ys)) shown b)
 
-  goes-by-step : (x : Step) → step p s ≡ x → EndsAs q None x → Appends now mid (all_shown_lines (step_shown p s)) → WhyGoing p (state_of q) old mid (summed (step_shown p s) m) all whole
+  goes-by-step : (x : Step) → step s ≡ x → EndsAs q None x → Appends now mid (all_shown_lines (step_shown s)) → WhyGoing (state_of q) old mid (summed (step_shown s) m) all whole
   goes-by-step (ends es rs e) is h b = absurd h
-  goes-by-step (goes_on es rs u) is h b = subst (λ y. WhyGoing p y old mid (summed (step_shown p s) m) all whole) (sym h) (why-goes p old now mid m all whole s u es rs page is going b)
+  goes-by-step (goes_on es rs u) is h b = subst (λ y. WhyGoing y old mid (summed (step_shown s) m) all whole) (sym h) (why-goes old now mid m all whole s u es rs page is going b)
 
   -- the lists of what was sent were closed since
-  pub turn-goes : (n : SummaryView) (after : State) → after ≡ state_of q → n ≡ summed xs m → o ≡ None → Appends now mid (all_shown_lines xs) → WhyGoing p after old mid n all whole
+  pub turn-goes : (n : SummaryView) (after : State) → after ≡ state_of q → n ≡ summed xs m → o ≡ None → Appends now mid (all_shown_lines xs) → WhyGoing after old mid n all whole
   turn-goes n after is sum none b =
-      subst (λ y. WhyGoing p y old mid n all whole) (sym is)
-      (subst (λ k. WhyGoing p (state_of q) old mid k all whole) (sym (sum ∙ ap (λ ys. summed ys m) shown))
-      (goes-by-step (step p s) refl (subst (λ x. EndsAs q x (step p s)) none shows.ended) (subst (λ ys. Appends now mid (all_shown_lines ys)) shown b)))
+      subst (λ y. WhyGoing y old mid n all whole) (sym is)
+      (subst (λ k. WhyGoing (state_of q) old mid k all whole) (sym (sum ∙ ap (λ ys. summed ys m) shown))
+      (goes-by-step (step s) refl (subst (λ x. EndsAs q x (step s)) none shows.ended) (subst (λ ys. Appends now mid (all_shown_lines ys)) shown b)))
 
-  closes-by-step : (ending : Ending) (x : Step) → step p s ≡ x → EndsAs q (Some ending) x → Appends now mid (all_shown_lines (step_shown p s)) → WhyClosesAt p q ending old mid (summed (step_shown p s) m) all whole
+  closes-by-step : (ending : Ending) (x : Step) → step s ≡ x → EndsAs q (Some ending) x → Appends now mid (all_shown_lines (step_shown s)) → WhyClosesAt q ending old mid (summed (step_shown s) m) all whole
   closes-by-step ending (goes_on es rs u) is h b = absurd h
-  closes-by-step ending (ends es rs e) is h b = record { end = e; is = h; closing = why-closes p old now mid m all whole s e es rs is going b }
+  closes-by-step ending (ends es rs e) is h b = record { end = e; is = h; closing = why-closes old now mid m all whole s e es rs is going b }
 
-  pub turn-closes : (n : SummaryView) (ending : Ending) → n ≡ summed xs m → o ≡ Some ending → Appends now mid (all_shown_lines xs) → WhyClosesAt p q ending old mid n all whole
+  pub turn-closes : (n : SummaryView) (ending : Ending) → n ≡ summed xs m → o ≡ Some ending → Appends now mid (all_shown_lines xs) → WhyClosesAt q ending old mid n all whole
   turn-closes n ending sum some b =
-      subst (λ k. WhyClosesAt p q ending old mid k all whole) (sym (sum ∙ ap (λ ys. summed ys m) shown))
-      (closes-by-step ending (step p s) refl (subst (λ x. EndsAs q x (step p s)) some shows.ended) (subst (λ ys. Appends now mid (all_shown_lines ys)) shown b))
+      subst (λ k. WhyClosesAt q ending old mid k all whole) (sym (sum ∙ ap (λ ys. summed ys m) shown))
+      (closes-by-step ending (step s) refl (subst (λ x. EndsAs q x (step s)) some shows.ended) (subst (λ ys. Appends now mid (all_shown_lines ys)) shown b))
 
 -- ---- the sheets
 
 -- a firing puts out at most 2000004 sheets, and so many are counted in this state
-pub record AreFewSheets (p : Params) (m : SummaryView) (s : State) : Type 0 where
-  pub few : m.sheets + 2000004 * firings_left p s ≤ 2000008000008000000
+pub record AreFewSheets (m : SummaryView) (s : State) : Type 0 where
+  pub few : m.sheets + 2000004 * firings_left s ≤ 2000008000008000000
 
-pub sheets-first : (p : Params) (first s : State) (m : SummaryView) → AreFewFirings p → first.page ≡ 1 → first.dead_cycles ≡ 0 → s ≡ first → m ≡ no_stories → AreFewSheets p m s
-sheets-first p first s m few one none is nothing =
-    let n = nat_abs p.maxpages in
-    let d = nat_abs p.maxdeadcycles in
+pub sheets-first : (first s : State) (m : SummaryView) → AreFewFirings first.params → first.page ≡ 1 → first.dead_cycles ≡ 0 → s ≡ first → m ≡ no_stories → AreFewSheets m s
+sheets-first first s m few one none is nothing =
+    let n = nat_abs first.params.maxpages in
+    let d = nat_abs first.params.maxdeadcycles in
     let a : n ≤ 1000000 = few.pages in
     let b : d ≤ 1000000 = few.cycles in
     let less : (n - pred first.page) * (d + 1) ≤ 1000000 * 1000001 = mul-le (n - pred first.page) (d + 1) 1000000 1000001 (omega (arith, a)) (omega (arith, b)) in
     let no_sheets : m.sheets ≡ 0 = ap (λ (k : SummaryView). k.sheets) nothing in
-    subst (AreFewSheets p m) (sym is) (record { few = omega (arith, less, b, no_sheets) })
+    subst (AreFewSheets m) (sym is) (record { few = omega (arith, less, b, no_sheets) })
 
 sheets-of : (left later u v : ℕ) → u + 2000004 * left ≤ 2000008000008000000 → v ≤ u + 2000004 → later < left → v + 2000004 * later ≤ 2000008000008000000
 sheets-of left later u v h k l = omega (arith, h, k, l)
 
-module _ (p : Params) (s : State) (m : SummaryView) (few : AreFewFirings p) (sheets : AreFewSheets p m s) (xs : List Shown) (shown : xs ≡ step_shown p s) where
+module _ (s : State) (m : SummaryView) (few : nat_abs s.params.maxpages ≤ 1000000) (sheets : AreFewSheets m s) (xs : List Shown) (shown : xs ≡ step_shown s) where
   more : sheets_of m.sheets xs ≤ m.sheets + 2000004
-  more = let a = step-few p s m.sheets in let b = few.pages in let e = ap (λ ys. sheets_of m.sheets ys) shown in omega (arith, a, b, e)
+  more = let a = step-few s m.sheets in let e = ap (λ ys. sheets_of m.sheets ys) shown in omega (arith, a, few, e)
 
   -- they can be counted
   pub turn-sheets : sheets_of m.sheets xs < 2 ^ 63
   turn-sheets = let a = more in let b = sheets.few in omega (arith, a, b)
 
-  pub sheets-next : (n : SummaryView) (after : State) → n ≡ summed xs m → firings_left p after < firings_left p s → AreFewSheets p n after
+  pub sheets-next : (n : SummaryView) (after : State) → n ≡ summed xs m → firings_left after < firings_left s → AreFewSheets n after
   sheets-next n after sum fewer =
       let e : n.sheets ≡ sheets_of m.sheets xs = ap (λ (k : SummaryView). k.sheets) sum ∙ sheets_from xs m in
       let a = more in
-      record { few = sheets-of (firings_left p s) (firings_left p after) m.sheets n.sheets sheets.few (omega (arith, a, e)) fewer }
+      record { few = sheets-of (firings_left s) (firings_left after) m.sheets n.sheets sheets.few (omega (arith, a, e)) fewer }
 
 -- ---- the beginning
 
 -- a run from its first state, which the routine shows
-module _ (p : Params) (first : State) (r : Routine) (old now : Option (List ℕ)) (m : SummaryView) (o : Option Ending) (is : state_of r ≡ first) (a : Appends old now header) (nothing : m ≡ no_stories) (over : o ≡ over_limit p (held_count (state_of r))) where
-  pub start-goes : o ≡ None → WhyGoing p (state_of r) old now m (run_of_state p first).events (why_text p first)
-  start-goes none =
-      subst (λ k. WhyGoing p (state_of r) old now k (run_of_state p first).events (why_text p first)) (sym nothing)
-      (why-begins p first (state_of r) old now is a (over-none p (held_count (state_of r)) (int_lt p.maxnodes (pos (held_count (state_of r)))) refl (sym over ∙ none)))
+module _ (first : State) (r : Routine) (old now : Option (List ℕ)) (m : SummaryView) (o : Option Ending) (is : state_of r ≡ first) (a : Appends old now header) (nothing : m ≡ no_stories) (over : o ≡ over_limit (state_of r).params (held_count (state_of r))) where
+  abbrev p : Params
+  p = (state_of r).params
 
-  pub start-closes : (ending : Ending) → o ≡ Some ending → WhyClosesAt p r ending old now m (run_of_state p first).events (why_text p first)
+  pub start-goes : o ≡ None → WhyGoing (state_of r) old now m (run_of_state first).events (why_text first)
+  start-goes none =
+      subst (λ k. WhyGoing (state_of r) old now k (run_of_state first).events (why_text first)) (sym nothing)
+      (why-begins first (state_of r) old now is a (over-none p (held_count (state_of r)) (int_lt p.maxnodes (pos (held_count (state_of r)))) refl (sym over ∙ none)))
+
+  pub start-closes : (ending : Ending) → o ≡ Some ending → WhyClosesAt r ending old now m (run_of_state first).events (why_text first)
   start-closes ending some =
       let k = over-some p (held_count (state_of r)) ending (int_lt p.maxnodes (pos (held_count (state_of r)))) refl (sym over ∙ some) in
       record {
         end = node_limit (held_count (state_of r));
         is = rw (k.1) refl;
-        closing = subst (λ x. WhyClosing p (node_limit (held_count (state_of r))) old now x (run_of_state p first).events (why_text p first)) (sym nothing) (why-over p first (state_of r) old now is a (k.0));
+        closing = subst (λ x. WhyClosing (node_limit (held_count (state_of r))) old now x (run_of_state first).events (why_text first)) (sym nothing) (why-over first (state_of r) old now is a (k.0));
       }
 
 -- ---- the end
 
 -- a text is kept behind what out holds, and the summary and the last lines are left
-module _ (p : Params) (q : Routine) (t : Totals) (m : SummaryView) (ending : Ending) (old held new : Option (List ℕ)) (kept : List ℕ) (run : Run) (whole : List ℕ)
-    (at : ClosesAt views.Trace q ending None None t run) (why : WhyClosesAt p q ending old (append_known held kept) m run.events whole) where
+module _ (q : Routine) (t : Totals) (m : SummaryView) (ending : Ending) (old held new : Option (List ℕ)) (kept : List ℕ) (run : Run) (whole : List ℕ)
+    (at : ClosesAt views.Trace q ending None None t run) (why : WhyClosesAt q ending old (append_known held kept) m run.events whole) where
   abbrev stories : List ℕ
   stories = story_lines m.stories
 
@@ -161,7 +164,7 @@ module _ (p : Params) (q : Routine) (t : Totals) (m : SummaryView) (ending : End
   text-is : ending ≡ endings.Done → whole ≡ why.closing.written ++ (stories ++ last_lines q t)
   text-is is =
       why.closing.text
-      ∙ ap (λ e. why.closing.written ++ last_text p run.events m e) (done-why is)
+      ∙ ap (λ e. why.closing.written ++ last_text run.events m e) (done-why is)
       ∙ ap (λ u. why.closing.written ++ (stories ++ end_lines (held_in q).page u)) at.closing.totals
 
   pub ends-why : (u : Totals) → EndsWell views.Trace q t ending (kept ++ stories) held new u → Explains run whole old new u
@@ -175,7 +178,7 @@ module _ (p : Params) (q : Routine) (t : Totals) (m : SummaryView) (ending : End
   refused-end e f is same fault none a = record {
     ended = ap end_fault (at.closing.end ∙ is) ∙ fault;
     written = written-on []
-        (why.closing.text ∙ ap (λ x. why.closing.written ++ last_text p run.events m x) same ∙ ap (λ ls. why.closing.written ++ (stories ++ ls)) none)
+        (why.closing.text ∙ ap (λ x. why.closing.written ++ last_text run.events m x) same ∙ ap (λ ls. why.closing.written ++ (stories ++ ls)) none)
         (subst (Appends held new) (sym (append-nil (kept ++ stories))) a);
   }
 

@@ -17,12 +17,13 @@ use Rattle.tb_sheet.specs.Sheet.{PlainSent, warned}
 use Rattle.tb_sheet.specs.declared.Warn.{Warn}
 use Rattle.tb_output.specs.State.{State, Work, Recorded, begun}
 use Rattle.tb_output.specs.Output.{after_page}
+use Rattle.tb_output.proofs.KeptParams.{out-keeps-params}
 use Rattle.tb_laws.proofs.StepLaws.SentCounts.{warning_count, page_count, warnings-append, pages-append, SendsFew, out-few}
 use Rattle.tb_items.specs.RunEvents.{RunEvent, offered, sent}
 use Rattle.tb_steps.specs.Run.{Step, ends, goes_on, step, ask_for}
 use Rattle.tb_steps.proofs.RunTree.{ActMove, PageMoves, page_of, fired_at, served_at, WholePage, StepIs, step-is, takes_float, shows_try, does_act, rests, moves, fires_on, meets_page_limit, meets_node_limit, meets_cycle_limit, is_done, meets_full_pool}
 use Rattle.tb_laws.specs.DviPages.{sent_among}
-use Rattle.tb_laws.proofs.Defined.FuelLemmas.{page-counts}
+use Rattle.tb_laws.proofs.Defined.FuelLemmas.{SameCounts, page-counts}
 
 -- ---- what is sent among events
 
@@ -66,7 +67,7 @@ acts_among [] = 0
 acts_among (acted a ∷ rs) = suc (acts_among rs)
 acts_among (tried line b ∷ rs) = acts_among rs
 
-page-few : {p : Params} {rs qs : List Reached} {s t : State} {es : List RunEvent} {records : List Recorded} → PageMoves p rs s es records qs t → Counts (acts_among rs) 0 es
+page-few : {rs qs : List Reached} {s t : State} {es : List RunEvent} {records : List Recorded} → PageMoves rs s es records qs t → Counts (acts_among rs) 0 es
 page-few rests = record { few = omega arith; all = refl }
 page-few (moves (shows_try line b least rs) x) = let h = page-few x in record { few = h.few; all = h.all }
 page-few (moves {fs = fs} (does_act {ws = ws} a rs m) x) =
@@ -104,16 +105,16 @@ pruned-longest top (n ∷ ns) = by_shape (node_shape n) (pruned-longest top ns)
 -- ---- a step
 
 -- a step sends so few, and no more pages than may be
-pub record SendsIn (p : Params) (s : State) (es : List RunEvent) : Type 0 where
+pub record SendsIn (s : State) (es : List RunEvent) : Type 0 where
   pub warnings : warning_count (sent_among es) ≤ length s.waiting + 3
-  pub limit : s.page ≤ nat_abs p.maxpages + 1 → page_count (sent_among es) + s.page ≤ nat_abs p.maxpages + 1
+  pub limit : s.page ≤ nat_abs s.params.maxpages + 1 → page_count (sent_among es) + s.page ≤ nat_abs s.params.maxpages + 1
 
--- if it goes on, the page number rose by the pages
-abbrev pub SendsBy : Params → State → Step → Type 0
-SendsBy p s (ends es rs e) = SendsIn p s es
-SendsBy p s (goes_on es rs t) = SendsIn p s es × (page_count (sent_among es) + s.page ≡ t.page)
+-- if it goes on, the page number rose by the pages, and their limit is as before
+abbrev pub SendsBy : State → Step → Type 0
+SendsBy s (ends es rs e) = SendsIn s es
+SendsBy s (goes_on es rs t) = SendsIn s es × (page_count (sent_among es) + s.page ≡ t.page) × (t.params.maxpages ≡ s.params.maxpages)
 
-module _ (p : Params) (s : State) (es : List RunEvent) (w : Work) (start : Work) (none : start.sent ≡ []) (page : start.state.page ≡ s.page) (few : Counts (length s.waiting + 1) 0 es) (h : SendsFew p 2 start w) where
+module _ (p : Params) (s : State) (es : List RunEvent) (w : Work) (start : Work) (none : start.sent ≡ []) (page : start.state.page ≡ s.page) (pages : p.maxpages ≡ s.params.maxpages) (few : Counts (length s.waiting + 1) 0 es) (h : SendsFew p 2 start w) where
   whole : List RunEvent
   whole = es ++ map sent w.sent
 
@@ -126,36 +127,43 @@ module _ (p : Params) (s : State) (es : List RunEvent) (w : Work) (start : Work)
       let z = ap warning_count none in let y = ap page_count none in
       (omega (arith, e, a, c, z), omega (arith, f, b, d, y, page))
 
-  sends-in : SendsIn p s whole
-  sends-in = let t = told in let u = t.1 in record { warnings = t.0; limit = λ k. let l = h.limit (let q : start.state.page ≤ nat_abs p.maxpages + 1 = omega (arith, page, k) in q) in omega (arith, l, u) }
+  sends-in : SendsIn s whole
+  sends-in =
+      let t = told in
+      let u = t.1 in
+      let m = ap nat_abs pages in
+      record { warnings = t.0; limit = λ k. let l = h.limit (let q : start.state.page ≤ nat_abs p.maxpages + 1 = omega (arith, page, m, k) in q) in omega (arith, l, m, u) }
 
-  fired-sends : SendsIn p s (es ++ map sent w.sent) × (page_count (sent_among (es ++ map sent w.sent)) + s.page ≡ w.state.page)
+  fired-sends : SendsIn s (es ++ map sent w.sent) × (page_count (sent_among (es ++ map sent w.sent)) + s.page ≡ w.state.page)
   unfolding whole
   fired-sends = (sends-in, told.1)
 
-quiet-in : (p : Params) (s : State) (es : List RunEvent) → Counts (length s.waiting + 1) 0 es → SendsIn p s es
-quiet-in p s es h = let a = h.few in let b = h.all in record { warnings = omega (arith, a); limit = λ k. omega (arith, b, k) }
+quiet-in : (s : State) (es : List RunEvent) → Counts (length s.waiting + 1) 0 es → SendsIn s es
+quiet-in s es h = let a = h.few in let b = h.all in record { warnings = omega (arith, a); limit = λ k. omega (arith, b, k) }
 
-module _ {p : Params} {s : State} where
-  on_page : {qs : List Reached} {t : State} {es : List RunEvent} {rs : List Recorded} → PageMoves p (page_of p s).reached s es rs qs t → Counts (length s.waiting + 1) 0 es
+module _ {s : State} where
+  on_page : {qs : List Reached} {t : State} {es : List RunEvent} {rs : List Recorded} → PageMoves (page_of s).reached s es rs qs t → Counts (length s.waiting + 1) 0 es
   on_page x =
       let c = page-few x in
-      let a = from-acts (ask_for p s).max_depth (terms_after (frozen_for (ask_for p s) s.classes s.boxes)) [] (pruned_nodes (ask_for p s).top_skip s.waiting) in
-      let b = pruned-longest (ask_for p s).top_skip s.waiting in
+      let a = from-acts (ask_for s).max_depth (terms_after (frozen_for (ask_for s) s.classes s.boxes)) [] (pruned_nodes (ask_for s).top_skip s.waiting) in
+      let b = pruned-longest (ask_for s).top_skip s.waiting in
       let f = c.few in
       record { few = omega (arith, f, a, b); all = c.all }
 
-  on_firing : {t : State} {es : List RunEvent} {rs : List Recorded} → WholePage p s es rs t → SendsIn p s (es ++ map sent (served_at p s t).sent) × (page_count (sent_among (es ++ map sent (served_at p s t).sent)) + s.page ≡ (served_at p s t).state.page)
-  on_firing {t = t} {es = es} x = fired-sends p s es (served_at p s t) (begun (after_page t (fired_at p s t))) refl (page-counts x).0 (on_page x) (out-few p t (fired_at p s t))
+  on_firing : {t : State} {es : List RunEvent} {rs : List Recorded} → WholePage s es rs t → SendsIn s (es ++ map sent (served_at s t).sent) × (page_count (sent_among (es ++ map sent (served_at s t).sent)) + s.page ≡ (served_at s t).state.page) × ((served_at s t).state.params.maxpages ≡ s.params.maxpages)
+  on_firing {t = t} {es = es} x =
+      let k : SameCounts s t = page-counts x in
+      let sends = fired-sends t.params s es (served_at s t) (begun (after_page t (fired_at s t))) refl k.0 k.2 (on_page x) (out-few t.params t (fired_at s t)) in
+      (sends.0, sends.1, ap (λ (q : Params). q.maxpages) (out-keeps-params t.params t (fired_at s t)) ∙ k.2)
 
   -- what a step of a run sends
-  steps-send : {x : Step} → StepIs p s x → SendsBy p s x
+  steps-send : {x : Step} → StepIs s x → SendsBy s x
   steps-send (fires_on x f r) = on_firing x
   steps-send (meets_page_limit x f r) = (on_firing x).0
   steps-send (meets_node_limit x f r n) = (on_firing x).0
-  steps-send (meets_cycle_limit {es = es} x e c) = quiet-in p s es (on_page x)
-  steps-send (is_done {es = es} x e) = quiet-in p s es (on_page x)
-  steps-send (meets_full_pool {es = es} x e) = quiet-in p s es (on_page x)
+  steps-send (meets_cycle_limit {es = es} x e c) = quiet-in s es (on_page x)
+  steps-send (is_done {es = es} x e) = quiet-in s es (on_page x)
+  steps-send (meets_full_pool {es = es} x e) = quiet-in s es (on_page x)
 
-pub step-sends : (p : Params) (s : State) → SendsBy p s (step p s)
-step-sends p s = steps-send (step-is p s)
+pub step-sends : (s : State) → SendsBy s (step s)
+step-sends s = steps-send (step-is s)

@@ -33,7 +33,7 @@ use Rattle.tb_top.specs.Views.{viewed, is_traced, with_events, IsShown, FailsToS
 use Rattle.tb_laws.specs.DviPages.{sent_among}
 use Rattle.tb_top.proofs.Written.EventCounts.{SendsBy, step-sends}
 use Rattle.tb_top.proofs.Written.TallyLemmas.{IsTally, AreFewNodes, tally-first, tally-counts, tally-next, step-few}
-use Rattle.tb_laws.proofs.Defined.RunParams.{AreFewFirings}
+use Rattle.tb_steps.proofs.RunParams.{AreFewFirings}
 use Rattle.tb_top.proofs.Written.TurnLemmas.{ShowsStep, turn-fewer}
 use Rattle.tb_top.proofs.Written.GoingLemmas.{Going, Closing, header, turn_lines, noted-lines, noted-events, begins, begins-over, goes, closes, cut-short, done-well, done-cut, closing-front, refused-end, refuses-cut, failed-write, silent-shown, viewed-append, more-shown}
 use Rattle.tb_top.proofs.Written.KeptLemmas.{more-written, all-written, front-written}
@@ -124,78 +124,81 @@ over-none p n true h k = cc
 over-none p n false h k = h
 
 -- a run from its first state, which the routine shows
-module _ (p : Params) (v : View) (first : State) (r : Routine) (old now : Option (List ℕ)) (t : Totals) (o : Option Ending) (is : state_of r ≡ first) (page : first.page ≡ 1) (a : Appends old now (viewed v header)) (nothing : t ≡ no_totals) (over : o ≡ over_limit p (held_count (state_of r))) where
-  pub start-closing : (ending : Ending) → o ≡ Some ending → ClosesAt v r ending old now t (run_of_state p first)
+module _ (v : View) (first : State) (r : Routine) (old now : Option (List ℕ)) (t : Totals) (o : Option Ending) (is : state_of r ≡ first) (page : first.page ≡ 1) (a : Appends old now (viewed v header)) (nothing : t ≡ no_totals) (over : o ≡ over_limit (state_of r).params (held_count (state_of r))) where
+  abbrev p : Params
+  p = (state_of r).params
+
+  pub start-closing : (ending : Ending) → o ≡ Some ending → ClosesAt v r ending old now t (run_of_state first)
   start-closing ending some =
       let k = over-some p (held_count (state_of r)) ending (int_lt p.maxnodes (pos (held_count (state_of r)))) refl (sym over ∙ some) in
       record {
         end = node_limit (held_count (state_of r));
         is = rw (k.1) refl;
-        closing = subst (λ x. Closing v (node_limit (held_count (state_of r))) old now x (run_of_state p first)) (sym nothing) (begins-over p v first (state_of r) old now is page a (k.0));
+        closing = subst (λ x. Closing v (node_limit (held_count (state_of r))) old now x (run_of_state first)) (sym nothing) (begins-over v first (state_of r) old now is page a (k.0));
       }
 
-  pub start-going : o ≡ None → Going p v (state_of r) old now t (run_of_state p first)
-  start-going none = subst (λ x. Going p v (state_of r) old now x (run_of_state p first)) (sym nothing) (begins p v first (state_of r) old now is page a (over-none p (held_count (state_of r)) (int_lt p.maxnodes (pos (held_count (state_of r)))) refl (sym over ∙ none)))
+  pub start-going : o ≡ None → Going v (state_of r) old now t (run_of_state first)
+  start-going none = subst (λ x. Going v (state_of r) old now x (run_of_state first)) (sym nothing) (begins v first (state_of r) old now is page a (over-none p (held_count (state_of r)) (int_lt p.maxnodes (pos (held_count (state_of r)))) refl (sym over ∙ none)))
 
-  pub start-tally : first.dead_cycles ≡ 0 → AreFewFirings p → IsTally p t (state_of r)
-  start-tally cycles few = subst (λ x. IsTally p x (state_of r)) (sym nothing) (tally-first p (state_of r) few (ap (λ (s : State). s.page) is ∙ page) (ap (λ (s : State). s.dead_cycles) is ∙ cycles))
+  pub start-tally : first.dead_cycles ≡ 0 → AreFewFirings (state_of r).params → IsTally t (state_of r)
+  start-tally cycles few = subst (λ x. IsTally x (state_of r)) (sym nothing) (tally-first (state_of r) few (ap (λ (s : State). s.page) is ∙ page) (ap (λ (s : State). s.dead_cycles) is ∙ cycles))
 
 -- ---- a turn
 
 -- a step with what shows it: the routine after it, what happened, and how the run ended
-module _ (p : Params) (v : View) (s : State) (old now : Option (List ℕ)) (t : Totals) (whole : Run) (going : Going p v s old now t whole) (q : Routine) (hs : List Happening) (o : Option Ending) (shows : ShowsStep p (is_traced v) s q hs o) where
-  lines-are : all_lines traced_lines (events_of q.store hs) ≡ turn_lines v (step_events (step p s))
-  lines-are = ap (all_lines traced_lines) shows.events ∙ noted-lines v (step_events (step p s))
+module _ (v : View) (s : State) (old now : Option (List ℕ)) (t : Totals) (whole : Run) (going : Going v s old now t whole) (q : Routine) (hs : List Happening) (o : Option Ending) (shows : ShowsStep (is_traced v) s q hs o) where
+  lines-are : all_lines traced_lines (events_of q.store hs) ≡ turn_lines v (step_events (step s))
+  lines-are = ap (all_lines traced_lines) shows.events ∙ noted-lines v (step_events (step s))
 
-  totals-are : with_events (events_of q.store hs) t ≡ with_events (step_events (step p s)) t
-  totals-are = ap (λ es. with_events es t) shows.events ∙ noted-events (is_traced v) (step_events (step p s)) t
+  totals-are : with_events (events_of q.store hs) t ≡ with_events (step_events (step s)) t
+  totals-are = ap (λ es. with_events es t) shows.events ∙ noted-events (is_traced v) (step_events (step s)) t
 
   -- writing what happened was cut short
   pub turn-cut : (mid : Option (List ℕ)) → AppendsPrefix now mid (viewed v (all_lines traced_lines (events_of q.store hs))) → AppendsPrefix old mid (view_text v whole)
-  turn-cut mid b = cut-short p v old now mid t whole s (step p s) going refl (subst (λ ls. AppendsPrefix now mid (viewed v ls)) lines-are b)
+  turn-cut mid b = cut-short v old now mid t whole s (step s) going refl (subst (λ ls. AppendsPrefix now mid (viewed v ls)) lines-are b)
 
-  closes-by-step : (mid : Option (List ℕ)) (ending : Ending) (st : Step) → step p s ≡ st → EndsAs q (Some ending) st → Appends now mid (viewed v (turn_lines v (step_events st))) → ClosesAt v q ending old mid (with_events (step_events st) t) whole
+  closes-by-step : (mid : Option (List ℕ)) (ending : Ending) (st : Step) → step s ≡ st → EndsAs q (Some ending) st → Appends now mid (viewed v (turn_lines v (step_events st))) → ClosesAt v q ending old mid (with_events (step_events st) t) whole
   closes-by-step mid ending (goes_on es rs u) is h b = absurd h
-  closes-by-step mid ending (ends es rs e) is h b = record { end = e; is = h; closing = closes p v old now mid t whole s e es rs going is b }
+  closes-by-step mid ending (ends es rs e) is h b = record { end = e; is = h; closing = closes v old now mid t whole s e es rs going is b }
 
   pub turn-closing : (mid : Option (List ℕ)) (u : Totals) (ending : Ending) → o ≡ Some ending → Appends now mid (viewed v (all_lines traced_lines (events_of q.store hs))) → u ≡ with_events (events_of q.store hs) t → ClosesAt v q ending old mid u whole
   turn-closing mid u ending some b counted =
       subst (λ x. ClosesAt v q ending old mid x whole) (sym (counted ∙ totals-are))
-      (closes-by-step mid ending (step p s) refl (subst (λ x. EndsAs q x (step p s)) some shows.ended) (subst (λ ls. Appends now mid (viewed v ls)) lines-are b))
+      (closes-by-step mid ending (step s) refl (subst (λ x. EndsAs q x (step s)) some shows.ended) (subst (λ ls. Appends now mid (viewed v ls)) lines-are b))
 
-  goes-by-step : (mid : Option (List ℕ)) (st : Step) → step p s ≡ st → EndsAs q None st → Appends now mid (viewed v (turn_lines v (step_events st))) → Going p v (state_of q) old mid (with_events (step_events st) t) whole
+  goes-by-step : (mid : Option (List ℕ)) (st : Step) → step s ≡ st → EndsAs q None st → Appends now mid (viewed v (turn_lines v (step_events st))) → Going v (state_of q) old mid (with_events (step_events st) t) whole
   goes-by-step mid (ends es rs e) is h b = absurd h
-  goes-by-step mid (goes_on es rs u) is h b = subst (λ x. Going p v x old mid (with_events es t) whole) (sym h) (goes p v old now mid t whole s u es rs going is b)
+  goes-by-step mid (goes_on es rs u) is h b = subst (λ x. Going v x old mid (with_events es t) whole) (sym h) (goes v old now mid t whole s u es rs going is b)
 
   -- the lists of what was sent were closed since
-  pub turn-going : (mid : Option (List ℕ)) (u : Totals) (after : State) → after ≡ state_of q → o ≡ None → Appends now mid (viewed v (all_lines traced_lines (events_of q.store hs))) → u ≡ with_events (events_of q.store hs) t → Going p v after old mid u whole
+  pub turn-going : (mid : Option (List ℕ)) (u : Totals) (after : State) → after ≡ state_of q → o ≡ None → Appends now mid (viewed v (all_lines traced_lines (events_of q.store hs))) → u ≡ with_events (events_of q.store hs) t → Going v after old mid u whole
   turn-going mid u after same none b counted =
-      subst (λ x. Going p v x old mid u whole) (sym same)
-      (subst (λ x. Going p v (state_of q) old mid x whole) (sym (counted ∙ totals-are))
-      (goes-by-step mid (step p s) refl (subst (λ x. EndsAs q x (step p s)) none shows.ended) (subst (λ ls. Appends now mid (viewed v ls)) lines-are b)))
+      subst (λ x. Going v x old mid u whole) (sym same)
+      (subst (λ x. Going v (state_of q) old mid x whole) (sym (counted ∙ totals-are))
+      (goes-by-step mid (step s) refl (subst (λ x. EndsAs q x (step s)) none shows.ended) (subst (λ ls. Appends now mid (viewed v ls)) lines-are b)))
 
   -- ---- what is counted
 
-  module _ (few : AreFewFirings p) (tally : IsTally p t s) (waiting : length s.waiting ≤ 4194304) (pages : ArePages q.store hs) where
-    nodes : AreFewNodes (sent_among (step_events (step p s)))
-    nodes = step-few q.store hs (is_traced v) (step_events (step p s)) pages shows.events
+  module _ (tally : IsTally t s) (waiting : length s.waiting ≤ 4194304) (pages : ArePages q.store hs) where
+    nodes : AreFewNodes (sent_among (step_events (step s)))
+    nodes = step-few q.store hs (is_traced v) (step_events (step s)) pages shows.events
 
-    counts-by-step : (st : Step) → SendsBy p s st → AreFewNodes (sent_among (step_events st)) → AreCounts (with_events (step_events st) t)
-    counts-by-step (ends es rs e) h ns = tally-counts p t s es few tally h waiting ns
-    counts-by-step (goes_on es rs u) h ns = tally-counts p t s es few tally h.0 waiting ns
+    counts-by-step : (st : Step) → SendsBy s st → AreFewNodes (sent_among (step_events st)) → AreCounts (with_events (step_events st) t)
+    counts-by-step (ends es rs e) h ns = tally-counts t s es tally h waiting ns
+    counts-by-step (goes_on es rs u) h ns = tally-counts t s es tally h.0 waiting ns
 
     pub turn-counts : AreCounts (with_events (events_of q.store hs) t)
-    turn-counts = subst AreCounts (sym totals-are) (counts-by-step (step p s) (step-sends p s) nodes)
+    turn-counts = subst AreCounts (sym totals-are) (counts-by-step (step s) (step-sends s) nodes)
 
-    tally-by-step : (st : Step) → SendsBy p s st → AreFewNodes (sent_among (step_events st)) → EndsAs q None st → firings_left p (state_of q) < firings_left p s → IsTally p (with_events (step_events st) t) (state_of q)
+    tally-by-step : (st : Step) → SendsBy s st → AreFewNodes (sent_among (step_events st)) → EndsAs q None st → firings_left (state_of q) < firings_left s → IsTally (with_events (step_events st) t) (state_of q)
     tally-by-step (ends es rs e) h ns k fewer = absurd k
-    tally-by-step (goes_on es rs u) h ns k fewer = tally-next p t s es few tally h.0 waiting ns (state_of q) (h.1 ∙ ap (λ (x : State). x.page) (sym k)) fewer
+    tally-by-step (goes_on es rs u) h ns k fewer = tally-next t s es tally h.0 waiting ns (state_of q) (h.1 ∙ ap (λ (x : State). x.page) (sym k)) (ap (λ (x : State). x.params.maxpages) k ∙ h.2) fewer
 
-    pub turn-tally : (u : Totals) (after : State) → after ≡ state_of q → o ≡ None → u ≡ with_events (events_of q.store hs) t → IsTally p u after
+    pub turn-tally : (u : Totals) (after : State) → after ≡ state_of q → o ≡ None → u ≡ with_events (events_of q.store hs) t → IsTally u after
     turn-tally u after same none counted =
-        subst (IsTally p u) (sym same)
-        (subst (λ x. IsTally p x (state_of q)) (sym (counted ∙ totals-are))
-        (tally-by-step (step p s) (step-sends p s) nodes (subst (λ x. EndsAs q x (step p s)) none shows.ended) (turn-fewer p s q going.page (is_traced v) hs o shows none)))
+        subst (IsTally u) (sym same)
+        (subst (λ x. IsTally x (state_of q)) (sym (counted ∙ totals-are))
+        (tally-by-step (step s) (step-sends s) nodes (subst (λ x. EndsAs q x (step s)) none shows.ended) (turn-fewer s q going.page (is_traced v) hs o shows none)))
 
 -- a routine that is ready has not too many nodes that wait
 pub few-wait : (r : Routine) → IsReady r → length (state_of r).waiting ≤ 4194304

@@ -1,5 +1,5 @@
 -- A routine that shows the first state of a galley runs as the galley does.
-use Rattle.std.proofs.Common.{◌≡◌, ℕ, Option, List}
+use Rattle.std.proofs.Common.{◌≡◌, ap, ℕ, Option, List}
 use Rattle.std.proofs.KnownBytes.{Appends-nil}
 use Rattle.tb_io.specs.Sink.{AppendsPrefix}
 use Rattle.tb_galley.specs.declared.Galley.{Galley}
@@ -11,10 +11,10 @@ use Rattle.tb_steps.specs.Run.{run_of, run_of_state}
 use Rattle.tb_run.specs.Routine.{state_of}
 use Rattle.tb_top.specs.PagesWritten.{run_on}
 
-module _ (g : Galley) (r : Routine) (state : state_of r ≡ first_state g.params (classes_of g) (expanded g)) (params : r.machine.params ≡ g.params) where
+module _ (g : Galley) (r : Routine) (state : state_of r ≡ first_state g.params (classes_of g) (expanded g)) where
   pub runs-galley : run_on r ≡ run_of g
   unfolding run_of
-  runs-galley = λ i. run_of_state (params i) (state i)
+  runs-galley = ap run_of_state state
 
 -- nothing is written before the first line
 pub none-yet : (held : Option (List ℕ)) (whole : List ℕ) → AppendsPrefix held held whole

@@ -7,7 +7,6 @@ use Rattle.tb_io.specs.declared.sink.SinkFault.TheVariants as outputs
 use Rattle.tb_io.specs.Sink.{AppendsPrefix}
 use Rattle.std.proofs.KnownBytes.{Appends-trans}
 use Rattle.tb_io.proofs.Appended.{prefix_whole, prefix_longer, prefix_on}
-use Rattle.tb_param.specs.declared.Params.{Params}
 use Rattle.tb_node.specs.PlainNodes.{PlainNode}
 use Rattle.tb_sheet.specs.Sheet.{PlainSent, warned, shipped}
 use Rattle.tb_report.specs.declared.Totals.{Totals}
@@ -119,15 +118,15 @@ viewed-whole views.Report r = sym (append_assoc header (all_lines event_lines r.
 viewed-whole views.Trace r = sym (append_assoc header (all_lines traced_lines r.events) (closing_lines r.end r.events))
 viewed-whole views.Silent r = refl
 
-pub record Going (p : Params) (v : View) (s : State) (old now : Option (List ℕ)) (t : Totals) (whole : Run) : Type 0 where
+pub record Going (v : View) (s : State) (old now : Option (List ℕ)) (t : Totals) (whole : Run) : Type 0 where
   pub page : 1 ≤ s.page
   pub written : List ℕ
   pub fuel : ℕ
   pub appended : Appends old now (viewed v written)
-  pub enough : firings_left p s < fuel
-  pub text : whole_text v whole ≡ written ++ tail_lines v whole.events (run_from p fuel s)
-  pub end : whole.end ≡ (run_from p fuel s).end
-  pub totals : totals_of whole.events ≡ joined t (totals_of (run_from p fuel s).events)
+  pub enough : firings_left s < fuel
+  pub text : whole_text v whole ≡ written ++ tail_lines v whole.events (run_from fuel s)
+  pub end : whole.end ≡ (run_from fuel s).end
+  pub totals : totals_of whole.events ≡ joined t (totals_of (run_from fuel s).events)
 
 -- the run ends so, and its last lines are left
 pub record Closing (v : View) (e : End) (old now : Option (List ℕ)) (t : Totals) (whole : Run) : Type 0 where
@@ -138,30 +137,30 @@ pub record Closing (v : View) (e : End) (old now : Option (List ℕ)) (t : Total
   pub totals : totals_of whole.events ≡ t
 
 -- a step that goes on, and one that ends
-pub record Steps (p : Params) (s s' : State) (es : List RunEvent) : Type 0 where
+pub record Steps (s s' : State) (es : List RunEvent) : Type 0 where
   pub page : 1 ≤ s'.page
-  pub fewer : firings_left p s' < firings_left p s
-  pub later : (fuel : ℕ) → ((run_from p (suc fuel) s).events ≡ es ++ (run_from p fuel s').events) × ((run_from p (suc fuel) s).end ≡ (run_from p fuel s').end)
+  pub fewer : firings_left s' < firings_left s
+  pub later : (fuel : ℕ) → ((run_from (suc fuel) s).events ≡ es ++ (run_from fuel s').events) × ((run_from (suc fuel) s).end ≡ (run_from fuel s').end)
 
-pub record Stops (p : Params) (s : State) (e : End) (es : List RunEvent) : Type 0 where
-  pub later : (fuel : ℕ) → ((run_from p (suc fuel) s).events ≡ es) × ((run_from p (suc fuel) s).end ≡ e)
+pub record Stops (s : State) (e : End) (es : List RunEvent) : Type 0 where
+  pub later : (fuel : ℕ) → ((run_from (suc fuel) s).events ≡ es) × ((run_from (suc fuel) s).end ≡ e)
 
-run-on : (p : Params) (s s' : State) (fuel : ℕ) (es : List RunEvent) (rs : List Recorded) → step p s ≡ goes_on es rs s'
-    → ((run_from p (suc fuel) s).events ≡ es ++ (run_from p fuel s').events) × ((run_from p (suc fuel) s).end ≡ (run_from p fuel s').end)
+run-on : (s s' : State) (fuel : ℕ) (es : List RunEvent) (rs : List Recorded) → step s ≡ goes_on es rs s'
+    → ((run_from (suc fuel) s).events ≡ es ++ (run_from fuel s').events) × ((run_from (suc fuel) s).end ≡ (run_from fuel s').end)
 unfolding run_from
-run-on p s s' fuel es rs e = (ap (λ st. (run_by (λ u. run_from p fuel u) st).events) e, ap (λ st. (run_by (λ u. run_from p fuel u) st).end) e)
+run-on s s' fuel es rs e = (ap (λ st. (run_by (λ u. run_from fuel u) st).events) e, ap (λ st. (run_by (λ u. run_from fuel u) st).end) e)
 
-run-last : (p : Params) (s : State) (fuel : ℕ) (es : List RunEvent) (rs : List Recorded) (e : End) → step p s ≡ ends es rs e → ((run_from p (suc fuel) s).events ≡ es) × ((run_from p (suc fuel) s).end ≡ e)
+run-last : (s : State) (fuel : ℕ) (es : List RunEvent) (rs : List Recorded) (e : End) → step s ≡ ends es rs e → ((run_from (suc fuel) s).events ≡ es) × ((run_from (suc fuel) s).end ≡ e)
 unfolding run_from
-run-last p s fuel es rs e k = (ap (λ st. (run_by (λ u. run_from p fuel u) st).events) k, ap (λ st. (run_by (λ u. run_from p fuel u) st).end) k)
+run-last s fuel es rs e k = (ap (λ st. (run_by (λ u. run_from fuel u) st).events) k, ap (λ st. (run_by (λ u. run_from fuel u) st).end) k)
 
-pub steps : (p : Params) (s s' : State) (es : List RunEvent) (rs : List Recorded) → step p s ≡ goes_on es rs s' → 1 ≤ s.page → Steps p s s' es
-steps p s s' es rs is page =
-    let turns = subst (Turns p s) is (step-turns p s page) in
-    record { page = turns.0; fewer = turns.1; later = λ fuel. run-on p s s' fuel es rs is }
+pub steps : (s s' : State) (es : List RunEvent) (rs : List Recorded) → step s ≡ goes_on es rs s' → 1 ≤ s.page → Steps s s' es
+steps s s' es rs is page =
+    let turns = subst (Turns s) is (step-turns s page) in
+    record { page = turns.0; fewer = turns.1; later = λ fuel. run-on s s' fuel es rs is }
 
-pub stops : (p : Params) (s : State) (e : End) (es : List RunEvent) (rs : List Recorded) → step p s ≡ ends es rs e → Stops p s e es
-stops p s e es rs is = record { later = λ fuel. run-last p s fuel es rs e is }
+pub stops : (s : State) (e : End) (es : List RunEvent) (rs : List Recorded) → step s ≡ ends es rs e → Stops s e es
+stops s e es rs is = record { later = λ fuel. run-last s fuel es rs e is }
 
 -- ---- one turn further
 
@@ -178,13 +177,13 @@ tail-on v all r r' es e f =
 tail-last : (v : View) (all : List RunEvent) (r : Run) (es : List RunEvent) (e : End) → r.events ≡ es → r.end ≡ e → tail_lines v all r ≡ turn_lines v es ++ closing_lines e all
 tail-last v all r es e a b = λ i. all_lines (event_text v) (a i) ++ closing_lines (b i) all
 
-module _ (p : Params) (v : View) (old now new : Option (List ℕ)) (t : Totals) (whole : Run) where
+module _ (v : View) (old now new : Option (List ℕ)) (t : Totals) (whole : Run) where
   appended-on : (written more : List ℕ) → Appends old now (viewed v written) → Appends now new (viewed v more) → Appends old new (viewed v (written ++ more))
   appended-on written more a b = subst (Appends old new) (sym (viewed-append v written more)) (Appends-trans old now new (viewed v written) (viewed v more) a b)
 
-  goes-by : (s s' : State) (es : List RunEvent) (written : List ℕ) (fuel : ℕ) → Appends old now (viewed v written) → firings_left p s < fuel → whole_text v whole ≡ written ++ tail_lines v whole.events (run_from p fuel s)
-      → whole.end ≡ (run_from p fuel s).end → totals_of whole.events ≡ joined t (totals_of (run_from p fuel s).events) → Steps p s s' es → Appends now new (viewed v (turn_lines v es))
-      → Going p v s' old new (with_events es t) whole
+  goes-by : (s s' : State) (es : List RunEvent) (written : List ℕ) (fuel : ℕ) → Appends old now (viewed v written) → firings_left s < fuel → whole_text v whole ≡ written ++ tail_lines v whole.events (run_from fuel s)
+      → whole.end ≡ (run_from fuel s).end → totals_of whole.events ≡ joined t (totals_of (run_from fuel s).events) → Steps s s' es → Appends now new (viewed v (turn_lines v es))
+      → Going v s' old new (with_events es t) whole
   goes-by s s' es written zero a enough text end totals st b = absurd (omega arith)
   goes-by s s' es written (suc fuel) a enough text end totals st b =
       let fewer = st.fewer in
@@ -194,28 +193,28 @@ module _ (p : Params) (v : View) (old now new : Option (List ℕ)) (t : Totals) 
         fuel = fuel;
         appended = appended-on written (turn_lines v es) a b;
         enough = omega arith;
-        text = text ∙ ap (λ ls. written ++ ls) (tail-on v whole.events (run_from p (suc fuel) s) (run_from p fuel s') es (st.later fuel).0 (st.later fuel).1) ∙ sym (append_assoc written (turn_lines v es) (tail_lines v whole.events (run_from p fuel s')));
+        text = text ∙ ap (λ ls. written ++ ls) (tail-on v whole.events (run_from (suc fuel) s) (run_from fuel s') es (st.later fuel).0 (st.later fuel).1) ∙ sym (append_assoc written (turn_lines v es) (tail_lines v whole.events (run_from fuel s')));
         end = end ∙ (st.later fuel).1;
-        totals = totals ∙ ap (λ xs. joined t (totals_of xs)) (st.later fuel).0 ∙ joined-events es (run_from p fuel s').events t;
+        totals = totals ∙ ap (λ xs. joined t (totals_of xs)) (st.later fuel).0 ∙ joined-events es (run_from fuel s').events t;
       }
 
-  pub goes : (s s' : State) (es : List RunEvent) (rs : List Recorded) → Going p v s old now t whole → step p s ≡ goes_on es rs s' → Appends now new (viewed v (turn_lines v es)) → Going p v s' old new (with_events es t) whole
-  goes s s' es rs g is b = goes-by s s' es g.written g.fuel g.appended g.enough g.text g.end g.totals (steps p s s' es rs is g.page) b
+  pub goes : (s s' : State) (es : List RunEvent) (rs : List Recorded) → Going v s old now t whole → step s ≡ goes_on es rs s' → Appends now new (viewed v (turn_lines v es)) → Going v s' old new (with_events es t) whole
+  goes s s' es rs g is b = goes-by s s' es g.written g.fuel g.appended g.enough g.text g.end g.totals (steps s s' es rs is g.page) b
 
-  closes-by : (s : State) (e : End) (es : List RunEvent) (written : List ℕ) (fuel : ℕ) → Appends old now (viewed v written) → firings_left p s < fuel → whole_text v whole ≡ written ++ tail_lines v whole.events (run_from p fuel s)
-      → whole.end ≡ (run_from p fuel s).end → totals_of whole.events ≡ joined t (totals_of (run_from p fuel s).events) → Stops p s e es → Appends now new (viewed v (turn_lines v es))
+  closes-by : (s : State) (e : End) (es : List RunEvent) (written : List ℕ) (fuel : ℕ) → Appends old now (viewed v written) → firings_left s < fuel → whole_text v whole ≡ written ++ tail_lines v whole.events (run_from fuel s)
+      → whole.end ≡ (run_from fuel s).end → totals_of whole.events ≡ joined t (totals_of (run_from fuel s).events) → Stops s e es → Appends now new (viewed v (turn_lines v es))
       → Closing v e old new (with_events es t) whole
   closes-by s e es written zero a enough text end totals st b = absurd (omega arith)
   closes-by s e es written (suc fuel) a enough text end totals st b = record {
     written = written ++ turn_lines v es;
     appended = appended-on written (turn_lines v es) a b;
-    text = text ∙ ap (λ ls. written ++ ls) (tail-last v whole.events (run_from p (suc fuel) s) es e (st.later fuel).0 (st.later fuel).1) ∙ sym (append_assoc written (turn_lines v es) (closing_lines e whole.events));
+    text = text ∙ ap (λ ls. written ++ ls) (tail-last v whole.events (run_from (suc fuel) s) es e (st.later fuel).0 (st.later fuel).1) ∙ sym (append_assoc written (turn_lines v es) (closing_lines e whole.events));
     end = end ∙ (st.later fuel).1;
     totals = totals ∙ ap (λ xs. joined t (totals_of xs)) ((st.later fuel).0 ∙ sym (append-nil es)) ∙ joined-events es [] t ∙ joined-nothing (with_events es t);
   }
 
-  pub closes : (s : State) (e : End) (es : List RunEvent) (rs : List Recorded) → Going p v s old now t whole → step p s ≡ ends es rs e → Appends now new (viewed v (turn_lines v es)) → Closing v e old new (with_events es t) whole
-  closes s e es rs g is b = closes-by s e es g.written g.fuel g.appended g.enough g.text g.end g.totals (stops p s e es rs is) b
+  pub closes : (s : State) (e : End) (es : List RunEvent) (rs : List Recorded) → Going v s old now t whole → step s ≡ ends es rs e → Appends now new (viewed v (turn_lines v es)) → Closing v e old new (with_events es t) whole
+  closes s e es rs g is b = closes-by s e es g.written g.fuel g.appended g.enough g.text g.end g.totals (stops s e es rs is) b
 
   -- ---- a run that is cut off while a turn is written
 
@@ -224,52 +223,52 @@ module _ (p : Params) (v : View) (old now new : Option (List ℕ)) (t : Totals) 
       prefix_on old now new (view_text v whole) (viewed v written) (viewed v more) (viewed v rest) a b
       (sym (viewed-whole v whole) ∙ ap (viewed v) text ∙ viewed-append v written (more ++ rest) ∙ ap (λ ls. viewed v written ++ ls) (viewed-append v more rest))
 
-  cut-next : (s s' : State) (es : List RunEvent) (written : List ℕ) (fuel : ℕ) → firings_left p s < fuel → whole_text v whole ≡ written ++ tail_lines v whole.events (run_from p fuel s) → Steps p s s' es
+  cut-next : (s s' : State) (es : List RunEvent) (written : List ℕ) (fuel : ℕ) → firings_left s < fuel → whole_text v whole ≡ written ++ tail_lines v whole.events (run_from fuel s) → Steps s s' es
       → (rest : List ℕ) × (whole_text v whole ≡ written ++ (turn_lines v es ++ rest))
   cut-next s s' es written zero enough text st = absurd (omega arith)
-  cut-next s s' es written (suc fuel) enough text st = (tail_lines v whole.events (run_from p fuel s'), text ∙ ap (λ ls. written ++ ls) (tail-on v whole.events (run_from p (suc fuel) s) (run_from p fuel s') es (st.later fuel).0 (st.later fuel).1))
+  cut-next s s' es written (suc fuel) enough text st = (tail_lines v whole.events (run_from fuel s'), text ∙ ap (λ ls. written ++ ls) (tail-on v whole.events (run_from (suc fuel) s) (run_from fuel s') es (st.later fuel).0 (st.later fuel).1))
 
-  cut-last : (s : State) (e : End) (es : List RunEvent) (written : List ℕ) (fuel : ℕ) → firings_left p s < fuel → whole_text v whole ≡ written ++ tail_lines v whole.events (run_from p fuel s) → Stops p s e es
+  cut-last : (s : State) (e : End) (es : List RunEvent) (written : List ℕ) (fuel : ℕ) → firings_left s < fuel → whole_text v whole ≡ written ++ tail_lines v whole.events (run_from fuel s) → Stops s e es
       → (rest : List ℕ) × (whole_text v whole ≡ written ++ (turn_lines v es ++ rest))
   cut-last s e es written zero enough text st = absurd (omega arith)
-  cut-last s e es written (suc fuel) enough text st = (closing_lines e whole.events, text ∙ ap (λ ls. written ++ ls) (tail-last v whole.events (run_from p (suc fuel) s) es e (st.later fuel).0 (st.later fuel).1))
+  cut-last s e es written (suc fuel) enough text st = (closing_lines e whole.events, text ∙ ap (λ ls. written ++ ls) (tail-last v whole.events (run_from (suc fuel) s) es e (st.later fuel).0 (st.later fuel).1))
 
-  pub cut-short : (s : State) (st : Step) → Going p v s old now t whole → step p s ≡ st → AppendsPrefix now new (viewed v (turn_lines v (step_events st))) → AppendsPrefix old new (view_text v whole)
-  cut-short s (goes_on es rs s') g is b = let c = cut-next s s' es g.written g.fuel g.enough g.text (steps p s s' es rs is g.page) in cut-on g.written (turn_lines v es) c.0 c.1 g.appended b
-  cut-short s (ends es rs e) g is b = let c = cut-last s e es g.written g.fuel g.enough g.text (stops p s e es rs is) in cut-on g.written (turn_lines v es) c.0 c.1 g.appended b
+  pub cut-short : (s : State) (st : Step) → Going v s old now t whole → step s ≡ st → AppendsPrefix now new (viewed v (turn_lines v (step_events st))) → AppendsPrefix old new (view_text v whole)
+  cut-short s (goes_on es rs s') g is b = let c = cut-next s s' es g.written g.fuel g.enough g.text (steps s s' es rs is g.page) in cut-on g.written (turn_lines v es) c.0 c.1 g.appended b
+  cut-short s (ends es rs e) g is b = let c = cut-last s e es g.written g.fuel g.enough g.text (stops s e es rs is) in cut-on g.written (turn_lines v es) c.0 c.1 g.appended b
 
 -- nothing was written of this turn
-pub prefix-now : (p : Params) (v : View) (s : State) (old now : Option (List ℕ)) (t : Totals) (whole : Run) → Going p v s old now t whole → AppendsPrefix old now (view_text v whole)
-prefix-now p v s old now t whole g =
-    subst (AppendsPrefix old now) (sym (viewed-append v g.written (tail_lines v whole.events (run_from p g.fuel s))) ∙ sym (ap (viewed v) g.text) ∙ viewed-whole v whole)
-    (prefix_longer old now (viewed v g.written) (viewed v (tail_lines v whole.events (run_from p g.fuel s))) (prefix_whole old now (viewed v g.written) g.appended))
+pub prefix-now : (v : View) (s : State) (old now : Option (List ℕ)) (t : Totals) (whole : Run) → Going v s old now t whole → AppendsPrefix old now (view_text v whole)
+prefix-now v s old now t whole g =
+    subst (AppendsPrefix old now) (sym (viewed-append v g.written (tail_lines v whole.events (run_from g.fuel s))) ∙ sym (ap (viewed v) g.text) ∙ viewed-whole v whole)
+    (prefix_longer old now (viewed v g.written) (viewed v (tail_lines v whole.events (run_from g.fuel s))) (prefix_whole old now (viewed v g.written) g.appended))
 
 -- ---- the beginning
 
-begins-by : (p : Params) (v : View) (s : State) (old now : Option (List ℕ)) (t : Bool) → int_lt p.maxnodes (pos (held_count s)) ≡ t → 1 ≤ s.page → Appends old now (viewed v header)
-    → (let whole : Run = (if t then record { events = []; records = []; end = node_limit (held_count s) } else run_from p (suc (firings_left p s)) s) in
-    (t ≡ false → Going p v s old now no_totals whole) × (t ≡ true → Closing v (node_limit (held_count s)) old now no_totals whole))
-begins-by p v s old now true e page a =
+begins-by : (v : View) (s : State) (old now : Option (List ℕ)) (t : Bool) → int_lt s.params.maxnodes (pos (held_count s)) ≡ t → 1 ≤ s.page → Appends old now (viewed v header)
+    → (let whole : Run = (if t then record { events = []; records = []; end = node_limit (held_count s) } else run_from (suc (firings_left s)) s) in
+    (t ≡ false → Going v s old now no_totals whole) × (t ≡ true → Closing v (node_limit (held_count s)) old now no_totals whole))
+begins-by v s old now true e page a =
     let whole : Run = record { events = []; records = []; end = node_limit (held_count s) } in
     ((λ k. cc), (λ k. record { written = header; appended = a; text = refl; end = refl; totals = refl }))
-begins-by p v s old now false e page a =
-    let whole = run_from p (suc (firings_left p s)) s in
-    ((λ k. record { page = page; written = header; fuel = suc (firings_left p s); appended = a; enough = omega arith; text = refl; end = refl; totals = sym (nothing-joined (totals_of whole.events)) }), (λ k. cc))
+begins-by v s old now false e page a =
+    let whole = run_from (suc (firings_left s)) s in
+    ((λ k. record { page = page; written = header; fuel = suc (firings_left s); appended = a; enough = omega arith; text = refl; end = refl; totals = sym (nothing-joined (totals_of whole.events)) }), (λ k. cc))
 
 -- a run from its first state, which is this one
-module _ (p : Params) (v : View) (first s : State) (old now : Option (List ℕ)) (is : s ≡ first) (page : first.page ≡ 1) (a : Appends old now (viewed v header)) where
+module _ (v : View) (first s : State) (old now : Option (List ℕ)) (is : s ≡ first) (page : first.page ≡ 1) (a : Appends old now (viewed v header)) where
   pages : 1 ≤ s.page
   pages = omega (arith, ap (λ (x : State). x.page) is, page)
 
   -- it goes on
-  pub begins : int_lt p.maxnodes (pos (held_count s)) ≡ false → Going p v s old now no_totals (run_of_state p first)
-  begins e = subst (Going p v s old now no_totals) (ap (λ t. if t then (let r : Run = record { events = []; records = []; end = node_limit (held_count s) } in r) else run_from p (suc (firings_left p s)) s) (sym e) ∙ ap (run_of_state p) is)
-      ((begins-by p v s old now false e pages a).0 refl)
+  pub begins : int_lt s.params.maxnodes (pos (held_count s)) ≡ false → Going v s old now no_totals (run_of_state first)
+  begins e = subst (Going v s old now no_totals) (ap (λ t. if t then (let r : Run = record { events = []; records = []; end = node_limit (held_count s) } in r) else run_from (suc (firings_left s)) s) (sym e) ∙ ap (run_of_state) is)
+      ((begins-by v s old now false e pages a).0 refl)
 
   -- too many nodes wait at the start
-  pub begins-over : int_lt p.maxnodes (pos (held_count s)) ≡ true → Closing v (node_limit (held_count s)) old now no_totals (run_of_state p first)
-  begins-over e = subst (Closing v (node_limit (held_count s)) old now no_totals) (ap (λ t. if t then (let r : Run = record { events = []; records = []; end = node_limit (held_count s) } in r) else run_from p (suc (firings_left p s)) s) (sym e) ∙ ap (run_of_state p) is)
-      ((begins-by p v s old now true e pages a).1 refl)
+  pub begins-over : int_lt s.params.maxnodes (pos (held_count s)) ≡ true → Closing v (node_limit (held_count s)) old now no_totals (run_of_state first)
+  begins-over e = subst (Closing v (node_limit (held_count s)) old now no_totals) (ap (λ t. if t then (let r : Run = record { events = []; records = []; end = node_limit (held_count s) } in r) else run_from (suc (firings_left s)) s) (sym e) ∙ ap (run_of_state) is)
+      ((begins-by v s old now true e pages a).1 refl)
 
 -- ---- the end
 

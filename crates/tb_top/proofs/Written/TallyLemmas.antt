@@ -7,7 +7,6 @@ use Rattle.std.proofs.lemmas.Nat.{mul-le}
 use Rattle.tb_report.proofs.CountLemmas.{count_kinds-le}
 use Rattle.tb_pool.specs.Lists.{Lists}
 use Rattle.tb_node.specs.declared.Node.{Node}
-use Rattle.tb_param.specs.declared.Params.{Params}
 use Rattle.tb_sheet.specs.Sheet.{PlainSent, warned, shipped}
 use Rattle.tb_report.specs.declared.Totals.{Totals}
 use Rattle.tb_report.specs.RunTotals.{is_item_box, is_float_box, sheet_nodes, no_totals, with_sent, AreCounts}
@@ -23,7 +22,7 @@ use Rattle.tb_laws.specs.DviPages.{sent_among}
 use Rattle.tb_top.specs.Views.{with_events}
 use Rattle.tb_top.proofs.Written.EventCounts.{SendsIn}
 use Rattle.tb_top.proofs.Written.SentPages.{few-sent}
-use Rattle.tb_laws.proofs.Defined.RunParams.{AreFewFirings}
+use Rattle.tb_steps.proofs.RunParams.{AreFewFirings}
 
 -- ---- the totals of events
 
@@ -94,24 +93,25 @@ counts-next store hs k h old now lt is same room =
 -- ---- the tally
 
 -- in this state this much was counted: a page for each step of the page number, and less than 2^23 warnings for each firing
-pub record IsTally (p : Params) (t : Totals) (s : State) : Type 0 where
+pub record IsTally (t : Totals) (s : State) : Type 0 where
+  pub few : nat_abs s.params.maxpages ≤ 1000000
   pub pages : t.pages + 1 ≡ s.page
-  pub limit : s.page ≤ nat_abs p.maxpages + 1
+  pub limit : s.page ≤ nat_abs s.params.maxpages + 1
   pub boxes : t.boxes ≤ 25165824 * t.pages
   pub floats : t.floats ≤ 25165824 * t.pages
-  pub warnings : t.warnings + 8388608 * firings_left p s ≤ 8388624777216000000
+  pub warnings : t.warnings + 8388608 * firings_left s ≤ 8388624777216000000
 
-pub tally-first : (p : Params) (s : State) → AreFewFirings p → s.page ≡ 1 → s.dead_cycles ≡ 0 → IsTally p no_totals s
-tally-first p s few one none =
-    let m = nat_abs p.maxpages in
-    let d = nat_abs p.maxdeadcycles in
+pub tally-first : (s : State) → AreFewFirings s.params → s.page ≡ 1 → s.dead_cycles ≡ 0 → IsTally no_totals s
+tally-first s few one none =
+    let m = nat_abs s.params.maxpages in
+    let d = nat_abs s.params.maxdeadcycles in
     let a : m ≤ 1000000 = few.pages in
     let b : d ≤ 1000000 = few.cycles in
     let q : pred s.page ≡ 0 = ap pred one in
     let less : (m - pred s.page) * (d + 1) ≤ 1000000 * 1000001 = mul-le (m - pred s.page) (d + 1) 1000000 1000001 (omega (arith, a)) (omega (arith, b)) in
-    record { pages = omega (arith, one); limit = omega (arith, one); boxes = omega arith; floats = omega arith; warnings = omega (arith, less, b) }
+    record { few = few.pages; pages = omega (arith, one); limit = omega (arith, one); boxes = omega arith; floats = omega arith; warnings = omega (arith, less, b) }
 
-module _ (p : Params) (t : Totals) (s : State) (es : List RunEvent) (few : AreFewFirings p) (tally : IsTally p t s) (sends : SendsIn p s es) (waiting : length s.waiting ≤ 4194304) (nodes : AreFewNodes (sent_among es)) where
+module _ (t : Totals) (s : State) (es : List RunEvent) (tally : IsTally t s) (sends : SendsIn s es) (waiting : length s.waiting ≤ 4194304) (nodes : AreFewNodes (sent_among es)) where
   counts-of : (left u v w : ℕ) → u + 8388608 * left ≤ 8388624777216000000 → w ≤ 4194307 → v ≡ u + w → v < 2 ^ 64
   counts-of left u v w h k e = omega (arith, h, k, e)
 
@@ -119,28 +119,30 @@ module _ (p : Params) (t : Totals) (s : State) (es : List RunEvent) (few : AreFe
   tally-counts =
       let g = grown es t nodes in
       let a = g.pages in let b = g.warnings in let c = g.boxes in let d = g.floats in
-      let e = tally.pages in let f = sends.limit tally.limit in let h = few.pages in
+      let e = tally.pages in let f = sends.limit tally.limit in let h = tally.few in
       let i = tally.boxes in let j = tally.floats in let k = sends.warnings in
       record {
         pages = omega (arith, a, e, f, h);
         boxes = omega (arith, a, c, e, f, h, i);
         floats = omega (arith, a, d, e, f, h, j);
-        warnings = counts-of (firings_left p s) t.warnings (with_events es t).warnings (warning_count (sent_among es)) tally.warnings (omega (arith, k, waiting)) b;
+        warnings = counts-of (firings_left s) t.warnings (with_events es t).warnings (warning_count (sent_among es)) tally.warnings (omega (arith, k, waiting)) b;
       }
 
   warnings-of : (left later u v w : ℕ) → u + 8388608 * left ≤ 8388624777216000000 → w ≤ 4194307 → v ≡ u + w → later < left → v + 8388608 * later ≤ 8388624777216000000
   warnings-of left later u v w h k e l = omega (arith, h, k, e, l)
 
-  pub tally-next : (s' : State) → page_count (sent_among es) + s.page ≡ s'.page → firings_left p s' < firings_left p s → IsTally p (with_events es t) s'
-  tally-next s' page fewer =
+  pub tally-next : (s' : State) → page_count (sent_among es) + s.page ≡ s'.page → s'.params.maxpages ≡ s.params.maxpages → firings_left s' < firings_left s → IsTally (with_events es t) s'
+  tally-next s' page same fewer =
       let g = grown es t nodes in
       let a = g.pages in let b = g.warnings in let c = g.boxes in let d = g.floats in
       let e = tally.pages in let f = sends.limit tally.limit in
       let i = tally.boxes in let j = tally.floats in let k = sends.warnings in
+      let l = tally.few in let m = ap nat_abs same in
       record {
+        few = omega (arith, l, m);
         pages = omega (arith, a, e, page);
-        limit = omega (arith, f, page);
+        limit = omega (arith, f, m, page);
         boxes = omega (arith, a, c, i);
         floats = omega (arith, a, d, j);
-        warnings = warnings-of (firings_left p s) (firings_left p s') t.warnings (with_events es t).warnings (warning_count (sent_among es)) tally.warnings (omega (arith, k, waiting)) b fewer;
+        warnings = warnings-of (firings_left s) (firings_left s') t.warnings (with_events es t).warnings (warning_count (sent_among es)) tally.warnings (omega (arith, k, waiting)) b fewer;
       }

@@ -1,6 +1,6 @@
 -- Nodes whose names have no line feed. The page builder and the columns only move nodes of the galley, and make nodes that
 -- have no name or that of a float.
-use Rattle.std.proofs.Common.{ℕ, ℤ, pos, Bool, true, false, List, [], ◌∷◌, ◌++◌, length, map, filter, take, drop, Option, Some, None, unwrap_or}
+use Rattle.std.proofs.Common.{ℕ, ℤ, Bool, true, false, List, [], ◌∷◌, ◌++◌, length, map, filter, take, drop, Option, Some, None, unwrap_or}
 use Rattle.std.specs.Prelude.{◌==◌, not, if◌then◌else◌}
 use Rattle.std.specs.List.{AllByRecursion}
 use Rattle.tb_break.proofs.EachLemmas.{all-join, all-take, all-drop}
@@ -46,6 +46,7 @@ CleanAct (acts.Take f) = IsPlainFloat f
 CleanAct (acts.TakeMargin m) = CleanNote m
 CleanAct (acts.Suppress area) = Unit {0}
 CleanAct (acts.Page n) = Unit {0}
+CleanAct (acts.Set c) = Unit {0}
 CleanAct (acts.Head f) = IsPlainFloat f
 CleanAct (acts.Columns pair) = Unit {0}
 

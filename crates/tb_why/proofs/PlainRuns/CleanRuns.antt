@@ -19,7 +19,7 @@ use Rattle.tb_galley.specs.declared.Item.{Item}
 use Rattle.tb_galley.specs.declared.ItemKind.{ItemKind}
 use Rattle.tb_galley.specs.declared.ItemKind.TheVariants as items
 use Rattle.tb_galley.specs.declared.Galley.{Galley}
-use Rattle.tb_galley.specs.GalleyNodes.{plain_leaf, with_firings, item_kinds, two_after, item_nodes, expanded}
+use Rattle.tb_galley.specs.GalleyNodes.{plain_leaf, with_firings, item_kinds, two_after, params_after, item_nodes, expanded}
 use Rattle.tb_galley.specs.Valid.{is_size, is_leaf, is_float, is_margin, is_item, IsValid, is_head, is_top_alone}
 use Rattle.tb_insert.specs.declared.Class.{Class}
 use Rattle.tb_insert.specs.Account.{terms_after}
@@ -130,59 +130,59 @@ module _ (p : Params) where
   acts-on (changes_columns pair) h g = ((h.0, h.1, h.2, h.3, tt), tt)
   acts-on m h g = (h, tt)
 
-  -- ---- one page and the firing after it
-
-  warnings-plain : (ws : List Warn) → AllByRecursion IsPlainWarning ws → AllByRecursion IsPlainEvent (map (λ w. sent (warned w)) ws)
-  warnings-plain [] h = tt
-  warnings-plain (w ∷ ws) h = (h.0, warnings-plain ws h.1)
-
   events-plain : (es : List PlainSent) → AllByRecursion (CleanSent p) es → AllByRecursion IsPlainEvent (map sent es)
   events-plain [] h = tt
   events-plain (e ∷ es) h = (sent-plain e h.0, events-plain es h.1)
 
-  page-reached : (s : State) → CleanState s → CleanReach (page_of p s)
-  page-reached s h = reached-clean (ask_for p s).max_depth (terms_after (frozen_for (ask_for p s) s.classes s.boxes)) [] (pruned_nodes p.topskip s.waiting) tt (nodes-pruned p.topskip s.waiting h.0)
+-- ---- one page and the firing after it
 
-  fired-at : (o s : State) → CleanReach (page_of p o) → CleanState s → CleanFired (fired_at p o s)
-  fired-at o s h k = fired-clean (frozen_for (ask_for p o) s.classes s.boxes) s.boxes (page_of p o) k.1 h
+warnings-plain : (ws : List Warn) → AllByRecursion IsPlainWarning ws → AllByRecursion IsPlainEvent (map (λ w. sent (warned w)) ws)
+warnings-plain [] h = tt
+warnings-plain (w ∷ ws) h = (h.0, warnings-plain ws h.1)
 
-  abbrev cleaning : RunLaw p
-  cleaning = record {
-    shows = each_event IsPlainEvent;
-    between = CleanState;
-    within = λ o rs s. AllByRecursion CleanReached rs × CleanState s × CleanReach (page_of p o);
-    begins = λ s h. let x = page-reached s h in (x.reached, h, x);
-    tries = λ o line b least rs s h. ((tt, tt), (h.0.1, h.1, h.2));
-    acts = λ o s t a ws records rs m h. let x = acts-on m h.1 h.0.0 in (warnings-plain ws x.1, (h.0.1, x.0, h.2));
-    fires = λ o s h. let x = out-clean p s (fired_at p o s) h.1 (fired-at o s h.2 h.1) in (events-plain (served_at p o s).sent x.2, x.0);
-    stops = λ o s h. tt;
-  }
+page-reached : (s : State) → CleanState s → CleanReach (page_of s)
+page-reached s h = reached-clean (ask_for s).max_depth (terms_after (frozen_for (ask_for s) s.classes s.boxes)) [] (pruned_nodes (ask_for s).top_skip s.waiting) tt (nodes-pruned (ask_for s).top_skip s.waiting h.0)
 
-  fired-plain : (s : State) → CleanState s → ArePlainNames (shown_with p s (served_shown p s))
-  fired-plain s h =
-      let k = filled-holds cleaning {o = s} h in
-      let t = (page_filled p s).state in
-      let c = fired-at s t k.1.1.2 k.1.1.1 in
-      page-plain s t (page_filled p s).events (served_shown p s) k.0 k.1.1.1
-      (woven-plain (firing_pieces p t (fired_at p s t)) (page_served p s).sent (told-clean p t (fired_at p s t) k.1.1.1 c) (out-clean p t (fired_at p s t) k.1.1.1 c).2)
+fired-at : (o s : State) → CleanReach (page_of o) → CleanState s → CleanFired (fired_at o s)
+fired-at o s h k = fired-clean (frozen_for (ask_for o) s.classes s.boxes) s.boxes (page_of o) k.1 h
 
-  -- what is shown of a step
-  step-plain : {s : State} {x : Step} {xs : List Shown} → StepShows p s x xs → CleanState s → ArePlainNames xs
-  step-plain {s = s} (shows_going e f r rs) h = fired-plain s h
-  step-plain {s = s} (shows_ending e f rs d) h = fired-plain s h
-  step-plain {s = s} (shows_page rs d) h = let k = filled-holds cleaning {o = s} h in page-plain s (page_filled p s).state (page_filled p s).events [] k.0 k.1.1.1 tt
+abbrev cleaning : RunLaw
+cleaning = record {
+  shows = each_event IsPlainEvent;
+  between = CleanState;
+  within = λ o rs s. AllByRecursion CleanReached rs × CleanState s × CleanReach (page_of o);
+  begins = λ s h. let x = page-reached s h in (x.reached, h, x);
+  tries = λ o line b least rs s h. ((tt, tt), (h.0.1, h.1, h.2));
+  acts = λ o s t a ws records rs m h. let x = acts-on s.params m h.1 h.0.0 in (warnings-plain ws x.1, (h.0.1, x.0, h.2));
+  fires = λ o s h. let x = out-clean s.params s (fired_at o s) h.1 (fired-at o s h.2 h.1) in (events-plain s.params (served_at o s).sent x.2, x.0);
+  stops = λ o s h. tt;
+}
 
-  -- ---- a run
+fired-plain : (s : State) → CleanState s → ArePlainNames (shown_with s (served_shown s))
+fired-plain s h =
+    let k = filled-holds cleaning {o = s} h in
+    let t = (page_filled s).state in
+    let c = fired-at s t k.1.1.2 k.1.1.1 in
+    page-plain s t (page_filled s).events (served_shown s) k.0 k.1.1.1
+    (woven-plain t.params (firing_pieces t.params t (fired_at s t)) (page_served s).sent (told-clean t.params t (fired_at s t) k.1.1.1 c) (out-clean t.params t (fired_at s t) k.1.1.1 c).2)
 
-  shown-plain : {s : State} {r : Run} {xs : List Shown} → RunShows p s r xs → CleanState s → ArePlainNames xs
-  shown-plain (shows_none s e) h = tt
-  shown-plain (shows_last {xs = xs} x) h = names-join xs [] (step-plain x h) tt
-  shown-plain (shows_more {xs = xs} {ys = ys} x y z) h = names-join xs ys (step-plain x h) (shown-plain z (step-holds cleaning (such-step p _ y) h).1)
+-- what is shown of a step
+step-plain : {s : State} {x : Step} {xs : List Shown} → StepShows s x xs → CleanState s → ArePlainNames xs
+step-plain {s = s} (shows_going e f r rs) h = fired-plain s h
+step-plain {s = s} (shows_ending e f rs d) h = fired-plain s h
+step-plain {s = s} (shows_page rs d) h = let k = filled-holds cleaning {o = s} h in page-plain s (page_filled s).state (page_filled s).events [] k.0 k.1.1.1 tt
 
-  ended : {s : State} {r : Run} → RunIs p s r → CleanState s → CleanEnd r.end
-  ended (ends_so {s = s} (is_done x u)) h = (page-reached s h).passed
-  ended (goes_on_so x y) h = ended y (step-holds cleaning x h).1
-  ended x h = tt
+-- ---- a run
+
+shown-plain : {s : State} {r : Run} {xs : List Shown} → RunShows s r xs → CleanState s → ArePlainNames xs
+shown-plain (shows_none s e) h = tt
+shown-plain (shows_last {xs = xs} x) h = names-join xs [] (step-plain x h) tt
+shown-plain (shows_more {xs = xs} {ys = ys} x y z) h = names-join xs ys (step-plain x h) (shown-plain z (step-holds cleaning (such-step _ y) h).1)
+
+ended : {s : State} {r : Run} → RunIs s r → CleanState s → CleanEnd r.end
+ended (ends_so {s = s} (is_done x u)) h = (page-reached s h).passed
+ended (goes_on_so x y) h = ended y (step-holds cleaning x h).1
+ended x h = tt
 
 -- ---- the nodes of a valid galley
 
@@ -261,6 +261,7 @@ item-clean p pair n items.OneColumn v = (tt, (tt, (tt, (tt, (tt, (tt, tt))))))
 item-clean p pair n items.TwoColumn v = (tt, (tt, (tt, (tt, (tt, (tt, tt))))))
 item-clean p pair n (items.Suppress area) v = (tt, tt)
 item-clean p pair n (items.Page k) v = (tt, tt)
+item-clean p pair n (items.Set c) v = (tt, tt)
 item-clean p pair n (items.Head f) v = (head-clean f (and_parts (f.line == n) (is_head f) v).1, tt)
 item-clean p pair n (items.Enlarge by true) v = ((tt, (tt, tt)), tt)
 item-clean p pair n (items.Enlarge by false) v = ((tt, tt), tt)
@@ -269,7 +270,7 @@ items-clean : (p : Params) (pair : Bool) (ns : List Item) → IsTrue (list_all (
 items-clean p pair [] v = tt
 items-clean p pair (n ∷ ns) v =
     let parts = and_parts (is_item n.line n.kind) (list_all (λ n. is_item n.line n.kind) ns) v in
-    nodes-join (on_line n.line (item_kinds p pair n.kind)) (item_nodes p (two_after pair n.kind) ns) (item-clean p pair n.line n.kind parts.0) (items-clean p (two_after pair n.kind) ns parts.1)
+    nodes-join (on_line n.line (item_kinds p pair n.kind)) (item_nodes (params_after p n.kind) (two_after pair n.kind) ns) (item-clean p pair n.line n.kind parts.0) (items-clean (params_after p n.kind) (two_after pair n.kind) ns parts.1)
 
 expanded-clean : (g : Galley) → IsValid g → CleanNodes (expanded g)
 unfolding expanded
@@ -285,11 +286,11 @@ begins g v = (expanded-clean g v, void (classes_of g), tt, (tt, tt, tt, tt, tt, 
 
 -- no name in what is shown of the run of a valid galley has a line feed
 pub run-plain : (g : Galley) → IsValid g → ArePlainNames (shown_run g)
-run-plain g v = shown-plain g.params (galley-shows g) (begins g v)
+run-plain g v = shown-plain (galley-shows g) (begins g v)
 
 -- nor one in what is left by it, if it ends well
 pub end-plain : (g : Galley) → IsValid g → IsPlainEnd (run_of g).end
-end-plain g v = end-left (run_of g).end (ended g.params (galley-is g) (begins g v))
+end-plain g v = end-left (run_of g).end (ended (galley-is g) (begins g v))
   where
     end-left : (e : End) → CleanEnd e → IsPlainEnd e
     end-left (done left) h = nodes-plain left h

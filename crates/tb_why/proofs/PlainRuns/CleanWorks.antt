@@ -156,8 +156,8 @@ module _ (p : Params) where
 
   pub goes-to : (place : Where) (f : Float) (l : FloatLists) (w : Work) → IsPlainFloat f → CleanLists l → CleanWork w → CleanWork (place_float p place f l w)
   goes-to place f l w h k g =
-      has-floats (joined_to place f l) (if is_placed place then records_also (placed f place w.state.floats (column_height_of p w.state.floats)) w else w) (joined place f l h k)
-      (work-if (is_placed place) (records_also (placed f place w.state.floats (column_height_of p w.state.floats)) w) w (records-more _ w g) g)
+      has-floats (joined_to place f l) (if is_placed place then records_also (placed p f place w.state.floats (column_height_of p w.state.floats)) w else w) (joined place f l h k)
+      (work-if (is_placed place) (records_also (placed p f place w.state.floats (column_height_of p w.state.floats)) w) w (records-more _ w g) g)
 
   taken-out : (before : List Float) (f : Float) (rest : List Float) → CleanFloats (before ++ f ∷ rest) → IsPlainFloat f × CleanFloats (before ++ rest)
   taken-out [] f rest h = h

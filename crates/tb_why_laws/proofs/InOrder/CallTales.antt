@@ -157,7 +157,7 @@ module _ (p : Params) (K : ℕ → Type 0) where
   -- ---- the work
 
   fit-moved : (place : Where) (f : Float) (left : FloatLists) (w : Work) (m : SummaryView) → FitState p K (record w.state { floats = joined_to place f left }) m → FitState p K (moved_to p K place f left w).state m
-  fit-moved place f left w m h = by-records (λ c. FitState p K (with_floats (joined_to place f left) c).state m) (placed f place w.state.floats (column_height_of p w.state.floats)) w h h
+  fit-moved place f left w m h = by-records (λ c. FitState p K (with_floats (joined_to place f left) c).state m) (placed p f place w.state.floats (column_height_of p w.state.floats)) w h h
 
   -- a float that waits may go to the top from now on
   same-waiting : (f g : Float) (l : FloatLists) → g.line ≡ f.line → waiting_lines (joined_to places.Deferred f l) ≡ waiting_lines (joined_to places.Deferred g l)

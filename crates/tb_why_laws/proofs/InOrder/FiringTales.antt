@@ -77,8 +77,8 @@ module _ (p : Params) where
   pub warns-placed : (place : Where) (f : Float) (left : FloatLists) (w : Work) → Warns w (place_float p place f left w)
   warns-placed place f left w = by_placed (is_placed place)
     where
-      by_placed : (t : Bool) → Warns w (with_floats (joined_to place f left) (if t then records_also (placed f place w.state.floats (column_height_of p w.state.floats)) w else w))
-      by_placed true = by-records (λ c. Warns w (with_floats (joined_to place f left) c)) (placed f place w.state.floats (column_height_of p w.state.floats)) w (warns-none w (with_floats (joined_to place f left) w) refl) (warns-none w (with_floats (joined_to place f left) (record w { records = w.records ++ placed f place w.state.floats (column_height_of p w.state.floats) ∷ [] })) refl)
+      by_placed : (t : Bool) → Warns w (with_floats (joined_to place f left) (if t then records_also (placed p f place w.state.floats (column_height_of p w.state.floats)) w else w))
+      by_placed true = by-records (λ c. Warns w (with_floats (joined_to place f left) c)) (placed p f place w.state.floats (column_height_of p w.state.floats)) w (warns-none w (with_floats (joined_to place f left) w) refl) (warns-none w (with_floats (joined_to place f left) (record w { records = w.records ++ placed p f place w.state.floats (column_height_of p w.state.floats) ∷ [] })) refl)
       by_placed false = warns-none w (with_floats (joined_to place f left) w) refl
 
   pub warns-defer : (f : Float) (left : FloatLists) (w : Work) → Warns w (defer p f left w)

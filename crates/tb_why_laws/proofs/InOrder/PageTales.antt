@@ -19,7 +19,7 @@ use Rattle.tb_told.specs.declared.Piece.TheVariants.{Says}
 use Rattle.tb_told.specs.declared.Tale.TheVariants.{PutOut, Stands}
 use Rattle.tb_told.specs.ColumnTold.{taken_floats}
 use Rattle.tb_told.specs.Tales.{tales, column_tales, here_lines, stands_tales}
-use Rattle.tb_output.specs.State.{State, Work, output, records_also, with_floats, footnotes}
+use Rattle.tb_output.specs.State.{State, Work, output, records_also, with_floats}
 use Rattle.tb_output.specs.Pages.{ship, wide_wanted, ship_wide, wide_pages, wide_pages_by, all_wide_pages, keep_left, left_or, without_double, fill_double, ship_pair, put_out_by, put_out}
 use Rattle.tb_output.specs.Columns.{text_of, without_column_floats, put_out_text}
 use Rattle.tb_output.proofs.StepLaws.RefusedSteps.{by-records, by-any-ship}

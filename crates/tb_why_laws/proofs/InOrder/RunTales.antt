@@ -5,7 +5,6 @@ use Rattle.std.specs.List.{AllByRecursion}
 use Rattle.tb_break.proofs.EachLemmas.{all-map}
 use Rattle.tb_scaled.specs.Scaled.{awful_bad}
 use Rattle.tb_node.specs.declared.Float.{Float}
-use Rattle.tb_param.specs.declared.Params.{Params}
 use Rattle.tb_galley.specs.declared.Galley.{Galley}
 use Rattle.tb_galley.specs.Valid.{IsValid}
 use Rattle.tb_builder.specs.Reach.{Reached}
@@ -52,16 +51,16 @@ warnings-quiet : (ws : List Warn) → AllByRecursion IsQuiet (map (λ w. sent (w
 warnings-quiet [] = tt
 warnings-quiet (w ∷ ws) = (tt, warnings-quiet ws)
 
-abbrev quiet : (p : Params) → PageLaw p
-quiet p = record {
+abbrev quiet : PageLaw
+quiet = record {
   shows = each_event IsQuiet;
   holds = λ rs s. ⊤;
   tries = λ line b least rs s h. ((tt, tt), tt);
   acts = λ s t a ws records rs m h. (warnings-quiet ws, tt);
 }
 
-pub progress-quiet : (p : Params) (rs : List Reached) (least : ℤ) (s : State) → AllByRecursion IsQuiet (progress p rs least s).events
-progress-quiet p rs least s = (progress-holds (quiet p) (page-is p rs least s) tt).0
+pub progress-quiet : (rs : List Reached) (least : ℤ) (s : State) → AllByRecursion IsQuiet (progress rs least s).events
+progress-quiet rs least s = (progress-holds quiet (page-is rs least s) tt).0
 
 -- it changes nothing
 quiet-order : (es : List RunEvent) → AllByRecursion IsQuiet es → (later : List Shown) (m : SummaryView) → IsOrderly later m → IsOrderly (all_happen es ++ later) m
@@ -94,19 +93,19 @@ drop-front (x ∷ xs) ys = drop-front xs ys
 -- ---- a step
 
 -- the stories fit a state between two firings: no float that is still to be called has one
-abbrev pub FitsRun : Params → State → SummaryView → Type 0
-FitsRun p s m = FitState p (λ n. IsAmong n (uncalled s) → ⊥) s m
+abbrev pub FitsRun : State → SummaryView → Type 0
+FitsRun s m = FitState s.params (λ n. IsAmong n (uncalled s) → ⊥) s m
 
-module _ (p : Params) (s : State) (o : Running p s) (e : (now p s o).fault ≡ None) where
+module _ (s : State) (o : Running s) (e : (now s o).fault ≡ None) where
   abbrev next : State
-  next = (now p s o).state
+  next = (now s o).state
 
-  abbrev lists : ActedLists (acted_of (page_of p s).reached) s (now p s o).state
-  lists = acts-lists p s o e
+  abbrev lists : ActedLists (acted_of (page_of s).reached) s (now s o).state
+  lists = acts-lists s o e
 
   -- none of these is called yet
   abbrev Later : ℕ → Type 0
-  Later n = IsAmong n (called_later next.floats.current (deeds (fires p s o).rest))
+  Later n = IsAmong n (called_later next.floats.current (deeds (fires s o).rest))
 
   waiting-now : (n : ℕ) → Waits next n → Waits s n ⊎ IsAmong n (float_lines lists.news)
   waiting-now n i = by_list (among-parts n (float_lines next.floats.deferred) (float_lines next.floats.second) i)
@@ -170,7 +169,7 @@ module _ (p : Params) (s : State) (o : Running p s) (e : (now p s o).fault ≡ N
       by_area (inr j) = by_rest (among-parts n (float_lines next.floats.bottom) (if next.two_columns && next.first_column then float_lines next.floats.double else []) j)
 
   -- the stories once the page is filled, before the floats that wait from now on
-  filled-fit : (m : SummaryView) → FitsRun p s m → FitState p (λ n. Later n → ⊥) next m
+  filled-fit : (m : SummaryView) → FitsRun s m → FitState next.params (λ n. Later n → ⊥) next m
   filled-fit m a =
       all-map (Fits (Waits s) (IsInArea s) (Waits s) (λ n. IsAmong n (uncalled s) → ⊥) m.sheets) (Fits (Waits next) (IsInArea next) (Waits next) (λ n. Later n → ⊥) m.sheets)
       (λ x f. record {
@@ -178,40 +177,40 @@ module _ (p : Params) (s : State) (o : Running p s) (e : (now p s o).fault ≡ N
         now = λ c i. f.now c (in-old x.float.line f.known (in-areas x.float.line i));
         waiting = λ i. waited-before x.float.line (f.waiting i);
         reason = f.reason;
-        known = λ i. f.known (still-uncalled p s o e x.float.line i);
+        known = λ i. f.known (still-uncalled s o e x.float.line i);
       }) m.stories a
     where
       old : (n : ℕ) → (IsAmong n (uncalled s) → ⊥) → Waits s n ⊎ IsAmong n (float_lines lists.news) → Waits s n
       old n k (inl i) = i
-      old n k (inr i) = absurd (k (news-uncalled p s o e n i))
+      old n k (inr i) = absurd (k (news-uncalled s o e n i))
 
       -- a title has no story
       in-old : (n : ℕ) → (IsAmong n (uncalled s) → ⊥) → IsInArea s n ⊎ IsAmong n (float_lines lists.titles) → IsInArea s n
       in-old n k (inl i) = i
-      in-old n k (inr i) = absurd (k (titles-uncalled p s o e n i))
+      in-old n k (inr i) = absurd (k (titles-uncalled s o e n i))
 
   news-are : drop (length s.floats.second) next.floats.second ≡ lists.news
   news-are = ap (drop (length s.floats.second)) lists.second ∙ drop-front s.floats.second lists.news
 
   -- and with them
-  waiting-fit : (m : SummaryView) → FitsRun p s m → FitState p (λ n. Later n → ⊥) next (after-waits next (drop (length s.floats.second) next.floats.second) m)
+  waiting-fit : (m : SummaryView) → FitsRun s m → FitState next.params (λ n. Later n → ⊥) next (after-waits next (drop (length s.floats.second) next.floats.second) m)
   waiting-fit m a =
-      subst (λ fs. FitState p (λ n. Later n → ⊥) next (after-waits next fs m)) (sym news-are)
-      (waits-fit next (IsInArea next) (Waits next) (λ n. Later n → ⊥) lists.news (λ n i. (new-waits n i, λ j. news-apart p s o e n j i)) m (filled-fit m a))
+      subst (λ fs. FitState next.params (λ n. Later n → ⊥) next (after-waits next fs m)) (sym news-are)
+      (waits-fit next (IsInArea next) (Waits next) (λ n. Later n → ⊥) lists.news (λ n i. (new-waits n i, λ j. news-apart s o e n j i)) m (filled-fit m a))
 
   -- what is shown of the firing
-  fired-ends : (m : SummaryView) → FitState p (λ n. Later n → ⊥) next m
-      → Ends (firing_pieces p next (fires p s o)) (out p next (fires p s o)).sent m (λ k. (out p next (fires p s o)).refused ≡ false → FitsRun p (out p next (fires p s o)).state k)
+  fired-ends : (m : SummaryView) → FitState next.params (λ n. Later n → ⊥) next m
+      → Ends (firing_pieces next.params next (fires s o)) (out next.params next (fires s o)).sent m (λ k. (out next.params next (fires s o)).refused ≡ false → FitsRun (out next.params next (fires s o)).state k)
   fired-ends m a =
-      firing-ends p (λ n. Later n → ⊥) (λ n. IsAmong n (uncalled (out p next (fires p s o)).state) → ⊥) next (fires p s o) (fires-once p s o e) (λ n k i. k (after-uncalled p s o e n i))
-      (λ t g es first. (λ n k i. k (subst (λ l. IsAmong n (called_later l (deeds (fires p s o).rest))) (sym first) (inl (sym i))), λ i. first-once p s o e g es first (after-first p s o e g es first t g.line i), λ i. first-apart p s o e g es first i)) m a
+      firing-ends next.params (λ n. Later n → ⊥) (λ n. IsAmong n (uncalled (out next.params next (fires s o)).state) → ⊥) next (fires s o) (fires-once s o e) (λ n k i. k (after-uncalled s o e n i))
+      (λ t g es first. (λ n k i. k (subst (λ l. IsAmong n (called_later l (deeds (fires s o).rest))) (sym first) (inl (sym i))), λ i. first-once s o e g es first (after-first s o e g es first t g.line i), λ i. first-apart s o e g es first i)) m a
 
 -- ---- steps
 
 -- what is shown of a step is in order from a summary on; and the stories fit the state after it, if the run goes on
-record StepShown (p : Params) (x : Step) (shown : List Shown) (m : SummaryView) : Type 0 where
+record StepShown (x : Step) (shown : List Shown) (m : SummaryView) : Type 0 where
   now : SummaryView
-  fit : (es : List RunEvent) (rs : List Recorded) (t : State) → x ≡ goes_on es rs t → FitsRun p t now
+  fit : (es : List RunEvent) (rs : List Recorded) (t : State) → x ≡ goes_on es rs t → FitsRun t now
   order : (later : List Shown) → IsOrderly later now → IsOrderly (shown ++ later) m
 
 not-on : {es qs : List RunEvent} {rs us : List Recorded} {d : End} {t : State} → ends es rs d ≡ goes_on qs us t → ⊥
@@ -220,36 +219,35 @@ not-on e = cc
 same-state : {es qs : List RunEvent} {rs us : List Recorded} {s t : State} → goes_on es rs s ≡ goes_on qs us t → s ≡ t
 same-state e = cc
 
-module _ (p : Params) where
-  module _ (s : State) (o : Running p s) (m : SummaryView) (a : FitsRun p s m) where
-    abbrev waited : SummaryView
-    waited = after-waits (now p s o).state (drop (length s.floats.second) (now p s o).state.floats.second) m
+module _ (s : State) (o : Running s) (m : SummaryView) (a : FitsRun s m) where
+  abbrev waited : SummaryView
+  waited = after-waits (now s o).state (drop (length s.floats.second) (now s o).state.floats.second) m
 
-    -- what happened, and what waits from now on, comes before
-    behind : (xs : List Shown) (n : SummaryView) → ((later : List Shown) → IsOrderly later n → IsOrderly (xs ++ later) waited) → (later : List Shown) → IsOrderly later n → IsOrderly (shown_with p s xs ++ later) m
-    behind xs n h later k =
-        let q = now p s o in
-        let ws = wait_tales s q.state in
-        subst (λ us. IsOrderly us m) (sym (append_assoc (all_happen q.events) (ws ++ xs) later ∙ ap (λ us. all_happen q.events ++ us) (append_assoc ws xs later)))
-        (quiet-order q.events (progress-quiet p (page_of p s).reached awful_bad s) (ws ++ (xs ++ later)) m (waits-order q.state (drop (length s.floats.second) q.state.floats.second) (xs ++ later) m (h later k)))
+  -- what happened, and what waits from now on, comes before
+  behind : (xs : List Shown) (n : SummaryView) → ((later : List Shown) → IsOrderly later n → IsOrderly (xs ++ later) waited) → (later : List Shown) → IsOrderly later n → IsOrderly (shown_with s xs ++ later) m
+  behind xs n h later k =
+      let q = now s o in
+      let ws = wait_tales s q.state in
+      subst (λ us. IsOrderly us m) (sym (append_assoc (all_happen q.events) (ws ++ xs) later ∙ ap (λ us. all_happen q.events ++ us) (append_assoc ws xs later)))
+      (quiet-order q.events (progress-quiet (page_of s).reached awful_bad s) (ws ++ (xs ++ later)) m (waits-order q.state (drop (length s.floats.second) q.state.floats.second) (xs ++ later) m (h later k)))
 
-    fired : (now p s o).fault ≡ None → Ends (firing_pieces p (now p s o).state (fires p s o)) (out p (now p s o).state (fires p s o)).sent waited (λ k. (out p (now p s o).state (fires p s o)).refused ≡ false → FitsRun p (out p (now p s o).state (fires p s o)).state k)
-    fired e = fired-ends p s o e waited (waiting-fit p s o e m a)
+  fired : (now s o).fault ≡ None → Ends (firing_pieces (now s o).state.params (now s o).state (fires s o)) (out (now s o).state.params (now s o).state (fires s o)).sent waited (λ k. (out (now s o).state.params (now s o).state (fires s o)).refused ≡ false → FitsRun (out (now s o).state.params (now s o).state (fires s o)).state k)
+  fired e = fired-ends s o e waited (waiting-fit s o e m a)
 
-    shown-so : {x : Step} {xs : List Shown} → StepShows p s x xs → StepShown p x xs m
-    shown-so (shows_going e f r rs) = let y = fired e in record { now = y.now; fit = λ qs us t i. subst (λ u. FitsRun p u y.now) (same-state i) (y.after r); order = behind (served_shown p s) y.now y.order }
-    shown-so (shows_ending e f rs d) = let y = fired e in record { now = y.now; fit = λ qs us t i. absurd (not-on i); order = behind (served_shown p s) y.now y.order }
-    shown-so (shows_page rs d) = record { now = waited; fit = λ qs us t i. absurd (not-on i); order = behind [] waited (λ later h. h) }
+  shown-so : {x : Step} {xs : List Shown} → StepShows s x xs → StepShown x xs m
+  shown-so (shows_going e f r rs) = let y = fired e in record { now = y.now; fit = λ qs us t i. subst (λ u. FitsRun u y.now) (same-state i) (y.after r); order = behind (served_shown s) y.now y.order }
+  shown-so (shows_ending e f rs d) = let y = fired e in record { now = y.now; fit = λ qs us t i. absurd (not-on i); order = behind (served_shown s) y.now y.order }
+  shown-so (shows_page rs d) = record { now = waited; fit = λ qs us t i. absurd (not-on i); order = behind [] waited (λ later h. h) }
 
-  -- ---- a run
+-- ---- a run
 
-  runs-in-order : {s : State} {r : Run} {xs : List Shown} → RunShows p s r xs → Running p s → (m : SummaryView) → FitsRun p s m → IsOrderly xs m
-  runs-in-order (shows_none s e) o m a = tt
-  runs-in-order (shows_last {s = s} x) o m a = (shown-so s o m a x).order [] tt
-  runs-in-order (shows_more {s = s} {t = t} {ys = ys} {es = es} {rs = rs} x e y) o m a =
-      let k = shown-so s o m a x in
-      k.order ys (runs-in-order y (goes p s o es rs t e) k.now (k.fit es rs t refl))
+runs-in-order : {s : State} {r : Run} {xs : List Shown} → RunShows s r xs → Running s → (m : SummaryView) → FitsRun s m → IsOrderly xs m
+runs-in-order (shows_none s e) o m a = tt
+runs-in-order (shows_last {s = s} x) o m a = (shown-so s o m a x).order [] tt
+runs-in-order (shows_more {s = s} {t = t} {ys = ys} {es = es} {rs = rs} x e y) o m a =
+    let k = shown-so s o m a x in
+    k.order ys (runs-in-order y (goes s o es rs t e) k.now (k.fit es rs t refl))
 
 -- what is shown of the run of a valid galley is in order
 pub shown-in-order : (g : Galley) → IsValid g → IsOrderly (shown_run g) no_stories
-shown-in-order g v = runs-in-order g.params (galley-shows g) (starts g v) no_stories tt
+shown-in-order g v = runs-in-order (galley-shows g) (starts g v) no_stories tt

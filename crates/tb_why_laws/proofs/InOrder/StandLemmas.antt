@@ -64,13 +64,13 @@ module _ (p : Params) (K : ℕ → Type 0) where
 
   -- a float goes to a list
   abbrev pub moved_to : Where → Float → FloatLists → Work → Work
-  moved_to place f left w = with_floats (joined_to place f left) (records_also (placed f place w.state.floats (column_height_of p w.state.floats)) w)
+  moved_to place f left w = with_floats (joined_to place f left) (records_also (placed p f place w.state.floats (column_height_of p w.state.floats)) w)
 
   pub stand-moved : (place : Where) (f : Float) (left : FloatLists) (w : Work) (m : SummaryView) → (w.refused ≡ false → FitState (record w.state { floats = joined_to place f left }) m) → Stand (moved_to place f left w) m
-  stand-moved place f left w m h = by-records (λ c. Stand (with_floats (joined_to place f left) c) m) (placed f place w.state.floats (column_height_of p w.state.floats)) w h h
+  stand-moved place f left w m h = by-records (λ c. Stand (with_floats (joined_to place f left) c) m) (placed p f place w.state.floats (column_height_of p w.state.floats)) w h h
 
   pub moved-sends : (place : Where) (f : Float) (left : FloatLists) (w : Work) → (moved_to place f left w).sent ≡ w.sent
-  moved-sends place f left w = by-records (λ c. c.sent ≡ w.sent) (placed f place w.state.floats (column_height_of p w.state.floats)) w refl refl
+  moved-sends place f left w = by-records (λ c. c.sent ≡ w.sent) (placed p f place w.state.floats (column_height_of p w.state.floats)) w refl refl
 
   -- ---- a float that waits is tried
 
@@ -209,7 +209,7 @@ module _ (p : Params) (K : ℕ → Type 0) where
   double-once false f before rest w two is e once = once
 
   double-two : (b : Bool) (f : Float) (before rest : List Float) (w : Work) → (place_waiting (wide_part p) p (if b then places.Double else places.Deferred) f before rest w).state.two_columns ≡ w.state.two_columns
-  double-two true f before rest w = by-records (λ c. c.state.two_columns ≡ w.state.two_columns) (placed f places.Double w.state.floats (column_height_of p w.state.floats)) w refl refl
+  double-two true f before rest w = by-records (λ c. c.state.two_columns ≡ w.state.two_columns) (placed p f places.Double w.state.floats (column_height_of p w.state.floats)) w refl refl
   double-two false f before rest w = refl
 
   -- each wide float that waits is tried for the space above both columns

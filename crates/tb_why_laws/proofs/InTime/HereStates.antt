@@ -12,7 +12,7 @@ use Rattle.tb_galley.specs.declared.Item.{Item}
 use Rattle.tb_galley.specs.declared.ItemKind.{ItemKind}
 use Rattle.tb_galley.specs.declared.ItemKind.TheVariants as items
 use Rattle.tb_galley.specs.declared.Galley.{Galley}
-use Rattle.tb_galley.specs.GalleyNodes.{plain_leaf, with_firings, item_kinds, two_after, item_nodes, expanded}
+use Rattle.tb_galley.specs.GalleyNodes.{plain_leaf, with_firings, item_kinds, two_after, params_after, item_nodes, expanded}
 use Rattle.tb_insert.specs.declared.Class.{Class}
 use Rattle.tb_insert.specs.Account.{terms_after}
 use Rattle.tb_break.specs.PageTop.{pruned_nodes}
@@ -31,29 +31,29 @@ use Rattle.tb_why_laws.proofs.InTime.HereWorks.{Here, HereState, out-here}
 
 -- ---- a step
 
-module _ (p : Params) (s : State) (o : Running p s) (h : HereState s) where
-  page-here : HereReach (page_of p s)
-  page-here = reached-here (ask_for p s).max_depth (terms_after (frozen_for (ask_for p s) s.classes s.boxes)) [] (pruned_nodes p.topskip s.waiting) tt (nodes-pruned p.topskip s.waiting h.waiting)
+module _ (s : State) (o : Running s) (h : HereState s) where
+  page-here : HereReach (page_of s)
+  page-here = reached-here (ask_for s).max_depth (terms_after (frozen_for (ask_for s) s.classes s.boxes)) [] (pruned_nodes (ask_for s).top_skip s.waiting) tt (nodes-pruned (ask_for s).top_skip s.waiting h.waiting)
 
-  module _ (e : (now p s o).fault ≡ None) where
+  module _ (e : (now s o).fault ≡ None) where
     -- once the page is filled
-    pub filled-here : HereState (now p s o).state
+    pub filled-here : HereState (now s o).state
     filled-here =
-        let a = (progressed p s o (of_line 0)).after e in
+        let a = (progressed s o (of_line 0)).after e in
         record { waiting = subst AllHere (sym a.waiting) h.waiting; boxes = subst FloatlessBoxes (sym a.boxes) h.boxes; held = subst AllHere (sym a.held) h.held }
 
     -- the page that fires
-    pub fires-here : HereFired (fires p s o)
-    fires-here = fired-here (frozen_for (ask_for p s) (now p s o).state.classes (now p s o).state.boxes) (now p s o).state.boxes (page_of p s) filled-here.boxes page-here
+    pub fires-here : HereFired (fires s o)
+    fires-here = fired-here (frozen_for (ask_for s) (now s o).state.classes (now s o).state.boxes) (now s o).state.boxes (page_of s) filled-here.boxes page-here
 
     -- where its firing begins
-    pub begins-here : Here (begun (after_page (now p s o).state (fires p s o)))
+    pub begins-here : Here (begun (after_page (now s o).state (fires s o)))
     begins-here = record { boxes = fires-here.boxes; held = filled-here.held; back = tt }
 
-  pub step-here : (es : List RunEvent) (rs : List Recorded) (t : State) → step p s ≡ goes_on es rs t → HereState t
+  pub step-here : (es : List RunEvent) (rs : List Recorded) (t : State) → step s ≡ goes_on es rs t → HereState t
   step-here es rs t e =
-      let g = going-on p s o es rs t e in
-      subst HereState (sym g.state) (out-here p (now p s o).state (fires p s o) (filled-here g.fault) (fires-here g.fault))
+      let g = going-on s o es rs t e in
+      subst HereState (sym g.state) (out-here (now s o).state.params (now s o).state (fires s o) (filled-here g.fault) (fires-here g.fault))
 
 -- ---- the start
 
@@ -84,7 +84,7 @@ item-here p two n k = (tt, tt)
 
 items-here : (p : Params) (two : Bool) (ns : List Item) → AllHere (item_nodes p two ns)
 items-here p two [] = tt
-items-here p two (n ∷ ns) = nodes-join (on_line n.line (item_kinds p two n.kind)) (item_nodes p (two_after two n.kind) ns) (item-here p two n.line n.kind) (items-here p (two_after two n.kind) ns)
+items-here p two (n ∷ ns) = nodes-join (on_line n.line (item_kinds p two n.kind)) (item_nodes (params_after p n.kind) (two_after two n.kind) ns) (item-here p two n.line n.kind) (items-here (params_after p n.kind) (two_after two n.kind) ns)
 
 void-here : (cs : List Class) → FloatlessBoxes (void_boxes cs)
 void-here [] = tt

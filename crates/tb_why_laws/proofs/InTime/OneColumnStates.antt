@@ -13,7 +13,7 @@ use Rattle.tb_galley.specs.declared.Item.{Item}
 use Rattle.tb_galley.specs.declared.ItemKind.{ItemKind}
 use Rattle.tb_galley.specs.declared.ItemKind.TheVariants as items
 use Rattle.tb_galley.specs.declared.Galley.{Galley}
-use Rattle.tb_galley.specs.GalleyNodes.{with_firings, item_kinds, two_after, item_nodes, expanded}
+use Rattle.tb_galley.specs.GalleyNodes.{with_firings, item_kinds, two_after, params_after, item_nodes, expanded}
 use Rattle.tb_break.specs.PageTop.{pruned_nodes}
 use Rattle.tb_builder.specs.Reach.{Reached}
 use Rattle.tb_builder.specs.FiredPages.{frozen_for}
@@ -41,6 +41,7 @@ IsSingleAct (acts.Take f) = Unit {0}
 IsSingleAct (acts.TakeMargin m) = Unit {0}
 IsSingleAct (acts.Suppress area) = Unit {0}
 IsSingleAct (acts.Page n) = ⊥
+IsSingleAct (acts.Set c) = Unit {0}
 IsSingleAct (acts.Head f) = Unit {0}
 IsSingleAct (acts.Columns two) = two ≡ false
 
@@ -61,48 +62,48 @@ act-kept (sets_number n) h = absurd h
 act-kept (changes_columns two) h = record { page = refl; two = λ e. h }
 act-kept m h = record { page = refl; two = λ e. e }
 
-abbrev keeping : (p : Params) → State → PageLaw p
-keeping p o = record {
+abbrev keeping : State → PageLaw
+keeping o = record {
   shows = nothing_shown;
   holds = λ rs s. AllByRecursion IsSingleAct (acted_of rs) × Kept o s;
   tries = λ line b least rs s h. (tt, h);
   acts = λ s t a ws records rs m h. let x = act-kept m h.0.0 in (tt, (h.0.1, record { page = x.page ∙ h.1.page; two = λ e. x.two (h.1.two e) }));
 }
 
-progress-kept : (p : Params) (rs : List Reached) (least : ℤ) (s : State) → AllByRecursion IsSingleAct (acted_of rs) → Kept s (progress p rs least s).state
-progress-kept p rs least s h = (progress-holds (keeping p s) (page-is p rs least s) (h, record { page = refl; two = λ e. e })).1.1.1
+progress-kept : (rs : List Reached) (least : ℤ) (s : State) → AllByRecursion IsSingleAct (acted_of rs) → Kept s (progress rs least s).state
+progress-kept rs least s h = (progress-holds (keeping s) (page-is rs least s) (h, record { page = refl; two = λ e. e })).1.1.1
 
 -- ---- a step
 
-module _ (p : Params) (s : State) (o : Running p s) (one : OneColumn s) where
+module _ (s : State) (o : Running s) (one : OneColumn s) where
   -- the acts that were done are single
-  acts-single : AllByRecursion IsSingleAct (acted_of (page_of p s).reached)
+  acts-single : AllByRecursion IsSingleAct (acted_of (page_of s).reached)
   acts-single =
-      all-front IsSingleAct (acted_of (page_of p s).reached) (deeds (page_of p s).beyond)
-      (subst (AllByRecursion IsSingleAct) (sym (pruned-deeds p.topskip s.waiting) ∙ all-deeds (pruned_nodes p.topskip s.waiting) (page_of p s) (cut (of_line 0) p o.calm s o.kept)) one.acts)
+      all-front IsSingleAct (acted_of (page_of s).reached) (deeds (page_of s).beyond)
+      (subst (AllByRecursion IsSingleAct) (sym (pruned-deeds (ask_for s).top_skip s.waiting) ∙ all-deeds (pruned_nodes (ask_for s).top_skip s.waiting) (page_of s) (cut (of_line 0) s o.kept)) one.acts)
 
-  done : Kept s (now p s o).state
-  done = progress-kept p (page_of p s).reached awful_bad s acts-single
+  done : Kept s (now s o).state
+  done = progress-kept (page_of s).reached awful_bad s acts-single
 
   -- the page that is made once the page is filled is the same
-  pub filled-page : (now p s o).state.number ≡ s.number
+  pub filled-page : (now s o).state.number ≡ s.number
   filled-page = done.page
 
-  module _ (e : (now p s o).fault ≡ None) where
+  module _ (e : (now s o).fault ≡ None) where
     -- and there is one column
-    pub filled-single : (now p s o).state.two_columns ≡ false
+    pub filled-single : (now s o).state.two_columns ≡ false
     filled-single = done.two one.two
 
-  pub step-single : (es : List RunEvent) (rs : List Recorded) (t : State) → step p s ≡ goes_on es rs t → OneColumn t
+  pub step-single : (es : List RunEvent) (rs : List Recorded) (t : State) → step s ≡ goes_on es rs t → OneColumn t
   step-single es rs t e = record {
     two = subst (λ (x : State). x.two_columns ≡ false) (sym g.state)
-        ((fired_closes p o.calm s o.kept o.closing (now p s o).state (λ v. (reached-adds p s o v).after g.fault) ((progressed p o.calm s o.kept o.closing).after g.fault) (frozen_for (ask_for p s) (now p s o).state.classes (now p s o).state.boxes)).1 ∙ filled-single g.fault);
+        ((fired_closes s o.kept o.closing (now s o).state (λ v. (reached-adds s o v).after g.fault) ((progressed s o.kept o.closing).after g.fault) (frozen_for (ask_for s) (now s o).state.classes (now s o).state.boxes)).1 ∙ filled-single g.fault);
     acts = subst (λ (x : State). AllByRecursion IsSingleAct (deeds x.waiting)) (sym g.state)
-        (subst (AllByRecursion IsSingleAct) (sym (waiting_deeds p s o g.fault)) (all-back IsSingleAct (acted_of (page_of p s).reached) _ (subst (AllByRecursion IsSingleAct) (does p s o g.fault) one.acts)));
+        (subst (AllByRecursion IsSingleAct) (sym (waiting_deeds s o g.fault)) (all-back IsSingleAct (acted_of (page_of s).reached) _ (subst (AllByRecursion IsSingleAct) (does s o g.fault) one.acts)));
   }
     where
-      g : GoesOn p s o t
-      g = going-on p s o es rs t e
+      g : GoesOn s o t
+      g = going-on s o es rs t e
 
 -- ---- the start
 
@@ -118,13 +119,14 @@ item-single p two n (items.Margin m vert) h = (tt, tt)
 item-single p two n (items.Suppress area) h = (tt, tt)
 item-single p two n (items.Page k) h = absurd h
 item-single p two n (items.Head f) h = (tt, tt)
+item-single p two n (items.Set c) h = (tt, tt)
 item-single p two n k h = tt
 
 items-single : (p : Params) (two : Bool) (ns : List Item) → AllByRecursion (λ (n : Item). IsSingleItem n.kind) ns → AllByRecursion IsSingleAct (deeds (item_nodes p two ns))
 items-single p two [] h = tt
 items-single p two (n ∷ ns) h =
-    subst (AllByRecursion IsSingleAct) (sym (deeds-append (on_line n.line (item_kinds p two n.kind)) (item_nodes p (two_after two n.kind) ns)))
-    (all-join IsSingleAct (deeds (on_line n.line (item_kinds p two n.kind))) (deeds (item_nodes p (two_after two n.kind) ns)) (item-single p two n.line n.kind h.0) (items-single p (two_after two n.kind) ns h.1))
+    subst (AllByRecursion IsSingleAct) (sym (deeds-append (on_line n.line (item_kinds p two n.kind)) (item_nodes (params_after p n.kind) (two_after two n.kind) ns)))
+    (all-join IsSingleAct (deeds (on_line n.line (item_kinds p two n.kind))) (deeds (item_nodes (params_after p n.kind) (two_after two n.kind) ns)) (item-single p two n.line n.kind h.0) (items-single (params_after p n.kind) (two_after two n.kind) ns h.1))
 
 -- a galley without items `twocolumn` and `page` begins in one column and stays there
 pub starts-single : (g : Galley) → HasOneColumn g → OneColumn (first_state g.params (classes_of g) (expanded g))

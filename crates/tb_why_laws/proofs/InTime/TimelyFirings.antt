@@ -100,8 +100,8 @@ module _ (p : Params) (vert : Bool) where
   placed-page : (place : Where) (f : Float) (left : FloatLists) (w : Work) → (place_float p place f left w).state.number ≡ w.state.number
   placed-page place f left w = by_placed (is_placed place)
     where
-      by_placed : (t : Bool) → (if t then records_also (placed f place w.state.floats (column_height_of p w.state.floats)) w else w).state.number ≡ w.state.number
-      by_placed true = ap (λ (s : State). s.number) (records-state (placed f place w.state.floats (column_height_of p w.state.floats)) w)
+      by_placed : (t : Bool) → (if t then records_also (placed p f place w.state.floats (column_height_of p w.state.floats)) w else w).state.number ≡ w.state.number
+      by_placed true = ap (λ (s : State). s.number) (records-state (placed p f place w.state.floats (column_height_of p w.state.floats)) w)
       by_placed false = refl
 
   defer-page : (f : Float) (left : FloatLists) (w : Work) → (defer p f left w).state.number ≡ w.state.number

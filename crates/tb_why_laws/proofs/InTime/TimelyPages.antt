@@ -181,11 +181,11 @@ module _ (p : Params) where
     joined place = joined_to place f (record w.state.floats { deferred = before ++ rest })
 
     abbrev moved : Where → Work
-    moved place = with_floats (joined place) (records_also (placed f place w.state.floats (column_height_of p w.state.floats)) w)
+    moved place = with_floats (joined place) (records_also (placed p f place w.state.floats (column_height_of p w.state.floats)) w)
 
     area-timely : (place : Where) → ((n : ℕ) → IsInColumn (joined place) n → IsInColumn w.state.floats n ⊎ (n ≡ f.line)) → is_deferred place ≡ false → place_told ts ≡ place → Times w (moved place) (unless_over w (tales (decisions f ts))) m (Punctual (IsInColumn (joined place)) (moved place))
     area-timely place more area is =
-        let r = placed f place w.state.floats (column_height_of p w.state.floats) in
+        let r = placed p f place w.state.floats (column_height_of p w.state.floats) in
         times-before w w (moved place) (unless_over w (tales (decisions f ts))) m (Punctual (IsInColumn (joined place)) w) (Punctual (IsInColumn (joined place)) (moved place)) (records-send r w)
         (λ k x q. let y = x (sym (records-refuse r w) ∙ q) in (ap (λ (s : State). s.number) (records-state r w) ∙ y.0, y.1))
         (times-tales w (decisions f ts) m (IsInColumn w.state.floats) (IsInColumn (joined place)) h (λ q a. decision-timely (IsInColumn w.state.floats) (IsInColumn (joined place)) f ts (λ n i. by_more n (more n i)) m a))

@@ -3,7 +3,6 @@ use Rattle.std.proofs.Common.{◌≡◌, refl, sym, ◌∙◌, ap, subst, inl, i
 use Rattle.std.specs.List.{AllByRecursion}
 use Rattle.tb_scaled.specs.Scaled.{awful_bad}
 use Rattle.tb_node.specs.declared.Float.{Float}
-use Rattle.tb_param.specs.declared.Params.{Params}
 use Rattle.tb_galley.specs.declared.Galley.{Galley}
 use Rattle.tb_galley.specs.Valid.{IsValid}
 use Rattle.tb_sheet.specs.Sheet.{warned, shipped}
@@ -65,9 +64,9 @@ not-on e = cc
 same-state : {es qs : List RunEvent} {rs us : List Recorded} {s t : State} → goes_on es rs s ≡ goes_on qs us t → s ≡ t
 same-state e = cc
 
-module _ (p : Params) (s : State) (o : Running p s) (one : OneColumn s) (here : HereState s) (m : SummaryView) (a : InTime s m) where
+module _ (s : State) (o : Running s) (one : OneColumn s) (here : HereState s) (m : SummaryView) (a : InTime s m) where
   abbrev next : State
-  next = (now p s o).state
+  next = (now s o).state
 
   abbrev news : List Float
   news = drop (length s.floats.second) next.floats.second
@@ -83,50 +82,49 @@ module _ (p : Params) (s : State) (o : Running p s) (one : OneColumn s) (here : 
     after : (es : List RunEvent) (rs : List Recorded) (t : State) → x ≡ goes_on es rs t → InTime t done
 
   page-is : next.number ≡ m.sheets + 1
-  page-is = filled-page p s o one ∙ a.page
+  page-is = filled-page s o one ∙ a.page
 
-  module _ (e : (now p s o).fault ≡ None) where
+  module _ (e : (now s o).fault ≡ None) where
     -- the floats at the top and bottom are as before
     same-lines : (n : ℕ) → IsInColumn next.floats n → IsInColumn s.floats n
-    same-lines n (inl i) = inl (subst (λ fs. IsAmong n (float_lines fs)) (acts-lists p s o e).top i)
-    same-lines n (inr i) = inr (subst (λ fs. IsAmong n (float_lines fs)) (acts-lists p s o e).bottom i)
+    same-lines n (inl i) = inl (subst (λ fs. IsAmong n (float_lines fs)) (acts-lists s o e).top i)
+    same-lines n (inr i) = inr (subst (λ fs. IsAmong n (float_lines fs)) (acts-lists s o e).bottom i)
 
     filled : DueIn (IsInColumn next.floats) m
     filled = fewer-due (IsInColumn s.floats) (IsInColumn next.floats) same-lines m.sheets m.stories a.due
 
-    fired : Comes (firing_pieces p next (fires p s o)) (out p next (fires p s o)).sent waited (λ k. (out p next (fires p s o)).refused ≡ false → ((out p next (fires p s o)).state.number ≡ k.sheets + 1) × DueIn (IsInColumn (out p next (fires p s o)).state.floats) k)
+    fired : Comes (firing_pieces next.params next (fires s o)) (out next.params next (fires s o)).sent waited (λ k. (out next.params next (fires s o)).refused ≡ false → ((out next.params next (fires s o)).state.number ≡ k.sheets + 1) × DueIn (IsInColumn (out next.params next (fires s o)).state.floats) k)
     fired =
         let x = wait-timely (IsInColumn next.floats) (spot_of next) news m page-is filled in
-        firing-comes p next (fires p s o) (fires-here p s o here e).body (begins-here p s o here e) (filled-single p s o one e) waited (page-is ∙ ap (λ n. n + 1) (sym x.sheets)) x.due
+        firing-comes next.params next (fires s o) (fires-here s o here e).body (begins-here s o here e) (filled-single s o one e) waited (page-is ∙ ap (λ n. n + 1) (sym x.sheets)) x.due
 
   -- the floats that wait from now on are told in time
   waits : TellsTimely (map (λ f. Waits (spot_of next) f) news) m NoLine
   waits = wait-timely NoLine (spot_of next) news m page-is (none-due NoLine (λ n i. i) m.sheets m.stories)
 
-  behind : (xs : List Shown) (k : SummaryView) → ((later : List Shown) → AreTimely later k → AreTimely (xs ++ later) waited) → (later : List Shown) → AreTimely later k → AreTimely (shown_with p s xs ++ later) m
+  behind : (xs : List Shown) (k : SummaryView) → ((later : List Shown) → AreTimely later k → AreTimely (xs ++ later) waited) → (later : List Shown) → AreTimely later k → AreTimely (shown_with s xs ++ later) m
   behind xs k h later x =
-      subst (λ us. AreTimely us m) (sym (append_assoc (all_happen (now p s o).events) (wait_tales s next ++ xs) later ∙ ap (λ us. all_happen (now p s o).events ++ us) (append_assoc (wait_tales s next) xs later)))
-      (quiet-timely (now p s o).events (progress-quiet p (page_of p s).reached awful_bad s) (wait_tales s next ++ (xs ++ later)) m
+      subst (λ us. AreTimely us m) (sym (append_assoc (all_happen (now s o).events) (wait_tales s next ++ xs) later ∙ ap (λ us. all_happen (now s o).events ++ us) (append_assoc (wait_tales s next) xs later)))
+      (quiet-timely (now s o).events (progress-quiet (page_of s).reached awful_bad s) (wait_tales s next ++ (xs ++ later)) m
       (subst (λ us. AreTimely (us ++ (xs ++ later)) m) (waits-map next news) (told-timely (map (λ f. Waits (spot_of next) f) news) (xs ++ later) m waits.order (h later x))))
 
   -- what is shown of the step
-  comes-so : {x : Step} {xs : List Shown} → StepShows p s x xs → StepComes x xs
+  comes-so : {x : Step} {xs : List Shown} → StepShows s x xs → StepComes x xs
   comes-so (shows_going e f r rs) =
       let y = fired e in
-      record { done = y.now; order = behind (served_shown p s) y.now y.order; after = λ qs us t i. subst (λ u. InTime u y.now) (same-state i) (let z = y.after r in record { page = z.0; due = z.1 }) }
-  comes-so (shows_ending e f rs d) = let y = fired e in record { done = y.now; order = behind (served_shown p s) y.now y.order; after = λ qs us t i. absurd (not-on i) }
+      record { done = y.now; order = behind (served_shown s) y.now y.order; after = λ qs us t i. subst (λ u. InTime u y.now) (same-state i) (let z = y.after r in record { page = z.0; due = z.1 }) }
+  comes-so (shows_ending e f rs d) = let y = fired e in record { done = y.now; order = behind (served_shown s) y.now y.order; after = λ qs us t i. absurd (not-on i) }
   comes-so (shows_page rs d) = record { done = waited; order = behind [] waited (λ later h. h); after = λ qs us t i. absurd (not-on i) }
 
 -- ---- a run
 
-module _ (p : Params) where
-  runs-timely : {s : State} {r : Run} {xs : List Shown} → RunShows p s r xs → Running p s → OneColumn s → HereState s → (m : SummaryView) → InTime s m → AreTimely xs m
-  runs-timely (shows_none s e) o one here m a = tt
-  runs-timely (shows_last {s = s} x) o one here m a = (comes-so p s o one here m a x).order [] tt
-  runs-timely (shows_more {s = s} {t = t} {ys = ys} {es = es} {rs = rs} x e y) o one here m a =
-      let k = comes-so p s o one here m a x in
-      k.order ys (runs-timely y (goes p s o es rs t e) (step-single p s o one es rs t e) (step-here p s o here es rs t e) k.done (k.after es rs t refl))
+runs-timely : {s : State} {r : Run} {xs : List Shown} → RunShows s r xs → Running s → OneColumn s → HereState s → (m : SummaryView) → InTime s m → AreTimely xs m
+runs-timely (shows_none s e) o one here m a = tt
+runs-timely (shows_last {s = s} x) o one here m a = (comes-so s o one here m a x).order [] tt
+runs-timely (shows_more {s = s} {t = t} {ys = ys} {es = es} {rs = rs} x e y) o one here m a =
+    let k = comes-so s o one here m a x in
+    k.order ys (runs-timely y (goes s o es rs t e) (step-single s o one es rs t e) (step-here s o here es rs t e) k.done (k.after es rs t refl))
 
 -- what is shown of the run of a valid galley of one column comes in time
 pub shown-in-time : (g : Galley) → IsValid g → HasOneColumn g → AreTimely (shown_run g) no_stories
-shown-in-time g v one = runs-timely g.params (galley-shows g) (starts g v) (starts-single g one) (starts-here g) no_stories (record { page = refl; due = tt })
+shown-in-time g v one = runs-timely (galley-shows g) (starts g v) (starts-single g one) (starts-here g) no_stories (record { page = refl; due = tt })

@@ -20,7 +20,7 @@ use Rattle.tb_output.specs.State.{State, Recorded}
 use Rattle.tb_items.specs.RunEvents.{RunEvent}
 use Rattle.tb_output.specs.Act.{taken_float, taken_head}
 use Rattle.tb_steps.specs.Run.{Progress, progress}
-use Rattle.tb_steps.proofs.RunTree.{ActMove, PageMoves, PageIs, page-is, takes_float, takes_note, sets_flag, changes_columns, sets_number, takes_title, shows_try, does_act, rests, moves, is_whole, is_cut}
+use Rattle.tb_steps.proofs.RunTree.{ActMove, PageMoves, PageIs, page-is, takes_float, takes_note, changes_columns, takes_title, shows_try, does_act, rests, moves, is_whole, is_cut}
 use Rattle.tb_laws.specs.Laws.{IsEmptied}
 use Rattle.tb_laws.proofs.NothingLost.StateWeights.{floats_weight, floats-append, entries_weight}
 use Rattle.tb_why_laws.proofs.OnePlace.CallWeights.{deeds_weight}
@@ -106,20 +106,19 @@ act-done p (takes_float {s = s} f r) e = by_list (has_second p && (f.wide && s.t
 act-done p (takes_note {s = s} m r) e = joins (acts.TakeMargin m) s (entries.Left m ∷ entries.Right m ∷ []) (λ v. omega arith)
 act-done p (takes_title {s = s} f r) e = record { here = refl; top = refl; bottom = refl; deferred = refl; titles = taken_head p f ∷ []; double = refl; news = []; second = sym (append-nil s.floats.second); columns = inl (refl, refl); taken = λ v. omega arith }
 act-done p (changes_columns {s = s} two) e = record { here = refl; top = refl; bottom = refl; deferred = refl; titles = []; double = sym (append-nil s.floats.double); news = []; second = sym (append-nil s.floats.second); columns = inr (ap (λ (l : FloatLists). l.double) e.0); taken = λ v. omega arith }
-act-done p (sets_flag {s = s} area) e = record { here = refl; top = refl; bottom = refl; deferred = refl; titles = []; double = sym (append-nil s.floats.double); news = []; second = sym (append-nil s.floats.second); columns = inl (refl, refl); taken = λ v. omega arith }
-act-done p (sets_number {s = s} n) e = record { here = refl; top = refl; bottom = refl; deferred = refl; titles = []; double = sym (append-nil s.floats.double); news = []; second = sym (append-nil s.floats.second); columns = inl (refl, refl); taken = λ v. omega arith }
+act-done p {s = s} m e = record { here = refl; top = refl; bottom = refl; deferred = refl; titles = []; double = sym (append-nil s.floats.double); news = []; second = sym (append-nil s.floats.second); columns = inl (refl, refl); taken = λ v. omega arith }
 
 -- ---- all acts of a page
 
-page-lists : {p : Params} {rs qs : List Reached} {s t : State} {es : List RunEvent} {records : List Recorded} → PageMoves p rs s es records qs t → qs ≡ [] → AllByRecursion IsEmptied records → ActedLists (acted_of rs) s t
+page-lists : {rs qs : List Reached} {s t : State} {es : List RunEvent} {records : List Recorded} → PageMoves rs s es records qs t → qs ≡ [] → AllByRecursion IsEmptied records → ActedLists (acted_of rs) s t
 page-lists (rests {s = s}) none e = subst (λ l. ActedLists (acted_of l) s s) (sym none) (nothing-done s)
 page-lists (moves (shows_try line b least qs) x) none e = page-lists x none e
-page-lists {p = p} (moves {u = u} {more = more} (does_act {s = s} {t = t} {records = records} a qs m) x) none e =
-    both-done a (acted_of qs) s t u (act-done p m (all-front IsEmptied records more e)) (page-lists x none (all-back IsEmptied records more e))
+page-lists (moves {u = u} {more = more} (does_act {s = s} {t = t} {records = records} a qs m) x) none e =
+    both-done a (acted_of qs) s t u (act-done s.params m (all-front IsEmptied records more e)) (page-lists x none (all-back IsEmptied records more e))
 
-pub progress-lists : (p : Params) (rs : List Reached) (least : ℤ) (s : State) → AllByRecursion IsEmptied (progress p rs least s).records → (progress p rs least s).fault ≡ None → ActedLists (acted_of rs) s (progress p rs least s).state
-progress-lists p rs least s = by_page (page-is p rs least s)
+pub progress-lists : (rs : List Reached) (least : ℤ) (s : State) → AllByRecursion IsEmptied (progress rs least s).records → (progress rs least s).fault ≡ None → ActedLists (acted_of rs) s (progress rs least s).state
+progress-lists rs least s = by_page (page-is rs least s)
   where
-    by_page : {q : Progress} → PageIs p rs s q → AllByRecursion IsEmptied q.records → q.fault ≡ None → ActedLists (acted_of rs) s q.state
+    by_page : {q : Progress} → PageIs rs s q → AllByRecursion IsEmptied q.records → q.fault ≡ None → ActedLists (acted_of rs) s q.state
     by_page (is_whole x) e f = page-lists x refl e
     by_page (is_cut {line = line} {live = live} x y) e f = absurd (none-some (line, live) (sym f))

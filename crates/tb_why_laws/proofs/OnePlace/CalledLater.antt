@@ -3,7 +3,6 @@ use Rattle.std.proofs.Common.{◌≡◌, refl, sym, ◌∙◌, ap, subst, inl, �
 use Rattle.tb_node.specs.declared.Float.{Float}
 use Rattle.tb_node.specs.PlainNodes.{PlainNode, without_insertions}
 use Rattle.tb_node.proofs.Weights.{nodes_weight}
-use Rattle.tb_param.specs.declared.Params.{Params}
 use Rattle.tb_break.specs.PageTop.{pruned_nodes}
 use Rattle.tb_scaled.specs.Scaled.{awful_bad}
 use Rattle.tb_builder.specs.FiredPages.{Fired, page_break, from_break}
@@ -13,6 +12,7 @@ use Rattle.tb_builder.proofs.FiredPages.PageWeights.{boxes_weight}
 use Rattle.tb_float.specs.declared.Entry.{Entry}
 use Rattle.tb_float.specs.declared.Entry.TheVariants as entries
 use Rattle.tb_output.specs.State.{State}
+use Rattle.tb_steps.specs.Run.{ask_for}
 use Rattle.tb_laws.specs.Laws.{float_lines}
 use Rattle.tb_laws.proofs.ClassesRise.RisingLists.{IsAmong}
 use Rattle.tb_laws.proofs.ClassesRise.PageLines.{deeds, deeds-append, pruned-deeds, spent-deeds, deeds-split, without-acts-deeds, deeds-of, without-insertions-deeds, append-none, none-front}
@@ -43,37 +43,37 @@ module _ (t : List PlainNode) (w : Reach) (c : CutAt [] t w) where
   pub all-deeds : deeds t ≡ acted_of w.reached ++ deeds w.beyond
   all-deeds = ap deeds c.whole ∙ deeds-append c.front w.beyond ∙ ap (λ l. l ++ deeds w.beyond) (deeds-of c.front ∙ sym c.acts)
 
-module _ (p : Params) (s : State) (o : Running p s) (e : (now p s o).fault ≡ None) where
+module _ (s : State) (o : Running s) (e : (now s o).fault ≡ None) where
   abbrev next : State
-  next = (now p s o).state
+  next = (now s o).state
 
   abbrev page : Fired
-  page = fires p s o
+  page = fires s o
 
-  page_cut : CutAt [] (pruned_nodes p.topskip s.waiting) (page_of p s)
-  page_cut = cut (of_line 0) p o.calm s o.kept
+  page_cut : CutAt [] (pruned_nodes (ask_for s).top_skip s.waiting) (page_of s)
+  page_cut = cut (of_line 0) s o.kept
 
   -- the acts that wait are those that were done and those behind the break
-  pub does : deeds s.waiting ≡ acted_of (page_of p s).reached ++ deeds page.rest
+  pub does : deeds s.waiting ≡ acted_of (page_of s).reached ++ deeds page.rest
   does =
-      sym (pruned-deeds p.topskip s.waiting) ∙ all-deeds (pruned_nodes p.topskip s.waiting) (page_of p s) page_cut
-      ∙ ap (λ l. acted_of (page_of p s).reached ++ l) (sym (spent-deeds (from_break (page_of p s)) ∙ rest-deeds (pruned_nodes p.topskip s.waiting) (page_of p s) page_cut))
+      sym (pruned-deeds (ask_for s).top_skip s.waiting) ∙ all-deeds (pruned_nodes (ask_for s).top_skip s.waiting) (page_of s) page_cut
+      ∙ ap (λ l. acted_of (page_of s).reached ++ l) (sym (spent-deeds (from_break (page_of s)) ∙ rest-deeds (pruned_nodes (ask_for s).top_skip s.waiting) (page_of s) page_cut))
 
   -- the page that fires has none
   pub page-deeds : deeds page.body ≡ []
-  page-deeds = body-deeds (pruned_nodes p.topskip s.waiting) (page_of p s) page_cut
+  page-deeds = body-deeds (pruned_nodes (ask_for s).top_skip s.waiting) (page_of s) page_cut
 
   -- ---- the lists
 
   -- the current and the second list have grown by what was taken, and the other lists are as before
-  pub acts-lists : ActedLists (acted_of (page_of p s).reached) s next
-  acts-lists = progress-lists p (page_of p s).reached awful_bad s (progressed p o.calm s o.kept o.closing).records e
+  pub acts-lists : ActedLists (acted_of (page_of s).reached) s next
+  acts-lists = progress-lists (page_of s).reached awful_bad s (progressed s o.kept o.closing).records e
 
   -- the float is in one place at most of these lists and of those that acts behind the break will take
   places : (n : ℕ) → (floats_weight (of_line n) next.floats.deferred + floats_weight (of_line n) next.floats.second) + later_weight (of_line n) next.floats.current (deeds page.rest) ≤ 1
   places n =
       let v = of_line n in
-      let a : nodes_weight v page.body + boxes_weight v page.boxes + nodes_weight v page.held + nodes_weight v page.rest + (nodes_weight v next.held_page + lists_weight v next.floats + left_weight v next.left_column) ≤ 1 = fired-times p s o e n in
+      let a : nodes_weight v page.body + boxes_weight v page.boxes + nodes_weight v page.held + nodes_weight v page.rest + (nodes_weight v next.held_page + lists_weight v next.floats + left_weight v next.left_column) ≤ 1 = fired-times s o e n in
       let b : deeds_weight v (deeds page.rest) ≤ nodes_weight v page.rest = deeds-within v page.rest in
       omega arith
 
@@ -81,8 +81,8 @@ module _ (p : Params) (s : State) (o : Running p s) (e : (now p s o).fault ≡ N
   grows : (n : ℕ) → later_weight (of_line n) next.floats.current (deeds page.rest) + floats_weight (of_line n) acts-lists.news + floats_weight (of_line n) acts-lists.titles ≡ later_weight (of_line n) s.floats.current (deeds s.waiting)
   grows n =
       let v = of_line n in
-      let a : entries_weight v next.floats.current + floats_weight v acts-lists.news + floats_weight v acts-lists.titles ≡ entries_weight v s.floats.current + deeds_weight v (acted_of (page_of p s).reached) = acts-lists.taken v in
-      let b : deeds_weight v (deeds s.waiting) ≡ deeds_weight v (acted_of (page_of p s).reached) + deeds_weight v (deeds page.rest) = ap (deeds_weight v) does ∙ deeds_weight-append v (acted_of (page_of p s).reached) (deeds page.rest) in
+      let a : entries_weight v next.floats.current + floats_weight v acts-lists.news + floats_weight v acts-lists.titles ≡ entries_weight v s.floats.current + deeds_weight v (acted_of (page_of s).reached) = acts-lists.taken v in
+      let b : deeds_weight v (deeds s.waiting) ≡ deeds_weight v (acted_of (page_of s).reached) + deeds_weight v (deeds page.rest) = ap (deeds_weight v) does ∙ deeds_weight-append v (acted_of (page_of s).reached) (deeds page.rest) in
       omega arith
 
   -- ---- which floats are still to be called

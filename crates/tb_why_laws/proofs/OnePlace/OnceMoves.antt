@@ -9,7 +9,7 @@ use Rattle.tb_float.specs.declared.Part.{Part}
 use Rattle.tb_float.specs.declared.Part.TheVariants as parts
 use Rattle.tb_float.specs.Lists.{FloatLists, floats_of, IsWaiting, wide_part, wide_waiting}
 use Rattle.tb_float.proofs.WaitingLemmas.{wide-waits}
-use Rattle.tb_output.specs.State.{Work, with_floats, puts, footnotes}
+use Rattle.tb_output.specs.State.{Work, with_floats, puts}
 use Rattle.tb_output.specs.Clear
 use Rattle.tb_output.specs.Columns
 use Rattle.tb_output.proofs.StepLaws.Moves.{Hand, nothing, of_text, ColumnMove, takes_company, records_column, ships_column, keeps_left, ships_pair, ends_column, ships_wide, places_double, places_next, PageMove, by_column, by_fill, takes_text, drops_notes, fills_text, keeps_front, gathers, gathers_wide, leaves_second, clears_again, Moves, goes-on}

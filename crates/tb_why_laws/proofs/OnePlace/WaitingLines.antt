@@ -17,6 +17,7 @@ taken_line (acts.Take f) = f.line ∷ []
 taken_line (acts.TakeMargin m) = []
 taken_line (acts.Suppress area) = []
 taken_line (acts.Page n) = []
+taken_line (acts.Set c) = []
 taken_line (acts.Head f) = f.line ∷ []
 taken_line (acts.Columns two) = []
 

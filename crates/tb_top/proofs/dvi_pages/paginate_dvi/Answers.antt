@@ -4,7 +4,7 @@ use Rattle.tb_items.proofs.GalleyItems.{galley-items}
 use Rattle.tb_items.proofs.GalleyNodeLemmas.{galley-nodes}
 use Rattle.tb_laws.specs.DviFiles.{galley_file}
 use Rattle.tb_top.proofs.Written.FirstRuns.{none-yet}
-use Rattle.tb_laws.proofs.Defined.RunParams.{params-runnable}
+use Rattle.tb_steps.proofs.RunParams.{params-runnable}
 use Rattle.tb_top.proofs.dvi_pages.paginate_dvi.Goals as goal
 
 pub new-requires-clause-params : goal.new-requires-clause-params

@@ -10,12 +10,11 @@ use Rattle.tb_top.proofs.dvi_pages.write_run.Given as goal
 abbrev pub invariant-firing : goal.invariant-firing
 invariant-firing g l = record {
   ready : IsReady l.routine;
-  params : l.routine.machine.params ≡ l.fn.galley.params;
   in_file : IsInFile l.progress;
-  going : Going l.fn.galley.params (state_of l.routine) (g.K.Sink.held l.fn.out) (append_known (g.K.Sink.held l.out) l.kept.items) l.progress (run_of l.fn.galley);
+  going : Going (state_of l.routine) (g.K.Sink.held l.fn.out) (append_known (g.K.Sink.held l.out) l.kept.items) l.progress (run_of l.fn.galley);
   grown : Grows (g.K.Sink.held l.fn.out) (g.K.Sink.held l.out);
   later : g.K.Sink.faults l.fn.out ≤ g.K.Sink.faults l.out;
 }
 
 abbrev pub decreases-firing : goal.decreases-firing
-decreases-firing g l = firings_left l.fn.galley.params (state_of l.routine)
+decreases-firing g l = firings_left (state_of l.routine)

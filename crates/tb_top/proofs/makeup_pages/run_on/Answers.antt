@@ -21,7 +21,7 @@ use Rattle.tb_top.proofs.Written.FirstRuns.{none-yet}
 use Rattle.tb_top.proofs.Plain.MakeupClosing.{refuses-cut, ends-well, stops-with, stops-cause, stops-shown}
 use Rattle.tb_top.proofs.Plain.MakeupGoing.{Closing, prefix-now, start-closing, start-going, turn-cut, turn-closing, turn-fewer, turn-counts, turn-going}
 use Rattle.tb_top.proofs.Plain.MakeupTotals.{makeup-few}
-use Rattle.tb_laws.proofs.Defined.RunParams.{few-firings}
+use Rattle.tb_steps.proofs.RunParams.{few-firings}
 use Rattle.tb_top.proofs.makeup_pages.run_on.Goals.{In_ok-put, In-Some, In_ok-ending, In_ok-send}
 use Rattle.tb_top.proofs.makeup_pages.run_on.Given.{Over}
 use Rattle.tb_top.proofs.makeup_pages.run_on.Goals as goal

@@ -9,7 +9,7 @@ use Rattle.tb_items.proofs.GalleyItems.{galley-items}
 use Rattle.tb_items.proofs.GalleyNodeLemmas.{galley-nodes}
 use Rattle.tb_top.specs.Pages.{Paginates, Refuses, view_text}
 use Rattle.tb_top.proofs.Written.FirstRuns.{runs-galley, none-yet}
-use Rattle.tb_laws.proofs.Defined.RunParams.{params-runnable}
+use Rattle.tb_steps.proofs.RunParams.{params-runnable}
 use Rattle.tb_top.proofs.Joined.LawfulRuns.{keeps-laws}
 use Rattle.tb_laws.proofs.Limits.LimitedRuns.{run-within}
 use Rattle.tb_top.proofs.Ends.CycleAnswers.{not-for-cycles}
@@ -40,12 +40,12 @@ run_on-requires-clause-cycles g c = ap (λ (s : State). s.dead_cycles) c.in_ok-r
 
 pub returns-clause-done : goal.returns-clause-done
 returns-clause-done g c =
-    let is = runs-galley c.args.galley.now c.in_ok-routine.routine c.in_ok-routine.ensures.state c.in_ok-routine.ensures.params in
+    let is = runs-galley c.args.galley.now c.in_ok-routine.routine c.in_ok-routine.ensures.state in
     subst (λ r. IfOk c.run_on.result (Paginates c.args.view r (g.K.Sink.held c.args.out.now) (g.K.Sink.held c.run_on.new.out))) is c.run_on.ensures.done
 
 pub returns-clause-refused : goal.returns-clause-refused
 returns-clause-refused g c =
-    let is = runs-galley c.args.galley.now c.in_ok-routine.routine c.in_ok-routine.ensures.state c.in_ok-routine.ensures.params in
+    let is = runs-galley c.args.galley.now c.in_ok-routine.routine c.in_ok-routine.ensures.state in
     subst (λ r. IfErr c.run_on.result (Refuses c.args.view r (g.K.Sink.held c.args.out.now) (g.K.Sink.held c.run_on.new.out))) is c.run_on.ensures.refused
 
 pub returns-clause-laws : goal.returns-clause-laws

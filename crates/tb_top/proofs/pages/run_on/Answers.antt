@@ -1,7 +1,7 @@
 use Rattle.std.proofs.Common.{◌∙◌, ap, sym, subst, ◌≡◌, ◌<◌, ◌++◌, Option, Some, arith}
 use Rattle.std.proofs.lemmas.Result.{err_from_is_err_and, IfErr-weaker, IfOk-weaker, IfErr-at_err}
 use Rattle.std.proofs.lemmas.Option.{MatchOption-at_none}
-use Rattle.tb_output.specs.Machine.{MachineView}
+use Rattle.tb_output.specs.State.{State}
 use Rattle.tb_run.specs.declared.routine.Routine.{Routine}
 use Rattle.tb_steps.specs.Run.{held_count, firings_left}
 use Rattle.tb_items.specs.Happenings.{events_of, ArePages}
@@ -20,7 +20,7 @@ use Rattle.tb_top.proofs.Written.GoingLemmas.{header, more-shown, prefix-now, re
 use Rattle.tb_top.proofs.Written.FinishLemmas.{ClosesAt, ends-well, stops-with, start-closing, start-going, start-tally, turn-cut, turn-closing, turn-going, turn-counts, turn-tally, limit-ready, few-wait, stops-cause, stops-shown}
 use Rattle.tb_top.proofs.Written.FirstRuns.{none-yet}
 use Rattle.tb_top.proofs.Written.TurnLemmas.{ShowsStep, shows-step, turn-fewer}
-use Rattle.tb_laws.proofs.Defined.RunParams.{few-firings}
+use Rattle.tb_steps.proofs.RunParams.{AreFewFirings, few-firings}
 use Rattle.tb_top.proofs.pages.run_on.Given.{Over}
 use Rattle.tb_top.proofs.pages.run_on.Goals.{In_ok-put, In-Some, In_ok-ending, In_ok-send}
 use Rattle.tb_top.proofs.pages.run_on.Goals as goal
@@ -40,13 +40,13 @@ begun g c =
 -- ---- more nodes wait at the start than may be
 
 -- the limit is that of the routine whose nodes were counted
-over : (r q : Routine) (o : Option Ending) → o ≡ over_limit r.machine.params (held_count (state_of r)) → q ≡ record r { most = q.most } → o ≡ over_limit r.machine.params (held_count (state_of q))
-over r q o limit same = limit ∙ ap (λ s. over_limit r.machine.params (held_count s)) (sym (ap state_of same))
+over : (r q : Routine) (o : Option Ending) → o ≡ over_limit r.machine.params (held_count (state_of r)) → q ≡ record r { most = q.most } → o ≡ over_limit (state_of q).params (held_count (state_of q))
+over r q o limit same = limit ∙ ap (λ (s : State). over_limit s.params (held_count s)) (sym (ap state_of same))
 
 -- nothing but the end of the run is left
 ends-at-start : (g : Over) (c : In-Some g) → Appends (g.K.Sink.held c.args.out.now) (append_known (g.K.Sink.held c.args.out.now) (viewed c.args.view c.put.new.out.items)) (viewed c.args.view header)
     → ClosesAt c.args.view c.node_limit.new.self c.in-Some.ending (g.K.Sink.held c.args.out.now) (append_known (g.K.Sink.held c.args.out.now) (viewed c.args.view c.put.new.out.items)) c.new-totals.result (run_on c.args.routine.now)
-ends-at-start g c first = start-closing c.args.routine.now.machine.params c.args.view (state_of c.args.routine.now) c.node_limit.new.self _ _ c.new-totals.result c.node_limit.result (ap state_of c.node_limit.ensures.same) c.requires.page first c.new-totals.ensures (over c.args.routine.now c.node_limit.new.self c.node_limit.result c.node_limit.ensures.limit c.node_limit.ensures.same) c.in-Some.ending c.in-Some.is
+ends-at-start g c first = start-closing c.args.view (state_of c.args.routine.now) c.node_limit.new.self _ _ c.new-totals.result c.node_limit.result (ap state_of c.node_limit.ensures.same) c.requires.page first c.new-totals.ensures (over c.args.routine.now c.node_limit.new.self c.node_limit.result c.node_limit.ensures.limit c.node_limit.ensures.same) c.in-Some.ending c.in-Some.is
 
 pub returns-in-Some-clause-done : goal.returns-in-Some-clause-done
 returns-in-Some-clause-done g c =
@@ -67,17 +67,16 @@ firing-init g c =
     let more = over c.args.routine.now c.node_limit.new.self c.node_limit.result c.node_limit.ensures.limit c.node_limit.ensures.same in
     record {
       ready = limit-ready c.args.routine.now c.node_limit.new.self c.node_limit.result c.requires.ready c.node_limit.ensures.same c.node_limit.ensures.bounded c.node_limit.ensures.within c.in_default.is;
-      params = ap (λ (r : Routine). r.machine.params) c.node_limit.ensures.same;
-      going = start-going c.args.routine.now.machine.params c.args.view (state_of c.args.routine.now) c.node_limit.new.self _ _ c.new-totals.result c.node_limit.result is c.requires.page first c.new-totals.ensures more c.in_default.is;
+      going = start-going c.args.view (state_of c.args.routine.now) c.node_limit.new.self _ _ c.new-totals.result c.node_limit.result is c.requires.page first c.new-totals.ensures more c.in_default.is;
       grown = grows-nothing (g.K.Sink.held c.args.out.now);
-      tally = start-tally c.args.routine.now.machine.params c.args.view (state_of c.args.routine.now) c.node_limit.new.self _ _ c.new-totals.result c.node_limit.result is c.requires.page first c.new-totals.ensures more c.requires.cycles (few-firings c.args.routine.now.machine.params c.requires.params);
+      tally = start-tally c.args.view (state_of c.args.routine.now) c.node_limit.new.self _ _ c.new-totals.result c.node_limit.result is c.requires.page first c.new-totals.ensures more c.requires.cycles (subst (λ (s : State). AreFewFirings s.params) (sym is) (few-firings c.args.routine.now.machine.params c.requires.params));
       later = omega arith;
     }
 
 pub returns-in_err-ending-clause-refused : goal.returns-in_err-ending-clause-refused
 returns-in_err-ending-clause-refused g c =
     let p = err_from_is_err_and c.from_residual-in_err-ending.result c.from_residual-in_err-ending.ensures.1 in
-    let front = prefix-now c.args.routine.now.machine.params c.args.view (state_of c.firing.routine) _ _ c.firing.totals (run_on c.args.routine.now) c.firing.invariant.going in
+    let front = prefix-now c.args.view (state_of c.firing.routine) _ _ c.firing.totals (run_on c.args.routine.now) c.firing.invariant.going in
     rw (p.1, p.2) (none-written _ _ (viewed c.args.view c.firing.kept.items) (view_text c.args.view (run_on c.args.routine.now)) c.firing.invariant.grown front)
 
 -- ---- a turn
@@ -86,14 +85,14 @@ pub send-requires-clause-pages : goal.send-requires-clause-pages
 send-requires-clause-pages g c = subst (λ hs. ArePages c.turn.new.self.store hs) (sym c.deref.ensures.value) c.in_ok-ending.ensures.pages
 
 -- it is the next step of the run
-turn : (g : Over) (c : In_ok-ending g) → ShowsStep c.args.routine.now.machine.params (is_traced c.args.view) (state_of c.firing.routine) c.turn.new.self c.turn.new.happened.items c.in_ok-ending.ending
-turn g c = shows-step c.args.routine.now.machine.params c.is_traced.result (is_traced c.args.view) c.firing.routine c.turn.new.self c.turn.new.happened.items c.in_ok-ending.ending c.firing.invariant.params c.is_traced.ensures c.in_ok-ending.ensures.turned
+turn : (g : Over) (c : In_ok-ending g) → ShowsStep (is_traced c.args.view) (state_of c.firing.routine) c.turn.new.self c.turn.new.happened.items c.in_ok-ending.ending
+turn g c = shows-step c.is_traced.result (is_traced c.args.view) c.firing.routine c.turn.new.self c.turn.new.happened.items c.in_ok-ending.ending c.is_traced.ensures c.in_ok-ending.ensures.turned
 
 pub send-requires-clause-room : goal.send-requires-clause-room
 send-requires-clause-room g c =
     let shows = turn g (goal.at.send-requires-clause-room g c).In_ok-ending in
     subst (λ hs. AreCounts (with_events (events_of c.turn.new.self.store hs) c.firing.totals)) (sym c.deref.ensures.value)
-    (turn-counts c.args.routine.now.machine.params c.args.view (state_of c.firing.routine) _ _ c.firing.totals (run_on c.args.routine.now) c.firing.invariant.going c.turn.new.self c.turn.new.happened.items c.in_ok-ending.ending shows (few-firings c.args.routine.now.machine.params c.requires.params) c.firing.invariant.tally (few-wait c.firing.routine c.firing.invariant.ready) c.in_ok-ending.ensures.pages)
+    (turn-counts c.args.view (state_of c.firing.routine) _ _ c.firing.totals (run_on c.args.routine.now) c.firing.invariant.going c.turn.new.self c.turn.new.happened.items c.in_ok-ending.ending shows c.firing.invariant.tally (few-wait c.firing.routine c.firing.invariant.ready) c.in_ok-ending.ensures.pages)
 
 pub returns-in_err-send-clause-refused : goal.returns-in_err-send-clause-refused
 returns-in_err-send-clause-refused g c =
@@ -101,7 +100,7 @@ returns-in_err-send-clause-refused g c =
     let p = err_from_is_err_and c.from_residual-in_err-send.result c.from_residual-in_err-send.ensures.1 in
     let part = subst (λ hs. AppendsPrefix (g.K.Sink.held c.firing.out) (g.K.Sink.held c.send.new.out) (viewed c.args.view (c.firing.kept.items ++ all_lines traced_lines (events_of c.turn.new.self.store hs)))) c.deref.ensures.value c.in_err-send.ensures.shown.part in
     let lines = all_lines traced_lines (events_of c.turn.new.self.store c.turn.new.happened.items) in
-    let whole = turn-cut c.args.routine.now.machine.params c.args.view (state_of c.firing.routine) _ _ c.firing.totals (run_on c.args.routine.now) c.firing.invariant.going c.turn.new.self c.turn.new.happened.items c.in_ok-ending.ending shows _ (more-shown c.args.view (g.K.Sink.held c.firing.out) c.firing.kept.items lines) in
+    let whole = turn-cut c.args.view (state_of c.firing.routine) _ _ c.firing.totals (run_on c.args.routine.now) c.firing.invariant.going c.turn.new.self c.turn.new.happened.items c.in_ok-ending.ending shows _ (more-shown c.args.view (g.K.Sink.held c.firing.out) c.firing.kept.items lines) in
     rw (p.1, p.2) (refuses-cut c.args.view (run_on c.args.routine.now) _ _ c.in_err-send.field-0.0 (front-written _ _ _ _ (view_text c.args.view (run_on c.args.routine.now)) c.firing.invariant.grown part whole))
 
 pub returns-in_err-send-clause-cause : goal.returns-in_err-send-clause-cause
@@ -129,9 +128,9 @@ counted g c = c.in_ok-send.ensures.counted ∙ ap (λ hs. with_events (events_of
 -- ---- the turn was the last
 
 -- nothing but the end of the run is left
-ends-here : (g : Over) (c : In_ok-send g) → ShowsStep c.args.routine.now.machine.params (is_traced c.args.view) (state_of c.firing.routine) c.turn.new.self c.turn.new.happened.items c.in_ok-ending.ending → (ending : Ending) → c.in_ok-ending.ending ≡ Some ending
+ends-here : (g : Over) (c : In_ok-send g) → ShowsStep (is_traced c.args.view) (state_of c.firing.routine) c.turn.new.self c.turn.new.happened.items c.in_ok-ending.ending → (ending : Ending) → c.in_ok-ending.ending ≡ Some ending
     → ClosesAt c.args.view c.turn.new.self ending (g.K.Sink.held c.args.out.now) (append_known (g.K.Sink.held c.send.new.out) (viewed c.args.view c.send.new.kept.items)) c.send.new.totals (run_on c.args.routine.now)
-ends-here g c shows ending some = turn-closing c.args.routine.now.machine.params c.args.view (state_of c.firing.routine) _ _ c.firing.totals (run_on c.args.routine.now) c.firing.invariant.going c.turn.new.self c.turn.new.happened.items c.in_ok-ending.ending shows _ c.send.new.totals ending some (shown g c) (counted g c)
+ends-here g c shows ending some = turn-closing c.args.view (state_of c.firing.routine) _ _ c.firing.totals (run_on c.args.routine.now) c.firing.invariant.going c.turn.new.self c.turn.new.happened.items c.in_ok-ending.ending shows _ c.send.new.totals ending some (shown g c) (counted g c)
 
 pub returns-in-Some-ending-clause-done : goal.returns-in-Some-ending-clause-done
 returns-in-Some-ending-clause-done g c =
@@ -154,8 +153,8 @@ make_room-requires-clause-lists g c = subst (AreHappened c.turn.new.self) (sym c
 pub firing-smaller : goal.firing-smaller
 firing-smaller g c =
     let shows = turn g (goal.at.firing-smaller g c).In_ok-ending in
-    let fewer = turn-fewer c.args.routine.now.machine.params (state_of c.firing.routine) c.turn.new.self c.firing.invariant.going.page (is_traced c.args.view) c.turn.new.happened.items c.in_ok-ending.ending shows c.in_default-ending.is in
-    subst (λ s. firings_left c.args.routine.now.machine.params s < firings_left c.args.routine.now.machine.params (state_of c.firing.routine)) (sym c.make_room.ensures.state) fewer
+    let fewer = turn-fewer (state_of c.firing.routine) c.turn.new.self c.firing.invariant.going.page (is_traced c.args.view) c.turn.new.happened.items c.in_ok-ending.ending shows c.in_default-ending.is in
+    subst (λ s. firings_left s < firings_left (state_of c.firing.routine)) (sym c.make_room.ensures.state) fewer
 
 pub firing-preserved : goal.firing-preserved
 firing-preserved g c =
@@ -165,10 +164,9 @@ firing-preserved g c =
     let later = c.in_ok-send.ensures.shown.later in
     record {
       ready = c.make_room.ensures.ready;
-      params = ap (λ (m : MachineView). m.params) c.make_room.ensures.machine ∙ c.in_ok-ending.ensures.params ∙ c.firing.invariant.params;
-      going = turn-going c.args.routine.now.machine.params c.args.view (state_of c.firing.routine) _ _ c.firing.totals (run_on c.args.routine.now) c.firing.invariant.going c.turn.new.self c.turn.new.happened.items c.in_ok-ending.ending shows _ c.send.new.totals (state_of c.make_room.new.self) c.make_room.ensures.state c.in_default-ending.is (shown g w.In_ok-send) (counted g w.In_ok-send);
+      going = turn-going c.args.view (state_of c.firing.routine) _ _ c.firing.totals (run_on c.args.routine.now) c.firing.invariant.going c.turn.new.self c.turn.new.happened.items c.in_ok-ending.ending shows _ c.send.new.totals (state_of c.make_room.new.self) c.make_room.ensures.state c.in_default-ending.is (shown g w.In_ok-send) (counted g w.In_ok-send);
       grown = grown g w.In_ok-send;
-      tally = turn-tally c.args.routine.now.machine.params c.args.view (state_of c.firing.routine) _ _ c.firing.totals (run_on c.args.routine.now) c.firing.invariant.going c.turn.new.self c.turn.new.happened.items c.in_ok-ending.ending shows (few-firings c.args.routine.now.machine.params c.requires.params) c.firing.invariant.tally (few-wait c.firing.routine c.firing.invariant.ready) c.in_ok-ending.ensures.pages c.send.new.totals (state_of c.make_room.new.self) c.make_room.ensures.state c.in_default-ending.is (counted g w.In_ok-send);
+      tally = turn-tally c.args.view (state_of c.firing.routine) _ _ c.firing.totals (run_on c.args.routine.now) c.firing.invariant.going c.turn.new.self c.turn.new.happened.items c.in_ok-ending.ending shows c.firing.invariant.tally (few-wait c.firing.routine c.firing.invariant.ready) c.in_ok-ending.ensures.pages c.send.new.totals (state_of c.make_room.new.self) c.make_room.ensures.state c.in_default-ending.is (counted g w.In_ok-send);
       later = omega (arith, start, later);
     }
 

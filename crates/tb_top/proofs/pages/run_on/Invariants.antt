@@ -12,12 +12,11 @@ use Rattle.tb_top.proofs.pages.run_on.Given as goal
 abbrev pub invariant-firing : goal.invariant-firing
 invariant-firing g l = record {
   ready : IsReady l.routine;
-  params : l.routine.machine.params ≡ l.fn.routine.machine.params;
-  going : Going l.fn.routine.machine.params l.fn.view (state_of l.routine) (g.K.Sink.held l.fn.out) (append_known (g.K.Sink.held l.out) (viewed l.fn.view l.kept.items)) l.totals (run_on l.fn.routine);
+  going : Going l.fn.view (state_of l.routine) (g.K.Sink.held l.fn.out) (append_known (g.K.Sink.held l.out) (viewed l.fn.view l.kept.items)) l.totals (run_on l.fn.routine);
   grown : Grows (g.K.Sink.held l.fn.out) (g.K.Sink.held l.out);
-  tally : IsTally l.fn.routine.machine.params l.totals (state_of l.routine);
+  tally : IsTally l.totals (state_of l.routine);
   later : g.K.Sink.faults l.fn.out ≤ g.K.Sink.faults l.out;
 }
 
 abbrev pub decreases-firing : goal.decreases-firing
-decreases-firing g l = firings_left l.fn.routine.machine.params (state_of l.routine)
+decreases-firing g l = firings_left (state_of l.routine)

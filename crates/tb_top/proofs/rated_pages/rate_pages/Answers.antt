@@ -2,12 +2,14 @@ use Rattle.std.proofs.Common.{◌∙◌, ap, sym, subst}
 use Rattle.std.proofs.lemmas.Result.{IfErr-weaker, IfOk-weaker}
 use Rattle.tb_output.specs.State.{State}
 use Rattle.std.specs.List.{AllByRecursion}
+use Rattle.std.specs.Prelude.{IsTrue}
+use Rattle.tb_param.specs.Ranges.{are_params}
 use Rattle.tb_run.specs.Routine.{state_of}
 use Rattle.tb_rate.specs.Places.{place_penalties, IsMildPlace}
 use Rattle.tb_run.proofs.ServedAgain.GalleyRuns.{galley-classes}
 use Rattle.tb_items.proofs.GalleyItems.{galley-items}
 use Rattle.tb_items.proofs.GalleyNodeLemmas.{galley-nodes}
-use Rattle.tb_laws.proofs.Defined.RunParams.{params-runnable}
+use Rattle.tb_steps.proofs.RunParams.{params-runnable}
 use Rattle.tb_laws.proofs.Limits.LimitedRuns.{run-within}
 use Rattle.tb_top.proofs.Ends.CycleAnswers.{text-not-for-cycles}
 use Rattle.tb_top.proofs.Rated.RatedOutcomes.{rated-laws, rates-galley, refuses-galley}
@@ -26,7 +28,7 @@ pub new-requires-clause-nodes : goal.new-requires-clause-nodes
 new-requires-clause-nodes g c = galley-nodes c.args.galley.now (params-runnable c.args.galley.now.params c.requires.valid.params).foot c.requires.valid
 
 pub run_on-requires-clause-ranges : goal.run_on-requires-clause-ranges
-run_on-requires-clause-ranges g c = c.requires.valid.params
+run_on-requires-clause-ranges g c = subst (λ p. IsTrue (are_params p)) (sym c.in_ok-routine.ensures.params) c.requires.valid.params
 
 pub run_on-requires-clause-mild : goal.run_on-requires-clause-mild
 run_on-requires-clause-mild g c = subst (AllByRecursion IsMildPlace) (sym (c.as_slice-2.ensures.value ∙ c.in_ok-places.ensures.places)) c.in_ok-places.ensures.mild

@@ -1,9 +1,11 @@
 use Rattle.std.proofs.Common.{sym, ◌∙◌, ap, subst, ◌++◌, None, Err, arith}
 use Rattle.std.specs.List.{AllByRecursion}
+use Rattle.std.specs.Prelude.{IsTrue}
+use Rattle.tb_param.specs.Ranges.{are_params}
 use Rattle.std.proofs.lemmas.Result.{err_from_is_err_and}
 use Rattle.tb_output.specs.State.{State}
 use Rattle.tb_run.specs.Routine.{state_of}
-use Rattle.tb_laws.proofs.Defined.RunParams.{params-runnable}
+use Rattle.tb_steps.proofs.RunParams.{params-runnable}
 use Rattle.tb_rate.specs.Places.{place_penalties, IsMildPlace}
 use Rattle.tb_rate.specs.RatedRun.{rated_of_state}
 use Rattle.tb_best.specs.BestLines.{broken_columns}
@@ -24,7 +26,7 @@ pub new-requires-clause-nodes : goal.new-requires-clause-nodes
 new-requires-clause-nodes c = c.requires.nodes
 
 pub run_on-requires-clause-ranges : goal.run_on-requires-clause-ranges
-run_on-requires-clause-ranges c = c.requires.params
+run_on-requires-clause-ranges c = subst (λ p. IsTrue (are_params p)) (sym c.in_ok-routine.ensures.params) c.requires.params
 
 pub run_on-requires-clause-mild : goal.run_on-requires-clause-mild
 run_on-requires-clause-mild c = subst (AllByRecursion IsMildPlace) (sym (c.as_slice-2.ensures.value ∙ c.in_ok-places.ensures.places)) c.in_ok-places.ensures.mild
@@ -40,7 +42,7 @@ returns-clause-columns c =
     let r = c.in_ok-routine.routine in
     let placed = c.as_slice-2.ensures.value ∙ c.in_ok-places.ensures.places ∙ ap place_penalties c.as_slice.ensures in
     c.in_ok-run_on.ensures.columns
-    ∙ ap (λ cs. shown_columns cs ++ broken_columns None (rated_of_state c.args.galley.now.params c.as_slice-2.result.now (state_of r))) c.new-columns.ensures.items
+    ∙ ap (λ cs. shown_columns cs ++ broken_columns None (rated_of_state c.as_slice-2.result.now (state_of r))) c.new-columns.ensures.items
     ∙ columns-are c.args.galley.now (state_of r) c.in_ok-routine.ensures.state _ placed None None
 
 pub returns-clause-done : goal.returns-clause-done

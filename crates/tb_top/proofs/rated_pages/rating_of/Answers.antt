@@ -33,4 +33,4 @@ returns-clause-value c =
     let waiting = c.floats_waiting-waiting.ensures.value in
     let held = c.insertions_first-held.ensures ∙ ap (λ l. insertions_first (plain_list store l ++ nodes_left c.args.routine.now.left)) c.waiting.ensures in
     let page = c.first_number-page.ensures store ∙ ap (λ n. first_number n (events_of store c.args.happened.now)) (ap (λ (v : Standing). v.number) c.standing.ensures) in
-    rw (c.in_default.is) (c.rate.ensures.value ∙ (λ i. rating c.args.params.now c.args.places.now (page i) (place i) (waiting i) (held i)))
+    rw (c.in_default.is) (c.rate.ensures.value ∙ (λ i. rating (c.params-params.ensures i) c.args.places.now (page i) (place i) (waiting i) (held i)))

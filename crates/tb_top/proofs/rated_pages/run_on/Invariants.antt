@@ -16,14 +16,13 @@ use Rattle.tb_top.proofs.rated_pages.run_on.Given as goal
 abbrev pub invariant-firing : goal.invariant-firing
 invariant-firing g l = record {
   ready : IsReady l.routine;
-  params : l.routine.machine.params ≡ l.fn.params;
-  going : Going l.fn.params views.Trace (state_of l.routine) None None l.totals (run_of_state l.fn.params (state_of l.fn.routine));
-  tally : IsTally l.fn.params l.totals (state_of l.routine);
-  rated : RatedGoing l.fn.params l.fn.places (state_of l.routine) (g.K.Sink.held l.fn.out) (g.K.Sink.held l.out) l.demerits (run_of_state l.fn.params (state_of l.fn.routine)).events (demerits_of_state l.fn.params l.fn.places (state_of l.fn.routine)) (rated_text l.fn.params l.fn.places (state_of l.fn.routine));
-  columns : ColumnsGoing l.fn.params l.fn.places (state_of l.routine) (shown_columns l.fn.columns.items ++ broken_columns None (rated_of_state l.fn.params l.fn.places (state_of l.fn.routine))) (shown_columns l.columns.items);
-  sum : IsSum l.fn.params l.demerits (state_of l.routine);
+  going : Going views.Trace (state_of l.routine) None None l.totals (run_of_state (state_of l.fn.routine));
+  tally : IsTally l.totals (state_of l.routine);
+  rated : RatedGoing l.fn.places (state_of l.routine) (g.K.Sink.held l.fn.out) (g.K.Sink.held l.out) l.demerits (run_of_state (state_of l.fn.routine)).events (demerits_of_state l.fn.places (state_of l.fn.routine)) (rated_text l.fn.places (state_of l.fn.routine));
+  columns : ColumnsGoing l.fn.places (state_of l.routine) (shown_columns l.fn.columns.items ++ broken_columns None (rated_of_state l.fn.places (state_of l.fn.routine))) (shown_columns l.columns.items);
+  sum : IsSum l.demerits (state_of l.routine);
   later : g.K.Sink.faults l.fn.out ≤ g.K.Sink.faults l.out;
 }
 
 abbrev pub decreases-firing : goal.decreases-firing
-decreases-firing g l = firings_left l.fn.params (state_of l.routine)
+decreases-firing g l = firings_left (state_of l.routine)

@@ -4,6 +4,7 @@ use Rattle.tb_top.proofs.WorkedTexts.EnlargeRowLemmas.{enlarge_rows}
 use Rattle.tb_top.proofs.WorkedTexts.ColumnRowLemmas.{column_rows}
 use Rattle.tb_top.proofs.WorkedTexts.ColumnEndRowLemmas.{column_end_rows}
 use Rattle.tb_top.proofs.WorkedTexts.TitleRowLemmas.{title_rows}
+use Rattle.tb_top.proofs.WorkedTexts.SetRowLemmas.{set_rows}
 use Rattle.tb_top.proofs.WorkedTexts.VersionRowLemmas.{version_rows}
 use Rattle.tb_top.proofs.WorkedTexts.RateRowLemmas.{rate_rows}
 use Rattle.tb_top.proofs.WorkedTexts.BestRowLemmas.{best_rows}
@@ -30,6 +31,9 @@ returns-clause-column_ends c = column_end_rows
 
 pub returns-clause-titles : goal.returns-clause-titles
 returns-clause-titles c = title_rows
+
+pub returns-clause-sets : goal.returns-clause-sets
+returns-clause-sets c = set_rows
 
 pub returns-clause-versions : goal.returns-clause-versions
 returns-clause-versions c = version_rows

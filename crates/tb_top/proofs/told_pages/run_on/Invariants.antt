@@ -15,14 +15,13 @@ use Rattle.tb_top.proofs.told_pages.run_on.Given as goal
 abbrev pub invariant-firing : goal.invariant-firing
 invariant-firing g l = record {
   ready : IsReady l.routine;
-  params : l.routine.machine.params ≡ l.fn.routine.machine.params;
-  going : Going l.fn.routine.machine.params views.Trace (state_of l.routine) None None l.totals (run_on l.fn.routine);
-  told : WhyGoing l.fn.routine.machine.params (state_of l.routine) (g.K.Sink.held l.fn.out) (append_known (g.K.Sink.held l.out) l.kept.items) l.summary (run_on l.fn.routine).events (why_text l.fn.routine.machine.params (state_of l.fn.routine));
+  going : Going views.Trace (state_of l.routine) None None l.totals (run_on l.fn.routine);
+  told : WhyGoing (state_of l.routine) (g.K.Sink.held l.fn.out) (append_known (g.K.Sink.held l.out) l.kept.items) l.summary (run_on l.fn.routine).events (why_text (state_of l.fn.routine));
   grown : Grows (g.K.Sink.held l.fn.out) (g.K.Sink.held l.out);
-  tally : IsTally l.fn.routine.machine.params l.totals (state_of l.routine);
-  sheets : AreFewSheets l.fn.routine.machine.params l.summary (state_of l.routine);
+  tally : IsTally l.totals (state_of l.routine);
+  sheets : AreFewSheets l.summary (state_of l.routine);
   later : g.K.Sink.faults l.fn.out ≤ g.K.Sink.faults l.out;
 }
 
 abbrev pub decreases-firing : goal.decreases-firing
-decreases-firing g l = firings_left l.fn.routine.machine.params (state_of l.routine)
+decreases-firing g l = firings_left (state_of l.routine)

@@ -6,7 +6,7 @@ use Rattle.tb_output.specs.State.{State}
 use Rattle.tb_run.proofs.ServedAgain.GalleyRuns.{galley-classes}
 use Rattle.tb_items.proofs.GalleyItems.{galley-items}
 use Rattle.tb_items.proofs.GalleyNodeLemmas.{galley-nodes}
-use Rattle.tb_laws.proofs.Defined.RunParams.{params-runnable}
+use Rattle.tb_steps.proofs.RunParams.{params-runnable}
 use Rattle.tb_laws.proofs.Limits.LimitedRuns.{run-within}
 use Rattle.tb_top.specs.WhyReport.{why_report}
 use Rattle.tb_top.proofs.Written.FirstRuns.{none-yet}
@@ -39,11 +39,11 @@ run_on-requires-clause-cycles g c = ap (λ (s : State). s.dead_cycles) c.in_ok-r
 
 pub returns-clause-done : goal.returns-clause-done
 returns-clause-done g c =
-    IfOk-weaker c.run_on.result _ _ (λ t h. explains-galley c.args.galley.now c.in_ok-routine.routine c.in_ok-routine.ensures.state c.in_ok-routine.ensures.params _ _ t h) c.run_on.ensures.done
+    IfOk-weaker c.run_on.result _ _ (λ t h. explains-galley c.args.galley.now c.in_ok-routine.routine c.in_ok-routine.ensures.state _ _ t h) c.run_on.ensures.done
 
 pub returns-clause-refused : goal.returns-clause-refused
 returns-clause-refused g c =
-    IfErr-weaker c.run_on.result _ _ (λ e h. refuses-galley c.args.galley.now c.in_ok-routine.routine c.in_ok-routine.ensures.state c.in_ok-routine.ensures.params _ _ e h) c.run_on.ensures.refused
+    IfErr-weaker c.run_on.result _ _ (λ e h. refuses-galley c.args.galley.now c.in_ok-routine.routine c.in_ok-routine.ensures.state _ _ e h) c.run_on.ensures.refused
 
 pub returns-clause-laws : goal.returns-clause-laws
 returns-clause-laws g c = IfOk-weaker c.run_on.result _ _ (λ t h. why-laws c.args.galley.now c.requires.valid _ _ _ t h) (returns-clause-done g c)

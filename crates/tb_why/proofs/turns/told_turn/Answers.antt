@@ -6,7 +6,7 @@ use Rattle.tb_run.proofs.Turns.TurnLemmas.{ok-with, last-turned, last-pages, las
 use Rattle.tb_output.proofs.FiringWork.ResultLemmas.{ok-map}
 use Rattle.tb_why.specs.ShownOf.{AreShownPages}
 use Rattle.tb_why.specs.ShownTurns.{filled_shown}
-use Rattle.tb_why.proofs.TurnLemmas.{last-shown, fired-shown, filled-pages, turn-pages}
+use Rattle.tb_why.proofs.TurnLemmas.{filled-params, served-params, last-shown, fired-shown, filled-pages, turn-pages}
 use Rattle.tb_why.proofs.turns.told_turn.Goals as goal
 
 -- the run ends before a page fires
@@ -19,7 +19,7 @@ returns-in_ok-show_filled-in-Ends-clause-turned c =
 pub returns-in_ok-show_filled-in-Ends-clause-params : goal.returns-in_ok-show_filled-in-Ends-clause-params
 returns-in_ok-show_filled-in-Ends-clause-params c =
     let h : IsFilledLast true c.args.routine.now c.in-Ends.ending c.fill.new.self c.fill.new.happened.items = subst (λ x. Fills true c.args.routine.now x c.fill.new.self c.fill.new.happened.items) c.in-Ends.is c.in_ok-ending.ensures in
-    h.filled.params
+    filled-params c.args.routine.now c.fill.new.self c.fill.new.happened.items h.filled
 
 pub returns-in_ok-show_filled-in-Ends-clause-ended : goal.returns-in_ok-show_filled-in-Ends-clause-ended
 returns-in_ok-show_filled-in-Ends-clause-ended c =
@@ -67,7 +67,7 @@ returns-in_ok-show_filled-in-Fires-clause-turned c =
 pub returns-in_ok-show_filled-in-Fires-clause-params : goal.returns-in_ok-show_filled-in-Fires-clause-params
 returns-in_ok-show_filled-in-Fires-clause-params c =
     let h : IsFiring true c.args.routine.now c.in-Fires.page c.fill.new.self c.fill.new.happened.items = subst (λ x. Fills true c.args.routine.now x c.fill.new.self c.fill.new.happened.items) c.in-Fires.is c.in_ok-ending.ensures in
-    ok-map c.serve_shown.result _ _ (λ e. e ∙ h.filled.params) c.serve_shown.ensures.params
+    served-params c.args.routine.now c.fill.new.self c.serve_shown.new.routine c.fill.new.happened.items h.filled c.serve_shown.result c.serve_shown.ensures.params
 
 pub returns-in_ok-show_filled-in-Fires-clause-shown : goal.returns-in_ok-show_filled-in-Fires-clause-shown
 returns-in_ok-show_filled-in-Fires-clause-shown c =
