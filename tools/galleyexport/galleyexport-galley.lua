@@ -4,6 +4,7 @@ local log = require("galleyexport-log")
 local nodes = require("galleyexport-nodes")
 local floats = require("galleyexport-floats")
 local parameters = require("galleyexport-parameters")
+local insertions = require("galleyexport-insertions")
 local numbers = require("galleyexport-numbers")
 local sides = require("galleyexport-sides")
 
@@ -50,8 +51,8 @@ local function past(k, kinds)
   return k
 end
 
-local ROOM = { glue = true, kern = true, page = true }
-local CLEARED = { glue = true, kern = true, mark = true, note = true, page = true }
+local ROOM = { glue = true, kern = true, page = true, set = true }
+local CLEARED = { glue = true, kern = true, mark = true, note = true, page = true, set = true }
 
 -- A float or marginal note begins at k: -10004, perhaps glue, an empty box, -10002 or -10003. Gives its last place.
 local function float_end(k)
@@ -124,6 +125,14 @@ end
 
 -- ---- Lines of a part
 
+-- Puts the lines that change parameters.
+local function put_sets(put, lines)
+  for _, line in ipairs(lines) do
+    parameters.use_new()
+    put(line)
+  end
+end
+
 local function put_float(put, record)
   queued = queued + 1
   local float = floats.queue[queued]
@@ -133,13 +142,13 @@ local function put_float(put, record)
   end
   local vert = record.value == FLOAT_VERT
   if floats.is_new(float) then parameters.use_new() end
-  put(floats.line(float, vert and "vert" or "par"))
   if float.kind == "margin" then
     counts.margins = counts.margins + 1
   else
     counts.floats = counts.floats + 1
-    if vert and float.places % 2 == 1 then parameters.float_parskip(float.parskip) end
+    if vert and float.places % 2 == 1 then put_sets(put, { parameters.float_parskip(float.parskip) }) end
   end
+  put(floats.line(float, vert and "vert" or "par"))
 end
 
 -- \enlargethispage is an insertion of glue as high as the room that is taken back, below a box with a star.
@@ -159,8 +168,8 @@ local function put_enlargement(put, record)
 end
 
 local function put_insertion(part, put, record)
-  if parameters.is_enlargement(record) then return put_enlargement(put, record) end
-  local class = parameters.class_of(record)
+  if insertions.is_enlargement(record) then return put_enlargement(put, record) end
+  local class = insertions.class_of(record)
   if class then
     part.classes[class] = true
     put("foot " .. class.number)
@@ -173,7 +182,8 @@ local function put_insertion(part, put, record)
   put("endfoot")
 end
 
-local BEFORE_TITLE = { title = true, note = true, mark = true, glue = true, kern = true, suppress = true, page = true }
+local BEFORE_TITLE = { title = true, note = true, mark = true, glue = true, kern = true, suppress = true, page = true,
+  set = true }
 
 -- The boxes over both columns at the head of what stands between the places first and last.
 local function titles_at(first, last)
@@ -196,28 +206,38 @@ local function head_line(stretch)
   return line
 end
 
--- A box over both columns stands directly below the word by which they begin.
-local function put_head(part, stretch, put)
-  local line = head_line(stretch)
-  if not line then return end
+-- A galley begins with a stretch: with its values, and perhaps with a box over both columns.
+local function begin_part(part, stretch)
+  parameters.changes(stretch.clears, nil, stretch.values)
+  part.values = parameters.begin_galley(part.values)
+  local head = head_line(stretch)
+  if not head then return end
   parameters.use_new()
-  if #part.lines == 0 then
-    part.two_columns, part.head = true, line
-  else
-    part.lines[#part.lines] = "twocolumn"
-    put(line)
-  end
+  part.two_columns, part.head = true, head
 end
 
--- What a clear or float was made of has no line in a galley, and so no name on a page. Gives the page's number that LaTeX
--- set meanwhile, which holds behind it.
-local function number_within(first, last)
-  local number
+-- Behind the word of a clear stand the parameters that it changes, and then the box over both columns.
+local function go_on(part, stretch, put)
+  local head = head_line(stretch)
+  if head then part.lines[#part.lines] = "twocolumn" end
+  put_sets(put, part.changes)
+  if stretch.values then put_sets(put, parameters.changes(stretch.clears, stretch.before, stretch.values)) end
+  if not head then return end
+  parameters.use_new()
+  put(head)
+end
+
+-- What a clear or float was made of has no line in a galley, and so no name on a page. Gives what LaTeX changed meanwhile,
+-- which holds behind it: the lines that set parameters, and the page's number.
+local function changes_within(part, first, last)
+  local lines, number = {}, nil
   for k = first, last do
-    records[k].name = nil
-    if records[k].kind == "page" then number = records[k].number end
+    local record = records[k]
+    record.name = nil
+    if record.kind == "page" then number = record.number end
+    if record.kind == "set" then lines[#lines + 1] = parameters.change(record, part.clears) end
   end
-  return number
+  return lines, number
 end
 
 local function put_number(put, number)
@@ -233,11 +253,13 @@ local function put_record(part, put, k, last_clear)
   local float_last, clear_last = float_end(k), clear_end(k)
   if float_last then
     put_float(put, records[float_last])
-    put_number(put, number_within(k, float_last))
+    local lines, number = changes_within(part, k, float_last)
+    put_sets(put, lines)
+    put_number(put, number)
     return float_last + 1
   elseif clear_last then
     if clear_last < last_clear then put(records[clear_last].columns or "clearpage") end
-    part.number = number_within(k, clear_last)
+    part.changes, part.number = changes_within(part, k, clear_last)
     return clear_last + 1
   elseif is_filling(record) and is_penalty(records[k + 1], NEW_PAGE) then
     put("newpage")
@@ -249,6 +271,8 @@ local function put_record(part, put, k, last_clear)
     put_insertion(part, put, record)
   elseif record.kind == "page" then
     put_number(put, record.number)
+  elseif record.kind == "set" then
+    put_sets(put, { parameters.change(record, part.clears) })
   elseif record.kind == "penalty" and page_break(record) then
     put(page_break(record))
   else
@@ -266,9 +290,10 @@ local function put_stretch(part, stretch, ends_part)
     part.lines[#part.lines + 1] = line
     part.begins[#part.lines], begins = begins, nil
   end
-  put_head(part, stretch, put)
+  part.clears = stretch.clears
+  if stretch == part.stretches[1] then begin_part(part, stretch) else go_on(part, stretch, put) end
   put_number(put, part.number)
-  part.number = nil
+  part.changes, part.number = {}, nil
   local last_clear = ends_part and stretch.last or math.huge
   local k = stretch.first
   while k <= stretch.last do
@@ -279,30 +304,33 @@ end
 
 -- ---- Parts
 
--- What stands between two clears, in order: first and last place, and the change of columns within.
+-- What stands between two clears, in order: first and last place, the change of columns within, and the clears before it.
 local function stretches()
   local out, first = {}, 1
   for k, record in ipairs(records) do
     if is_penalty(record, CLEAR) then
-      out[#out + 1] = { first = first, last = k, columns = record.columns }
+      out[#out + 1] = { first = first, last = k, columns = record.columns, clears = #out }
       first = k + 1
     end
   end
-  out[#out + 1] = { first = first, last = #records }
+  out[#out + 1] = { first = first, last = #records, clears = #out }
   return out
 end
 
--- The galleys: stretches whose pages have the same measures.
-local function parts()
+-- The galleys: stretches whose parameters one galley can set.
+local function parts(pages)
   local out, values, two = {}, nil, two_columns
-  for k, stretch in ipairs(stretches()) do
-    local own = parameters.of_part(k - 1)
+  for _, stretch in ipairs(stretches()) do
+    local own = parameters.of_part(stretch.clears)
+    if own then sides.choose(own, values, stretch.clears, pages) end
     local part = out[#out]
     if not part or (own and values and parameters.differ(own, values)) then
-      part = { lines = {}, begins = {}, classes = {}, stretches = {}, two_columns = two, first_clear = k - 1 }
+      part = { lines = {}, begins = {}, classes = {}, stretches = {}, changes = {}, two_columns = two,
+        first_clear = stretch.clears }
       out[#out + 1] = part
     end
     part.values = part.values or own
+    stretch.values, stretch.before = own, values
     values = own or values
     part.stretches[#part.stretches + 1] = stretch
     if stretch.columns then two = stretch.columns == "twocolumn" end
@@ -333,7 +361,7 @@ local function write_part(part, path, title)
   put("galley " .. parameters.version(next(part.classes) ~= nil))
   put("# " .. title)
   for _, line in ipairs(parameters.lines(part.values)) do put(line) end
-  for _, line in ipairs(parameters.class_lines(part.classes)) do put(line) end
+  for _, line in ipairs(insertions.class_lines(part.classes)) do put(line) end
   if part.begins_with then put("page " .. part.begins_with) end
   if part.two_columns then put("twocolumn") end
   if part.head then put(part.head) end
@@ -347,17 +375,28 @@ local function write_part(part, path, title)
   map:close()
 end
 
+-- Whether a part begins with the number of its page, perhaps behind parameters.
+local function is_numbered(part)
+  for _, line in ipairs(part.lines) do
+    if not line:find("^set ") then return line:find("^page ") ~= nil end
+  end
+  return false
+end
+
 -- The number of a part's first page, where it begins with another than 1 and no word of the document tells it.
-local function first_number(part, first_page)
-  local number = first_page and first_page.number
-  if not number or number == 1 or number < 0 or number > numbers.MOST or (part.lines[1] or ""):find("^page ") then return nil end
+local function first_number(part, pages)
+  local number
+  for _, page in ipairs(pages) do
+    if page.clears >= part.first_clear then number = number or page.number end
+  end
+  if not number or number == 1 or number < 0 or number > numbers.MOST or is_numbered(part) then return nil end
   parameters.use_new()
   return number
 end
 
 local function has_footnotes()
   for _, record in ipairs(records) do
-    if record.kind == "insertion" and parameters.is_footnote(record) then return true end
+    if record.kind == "insertion" and insertions.is_footnote(record) then return true end
   end
   return false
 end
@@ -365,19 +404,15 @@ end
 -- Writes all galleys of the document. Gives their number, and the counts of what stands in them.
 function M.write(job, pages)
   parameters.settle(has_footnotes())
-  local list = parts()
+  local list = parts(pages)
   for _, part in ipairs(list) do
-    part.values = part.values or parameters.whole()
     for k, stretch in ipairs(part.stretches) do put_stretch(part, stretch, k == #part.stretches) end
   end
-  parameters.settle_parskip()
   for k = queued + 1, #floats.queue do log.lost("a float that never reached the page builder", floats.queue[k].place) end
   for k, part in ipairs(list) do
-    local own = sides.pages_of(part, list[k + 1], pages)
-    sides.choose(part, own)
     -- The first page begins with the whatsits that the class left, that of a later part with the one of the clear before.
     part.start_notes = k == 1 and start_notes or 1
-    part.begins_with = k > 1 and first_number(part, own[1])
+    part.begins_with = k > 1 and first_number(part, pages)
   end
   for k, part in ipairs(list) do
     local title = string.format("%s%s, written by galleyexport from %s", job,

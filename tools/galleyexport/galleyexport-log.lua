@@ -6,7 +6,7 @@ local PLACES_SHOWN = 6
 local losses = {}      -- text -> { count, places }
 local uneven = {}      -- text -> number of columns
 local redefined = {}   -- names of commands, in the order of the kernel's list
-local chosen = {}      -- what was chosen so that it fits LaTeX's pages
+local chosen = {}      -- what was chosen so that it fits LaTeX's pages, as keys
 
 -- The place in the sources that TeX has read up to. Nodes reach the page builder at the end of their paragraph.
 function M.here()
@@ -34,7 +34,7 @@ end
 
 -- Notes what was chosen so that it fits LaTeX's pages, in place of the document's own parameters.
 function M.chosen(what)
-  chosen[#chosen + 1] = what
+  chosen[what] = true
 end
 
 -- Notes that a class or package gave a command of the kernel's output routine another meaning.
@@ -55,7 +55,7 @@ local function lines()
   for what, columns in pairs(uneven) do
     out[#out + 1] = string.format("not the same all along: %s: %d columns", what, columns)
   end
-  for _, what in ipairs(chosen) do out[#out + 1] = "by the pages: " .. what end
+  for what in pairs(chosen) do out[#out + 1] = "by the pages: " .. what end
   table.sort(out)
   if #redefined > 0 then out[#out + 1] = "not the kernel's own: " .. table.concat(redefined, " ") end
   return out

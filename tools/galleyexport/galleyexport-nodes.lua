@@ -11,6 +11,7 @@
 --   title        float (a box over both columns), put in by galleyexport-floats
 --   suppress     area, likewise
 --   page         number, put in by galleyexport-numbers
+--   set          parameter, and what was seen of it, put in by galleyexport-parameters
 local log = require("galleyexport-log")
 
 local M = {}
@@ -209,6 +210,46 @@ function M.add(record)
   record.place = log.here()
   M.records[#M.records + 1] = record
 end
+
+local IS_FIRST = { [NODE.hlist] = true, [NODE.vlist] = true, [NODE.rule] = true, [NODE.ins] = true }
+
+-- The record of the first box, rule or insertion that is back among the contributions, nil without one.
+local function first_back()
+  local n = tex.lists.contrib_head
+  while n do
+    local record = IS_FIRST[n.id] and M.record_of(n)
+    if record then return record end
+    n = n.next
+  end
+end
+
+-- The record of the first insertion on a page that has no box and no rule yet, nil without one.
+local function first_without_text()
+  local first
+  local n = tex.lists.page_head
+  while n do
+    if n.id == NODE.ins then first = first or M.record_of(n)
+    elseif IS_FIRST[n.id] then return nil end
+    n = n.next
+  end
+  return first
+end
+
+-- Puts a record before another one, or after all without one.
+local function add_before(other, record)
+  record.place = log.here()
+  for k = other and #M.records or 0, 1, -1 do
+    if M.records[k] == other then return table.insert(M.records, k, record) end
+  end
+  M.records[#M.records + 1] = record
+end
+
+-- Puts a record where the next page begins: before the first box, rule or insertion that is back among the contributions.
+function M.add_at_page(record) add_before(first_back(), record) end
+
+-- Puts a record after all that was contributed, but on a page with insertions alone before these: to TeX such a page is one
+-- that its first box begins, to a galley it has begun.
+function M.add_at_text(record) add_before(first_without_text(), record) end
 
 -- Called with each node that is contributed, and its record; galleybreaks puts its breaks in here.
 function M.contributed(_, _) end

@@ -180,14 +180,14 @@ local function enlarged_list(v)
   end
 end
 
--- Tells which top skip the page builder used.
+-- Tells the top skip of a column.
 local function tell_top_skip(v)
   local glue
   for n in node.traverse(v.head) do
     if n.id == NODE.glue and n.subtype == TOPSKIP then
       glue = n
     elseif glue and is_box(n) then
-      return parameters.top_skip(glue, n.height)
+      return parameters.top_skip(glue)
     end
   end
 end

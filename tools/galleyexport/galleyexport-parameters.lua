@@ -1,8 +1,9 @@
--- Parameters, and the classes of insertions. LaTeX may change a parameter at any place, a galley sets it once: so all
--- are read for each column that LaTeX makes, and the value of most columns is written. Where one that counts for the
--- pages changes at a clear, nothing is left over from before, and a new galley begins. The parameters of version 3 of
--- the galley are written if a document gives one of them another value than the kernel has.
+-- Parameters. All are read for each column that LaTeX makes. Where one that counts for the pages changes at a clear, nothing
+-- is left over from before, and it is set there; of the others the value of most columns is written. What may change on any
+-- page is looked at each time the page builder runs, and set where it changes. The parameters of version 3 of the galley are
+-- written if a document gives one of them another value than the kernel has, or needs another line of that version.
 local log = require("galleyexport-log")
+local nodes = require("galleyexport-nodes")
 
 local M = {}
 
@@ -10,11 +11,13 @@ local MAX_DIMEN = 1073741823
 local NO_GLUE = "0 plus 0 minus 0"
 local ORDERS = { [0] = "", "sfil", "sfil", "sfill", "sfilll" }
 
--- In the order of the galley: name, form, least and greatest value. `part`: a change begins a new galley.
+-- In the order of the galley: name, form, least and greatest value. `part`: it is set at a clear where it changes; `once`:
+-- a galley can set it once, so that a change begins a new one; `command`: what the column's maker puts by it, whose meaning
+-- is looked at.
 local ROWS = {
-  { "textheight", "number", 1, MAX_DIMEN, part = true }, { "topskip", "number", 1, MAX_DIMEN, part = true },
+  { "textheight", "number", 1, MAX_DIMEN, part = true }, { "topskip", "number", 1, MAX_DIMEN },
   { "maxdepth", "number", 0, MAX_DIMEN, part = true }, { "baselineskip", "number", 0, MAX_DIMEN },
-  { "bottom", "text", part = true },
+  { "bottom", "text", command = "@textbottom" },
   { "topnumber", "number", 0, 1000, part = true }, { "bottomnumber", "number", 0, 1000, part = true },
   { "totalnumber", "number", 0, 1000, part = true }, { "dbltopnumber", "number", 0, 1000, part = true },
   { "topfraction", "fraction", part = true }, { "bottomfraction", "fraction", part = true },
@@ -24,7 +27,7 @@ local ROWS = {
   { "dblfloatsep", "text", part = true }, { "dbltextfloatsep", "text", part = true },
   { "fptop", "text", part = true }, { "fpsep", "text", part = true }, { "fpbot", "text", part = true },
   { "dblfptop", "text", part = true }, { "dblfpsep", "text", part = true }, { "dblfpbot", "text", part = true },
-  { "skipfootins", "text", part = true }, { "footlimit", "number", 0, MAX_DIMEN, part = true },
+  { "skipfootins", "text", part = true, once = true }, { "footlimit", "number", 0, MAX_DIMEN, part = true, once = true },
   { "footsplittop", "number", 0, MAX_DIMEN, part = true }, { "footsplitdepth", "number", 0, MAX_DIMEN },
   { "footfloating", "number", -100000, 100000 },
   { "splittopskip", "number", 0, MAX_DIMEN, part = true }, { "splitmaxdepth", "number", 0, MAX_DIMEN, part = true },
@@ -38,16 +41,20 @@ local ROWS = {
 -- Those of version 3 come after these, with the value that a galley of an earlier version has; `notes`: footnotes alone
 -- are set by it. A rule is the room above it, its height, and the room below it.
 for _, row in ipairs {
-  { "texttop", "text", kernel = NO_GLUE }, { "textbottom", "text", kernel = NO_GLUE },
-  { "footrule", "text", kernel = "-196608 26214 170394", notes = true },
-  { "toprule", "text", kernel = "none" }, { "bottomrule", "text", kernel = "none" },
-  { "dblrule", "text", kernel = "none" },
+  { "texttop", "text", kernel = NO_GLUE, command = "@texttop" },
+  { "textbottom", "text", kernel = NO_GLUE, command = "@textbottom" },
+  { "footrule", "text", kernel = "-196608 26214 170394", notes = true, command = "footnoterule" },
+  { "toprule", "text", kernel = "none", command = "topfigrule" },
+  { "bottomrule", "text", kernel = "none", command = "botfigrule" },
+  { "dblrule", "text", kernel = "none", command = "dblfigrule" },
   { "footdepth", "text", kernel = "keep", notes = true }, { "footfill", "text", kernel = NO_GLUE, notes = true },
   { "footplace", "text", kernel = "above", notes = true },
 } do
-  row.part = true
+  row.part = not row.command
   ROWS[#ROWS + 1] = row
 end
+local ROW = {}
+for _, row in ipairs(ROWS) do ROW[row[1]] = row end
 
 local own = {}         -- the values at the document's begin; after settle() those that are written
 local votes = {}       -- by part (the clears before it): name -> value -> number of columns
@@ -71,26 +78,53 @@ function M.document(name, value) own[name] = with_fill(name, value) end
 function M.enter(clears) part = clears end
 function M.current() return part end
 
--- ---- Changes by the output routine
+-- ---- Changes anywhere
 
--- The width of glue and the dimensions by which the page builder makes a page.
-local PAGE_BUILDER = {
-  topskip = function() return tex.topskip.width end,
-  baselineskip = function() return tex.baselineskip.width end,
+local first = {}       -- what was seen of these parameters when the document began: a value, or a command's meaning
+local seen = {}        -- what was seen last
+
+-- What a command does now. One that is no macro is told by its code.
+local function meaning(command)
+  local code = token.create(command)
+  return token.get_macro(command) or string.format("\\%s %s", code.cmdname, code.mode)
+end
+
+local function width(glue) return (tex.get(glue, false)) end
+
+-- What there is to see of a parameter that may change anywhere.
+local function seen_now(row)
+  if row[1] == "topskip" then return tostring(width("topskip")) end
+  return row.command and meaning(row.command)
+end
+
+-- Dimensions that a galley can't set anywhere.
+local FIXED = {
+  baselineskip = function() return width("baselineskip") end,
   textheight = function() return tex.dimen.textheight end,
   ["@maxdepth"] = function() return tex.dimen["@maxdepth"] end,
 }
-local seen = {}        -- their values when they were looked at last
+local fixed = {}       -- their values when they were looked at last
 
--- Looks at what the page builder goes by. What the output routine changed (`by_routine`) holds from the first node that
--- it returned, which may be anywhere in a galley. A galley sets a parameter once, so the log names the change.
-function M.watch(by_routine)
-  for name, value in pairs(PAGE_BUILDER) do
+-- The log names what the output routine changes of these.
+local function watch_fixed(by_routine)
+  for name, value in pairs(FIXED) do
     local now = value()
-    if by_routine and seen[name] and seen[name] ~= now then
-      log.lost(string.format("%s, which the output routine changes from %d to %d", name, seen[name], now))
+    if by_routine and fixed[name] and fixed[name] ~= now then
+      log.lost(string.format("%s, which the output routine changes from %d to %d", name, fixed[name], now))
     end
-    seen[name] = now
+    fixed[name] = now
+  end
+end
+
+-- Looks at what may change on any page. What the output routine changed (`by_routine`) holds from the first box on that it
+-- returned; a change by the document holds for all that is contributed with it.
+function M.watch(by_routine)
+  watch_fixed(by_routine)
+  local add = by_routine and nodes.add_at_page or nodes.add_at_text
+  for _, row in ipairs(ROWS) do
+    local name, now = row[1], seen_now(row)
+    if seen[name] and now ~= seen[name] then add { kind = "set", parameter = name, seen = now } end
+    first[name], seen[name] = first[name] or now, now
   end
 end
 
@@ -112,15 +146,18 @@ local function add_vote(name, value)
   votes[part][name][value] = (votes[part][name][value] or 0) + 1
 end
 
--- A column has this value. For topskip see top_skip(), for parskip float_parskip(): these alone tell which was used.
+-- The votes for what a command puts are told apart by its meaning.
+local function key(name, seen) return name .. " " .. seen end
+
+-- A column has this value. For topskip see watch(), for parskip float_parskip(): these alone tell which was used.
 function M.column(name, value)
-  if name ~= "topskip" and name ~= "parskip" and name ~= "pool" then add_vote(name, with_fill(name, value)) end
+  if name == "topskip" or name == "parskip" or name == "pool" then return end
+  local command = ROW[name] and ROW[name].command
+  add_vote(command and key(name, meaning(command)) or name, with_fill(name, value))
 end
 
--- A column's first box, of this height, stands below the glue `g`.
-function M.top_skip(g, height)
-  if g.width == 0 and height >= (tonumber(own.topskip) or 0) then return end
-  add_vote("topskip", tostring(g.width > 0 and g.width + height or 1))
+-- A column's first box stands below the glue `g`.
+function M.top_skip(g)
   if g.stretch ~= 0 or g.shrink ~= 0 then log.lost("top skip with stretch or shrink (its width is kept)") end
 end
 
@@ -201,10 +238,6 @@ end
 
 -- ---- What the page builder met in the nodes themselves
 
-local parskips = {}    -- of floats with place h that were called between paragraphs
-
-function M.float_parskip(glue) parskips[glue] = (parskips[glue] or 0) + 1 end
-
 -- The split depth and the penalty of footnotes are those of the first.
 local first_foot
 function M.footnote(record)
@@ -237,7 +270,7 @@ end
 local function forget_notes()
   for _, row in ipairs(ROWS) do
     if row.notes then
-      own[row[1]] = row.kernel
+      own[row[1]], row.command = row.kernel, nil
       for _, names in pairs(votes) do names[row[1]] = nil end
       for what, name in pairs(unsaid) do
         if name == row[1] then unsaid[what] = nil end
@@ -249,27 +282,44 @@ end
 -- What a `set` line can't say holds all along.
 local function lost(what) log.lost(what, "the whole document") end
 
--- Chooses each parameter's value over the whole document. `has_notes`: whether it has footnotes.
+-- The votes of all parts.
+local function votes_of(name)
+  local all = {}
+  for _, names in pairs(votes) do
+    for value, count in pairs(names[name] or {}) do all[value] = (all[value] or 0) + count end
+  end
+  return all
+end
+
+-- What a command with this meaning puts into the columns after so many clears, or else into most columns of the document;
+-- nil where it put nothing into any.
+local function put_by(row, seen, clears)
+  local name, voted = row[1], key(row[1], seen)
+  local counts = votes[clears] and votes[clears][voted]
+  if counts then
+    local value = winner(counts, own[name])
+    tell_others(name, counts, value, " within a part")
+    return value
+  end
+  local all = votes_of(voted)
+  return next(all) and winner(all, own[name])
+end
+
+-- Chooses each parameter's value over the whole document, or at its begin where it may change anywhere. `has_notes`:
+-- whether it has footnotes.
 function M.settle(has_notes)
   if not has_notes then forget_notes() end
   for what in pairs(unsaid) do lost(what) end
   for _, row in ipairs(ROWS) do
-    local name, all = row[1], {}
-    for _, names in pairs(votes) do
-      for value, count in pairs(names[name] or {}) do all[value] = (all[value] or 0) + count end
-    end
-    if next(all) then
+    local name, all = row[1], votes_of(row[1])
+    if row.command and first[name] then
+      own[name] = put_by(row, first[name], 0) or own[name]
+    elseif next(all) then
       own[name] = winner(all, own[name])
       if not row.part then tell_others(name, all, own[name], "") end
     end
   end
-end
-
--- Here floats between paragraphs alone use parskip, so theirs is written.
-function M.settle_parskip()
-  if not next(parskips) then return end
-  own.parskip = winner(parskips, next(parskips))
-  tell_others("parskip at a float between paragraphs", parskips, own.parskip, "")
+  own.topskip = first.topskip or own.topskip
 end
 
 -- Whether version 3 is needed: a parameter of it has another value than in an earlier version, or a line of it is written.
@@ -288,15 +338,15 @@ function M.of_part(clears)
       local counts = votes[clears][name]
       values[name] = counts and winner(counts, own[name]) or own[name]
       if counts then tell_others(name, counts, values[name], " within a part") end
-      if row.kernel and values[name] ~= row.kernel then is_new = true end
     end
   end
   return values
 end
 
+-- Whether the values of two parts can't be those of one galley.
 function M.differ(a, b)
   for _, row in ipairs(ROWS) do
-    if row.part and a[row[1]] ~= b[row[1]] then return true end
+    if row.once and a[row[1]] ~= b[row[1]] then return true end
   end
   return false
 end
@@ -329,81 +379,75 @@ function M.version(has_classes)
   return is_new and 3 or has_classes and 2 or 1
 end
 
--- The `set` lines of a galley whose part has these values.
+local function line_of(row, value)
+  local text = FORMS[row[2]](row, value)
+  return text and string.format("set %s %s", row[1], text)
+end
+
+-- The `set` lines of a galley that begins with these values.
 function M.lines(values)
   local out = {}
   for _, row in ipairs(ROWS) do
-    local name, form = row[1], row[2]
-    local value = row.part and values[name] or own[name]
-    local is_written = value and (is_new or not row.kernel)
-    local text = is_written and FORMS[form](row, value)
-    if text then out[#out + 1] = string.format("set %s %s", name, text) end
+    local value = values[row[1]] or own[row[1]]
+    if value and (is_new or not row.kernel) then out[#out + 1] = line_of(row, value) end
   end
   return out
 end
 
--- The value of a parameter in a part.
-function M.value(values, name) return values[name] or own[name] end
+-- ---- Lines among the items, in the order in which they are written
 
--- All values of the whole document, for a part without columns.
-function M.whole() return own end
+local said = {}        -- what holds of the parameters that were set among the items
+local holds = {}       -- of the commands the meaning that holds, where it is not the first
 
--- ---- Classes of insertions
-
-local FOOT, ENLARGED = "foot", "enlarged"
-local classes = {}     -- TeX's number of the insertion -> its class
-
-function M.insertions(kind, number, factor, limit, skip)
-  classes[number] = { kind = kind, factor = factor, limit = limit, skip = skip, number = number % 250 }
+-- The line that sets a parameter, nil where it has the value already or the value is not known.
+local function set_line(row, value)
+  if not value or value == (said[row[1]] or own[row[1]]) then return nil end
+  said[row[1]] = value
+  return line_of(row, value)
 end
 
-local function is_of(record, kind)
-  local class = classes[record.class]
-  return class ~= nil and class.kind == kind
+-- The line of a change that the page builder met after so many clears, if it gives a parameter another value.
+function M.change(record, clears)
+  local row = ROW[record.parameter]
+  if row[1] == "topskip" then return set_line(row, record.seen) end
+  if not row.command then return nil end
+  holds[row[1]] = record.seen
+  return set_line(row, put_by(row, record.seen, clears))
 end
 
-function M.is_footnote(record) return is_of(record, FOOT) end
-function M.is_enlargement(record) return is_of(record, ENLARGED) end
-
-local FIRST_SERIES = 100
-local below = {}       -- TeX's number of the insertion -> the rule of a series below the footnotes, and its place
-local series = 0
-
--- A series of notes stands below the footnotes and the series before it, under this rule.
-function M.below(number, rule)
-  series = series + 1
-  below[number] = { rule = rule, order = series }
-end
-
--- The class of an insertion, nil for footnotes, which need no number. Notes how it is said.
-function M.class_of(record)
-  if not classes[record.class] then
-    local g = tex.skip[record.class]
-    M.insertions("other", record.class, tex.count[record.class], tex.dimen[record.class],
-      string.format("%d plus %d%s minus %d", g.width, g.stretch, ORDERS[g.stretch_order], g.shrink))
-  end
-  local class = classes[record.class]
-  if class.kind == FOOT then return nil end
-  if below[record.class] then
-    local own = below[record.class]
-    class.below, class.number = own.rule, FIRST_SERIES + own.order
-    is_new = true
-  else
-    log.lost("another class of insertions (its boxes stand before the footnotes, without a rule)", record.place)
-  end
-  return class
-end
-
--- The `class` lines of a galley, in rising number.
-function M.class_lines(used)
-  local out, sorted = {}, {}
-  for class in pairs(used) do sorted[#sorted + 1] = class end
-  table.sort(sorted, function(a, b) return a.number < b.number end)
-  for _, class in ipairs(sorted) do
-    out[#out + 1] = string.format("class %d %d %d %s%s", class.number, class.factor, class.limit,
-      class.below and "below " .. class.below .. " " or "", class.skip)
+-- The lines at the clear before a part, which has these values; `before` are those of the part before it. What holds of the
+-- commands may put something else in another part.
+function M.changes(clears, before, values)
+  local out = {}
+  for _, row in ipairs(ROWS) do
+    local name = row[1]
+    if row.part and before and before[name] ~= values[name] then
+      out[#out + 1] = line_of(row, values[name])
+    elseif row.command and first[name] then
+      out[#out + 1] = set_line(row, put_by(row, holds[name] or first[name], clears))
+    end
   end
   return out
+end
+
+-- The values of a galley that begins here; `values` are those of its first columns, nil without any.
+function M.begin_galley(values)
+  local out = {}
+  for _, row in ipairs(ROWS) do
+    local name = row[1]
+    out[name] = said[name] or (values and values[name])
+    if row.kernel and (out[name] or own[name]) ~= row.kernel then is_new = true end
+  end
+  return out
+end
+
+local is_parskip_known = false
+
+-- The line before a float that uses this parskip: one with place h that was called between paragraphs. They alone use it, so
+-- a galley begins with that of the first.
+function M.float_parskip(glue)
+  if is_parskip_known then return set_line(ROW.parskip, glue) end
+  own.parskip, is_parskip_known = glue, true
 end
 
 return M

@@ -2,17 +2,14 @@
 -- on, and all the other way round if `reversemargin` is on. A class may have a rule of its own. The sides are known when the
 -- pages are made, so that setting is written by which all notes stand where they do.
 local log = require("galleyexport-log")
-local parameters = require("galleyexport-parameters")
 
 local M = {}
 
--- The pages that LaTeX made of a part: those after its first clear, up to the next part's.
-function M.pages_of(part, next_part, pages)
+-- The pages that LaTeX made after so many clears.
+local function pages_after(clears, pages)
   local out = {}
   for _, page in ipairs(pages) do
-    if page.clears >= part.first_clear and not (next_part and page.clears >= next_part.first_clear) then
-      out[#out + 1] = page
-    end
+    if page.clears == clears then out[#out + 1] = page end
   end
   return out
 end
@@ -38,14 +35,16 @@ local function fits(notes, switch, reverse)
   return true
 end
 
--- Sets `mparswitch` and `reversemargin` by the notes on the pages of a part: the document's own setting goes first.
-function M.choose(part, pages)
-  local notes = notes_of(pages)
+-- Sets `mparswitch` and `reversemargin` of a part, the one after so many clears, by the notes on its pages: the document's
+-- own setting goes first, then that of the part `before`.
+function M.choose(values, before, clears, pages)
+  local notes = notes_of(pages_after(clears, pages))
   if #notes == 0 then return end
-  local own = { parameters.value(part.values, "mparswitch"), parameters.value(part.values, "reversemargin") }
-  for k, setting in ipairs { own, { "off", "off" }, { "off", "on" }, { "on", "off" }, { "on", "on" } } do
+  local own = { values.mparswitch, values.reversemargin }
+  local last = before and { before.mparswitch, before.reversemargin } or own
+  for k, setting in ipairs { own, last, { "off", "off" }, { "off", "on" }, { "on", "off" }, { "on", "on" } } do
     if fits(notes, setting[1], setting[2]) then
-      part.values.mparswitch, part.values.reversemargin = setting[1], setting[2]
+      values.mparswitch, values.reversemargin = setting[1], setting[2]
       if k > 1 then
         log.chosen(string.format("mparswitch %s and reversemargin %s are written, by which all marginal notes stand",
           setting[1], setting[2]))

@@ -2,7 +2,8 @@
 --   galleyexport-log          what a galley can't say, with its count and places
 --   galleyexport-nodes        the nodes that are contributed to the main vertical list, as records
 --   galleyexport-floats       floats, marginal notes, boxes over both columns
---   galleyexport-parameters   parameters, and the classes of insertions
+--   galleyexport-parameters   parameters
+--   galleyexport-insertions   the classes of insertions
 --   galleyexport-numbers      the numbers of pages
 --   galleyexport-pages        the columns and pages that LaTeX made
 --   galleyexport-sides        the sides of marginal notes, by LaTeX's pages
@@ -20,6 +21,7 @@ local M = {
   nodes = require("galleyexport-nodes"),
   floats = require("galleyexport-floats"),
   parameters = require("galleyexport-parameters"),
+  insertions = require("galleyexport-insertions"),
   numbers = require("galleyexport-numbers"),
   pages = require("galleyexport-pages"),
   galley = require("galleyexport-galley"),

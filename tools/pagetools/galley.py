@@ -33,8 +33,9 @@ class Galley:
     entries: dict = field(default_factory=dict)     # (word, name) -> its entries in order
     lines: list = field(default_factory=list)       # those of the text, in order
     numbers: list = field(default_factory=list)     # the numbers of these lines
-    text_height: int = TEXT_HEIGHT
-    rule_room: int = 0   # of the rule below double floats
+    # By lines: how high a page's text is from there on, and the room of the rule below double floats.
+    text_heights: list = field(default_factory=lambda: [(0, TEXT_HEIGHT)])
+    rule_rooms: list = field(default_factory=lambda: [(0, 0)])
 
     def add(self, line):
         self.lines.append(line)
@@ -48,26 +49,32 @@ class Galley:
         """The word of a line, '' if it is none of the text."""
         return next((line.word for line in self.between(number - 1, number + 1)), '')
 
-    def set(self, name, values):
-        """A `set` line."""
+    def set(self, number, name, values):
+        """A `set` line, which holds for what stands below it."""
         if name == 'textheight':
-            self.text_height = sp(values[0])
+            self.text_heights.append((number, sp(values[0])))
         elif name == 'dblrule':
-            self.rule_room = 0 if values[0] == 'none' else sum(map(sp, values))
+            self.rule_rooms.append((number, 0 if values[0] == 'none' else sum(map(sp, values))))
 
-    def room(self, page):
-        """How high a text column of a page is, if `enlarge` makes it no other. Above two columns a double float has a depth
-        of 1sp, and no rule stands below a head."""
+    def room(self, page, line):
+        """How high a text column is on a page that shows this line, if `enlarge` makes it no other. Above two columns a
+        double float has a depth of 1sp, and no rule stands below a head."""
+        text_height = at_line(self.text_heights, line)
         if page.kind != 'two':
-            return self.text_height
+            return text_height
         floats = sum(item.kind == 'float' for item in page.wide)
         has_rule = floats and all(item.kind != 'head' for item in page.wide)
-        return self.text_height - page.at + floats + (self.rule_room if has_rule else 0)
+        return text_height - page.at + floats + (at_line(self.rule_rooms, line) if has_rule else 0)
 
     def take(self, kind, name):
         """The entry of the next item with this word and name, None if there is none left."""
         found = self.entries.get((kind, name))
         return found.pop(0) if found else None
+
+
+def at_line(values, line):
+    """The value that holds at a line, of values with the lines from which they hold, in order."""
+    return next(value for first, value in reversed(values) if first <= line)
 
 
 def sp(text):
@@ -92,7 +99,7 @@ def read(path):
             if not words or words[0].startswith('#'):
                 continue
             if words[0] == 'set' and len(words) > 2:
-                galley.set(words[1], words[2:])
+                galley.set(number, words[1], words[2:])
             if not foot:
                 galley.add(text_line(number, words))
             if words[0] in ('foot', 'endfoot'):

@@ -36,7 +36,7 @@ CAUSES = {
     'NoHeader': 'the first line but comments says what the text is. Begin with `{header}`',
     'AfterEnd': '`end` came before. Remove this line, or move `end` below it',
     'UnknownWord': 'no such word may be here. {choice}',
-    'SetAfterItem': '`set` and `class` come before the first item. Move this line up',
+    'SetAfterItem': '`class` comes before the first item, and so does `set`, but where docs/FORMATS.md says. Move this line up',
     'NestedFoot': 'a foot is open already. End it by `endfoot` before another `foot`',
     'NotInFoot': 'this may not be in a foot. End the foot by `endfoot` above it',
     'StrayEndfoot': 'no foot is open. Remove this line, or write `foot` where the footnote begins',

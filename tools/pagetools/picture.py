@@ -51,12 +51,17 @@ class PageDrawing:
         edge = MARGIN_ROOM if margins else EDGE
         self.left, self.right = edge + self.around.calls, edge + self.around.lane
 
+    def _last_line(self):
+        """The last line of the galley that the page shows; without any, one behind them all."""
+        entries = (self.book.entries.get(id(item)) for _, item in self.page.items())
+        return max((entry.line for entry in entries if entry), default=float('inf'))
+
     def draw(self, galley=None, title='', marked=None, room=None):
         """The drawing. `galley` is that of the page, `room` the one by which its columns have their height, `marked` the item
         with the first difference."""
         page, left = self.page, self.left
         self.around.marked = marked
-        self.around.room = room.room(page) if room else 0
+        self.around.room = room.room(page, self._last_line()) if room else 0
         drawing = Drawing(self.width + left + self.right, self.height + TOP + FOOT + 6)
         drawing.rect(6, 4, drawing.width - 12, drawing.height - 8, 'sheet', radius=3)
         drawing.text(left, 23, title or document.title(page), 10, 'title')

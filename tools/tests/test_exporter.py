@@ -51,9 +51,9 @@ class Exporter(Latex):
         self.assertNotIn('sides', self.read('test.galleylog'))
 
     def test_what_the_output_routine_changes(self):
-        self.export(PAGE * 2, preamble=r'\topskip20pt \let\old\@outputpage \def\@outputpage{\old\global\topskip10pt }')
+        self.export(PAGE * 2, preamble=r'\textheight400pt \let\old\@outputpage \def\@outputpage{\old\global\textheight500pt }')
         self.assertRegex(self.read('test.galleylog'),
-                         r"can't say: topskip, which the output routine changes from 1310720 to 655360: 1 times")
+                         r"can't say: textheight, which the output routine changes from 26214400 to 32768000: 1 times")
 
     @unittest.skipUnless(is_installed('multicol.sty'), 'no multicol')
     def test_another_output_routine(self):

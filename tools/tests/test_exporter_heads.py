@@ -11,8 +11,8 @@ NOTE = r'Words.\footnote{A note.} '
 HEAD = r'\twocolumn[\begin{center}\Large A head over both columns\par\end{center}\vskip 20pt]'
 WIDE = r'\begin{figure*}[t]\vbox to 2cm{}\caption{A}\end{figure*} '
 FIGURE = r'\begin{figure}[%s]\vbox to 3cm{}\caption{A}\end{figure} '
-# Pages of another height from here on, directly after a clear.
-LOWER = r'\clearpage\makeatletter\textheight%s\@colht\textheight\@colroom\textheight\vsize\textheight\makeatother '
+# Another room above footnotes from here on, which a galley can't change.
+OTHER_NOTES = r'\clearpage\skip\footins30pt '
 PT = 65536
 
 
@@ -41,15 +41,9 @@ class Heads(Latex):
         self.assert_places()
 
     def test_a_head_that_begins_a_galley(self):
-        self.export(LINES * 3 + LOWER % '400pt' + HEAD + LINES * 60)
+        self.export(LINES * 3 + OTHER_NOTES + HEAD + LINES * 60)
         self.assertEqual(self.lines('test.2.galley')[:3], ['galley 3', 'page 2', 'twocolumn'])
         self.assertTrue(self.lines('test.2.galley')[3].startswith('head '))
-        self.assert_pages('test.galley', 'test.2.galley')
-
-    def test_a_height_that_is_changed_before_a_clear(self):
-        self.export(LINES * 3 + r'\textheight 300pt\clearpage ' + LINES * 30)
-        heights = [re.search(r'^set textheight (\d+)', self.read(name), re.M)[1] for name in ('test.galley', 'test.2.galley')]
-        self.assertEqual(heights, [str(550 * PT), str(300 * PT)])
         self.assert_pages('test.galley', 'test.2.galley')
 
     def test_a_head_that_leaves_no_room(self):
@@ -158,7 +152,7 @@ class Numbers(Latex):
         self.assert_pages()
 
     def test_numbers_of_two_galleys(self):
-        self.export(LINES * 20 + LOWER % '300pt' + LINES * 20)
+        self.export(LINES * 20 + OTHER_NOTES + LINES * 20)
         self.assertEqual(self.words(), [])
         self.assertEqual(self.lines('test.2.galley')[:2], ['galley 3', 'page 4'])
         self.assert_pages('test.galley', 'test.2.galley')

@@ -183,7 +183,13 @@ class Drawing(Scratch):
     def test_the_room_of_a_page(self):
         own, pages = galley.read(self.path('a.galley')), read(REPORT).pages
         # 100 less 30; 100; 100 less 25 and 1sp, of which the 5 of the rule and the 1sp are none of the columns' loss
-        self.assertEqual([own.room(page) for page in pages], [70 * 65536, 100 * 65536, 80 * 65536])
+        self.assertEqual([own.room(page, own.numbers[-1]) for page in pages], [70 * 65536, 100 * 65536, 80 * 65536])
+
+    def test_the_room_of_a_page_whose_height_is_set_at_a_clear(self):
+        with open(self.path('b.galley'), 'w', encoding='latin-1') as out:
+            out.write('galley 3\nset textheight 60pt\nbox a 9pt 0\nclearpage\nset textheight 40pt\nbox b 9pt 0\nend\n')
+        own, page = galley.read(self.path('b.galley')), report.Page(1, 'one')
+        self.assertEqual([own.room(page, line) for line in (3, 6, float('inf'))], [60 * 65536, 40 * 65536, 40 * 65536])
 
 
 if __name__ == '__main__':
