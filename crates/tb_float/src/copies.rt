@@ -1,5 +1,5 @@
 //! A copy of a pool.
-ghost use Rattle.std.specs.Prelude.{◌≡◌, IfOk};
+ghost use Rattle.std.specs.Prelude.{◌≡◌, IfOk, OnOk, OnErr};
 
 use crate::Pool;
 use crate::firsts::Firsts;
@@ -24,5 +24,23 @@ impl Pool {
             marks_from: self.marks_from,
             firsts,
         })
+    }
+
+    /// Becomes a copy of another pool in place, in the memory that it has. It fails only if memory runs out, and is as
+    /// before then.
+    pub fn copy_from(&mut self, other: &Pool) -> Result<(), AllocError>
+        ensures ok { OnOk result (self.new ≡ other.now) }
+        ensures err { OnErr result (self.new ≡ self.old) }
+    {
+        self.store.copy_from(&other.store)?;
+        self.shelves = other.shelves;
+        self.heights = other.heights;
+        self.size = other.size;
+        self.known = other.known;
+        self.chosen = other.chosen;
+        self.least = other.least;
+        self.marks_from = other.marks_from;
+        self.firsts.forget();
+        Ok(())
     }
 }

@@ -55,6 +55,13 @@ impl Firsts {
         }
     }
 
+    // They are not known any more. The room for them stays.
+    pub(crate) fn forget(&mut self)
+        ensures { (l : FloatLists) → KnowsFirsts self.new l }
+    {
+        self.of = None;
+    }
+
     // A list is no longer as it was.
     pub(crate) fn lose(&mut self, p: Part)
         ensures { (l m : FloatLists) → ChangesOnly p l m → KnowsFirsts self.old l → KnowsFirsts self.new m }

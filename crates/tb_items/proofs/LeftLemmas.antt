@@ -1,5 +1,5 @@
--- The items that are left, batch by batch.
-use Rattle.std.proofs.Common.{◌≡◌, refl, sym, subst, ◌∙◌, ap, ℕ, zero, suc, ◌+◌, ◌<◌, ◌≤◌, Bool, true, false, List, [], ◌∷◌, ◌++◌, length, map, take, drop, get_or, None, Some, append_assoc, append-nil, arith}
+-- The items that are left, batch by batch and one by one.
+use Rattle.std.proofs.Common.{◌≡◌, refl, sym, subst, ◌∙◌, ap, ℕ, zero, suc, ◌+◌, ◌-◌, ◌<◌, ◌≤◌, Bool, true, false, List, [], ◌∷◌, ◌++◌, length, map, take, drop, get_or, None, Some, append_assoc, append-nil, arith}
 use Rattle.std.specs.Prelude.{◌&&◌, if◌then◌else◌}
 use Rattle.std.proofs.lemmas.Bool.{true≢false}
 use Rattle.std.proofs.lemmas.List.{take_more, take_all, take-append-drop, length-drop, at_drop_more}
@@ -21,7 +21,7 @@ use Rattle.tb_galley.specs.declared.ItemKind.TheVariants as items
 use Rattle.tb_galley.specs.GalleyNodes.{with_firings, item_kinds, item_nodes, two_after, two_past, params_after, params_past}
 use Rattle.tb_items.specs.declared.items_left.ItemsLeft.{ItemsLeft}
 use Rattle.tb_items.specs.WaitingNodes.{Waits, IsItem, AreItems}
-use Rattle.tb_items.specs.ItemsLeft.{nodes_of, kern_last, ends_batch, are_ended, IsHandedOver}
+use Rattle.tb_items.specs.ItemsLeft.{nodes_of, first_nodes, kern_last, ends_batch, are_ended, IsHandedOver, IsPastItem, IsHandedNext}
 use Rattle.tb_items.proofs.ItemLemmas.{item_nodes-append}
 use Rattle.tb_items.proofs.OpenLemmas.{kern-both}
 
@@ -95,6 +95,34 @@ module _ (l : ItemsLeft) (b : Builder) (s : Lists Node) (d : Builder) (t : Lists
     ends = tt;
     items = λ cs h. tt;
     fewer = omega arith;
+  }
+
+-- ---- the next item is handed over
+
+-- some items are the first and those behind it
+pub first-rest : (ns : List Item) (d : Item) → 0 < length ns → ns ≡ get_or ns 0 d ∷ take (length ns - 1) (drop 1 ns)
+first-rest [] d some = absurd (omega (arith, some))
+first-rest (x ∷ xs) d some = ap (λ ms. x ∷ ms) (sym (take_all (length (x ∷ xs) - 1) xs (omega arith)))
+
+module _ (l r : ItemsLeft) (n : Item) (past : IsPastItem l r n) (b : Builder) (s : Lists Node) (d : Builder) (t : Lists Node) where
+  -- the nodes of the item
+  abbrev own : List PlainNode
+  own = on_line n.line (item_kinds l.params l.two n.kind)
+
+  -- those of the items behind it
+  abbrev behind : List PlainNode
+  behind = item_nodes (params_after l.params n.kind) (two_after l.two n.kind) r.items.now
+
+  -- what waits is the first item's, and what is left is behind it
+  pub handed-next : Waits own b s d t → IsHandedNext l (Some r) b s d t
+  handed-next waits = record {
+    waits = subst (λ ns. Waits (first_nodes l.galley.now l.params l.two ns) b s d t) (sym past.items) waits;
+    past = (n, past);
+    all =
+        (λ i. first_nodes l.galley.now l.params l.two (past.items i) ++ (item_nodes (past.params i) (past.two i) r.items.now ++ on_line (past.galley i).now.end_line clearpage_kinds))
+        ∙ sym (append_assoc own behind (on_line l.galley.now.end_line clearpage_kinds))
+        ∙ ap (λ ns. item_nodes l.params l.two ns ++ on_line l.galley.now.end_line clearpage_kinds) (sym past.items);
+    items = λ cs h. All-from_recursion (λ (m : Item). IsItem cs m.kind) r.items.now (recursion_from_All (λ (m : Item). IsItem cs m.kind) (n ∷ r.items.now) (subst (AreItems cs) past.items h)).1;
   }
 
 -- ---- their nodes are counted

@@ -1,6 +1,6 @@
 //! The items of a galley whose nodes do not wait yet.
 
-ghost use Rattle.std.specs.Prelude.{◌≡◌, ◌≤◌, ◌<◌, true, false, length, take, IfOk};
+ghost use Rattle.std.specs.Prelude.{◌≡◌, ◌≤◌, ◌<◌, true, false, None, Some, if◌then◌else◌, length, take, IfOk};
 ghost use Rattle.tb_node.specs.PlainNodes.{on_line};
 ghost use Rattle.tb_builder.specs.Contents.{contents_of, node_count};
 ghost use Rattle.tb_galley.specs.GalleyNodes.{item_kinds, expanded};
@@ -144,9 +144,25 @@ impl<'a> ItemsLeft<'a> {
         requires items { AreItems (contents_of builder.old store.old).classes self.now.items.now }
         ensures { IfOk result (λ rest. IsHandedNext self.now rest builder.old store.old builder.new store.new) }
     {
+        let mut rest = *self;
+        let more = rest.hand_on(store, builder)?;
+        Ok(more.then_some(rest))
+    }
+
+    /// The same in place, which copies no parameters: they become what is left then. Returns whether anything is left; if not,
+    /// they must not be used any more.
+    pub fn hand_on(
+        &mut self,
+        store: &mut Lists<Node>,
+        builder: &mut Builder,
+    ) -> Result<bool, AllocError>
+        requires can { CanTake builder.old store.old }
+        requires items { AreItems (contents_of builder.old store.old).classes self.old.items.now }
+        ensures { IfOk result (λ more. IsHandedNext self.old (if more then Some self.new else None) builder.old store.old builder.new store.new) }
+    {
         if self.items.is_empty() {
             put_clear(store, builder, self.galley.end_line)?;
-            return Ok(None);
+            return Ok(false);
         }
         let item = &self.items[0];
         put_item(
@@ -157,14 +173,10 @@ impl<'a> ItemsLeft<'a> {
             item.line,
             &item.kind,
         )?;
-        let mut params = self.params;
-        change_by(&mut params, &item.kind);
-        Ok(Some(ItemsLeft {
-            galley: self.galley,
-            items: &self.items[1..],
-            params,
-            two: two_after(self.two, &item.kind),
-        }))
+        change_by(&mut self.params, &item.kind);
+        self.two = two_after(self.two, &item.kind);
+        self.items = &self.items[1..];
+        Ok(true)
     }
 
     /// How many nodes the next item has, with those of its footnote; the nodes of the clear if no item is left.

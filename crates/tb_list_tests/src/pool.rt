@@ -61,6 +61,23 @@ fn a_copy_has_the_lists_of_the_store(rt: HostRuntime) -> Result<(), Fail> {
     Ok(())
 }
 
+#[tactic(auto, using(tb_pool::proofs::MapLemmas::list_steps))]
+#[test]
+fn a_store_becomes_a_copy_of_another(rt: HostRuntime) -> Result<(), Fail> {
+    let mut lists = Lists::new(rt.alloc());
+    let a = lists.add_list()?;
+    lists.reserve(2)?;
+    lists.push_back(a, 7u64);
+    let mut copy = Lists::new(rt.alloc());
+    copy.copy_from(&lists)?;
+    copy.push_back(a, 8);
+    assert_eq!(rt; copy.len(a), 2);
+    copy.copy_from(&lists)?;
+    assert_eq!(rt; copy.spare(), lists.spare());
+    assert_eq!(rt; copy.pop_front(a), Some(7));
+    Ok(())
+}
+
 // The first value of a list goes to the end of another.
 fn move_value(lists: &mut Lists<u64>, from: ListId, to: ListId)
     requires from_live { IsLive lists.old from }

@@ -1,6 +1,6 @@
 //! The classes of insertions that a machine serves.
 
-ghost use Rattle.std.specs.Prelude.{◌≡◌, IfOk};
+ghost use Rattle.std.specs.Prelude.{◌≡◌, IfOk, OnOk};
 
 use std::alloc::{AllocError, Global};
 use std::marker::Model;
@@ -27,6 +27,14 @@ impl Classes {
         ensures { result.now ≡ self.now }
     {
         &self.items
+    }
+
+    /// Becomes a copy of other classes in place. It fails only if memory runs out.
+    pub(crate) fn copy_from(&mut self, other: &Classes) -> Result<(), AllocError>
+        ensures { OnOk result (self.new ≡ other.now) }
+    {
+        self.items.clear();
+        self.items.extend_from_slice(&other.items)
     }
 }
 

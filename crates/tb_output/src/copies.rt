@@ -1,6 +1,6 @@
-//! A copy of a machine.
+//! Copies of a machine.
 
-ghost use Rattle.std.specs.Prelude.{◌≡◌, IfOk};
+ghost use Rattle.std.specs.Prelude.{◌≡◌, IfOk, OnOk};
 
 use crate::Machine;
 use crate::classes::copied;
@@ -34,5 +34,30 @@ impl Machine {
             events,
             fault: self.fault,
         })
+    }
+
+    /// Becomes a copy of another machine in place, since a machine is too large to be moved for each copy, and in the memory
+    /// that it has. It fails only if memory runs out, and is not to be used then.
+    pub fn copy_from(&mut self, other: &Machine) -> Result<(), AllocError>
+        ensures { OnOk result (self.new ≡ other.now) }
+    {
+        self.classes.copy_from(&other.classes)?;
+        self.events.copy_from(&other.events)?;
+        self.pool.copy_from(&other.pool)?;
+        self.params = other.params;
+        self.goal = other.goal;
+        self.page = other.page;
+        self.number = other.number;
+        self.dead_cycles = other.dead_cycles;
+        self.held_page = other.held_page;
+        self.held_room = other.held_room;
+        self.note_bottom = other.note_bottom;
+        self.suppress = other.suppress;
+        self.shrink = other.shrink;
+        self.two_columns = other.two_columns;
+        self.first_column = other.first_column;
+        self.left_column = other.left_column;
+        self.fault = other.fault;
+        Ok(())
     }
 }

@@ -1,6 +1,7 @@
 //! The events that were sent and not taken yet, the oldest first, with room for more.
 
 ghost use Rattle.std.specs.Prelude.{◌≡◌, ◌+◌, ◌<◌, ◌≤◌, [], ◌∷◌, ◌++◌, IfOk, OnOk, OnErr, IfSome, IfNone, option_to_list};
+ghost use Rattle.std.specs.VecDeque.{deque_len, deque_capacity};
 ghost use Rattle.tb_output.specs.ActCalls.{warnings_sent};
 
 use std::alloc::{AllocError, Global};
@@ -69,6 +70,21 @@ impl Events {
         })
     }
 
+    /// Takes over the events of another queue in place, and keeps room for at least as many more as either. If there is no
+    /// memory, there are no events afterwards, and the room stays.
+    pub fn copy_from(&mut self, other: &Events) -> Result<(), AllocError>
+        ensures sent { OnOk result (self.new.sent ≡ other.now.sent) }
+        ensures room { OnOk result (other.now.room ≤ self.new.room) }
+        ensures never_less { self.old.room ≤ self.new.room }
+    {
+        let room = self.room.max(other.room);
+        self.queue.clear();
+        self.queue.reserve(other.queue.len().saturating_add(room))?;
+        self.room = room;
+        push_all(&mut self.queue, &other.queue);
+        Ok(())
+    }
+
     /// Keeps room for `count` more events. If there is no memory, all is as before.
     pub fn keep_room(&mut self, count: usize) -> Result<(), AllocError>
         requires { count ≤ 4096 }
@@ -117,5 +133,17 @@ impl Events {
             Some(event) => Some(event.sent),
             None => None,
         }
+    }
+}
+
+// Puts the events of another queue behind the others, into room that is there.
+fn push_all(queue: &mut VecDeque<Event>, other: &VecDeque<Event>)
+    requires { deque_len queue.old + deque_len other.now ≤ deque_capacity queue.old }
+    ensures items { queue.new.items ≡ queue.old.items ++ other.now.items }
+    ensures len { deque_len queue.new ≡ deque_len queue.old + deque_len other.now }
+    ensures capacity { deque_capacity queue.new ≡ deque_capacity queue.old }
+{
+    for k in 0..other.len() {
+        queue.push_back_reserved(other[k]);
     }
 }

@@ -1,5 +1,4 @@
-use Rattle.std.proofs.Common.{◌≡◌, refl, ap, ◌∙◌, get_or, Option, None, arith}
-use Rattle.tb_pool.specs.declared.Node.{Node}
+use Rattle.std.proofs.Common.{ap, ◌∙◌, get_or, None, arith}
 use Rattle.tb_pool.proofs.PlaceLemmas.{same_slots}
 use Rattle.tb_pool.proofs.CopyLemmas.{slab_same, same_ends, lists_same}
 use Rattle.tb_pool.proofs.Lists.copy.Goals as goal
