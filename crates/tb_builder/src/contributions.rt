@@ -1,6 +1,6 @@
 //! Nodes and lists are handed to a builder, and its lists are shown.
 
-ghost use Rattle.std.specs.Prelude.{◌≡◌, ◌≢◌, ◌++◌, ◌∷◌, [], Some, false, ℕ, OnOk, OnErr};
+ghost use Rattle.std.specs.Prelude.{◌≡◌, ◌≢◌, ◌++◌, ◌∷◌, [], Some, false, is_some, ℕ, OnOk, OnErr};
 ghost use Rattle.std.specs.FinMap.{get};
 ghost use Rattle.tb_pool.specs.Lists.{IsLive, list_at};
 ghost use Rattle.tb_node.specs.PlainNodes.{plain_of, plain_list};
@@ -105,5 +105,12 @@ impl Builder {
         ensures { result ≡ self.now.page }
     {
         self.page
+    }
+
+    /// Whether the goal of the page is frozen: a box, a rule or an insertion is on it (TeX: The Program §987).
+    pub fn is_frozen(&self) -> bool
+        ensures { result ≡ is_some self.now.frozen }
+    {
+        self.frozen.is_some()
     }
 }

@@ -1,6 +1,6 @@
 -- The routine while a page is filled.
-use Rattle.std.proofs.Common.{◌≡◌, refl, sym, subst, ◌∙◌, ap, ℕ, ◌<◌, ◌≤◌, Bool, List, [], ◌∷◌, ◌++◌, length, map, None, Some, append-nil, arith}
-use Rattle.std.specs.Prelude.{◌+◌, ℤ, Option, true, false, IsSome, if◌then◌else◌}
+use Rattle.std.proofs.Common.{◌≡◌, refl, sym, subst, ◌∙◌, ap, ℕ, ◌<◌, ◌≤◌, Bool, List, [], ◌∷◌, ◌++◌, length, map, None, Some, is_some, append-nil, arith}
+use Rattle.std.specs.Prelude.{◌+◌, ℤ, Option, true, false, if◌then◌else◌}
 use Rattle.std.specs.List.{AllByRecursion}
 use Rattle.tb_break.proofs.EachLemmas.{all-front}
 use Rattle.tb_pool.specs.Lists.{Lists}
@@ -20,7 +20,7 @@ use Rattle.tb_builder.specs.PageEvents.{NextFits}
 use Rattle.tb_builder.specs.SizedContents.{IsSizedAsk}
 use Rattle.tb_builder.specs.PageProgress.{ComesToTry, ComesToAct, ComesTo, IsNextOfPage}
 use Rattle.tb_builder.specs.Ownership.{ids_of, KeepsOthers}
-use Rattle.tb_builder.specs.Courses.{freezes, IsSound}
+use Rattle.tb_builder.specs.Courses.{IsSound}
 use Rattle.tb_builder.proofs.Events.PagingLemmas.{calls_left, one_fewer}
 use Rattle.tb_sheet.specs.declared.Warn.{Warn}
 use Rattle.tb_sheet.specs.Sheet.{warned}
@@ -52,7 +52,7 @@ use Rattle.tb_items.proofs.MoreEvents.{fits-front, open-start}
 use Rattle.tb_run.proofs.Filling.MoreLemmas.{IsOpenFor}
 use Rattle.tb_run.proofs.Filling.ComingPages.{sized-asked, made-fits, asked-fits}
 use Rattle.tb_run.proofs.Filling.AskedCalls.{asks, Agrees, comes-for}
-use Rattle.tb_run.proofs.Filling.AskLemmas.{loose-begins, loose-holds, unbegun-loose}
+use Rattle.tb_run.proofs.Filling.AskLemmas.{loose-holds, unbegun-loose}
 
 -- ---- events that were taken
 
@@ -96,7 +96,7 @@ pub record IsAskedAct (r q : Routine) (now : Ask) (a : Act) : Type 0 where
 
 -- what is asked after an act: the same once the page is begun, and else what is asked in the state then
 abbrev pub IsAskedAgain : Routine → Ask → Ask → Type 0
-IsAskedAgain q now next = (boxes : List Boxed) (waiting : List PlainNode) → next ≡ (if freezes (built_in q).page then now else ask_of q.machine.params (state_shown q.store boxes waiting q.machine))
+IsAskedAgain q now next = (boxes : List Boxed) (waiting : List PlainNode) → next ≡ (if is_some q.builder.frozen then now else ask_of q.machine.params (state_shown q.store boxes waiting q.machine))
 
 then-ask : (t : Bool) (x y : Ask) → t ≡ true → (if t then x else y) ≡ x
 then-ask true x y e = refl
@@ -255,14 +255,11 @@ module _ (wanted : Bool) (r q d : Routine) (now : Ask) (hs : List Happening) (re
           frozen-before : (o : Option (ℤ × ℤ)) → behind.builder.frozen ≡ o → d.builder.frozen ≡ o
           frozen-before o k = sym (ap (λ (b : Builder). b.frozen) acted_so.builder) ∙ k
 
-          going : behind.builder.stopped ≡ false
-          going = ap (λ (b : Builder). b.stopped) acted_so.builder ∙ acts.stop
-
           begun-again : (f : ℤ × ℤ) → behind.builder.frozen ≡ Some f → next ≡ now
-          begun-again f k = again s.boxes s.waiting ∙ then-ask (freezes (built_in behind).page) now _ (acted_so.whole.builder.met (subst (λ o. IsSome o) (sym k) refl) going)
+          begun-again f k = again s.boxes s.waiting ∙ then-ask (is_some behind.builder.frozen) now _ (ap is_some k)
 
           unbegun-again : behind.builder.frozen ≡ None → next ≡ asks (state_now r behind)
-          unbegun-again none = again s.boxes s.waiting ∙ else-ask (freezes (built_in behind).page) now _ (loose-begins (built_in behind).page (unbegun-loose behind.builder behind.store acted_so.whole.builder none))
+          unbegun-again none = again s.boxes s.waiting ∙ else-ask (is_some behind.builder.frozen) now _ (ap is_some none)
 
           by-act : (o : Acted) → act_on q.machine.params (state_now r q) a ≡ o → HasDone s.boxes s.waiting d behind o → (new : List Happening) → new ≡ hs ++ sent_happenings behind.machine.events → IsUnderway wanted r (with_events [] behind) next new
           by-act (full line live) e o new is_new = absurd o

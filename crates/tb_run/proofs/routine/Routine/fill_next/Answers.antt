@@ -1,6 +1,5 @@
 use Rattle.std.proofs.Common.{refl, subst, sym}
 use Rattle.std.specs.Prelude.{◌<◌}
-use Rattle.tb_pool.specs.Lists.{IsLive}
 use Rattle.tb_run.specs.declared.routine.Routine.{Routine}
 use Rattle.tb_run.specs.declared.routine.Ending.TheVariants as endings
 use Rattle.tb_run.specs.Routine.{held_in, state_of}
@@ -45,10 +44,6 @@ pub next-smaller-in-Act : goal.next-smaller-in-Act
 next-smaller-in-Act c =
     subst (λ (x : Routine). turns_left c.args.self.now x < turns_left c.args.self.now c.next.self) (sym c.in_ok-hand_over-in-Act.ensures.machine)
     (come-fewer-acted c.args.wanted c.args.self.now c.next_event.new.self c.next.ask c.next.happened.items c.requires.ready (ask_for (state_of c.args.self.now)) refl c.in_ok-tried.field-0 c.next.self c.next.invariant (comes-so c.args.wanted c.args.self.now c.next.self c.next.ask c.next.happened.items c.next.invariant c.next_event.new.self c.in_ok-tried.field-0 c.in_ok-tried.ensures) c.in-Act.act c.in-Act.is c.act.new.self c.in_default.ensures.ok)
-
-pub asked_again-ask-requires : goal.asked_again-ask-requires
-asked_again-ask-requires c =
-    record { page = subst (λ (x : Routine). IsLive x.store x.builder.page) (sym c.in_ok-hand_over-in-Act.ensures.machine) c.in_default.ensures.ok.whole.builder.own.live.0 }
 
 pub next-preserved-in-Act : goal.next-preserved-in-Act
 next-preserved-in-Act c =
