@@ -1,5 +1,6 @@
 -- The lists of a page that was shipped are closed: the state after it stays as it was.
 use Rattle.std.proofs.Common.{◌≡◌, refl, sym, subst, ◌∙◌, ap, ◌++◌, ℤ, List, Option}
+use Rattle.std.specs.Global.{Box}
 use Rattle.tb_output.specs.State.{State}
 use Rattle.tb_items.specs.declared.items_left.ItemsLeft.{ItemsLeft}
 use Rattle.tb_items.specs.ItemsLeft.{nodes_left, AreItemsLeft}
@@ -30,7 +31,7 @@ fired-copied places d b c e branch state ahead h = record {
 }
 
 -- a routine that shows the same, over other lists
-pub fired-closed : (places : List PlacePenalty) (d : ℤ) (b : Branch) (r : Routine) (o : Option ItemsLeft) (q : Routine) → IsReady q → state_of q ≡ state_of r → q.left ≡ r.left
+pub fired-closed : (places : List PlacePenalty) (d : ℤ) (b : Branch) (r : Box Routine) (o : Option ItemsLeft) (q : Box Routine) → IsReady q.value → state_of q.value ≡ state_of r.value → q.value.left ≡ r.value.left
     → HasFired places d b (record { routine = r; ahead = o }) → HasFired places d b (record { routine = q; ahead = o })
 fired-closed places d b r o q ready state left h =
     let branch : IsBranch (record { routine = q; ahead = o }) = record {

@@ -59,7 +59,7 @@ waits-after : (p : Params) (s : State) (f : Fired) → (out p s f).state.waiting
 unfolding out
 waits-after p s f = refl
 
-module _ (b : Branch) (h : IsBranch b) (q : Routine) (page : Page) (hs : List Happening) (f : IsFiring true b.routine page q hs) (d : Routine) (g : HasGoneOn page q d) (ready : IsReady d) (classes : d.machine.classes ≡ q.machine.classes) where
+module _ (b : Branch) (h : IsBranch b) (q : Routine) (page : Page) (hs : List Happening) (f : IsFiring true b.routine.value page q hs) (d : Routine) (g : HasGoneOn page q d) (ready : IsReady d) (classes : d.machine.classes ≡ q.machine.classes) where
   abbrev more : List PlainNode
   more = nodes_ahead b
 
@@ -126,7 +126,7 @@ module _ (b : Branch) (h : IsBranch b) (q : Routine) (page : Page) (hs : List Ha
       (without-waiting (w.state.waiting ++ more) more w.state (subst (λ (y : Work). IsServed y.state.waiting y.state) (behind q.machine.params (state_of q) x more) served-more))
 
   abbrev after : Branch
-  after = record { routine = d; ahead = b.ahead }
+  after = record { routine = record b.routine { value = d }; ahead = b.ahead }
 
   -- the search can go on from the state after the page
   pub fired-branch : IsBranch after
@@ -143,16 +143,16 @@ module _ (b : Branch) (h : IsBranch b) (q : Routine) (page : Page) (hs : List Ha
   module _ (places : List PlacePenalty) (new : List Happening) (k : HasSent page q d hs new) where
     pub has-fired : (z : ℤ) → z ≡ demerits_if (rating (state_of d).params places 0 (last_champion (events_of d.store new)) (floats_waiting (state_of d).floats) (insertions_first (state_of d).waiting)) → pos 0 ≤ℤ z → z ≤ℤ pos 352689971456 → HasFired places z b after
     has-fired z value low high =
-        let es = events_now b.routine q page hs f in
-        let rs = records_now b.routine q page hs f in
+        let es = events_now b.routine.value q page hs f in
+        let rs = records_now b.routine.value q page hs f in
         record {
           events = es;
           records = rs;
           fires = f.fires.fires;
-          step = goes-step b.routine q page hs f d g;
+          step = goes-step b.routine.value q page hs f d g;
           demerits =
               value
-              ∙ ap (λ es. demerits_if (rating (state_of d).params places 0 (last_champion es) (floats_waiting (state_of d).floats) (insertions_first (state_of d).waiting))) (events-are b.routine q page hs f d g new k)
+              ∙ ap (λ es. demerits_if (rating (state_of d).params places 0 (last_champion es) (floats_waiting (state_of d).floats) (insertions_first (state_of d).waiting))) (events-are b.routine.value q page hs f d g new k)
               ∙ page-any (state_of d).params places 0 (first_number (state_of d).number es) (floats_waiting (state_of d).floats) (insertions_first (state_of d).waiting) (last_champion es);
           low = low;
           high = high;
@@ -164,25 +164,25 @@ module _ (b : Branch) (h : IsBranch b) (q : Routine) (page : Page) (hs : List Ha
 -- ---- it did not
 
 module _ (places : List PlacePenalty) (b : Branch) (c : Branch) (q : Routine) (hs : List Happening) where
-  stopped-by : (e : Ending) → e ≢ endings.Done → IsFilledLast true b.routine e q hs → (kern : Bool) → kern_last false (shown b).waiting ≡ kern → FillsTo places b (stopped kern) c
-  stopped-by e other h true is = is-full b.routine q e hs h other is
-  stopped-by e other h false is = is-refused b.routine q e hs h other is
+  stopped-by : (e : Ending) → e ≢ endings.Done → IsFilledLast true b.routine.value e q hs → (kern : Bool) → kern_last false (shown b).waiting ≡ kern → FillsTo places b (stopped kern) c
+  stopped-by e other h true is = is-full b.routine.value q e hs h other is
+  stopped-by e other h false is = is-refused b.routine.value q e hs h other is
 
-  pub unfired-so : (e : Ending) → IsFilledLast true b.routine e q hs → (kern : Bool) → kern ≡ kern_last false (shown b).waiting → FillsTo places b (unfired e kern) c
-  unfired-so endings.Done h kern is = is-quiet b.routine q endings.Done hs h refl
+  pub unfired-so : (e : Ending) → IsFilledLast true b.routine.value e q hs → (kern : Bool) → kern ≡ kern_last false (shown b).waiting → FillsTo places b (unfired e kern) c
+  unfired-so endings.Done h kern is = is-quiet b.routine.value q endings.Done hs h refl
   unfired-so (endings.PoolFull line live) h kern is = stopped-by (endings.PoolFull line live) (λ e. cc) h kern (sym is)
   unfired-so (endings.Fault f) h kern is = stopped-by (endings.Fault f) (λ e. cc) h kern (sym is)
   unfired-so (endings.NodeLimit n) h kern is = stopped-by (endings.NodeLimit n) (λ e. cc) h kern (sym is)
 
-  module _ (page : Page) (f : IsFiring true b.routine page q hs) (d : Routine) where
+  module _ (page : Page) (f : IsFiring true b.routine.value page q hs) (d : Routine) where
     pub unserved-so : (e : Ending) → ServesUnlimited page q (Some e) d → FillsTo places b (unserved e) c
     unserved-so endings.Done h = absurd h
     unserved-so (endings.PoolFull line live) h = absurd h
-    unserved-so (endings.Fault x) h = refused-so b.routine q page hs f x h
+    unserved-so (endings.Fault x) h = refused-so b.routine.value q page hs f x h
     unserved-so (endings.NodeLimit n) h = record {
-      events = events_now b.routine q page hs f;
-      records = records_now b.routine q page hs f;
+      events = events_now b.routine.value q page hs f;
+      records = records_now b.routine.value q page hs f;
       state = state_of d;
-      step = goes-step b.routine q page hs f d h.0;
+      step = goes-step b.routine.value q page hs f d h.0;
       many = h.1.more;
     }

@@ -25,15 +25,15 @@ use Rattle.tb_search.proofs.ServedLemmas.{served-front, served-with, served-amon
 
 module _ (b : Branch) (l : ItemsLeft) (is : b.ahead ≡ Some l) (h : IsBranch b) where
   -- the items ahead
-  pub items-ahead : AreItems (state_of b.routine).classes l.items.now
-  items-ahead = subst (AreItemsLeft (state_of b.routine).classes) is h.items
+  pub items-ahead : AreItems (state_of b.routine.value).classes l.items.now
+  items-ahead = subst (AreItemsLeft (state_of b.routine.value).classes) is h.items
 
   all-few : node_count (nodes_left (Some l)) ≤ 600005
   all-few = subst (λ o. node_count (nodes_left o) ≤ 600005) is h.few
 
-  module _ (before : List PlainNode) (good : All (IsGalleyNode (state_of b.routine).classes) before) (none : notes_waiting before ≡ 0) (rest : Option ItemsLeft) (q : Routine) (k : HasHanded before l rest b.routine q) where
+  module _ (before : List PlainNode) (good : All (IsGalleyNode (state_of b.routine.value).classes) before) (none : notes_waiting before ≡ 0) (rest : Option ItemsLeft) (q : Routine) (k : HasHanded before l rest b.routine.value q) where
     abbrev s : State
-    s = state_of b.routine
+    s = state_of b.routine.value
 
     abbrev ns : List PlainNode
     ns = before ++ next_nodes l
@@ -49,11 +49,11 @@ module _ (b : Branch) (l : ItemsLeft) (is : b.ahead ≡ Some l) (h : IsBranch b)
 
     module _ (m : Routine) (same : m ≡ record q { most = m.most }) where
       abbrev after : Branch
-      after = record { routine = m; ahead = rest }
+      after = record { routine = record b.routine { value = m }; ahead = rest }
 
       pub taken-branch : IsBounded 4194304 m → IsBranch after
       taken-branch few = record {
-        ready = wait-ready ns b.routine q h.ready k.wait m same few (served-front (state_of q).waiting (nodes_left rest) (state_of q) now-served);
+        ready = wait-ready ns b.routine.value q h.ready k.wait m same few (served-front (state_of q).waiting (nodes_left rest) (state_of q) now-served);
         none = ap (λ (x : Routine). x.left) same ∙ k.wait.left;
         items =
             subst (λ (x : Routine). AreItemsLeft (state_of x).classes rest) (sym same)

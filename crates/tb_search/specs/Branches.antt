@@ -18,7 +18,7 @@ use Rattle.tb_search.specs.declared.branch.Branch.{Branch}
 
 -- the state that a branch shows
 abbrev pub shown : Branch → State
-shown b = state_of b.routine
+shown b = state_of b.routine.value
 
 -- the nodes of the items ahead, and those of the clear at the end
 abbrev pub nodes_ahead : Branch → List PlainNode
@@ -26,8 +26,8 @@ nodes_ahead b = nodes_left b.ahead
 
 -- a page can be made of what waits, nothing is left in the routine, and the nodes ahead may come behind those that wait
 pub record IsBranch (b : Branch) : Type 0 where
-  pub ready : IsReady b.routine
-  pub none : b.routine.left ≡ None
+  pub ready : IsReady b.routine.value
+  pub none : b.routine.value.left ≡ None
   pub items : AreItemsLeft (shown b).classes b.ahead
   pub served : IsServed ((shown b).waiting ++ nodes_ahead b) (shown b)
   pub few : node_count (nodes_ahead b) ≤ 600005

@@ -53,8 +53,8 @@ pub enum Filled {
 /// A state of the search: a run in which the nodes wait that were taken and are on no page, and the items that are ahead.
 #[derive(Drop)]
 pub struct Branch<'a> {
-    // Nothing is left in it.
-    pub(crate) routine: Routine<'a>,
+    // Nothing is left in it. It is boxed since it is too large to be moved from call to call.
+    pub(crate) routine: Box<Routine<'a>>,
     // None once the clear at the end was taken.
     ahead: Option<ItemsLeft<'a>>,
 }
@@ -72,7 +72,7 @@ impl<'a> Branch<'a> {
         ensures items { IfOk result (λ b. HasAhead galley.now b.ahead (all_ahead galley.now)) }
         ensures branch { IfOk result IsBranch }
     {
-        let routine = Routine::empty(alloc, galley)?;
+        let routine = Box::new(alloc, Routine::empty(alloc, galley)?)?;
         Ok(Branch {
             routine,
             ahead: Some(all_items(galley)),
@@ -92,8 +92,9 @@ impl<'a> Branch<'a> {
         let Some(ahead) = self.ahead else {
             return Ok(true);
         };
-        self.ahead = hand_next(&mut self.routine, ahead)?;
-        Ok(self.routine.most_limit().is_none())
+        let routine = &mut *self.routine;
+        self.ahead = hand_next(routine, ahead)?;
+        Ok(routine.most_limit().is_none())
     }
 
     /// A break is put in before the next item, and the item is taken: a penalty of -10000 on the line of the item waits behind
@@ -108,8 +109,9 @@ impl<'a> Branch<'a> {
         let Some(ahead) = self.ahead else {
             return Ok(true);
         };
-        self.ahead = hand_cut(&mut self.routine, ahead)?;
-        Ok(self.routine.most_limit().is_none())
+        let routine = &mut *self.routine;
+        self.ahead = hand_cut(routine, ahead)?;
+        Ok(routine.most_limit().is_none())
     }
 
     /// Whether a box or rule waits. Before the first box of a page a break need not be put in.
@@ -129,6 +131,7 @@ impl<'a> Branch<'a> {
     }
 
     /// A copy, from which the search goes on as if there were no other. It fails only if memory runs out.
+    #[inline(never)]
     pub fn copy(&self, alloc: Global) -> Result<Self, AllocError>
         requires { IsBranch self.now }
 
@@ -136,7 +139,7 @@ impl<'a> Branch<'a> {
         ensures state { IfOk result (λ c. shown c ≡ shown self.now) }
         ensures ahead { IfOk result (λ c. c.ahead ≡ self.now.ahead) }
     {
-        let routine = self.routine.copy(alloc)?;
+        let routine = Box::new(alloc, self.routine.copy(alloc)?)?;
         Ok(Branch {
             routine,
             ahead: self.ahead,
@@ -182,17 +185,18 @@ impl<'a> Branch<'a> {
         ensures { IfOk result (λ f. FillsTo places.now self.old f self.new) }
     {
         let kern = self.ends_in_kern();
+        let routine = &mut *self.routine;
         let mut happened = Vec::new(alloc);
-        let page = match self.routine.fill(true, &mut happened)? {
+        let page = match routine.fill(true, &mut happened)? {
             PageFilled::Fires(page) => page,
             PageFilled::Ends(ending) => return Ok(unfired(ending, kern)),
         };
-        if let Some(ending) = self.routine.serve_unlimited(page, &mut happened)? {
+        if let Some(ending) = routine.serve_unlimited(page, &mut happened)? {
             return Ok(unserved(ending));
         }
-        let demerits = page_demerits(&self.routine, places, &happened);
+        let demerits = page_demerits(routine, places, &happened);
         // What was shipped is closed, so that no copy holds it.
-        self.routine.done_with(&happened);
+        routine.done_with(&happened);
         Ok(Filled::Fired { demerits })
     }
 }

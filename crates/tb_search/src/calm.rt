@@ -7,9 +7,9 @@ ghost use Rattle.tb_search.specs.AheadInCode.{items_ahead};
 ghost use Rattle.tb_search.specs.Calm.{IsCalm};
 ghost use Rattle.tb_search.specs.Starts.{IsReached, IsTable};
 
-use crate::Branch;
 use crate::search::BestFault;
 use crate::table::{Start, Table};
+use crate::trials::Trials;
 use std::alloc::Global;
 use tb_galley::Item;
 
@@ -37,7 +37,7 @@ impl<'a> Table<'a> {
         alloc: Global,
         left: usize,
         start: &Start<'a>,
-        trial: &mut Branch<'a>,
+        trials: &mut Trials<'a>,
     ) -> Result<usize, BestFault>
         requires table { IsTable self.now }
         requires some { 0 < left }
@@ -55,7 +55,7 @@ impl<'a> Table<'a> {
             if count == 0 {
                 return Ok(0);
             }
-            match self.stop_behind(alloc, left, start, count, trial)? {
+            match self.stop_behind(alloc, left, start, count, trials)? {
                 Some(line) => {
                     count = self.fewer_items(left, count, line);
                 }
@@ -89,7 +89,7 @@ impl<'a> Table<'a> {
         left: usize,
         start: &Start<'a>,
         count: usize,
-        trial: &mut Branch<'a>,
+        trials: &mut Trials<'a>,
     ) -> Result<Option<u32>, BestFault>
         requires table { IsTable self.now }
         requires inside { left ≤ length (all_ahead self.now.galley.now) }
@@ -98,16 +98,16 @@ impl<'a> Table<'a> {
 
         ensures { IfOk result (λ o. o ≡ None → IsCalm (shown start.now.branch) (items_ahead self.now.galley.now left) count) }
     {
-        trial.copy_from(&start.branch, alloc)?;
+        trials.page.copy_from(&start.branch, alloc)?;
         let last = left - count;
         let mut behind = left;
         'items: while behind > last {
-            if !trial.take()? {
+            if !trials.page.take()? {
                 return Ok(Some(0));
             }
             behind -= 1;
         }
-        let line = trial.stop_line(alloc)?;
+        let line = trials.page.stop_line(alloc)?;
         Ok(line)
     }
 }

@@ -20,9 +20,9 @@ pub(crate) fn copy_routine<'a>(
     ensures machine { OnOk result (routine.new.machine ≡ other.now.machine) }
     ensures left { OnOk result (routine.new.left ≡ other.now.left) }
 {
-    routine.store = other.store.copy()?;
+    routine.store.copy_from(&other.store)?;
     routine.builder.copy_from(&other.builder, alloc)?;
-    routine.machine = other.machine.copy(alloc)?;
+    routine.machine.copy_from(&other.machine)?;
     routine.most = other.most;
     routine.left = other.left;
     Ok(())

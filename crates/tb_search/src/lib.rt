@@ -9,6 +9,7 @@ mod moves;
 mod same;
 mod search;
 mod table;
+mod trials;
 
 pub use crate::branch::{Branch, Filled};
 pub use crate::search::{BestFault, BestPlan, best_breaks};

@@ -16,6 +16,7 @@ ghost use Rattle.tb_search.specs.Starts.{row_of, rows_of, IsReached, IsStart, Is
 ghost use Rattle.tb_search.specs.Continues.{IsLater, IsTakenOn, Continues, HasSearched, IsSearchedAsGoodBy, IsCutSearched};
 
 use crate::table::{Start, Table, Way, breaks_with};
+use crate::trials::Trials;
 use crate::{Branch, Filled};
 use std::alloc::{AllocError, Global};
 use tb_galley::Galley;
@@ -51,7 +52,8 @@ impl From<AllocError> for BestFault {
 // The search begins with this bound on the demerits.
 const FIRST_BOUND: i128 = 10_000;
 
-// So many bounds are tried before that of the greedy pages. Each is four times the one before, and the last is above all demerits.
+// So many bounds are tried at most before those near the greedy pages. Each is four times the one before, and the last is above
+// all demerits.
 const BOUNDS: u32 = 40;
 
 /// The best plan of a galley: of all ways to put page breaks in at its places the one of least demerits, and of several the
@@ -66,16 +68,16 @@ pub fn best_breaks(alloc: Global, galley: &Galley, greedy: i128) -> Result<BestP
 
     ensures best { IfOk result (λ b. IsBest galley.now b.places.items b.demerits) }
 {
-    let mut trial = Branch::start(alloc, galley)?;
-    best_by_bounds(alloc, galley, greedy, &mut trial)
+    let mut trials = Trials::start(alloc, Branch::start(alloc, galley)?);
+    best_by_bounds(alloc, galley, greedy, &mut trials)
 }
 
-// The same. Pages are tried in `trial`, here and below: what it shows between two tries is of no account.
+// The same. Pages are tried in `trials`, here and below.
 fn best_by_bounds<'a>(
     alloc: Global,
     galley: &'a Galley,
     greedy: i128,
-    trial: &mut Branch<'a>,
+    trials: &mut Trials<'a>,
 ) -> Result<BestPlan, BestFault>
     requires valid { IsValid galley.now }
     requires sum { plan_demerits galley.now [] ≡ Some greedy }
@@ -88,15 +90,39 @@ fn best_by_bounds<'a>(
     // within the bound is the best of all.
     let mut bound = FIRST_BOUND;
     'bounds: for _ in 0..BOUNDS {
-        if bound < greedy {
-            let plan = best_within(alloc, galley, greedy, bound, trial)?;
+        if bound < greedy / 4 {
+            let plan = best_within(alloc, galley, greedy, bound, trials)?;
             if plan.demerits <= bound {
                 return Ok(plan);
             }
         }
         bound = next_bound(bound, greedy);
     }
-    best_within(alloc, galley, greedy, greedy, trial)
+    best_near(alloc, galley, greedy, trials)
+}
+
+// The same, by bounds near the demerits of the greedy pages: much of them often can't be helped.
+fn best_near<'a>(
+    alloc: Global,
+    galley: &'a Galley,
+    greedy: i128,
+    trials: &mut Trials<'a>,
+) -> Result<BestPlan, BestFault>
+    requires valid { IsValid galley.now }
+    requires sum { plan_demerits galley.now [] ≡ Some greedy }
+    requires low { pos 0 ≤ℤ greedy }
+    requires high { greedy ≤ℤ pos 1000000000000000000000000000 }
+
+    ensures best { IfOk result (λ b. IsBest galley.now b.places.items b.demerits) }
+{
+    for part in [8, 64] {
+        let bound = greedy - greedy / part;
+        let plan = best_within(alloc, galley, greedy, bound, trials)?;
+        if plan.demerits <= bound {
+            return Ok(plan);
+        }
+    }
+    best_within(alloc, galley, greedy, greedy, trials)
 }
 
 // The bound after one that no plan is within.
@@ -117,7 +143,7 @@ fn best_within<'a>(
     galley: &'a Galley,
     greedy: i128,
     bound: i128,
-    trial: &mut Branch<'a>,
+    trials: &mut Trials<'a>,
 ) -> Result<BestPlan, BestFault>
     requires valid { IsValid galley.now }
     requires sum { plan_demerits galley.now [] ≡ Some greedy }
@@ -129,8 +155,8 @@ fn best_within<'a>(
     ensures fewer { IfOk result (λ b. b.demerits ≤ℤ greedy) }
 {
     let mut table = Table::new(alloc, galley, greedy, bound)?;
-    table.begin(alloc, galley)?;
-    table.search(alloc, trial)?;
+    table.begin(alloc, galley, trials)?;
+    table.search(alloc, trials)?;
     Ok(BestPlan {
         places: table.best.breaks,
         demerits: table.best.demerits,
@@ -139,7 +165,12 @@ fn best_within<'a>(
 
 impl<'a> Table<'a> {
     // The state in which a run begins waits.
-    fn begin(&mut self, alloc: Global, galley: &'a Galley) -> Result<(), BestFault>
+    fn begin(
+        &mut self,
+        alloc: Global,
+        galley: &'a Galley,
+        trials: &mut Trials<'a>,
+    ) -> Result<(), BestFault>
         requires table { IsTable self.old }
         requires galley { self.old.galley.now ≡ galley.now }
         requires valid { IsValid galley.now }
@@ -156,11 +187,11 @@ impl<'a> Table<'a> {
             breaks: Vec::new(alloc),
             demerits: 0,
         };
-        self.keep(galley.items.len() + 1, first, way)
+        self.keep(galley.items.len() + 1, first, way, trials)
     }
 
     // Goes on from all states that wait, first from those with the most items ahead, until none waits.
-    fn search(&mut self, alloc: Global, trial: &mut Branch<'a>) -> Result<(), BestFault>
+    fn search(&mut self, alloc: Global, trials: &mut Trials<'a>) -> Result<(), BestFault>
         requires { IsTable self.old }
 
         ensures table { OnOk result (IsTable self.new) }
@@ -169,7 +200,7 @@ impl<'a> Table<'a> {
     {
         'levels: while let Some(starts) = self.starts.pop() {
             let left = self.starts.len();
-            self.expand_all(alloc, left, starts, trial)?;
+            self.expand_all(alloc, left, starts, trials)?;
         }
         Ok(())
     }
@@ -180,7 +211,7 @@ impl<'a> Table<'a> {
         alloc: Global,
         left: usize,
         starts: Vec<Start<'a>>,
-        trial: &mut Branch<'a>,
+        trials: &mut Trials<'a>,
     ) -> Result<(), BestFault>
         requires table { IsTable self.old }
         requires level { left ≤ length self.old.starts.items }
@@ -193,7 +224,7 @@ impl<'a> Table<'a> {
     {
         let mut starts = starts;
         'starts: while let Some(start) = starts.pop() {
-            self.expand(alloc, left, start, trial)?;
+            self.expand(alloc, left, start, trials)?;
         }
         Ok(())
     }
@@ -204,7 +235,7 @@ impl<'a> Table<'a> {
         alloc: Global,
         left: usize,
         start: Start<'a>,
-        trial: &mut Branch<'a>,
+        trials: &mut Trials<'a>,
     ) -> Result<(), BestFault>
         requires table { IsTable self.old }
         requires level { left ≤ length self.old.starts.items }
@@ -215,8 +246,8 @@ impl<'a> Table<'a> {
         ensures levels { OnOk result (length self.new.starts.items ≡ length self.old.starts.items) }
         ensures searched { OnOk result (HasSearched (row_of self.old.galley.now left start.entry ∷ []) self.old self.new) }
     {
-        let (behind, last) = self.pass(alloc, left, start, trial)?;
-        self.step_on(alloc, behind, last, trial)
+        let (behind, last) = self.pass(alloc, left, start, trials)?;
+        self.step_on(alloc, behind, last, trials)
     }
 
     // Items are taken before a page can fire, and at each place a break is put in. Returns how many items are ahead then, and
@@ -226,7 +257,7 @@ impl<'a> Table<'a> {
         alloc: Global,
         left: usize,
         start: Start<'a>,
-        trial: &mut Branch<'a>,
+        trials: &mut Trials<'a>,
     ) -> Result<(usize, Start<'a>), BestFault>
         requires table { IsTable self.old }
         requires level { left ≤ length self.old.starts.items }
@@ -237,11 +268,11 @@ impl<'a> Table<'a> {
         ensures taken { IfOk result (λ x. IsTakenOn self.old left start.entry self.new x.0 x.1) }
         ensures start { IfOk result (λ x. IsStart self.new.galley.now self.new.bound x.0 x.1) }
     {
-        let mut calm = self.calm_items(alloc, left, &start, trial)?;
+        let mut calm = self.calm_items(alloc, left, &start, trials)?;
         let Start { mut branch, way } = start;
         let mut left = left;
         'items: while calm > 0 {
-            self.cut(alloc, left, &branch, &way, trial)?;
+            self.cut(alloc, left, &branch, &way, trials)?;
             if !branch.take()? {
                 return Err(BestFault::Choices);
             }
@@ -257,7 +288,7 @@ impl<'a> Table<'a> {
         alloc: Global,
         left: usize,
         start: Start<'a>,
-        trial: &mut Branch<'a>,
+        trials: &mut Trials<'a>,
     ) -> Result<(), BestFault>
         requires table { IsTable self.old }
         requires level { left ≤ length self.old.starts.items }
@@ -271,20 +302,21 @@ impl<'a> Table<'a> {
         let Start { mut branch, way } = start;
         let mut left = left;
         'items: while left > 0 {
-            self.cut(alloc, left, &branch, &way, trial)?;
+            self.cut(alloc, left, &branch, &way, trials)?;
             if !branch.take()? {
                 return Err(BestFault::Choices);
             }
             left -= 1;
-            let filled = self.page(alloc, &branch, trial)?;
+            let filled = self.page(alloc, &branch, trials)?;
             match filled {
                 Filled::Fired { demerits } => {
                     let way = Way {
                         breaks: way.breaks,
                         demerits: way.demerits + demerits,
                     };
-                    let next = trial.copy(alloc)?;
-                    return self.settle(alloc, left, next, way, trial);
+                    let next = trials.copy(alloc)?;
+                    trials.give_back(branch);
+                    return self.settle(alloc, left, next, way, trials);
                 }
                 Filled::Quiet => {
                     if left == 0 {
@@ -307,7 +339,7 @@ impl<'a> Table<'a> {
         left: usize,
         branch: &Branch<'a>,
         way: &Way,
-        trial: &mut Branch<'a>,
+        trials: &mut Trials<'a>,
     ) -> Result<(), BestFault>
         requires table { IsTable self.old }
         requires some { 0 < left }
@@ -330,7 +362,7 @@ impl<'a> Table<'a> {
         if !branch.holds_box() {
             return Ok(());
         }
-        self.put_break(alloc, left, branch, way, number, trial)
+        self.put_break(alloc, left, branch, way, number, trials)
     }
 
     // The page into which a break is put before the next item, which has this number.
@@ -341,7 +373,7 @@ impl<'a> Table<'a> {
         branch: &Branch<'a>,
         way: &Way,
         number: usize,
-        trial: &mut Branch<'a>,
+        trials: &mut Trials<'a>,
     ) -> Result<(), BestFault>
         requires table { IsTable self.old }
         requires some { 0 < left }
@@ -357,12 +389,12 @@ impl<'a> Table<'a> {
         ensures continues { OnOk result (Continues self.old self.new) }
         ensures searched { OnOk result (IsCutSearched self.new (shown branch.now) (items_ahead self.old.galley.now left) way.now.demerits (reverse way.now.breaks.items)) }
     {
-        trial.copy_from(branch, alloc)?;
-        if !trial.cut()? {
+        trials.page.copy_from(branch, alloc)?;
+        if !trials.page.cut()? {
             return Err(BestFault::Choices);
         }
         let breaks = breaks_with(alloc, way.breaks.as_slice(), Some(number as u32))?;
-        match trial.fill(alloc, self.penalties.as_slice())? {
+        match trials.page.fill(alloc, self.penalties.as_slice())? {
             Filled::Fired { demerits } => {
                 let way = Way {
                     breaks,
@@ -372,8 +404,8 @@ impl<'a> Table<'a> {
                 if way.demerits > self.bound {
                     return Ok(());
                 }
-                let next = trial.copy(alloc)?;
-                self.settle(alloc, left - 1, next, way, trial)
+                let next = trials.copy(alloc)?;
+                self.settle(alloc, left - 1, next, way, trials)
             }
             Filled::Quiet | Filled::Full | Filled::Refused => Ok(()),
             Filled::TooMany => Err(BestFault::Choices),
@@ -388,7 +420,7 @@ impl<'a> Table<'a> {
         left: usize,
         branch: Branch<'a>,
         way: Way,
-        trial: &mut Branch<'a>,
+        trials: &mut Trials<'a>,
     ) -> Result<(), BestFault>
         requires table { IsTable self.old }
         requires level { left < length self.old.starts.items }
@@ -402,16 +434,16 @@ impl<'a> Table<'a> {
         let mut branch = branch;
         let mut way = way;
         'fires: while way.demerits <= self.bound {
-            let filled = self.page(alloc, &branch, trial)?;
+            let filled = self.page(alloc, &branch, trials)?;
             match filled {
                 Filled::Fired { demerits } => {
-                    branch.copy_from(trial, alloc)?;
+                    branch.copy_from(&trials.page, alloc)?;
                     way.demerits += demerits;
                 }
-                Filled::Quiet => return self.arrive(left, branch, way),
+                Filled::Quiet => return self.arrive(left, branch, way, trials),
                 Filled::Full => {
                     if left > 0 {
-                        return self.keep(left, branch, way);
+                        return self.keep(left, branch, way, trials);
                     }
                     return Ok(());
                 }
@@ -423,7 +455,13 @@ impl<'a> Table<'a> {
     }
 
     // A state in which no page fires is kept, or the run ends if nothing is ahead.
-    fn arrive(&mut self, left: usize, branch: Branch<'a>, way: Way) -> Result<(), BestFault>
+    fn arrive(
+        &mut self,
+        left: usize,
+        branch: Branch<'a>,
+        way: Way,
+        trials: &mut Trials<'a>,
+    ) -> Result<(), BestFault>
         requires table { IsTable self.old }
         requires level { left < length self.old.starts.items }
         requires reached { IsReached self.old.galley.now left (record { branch = branch; way = way }) }
@@ -435,7 +473,7 @@ impl<'a> Table<'a> {
         ensures searched { OnOk result (IsSearchedAsGoodBy self.new (shown branch.entry) (items_ahead self.old.galley.now left) way.demerits (reverse way.breaks.items)) }
     {
         if left > 0 {
-            return self.keep(left, branch, way);
+            return self.keep(left, branch, way, trials);
         }
         self.end(way);
         Ok(())
@@ -446,15 +484,15 @@ impl<'a> Table<'a> {
         &self,
         alloc: Global,
         branch: &Branch<'a>,
-        trial: &mut Branch<'a>,
+        trials: &mut Trials<'a>,
     ) -> Result<Filled, BestFault>
         requires table { IsTable self.now }
         requires branch { IsBranch branch.now }
 
-        ensures { IfOk result (λ f. FillsTo (place_penalties self.now.galley.now.items) branch.now f trial.new) }
+        ensures { IfOk result (λ f. FillsTo (place_penalties self.now.galley.now.items) branch.now f trials.new.page) }
     {
-        trial.copy_from(branch, alloc)?;
-        let filled = trial.fill(alloc, self.penalties.as_slice())?;
+        trials.page.copy_from(branch, alloc)?;
+        let filled = trials.page.fill(alloc, self.penalties.as_slice())?;
         Ok(filled)
     }
 }

@@ -16,6 +16,7 @@ ghost use Rattle.tb_search.specs.Ways.{marked, with_last};
 
 use crate::Branch;
 use crate::search::BestFault;
+use crate::trials::Trials;
 use std::alloc::{AllocError, Global};
 use tb_galley::{Galley, Item, ItemKind};
 use tb_param::{Choice, Field};
@@ -236,6 +237,7 @@ impl<'a> Table<'a> {
         left: usize,
         branch: Branch<'a>,
         way: Way,
+        trials: &mut Trials<'a>,
     ) -> Result<(), BestFault>
         requires table { IsTable self.old }
         requires left { left < length self.old.starts.items }
@@ -248,7 +250,10 @@ impl<'a> Table<'a> {
     {
         let start = Start { branch, way };
         match place_for(self.starts[left].as_slice(), &start, self.may_alternate) {
-            Some(_) => Ok(()),
+            Some(_) => {
+                trials.give_back(start.branch);
+                Ok(())
+            }
             None => self.insert(left, start),
         }
     }

@@ -3,6 +3,7 @@ use Rattle.std.specs.Prelude.{IfNone, IfSome}
 use Rattle.std.specs.Int.{w128}
 use Rattle.std.proofs.lemmas.Int.{to_z-of_z}
 use Rattle.tb_items.specs.Happenings.{events_of}
+use Rattle.tb_run.specs.declared.routine.Routine.{Routine}
 use Rattle.tb_run.specs.Routine.{state_of, IsReady}
 use Rattle.tb_run.specs.FilledPages.{IsFiring, IsFilledLast, Fills}
 use Rattle.tb_run.specs.UnlimitedPages.{HasGoneOn, HasSent, ServesUnlimited}
@@ -21,8 +22,8 @@ returns-in-Ends c =
     let b = c.args.self.now in
     let q = c.fill.new.self in
     let hs = c.fill.new.happened.items in
-    let now : Branch = record { routine = q; ahead = b.ahead } in
-    let last : IsFilledLast true b.routine c.in-Ends.ending q hs = subst (λ o. Fills true b.routine o q hs) c.in-Ends.is c.in_ok-page.ensures in
+    let now : Branch = record { routine = record b.routine { value = q }; ahead = b.ahead } in
+    let last : IsFilledLast true b.routine.value c.in-Ends.ending q hs = subst (λ o. Fills true b.routine.value o q hs) c.in-Ends.is (subst (λ (x : Routine). Fills true x c.in_ok-page.field-0 q hs) c.deref_mut-routine.ensures.value c.in_ok-page.ensures) in
     subst (λ o. FillsTo c.args.places.now b o now) (sym c.unfired.ensures)
     (unfired-so c.args.places.now b now q hs c.in-Ends.ending last c.ends_in_kern-kern.result c.ends_in_kern-kern.ensures)
 
@@ -33,8 +34,8 @@ returns-in-Some c =
     let hs = c.fill.new.happened.items in
     let d = c.serve_unlimited.new.self in
     let page = c.in-Fires.page in
-    let now : Branch = record { routine = d; ahead = b.ahead } in
-    let firing : IsFiring true b.routine page q hs = subst (λ o. Fills true b.routine o q hs) c.in-Fires.is c.in_ok-page.ensures in
+    let now : Branch = record { routine = record b.routine { value = d }; ahead = b.ahead } in
+    let firing : IsFiring true b.routine.value page q hs = subst (λ o. Fills true b.routine.value o q hs) c.in-Fires.is (subst (λ (x : Routine). Fills true x c.in_ok-page.field-0 q hs) c.deref_mut-routine.ensures.value c.in_ok-page.ensures) in
     subst (λ o. FillsTo c.args.places.now b o now) (sym c.unserved.ensures)
     (unserved-so c.args.places.now b now q hs page firing d c.in-Some.ending
     (subst (λ o. ServesUnlimited page q o d) c.in-Some.is c.in_ok-ending.ensures.served))
@@ -47,10 +48,10 @@ page_demerits-demerits-requires-clause-tried c =
     let d = c.serve_unlimited.new.self in
     let new = c.serve_unlimited.new.happened.items in
     let page = c.in-Fires.page in
-    let firing : IsFiring true b.routine page q hs = subst (λ o. Fills true b.routine o q hs) c.in-Fires.is c.in_ok-page.ensures in
+    let firing : IsFiring true b.routine.value page q hs = subst (λ o. Fills true b.routine.value o q hs) c.in-Fires.is (subst (λ (x : Routine). Fills true x c.in_ok-page.field-0 q hs) c.deref_mut-routine.ensures.value c.in_ok-page.ensures) in
     let goes : HasGoneOn page q d = subst (λ o. ServesUnlimited page q o d) c.in_default.is c.in_ok-ending.ensures.served in
     let sent : HasSent page q d hs new = subst (λ o. IfNone o (HasSent page q d hs new)) c.in_default.is c.in_ok-ending.ensures.sent in
-    subst (λ xs. IfSome (last_champion (events_of d.store xs)) IsTried) (sym c.deref.ensures.value) (broke-tried b.routine q page hs firing d goes new sent)
+    subst (λ xs. IfSome (last_champion (events_of d.store xs)) IsTried) (sym c.deref.ensures.value) (broke-tried b.routine.value q page hs firing d goes new sent)
 
 pub returns : goal.returns
 returns c =
@@ -60,7 +61,7 @@ returns c =
     let d = c.serve_unlimited.new.self in
     let new = c.serve_unlimited.new.happened.items in
     let page = c.in-Fires.page in
-    let firing : IsFiring true b.routine page q hs = subst (λ o. Fills true b.routine o q hs) c.in-Fires.is c.in_ok-page.ensures in
+    let firing : IsFiring true b.routine.value page q hs = subst (λ o. Fills true b.routine.value o q hs) c.in-Fires.is (subst (λ (x : Routine). Fills true x c.in_ok-page.field-0 q hs) c.deref_mut-routine.ensures.value c.in_ok-page.ensures) in
     let goes : HasGoneOn page q d = subst (λ o. ServesUnlimited page q o d) c.in_default.is c.in_ok-ending.ensures.served in
     let sent : HasSent page q d hs new = subst (λ o. IfNone o (HasSent page q d hs new)) c.in_default.is c.in_ok-ending.ensures.sent in
     let ready : IsReady d = subst (λ o. IfNone o (IsReady d)) c.in_default.is c.in_ok-ending.ensures.ready in
@@ -68,5 +69,5 @@ returns c =
     let fits : FitsSigned w128 c.page_demerits-demerits.result = search rules in
     let closed = c.done_with.ensures in
     simp to_z-of_z
-    (fired-closed c.args.places.now c.page_demerits-demerits.result b d b.ahead c.done_with.new.self closed.ready closed.state closed.left
+    (fired-closed c.args.places.now c.page_demerits-demerits.result b (record b.routine { value = d }) b.ahead (record b.routine { value = c.done_with.new.self }) closed.ready closed.state closed.left
     (has-fired b c.requires.branch q page hs firing d goes ready c.in_ok-ending.ensures.classes c.args.places.now new sent c.page_demerits-demerits.result value c.page_demerits-demerits.ensures.low c.page_demerits-demerits.ensures.high))

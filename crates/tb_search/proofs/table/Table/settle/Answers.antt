@@ -30,8 +30,8 @@ page-requires-clause-branch c = c.fires.invariant.on.reached.branch
 
 -- ---- a page fired
 
-fired : (c : goal.After-struct_told-in-Fired-1) → HasFired (place_penalties c.fires.self.galley.now.items) c.in-Fired.demerits c.fires.branch c.page.new.trial
-fired c = subst (λ f. FillsTo (place_penalties c.fires.self.galley.now.items) c.fires.branch f c.page.new.trial) c.in-Fired.is c.in_ok-filled.ensures
+fired : (c : goal.After-struct_told-in-Fired-1) → HasFired (place_penalties c.fires.self.galley.now.items) c.in-Fired.demerits c.fires.branch c.page.new.trials.page
+fired c = subst (λ f. FillsTo (place_penalties c.fires.self.galley.now.items) c.fires.branch f c.page.new.trials.page) c.in-Fired.is c.in_ok-filled.ensures
 
 range : (c : goal.After-struct_told-in-Fired-1) → c.fires.self.bound ≤ℤ pos 1000000000000000000000000000
 range c = (subst IsTable (sym c.fires.invariant.same) c.requires.table).range
@@ -43,12 +43,12 @@ within c = within-bound c.fires.way.demerits c.fires.self.bound c.fires.invarian
 copied : (c : goal.After-struct_told-in-Fired-1) → HasFired (place_penalties c.fires.self.galley.now.items) c.in-Fired.demerits c.fires.branch c.copy_from.new.self
 copied c =
     let copy = c.in_ok-copy_from-in-Fired.ensures in
-    fired-copied (place_penalties c.fires.self.galley.now.items) c.in-Fired.demerits c.fires.branch c.page.new.trial c.copy_from.new.self copy.branch copy.state copy.ahead (fired c)
+    fired-copied (place_penalties c.fires.self.galley.now.items) c.in-Fired.demerits c.fires.branch c.page.new.trials.page c.copy_from.new.self copy.branch copy.state copy.ahead (fired c)
 
 pub copy_from-requires : goal.copy_from-requires
 copy_from-requires c =
     let places = place_penalties c.fires.self.galley.now.items in
-    let after : HasFired places c.in-Fired.demerits c.fires.branch c.page.new.trial = subst (λ f. FillsTo places c.fires.branch f c.page.new.trial) c.in-Fired.is c.in_ok-filled.ensures in
+    let after : HasFired places c.in-Fired.demerits c.fires.branch c.page.new.trials.page = subst (λ f. FillsTo places c.fires.branch f c.page.new.trials.page) c.in-Fired.is c.in_ok-filled.ensures in
     after.branch
 
 pub overflow_add-way : goal.overflow_add-way
@@ -105,7 +105,7 @@ keep-requires-clause-left c = subst (λ (t : Table). c.args.left < length t.star
 pub keep-requires-clause-start : goal.keep-requires-clause-start
 keep-requires-clause-start c =
     let on = c.fires.invariant.on in
-    let full = subst (λ f. FillsTo (place_penalties c.fires.self.galley.now.items) c.fires.branch f c.page.new.trial) c.in-Full.is c.in_ok-filled.ensures in
+    let full = subst (λ f. FillsTo (place_penalties c.fires.self.galley.now.items) c.fires.branch f c.page.new.trials.page) c.in-Full.is c.in_ok-filled.ensures in
     start-of c.fires.self.galley.now c.fires.self.bound c.args.left (record { branch = c.fires.branch; way = c.fires.way }) on.reached c.if-left-gt0.true (full-may (shown c.fires.branch) full)
     (within-bound c.fires.way.demerits c.fires.self.bound on.reached.low on.high (subst IsTable (sym c.fires.invariant.same) c.requires.table).range c.fires-test.true)
 
@@ -128,7 +128,7 @@ returns-in-Full-clause-continues c = subst (λ (t : Table). Continues t c.fires.
 
 pub returns-in-Full-clause-searched : goal.returns-in-Full-clause-searched
 returns-in-Full-clause-searched c =
-    let full = subst (λ f. FillsTo (place_penalties c.fires.self.galley.now.items) c.fires.branch f c.page.new.trial) c.in-Full.is c.in_ok-filled.ensures in
+    let full = subst (λ f. FillsTo (place_penalties c.fires.self.galley.now.items) c.fires.branch f c.page.new.trials.page) c.in-Full.is c.in_ok-filled.ensures in
     subst (λ (t : Table). IsStartSearched t.galley.now c.args.left (record { branch = c.args.branch; way = c.args.way }) c.fires.self) c.fires.invariant.same
     (filled-full c.fires.self c.args.left (record { branch = c.args.branch; way = c.args.way }) (record { branch = c.fires.branch; way = c.fires.way }) c.fires.invariant.on (let e = c.if-left-gt0.false in omega (arith, e)) full)
 
@@ -142,7 +142,7 @@ returns-in-Refused-clause-continues c = subst (λ (t : Table). Continues t c.fir
 
 pub returns-in-Refused-clause-searched : goal.returns-in-Refused-clause-searched
 returns-in-Refused-clause-searched c =
-    let refused = subst (λ f. FillsTo (place_penalties c.fires.self.galley.now.items) c.fires.branch f c.page.new.trial) c.in-Refused.is c.in_ok-filled.ensures in
+    let refused = subst (λ f. FillsTo (place_penalties c.fires.self.galley.now.items) c.fires.branch f c.page.new.trials.page) c.in-Refused.is c.in_ok-filled.ensures in
     subst (λ (t : Table). IsStartSearched t.galley.now c.args.left (record { branch = c.args.branch; way = c.args.way }) c.fires.self) c.fires.invariant.same
     (filled-refused c.fires.self c.args.left (record { branch = c.args.branch; way = c.args.way }) (record { branch = c.fires.branch; way = c.fires.way }) c.fires.invariant.on refused)
 

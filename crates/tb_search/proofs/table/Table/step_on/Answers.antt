@@ -61,31 +61,31 @@ pub overflow_add-way : goal.overflow_add-way
 overflow_add-way c =
     let e = (goal.at.overflow_add-way c).Else-not-branch in
     let places = place_penalties c.cut.new.self.galley.now.items in
-    let fired : HasFired places c.in-Fired.demerits c.take.new.self c.page.new.trial = subst (λ f. FillsTo places c.take.new.self f c.page.new.trial) c.in-Fired.is c.in_ok-filled.ensures in
-    summed-fits c.args.self.now c.args.left c.args.start c.cut.new.self (c.items.left - 1) (after e) (taken e) c.in_ok-cut.ensures.table.range c.page.new.trial c.in-Fired.demerits fired
+    let fired : HasFired places c.in-Fired.demerits c.take.new.self c.page.new.trials.page = subst (λ f. FillsTo places c.take.new.self f c.page.new.trials.page) c.in-Fired.is c.in_ok-filled.ensures in
+    summed-fits c.args.self.now c.args.left c.args.start c.cut.new.self (c.items.left - 1) (after e) (taken e) c.in_ok-cut.ensures.table.range c.page.new.trials.page c.in-Fired.demerits fired
 
 pub copy-requires : goal.copy-requires
 copy-requires c =
     let places = place_penalties c.cut.new.self.galley.now.items in
-    let fired : HasFired places c.in-Fired.demerits c.take.new.self c.page.new.trial = subst (λ f. FillsTo places c.take.new.self f c.page.new.trial) c.in-Fired.is c.in_ok-filled.ensures in
+    let fired : HasFired places c.in-Fired.demerits c.take.new.self c.page.new.trials.page = subst (λ f. FillsTo places c.take.new.self f c.page.new.trials.page) c.in-Fired.is c.in_ok-filled.ensures in
     fired.branch
 
 pub settle-requires-clause-reached : goal.settle-requires-clause-reached
 settle-requires-clause-reached c =
     let e = (goal.at.settle-requires-clause-reached c).Else-not-branch in
     let places = place_penalties c.cut.new.self.galley.now.items in
-    let fired : HasFired places c.in-Fired.demerits c.take.new.self c.page.new.trial = subst (λ f. FillsTo places c.take.new.self f c.page.new.trial) c.in-Fired.is c.in_ok-filled.ensures in
+    let fired : HasFired places c.in-Fired.demerits c.take.new.self c.page.new.trials.page = subst (λ f. FillsTo places c.take.new.self f c.page.new.trials.page) c.in-Fired.is c.in_ok-filled.ensures in
     let copy = c.in_ok-next-in-Fired.ensures in
-    let next : HasFired places c.in-Fired.demerits c.take.new.self c.in_ok-next-in-Fired.next = fired-copied places c.in-Fired.demerits c.take.new.self c.page.new.trial c.in_ok-next-in-Fired.next copy.branch copy.state copy.ahead fired in
+    let next : HasFired places c.in-Fired.demerits c.take.new.self c.in_ok-next-in-Fired.next = fired-copied places c.in-Fired.demerits c.take.new.self c.page.new.trials.page c.in_ok-next-in-Fired.next copy.branch copy.state copy.ahead fired in
     summed-reached c.args.self.now c.args.left c.args.start c.cut.new.self (c.items.left - 1) (after e) (taken e) c.in_ok-cut.ensures.table.range c.in_ok-next-in-Fired.next c.in-Fired.demerits next
 
 pub settle-requires-clause-high : goal.settle-requires-clause-high
 settle-requires-clause-high c =
     let e = (goal.at.settle-requires-clause-high c).Else-not-branch in
     let places = place_penalties c.cut.new.self.galley.now.items in
-    let fired : HasFired places c.in-Fired.demerits c.take.new.self c.page.new.trial = subst (λ f. FillsTo places c.take.new.self f c.page.new.trial) c.in-Fired.is c.in_ok-filled.ensures in
+    let fired : HasFired places c.in-Fired.demerits c.take.new.self c.page.new.trials.page = subst (λ f. FillsTo places c.take.new.self f c.page.new.trials.page) c.in-Fired.is c.in_ok-filled.ensures in
     let copy = c.in_ok-next-in-Fired.ensures in
-    let next : HasFired places c.in-Fired.demerits c.take.new.self c.in_ok-next-in-Fired.next = fired-copied places c.in-Fired.demerits c.take.new.self c.page.new.trial c.in_ok-next-in-Fired.next copy.branch copy.state copy.ahead fired in
+    let next : HasFired places c.in-Fired.demerits c.take.new.self c.in_ok-next-in-Fired.next = fired-copied places c.in-Fired.demerits c.take.new.self c.page.new.trials.page c.in_ok-next-in-Fired.next copy.branch copy.state copy.ahead fired in
     summed-high c.args.self.now c.args.left c.args.start c.cut.new.self (c.items.left - 1) (after e) (taken e) c.in_ok-cut.ensures.table.range c.in_ok-next-in-Fired.next c.in-Fired.demerits next
 
 pub settle-requires-clause-level : goal.settle-requires-clause-level
@@ -102,9 +102,9 @@ pub returns-in-Fired-clause-searched : goal.returns-in-Fired-clause-searched
 returns-in-Fired-clause-searched c =
     let e = (goal.at.returns-in-Fired-clause-searched c).Else-not-branch in
     let places = place_penalties c.cut.new.self.galley.now.items in
-    let fired : HasFired places c.in-Fired.demerits c.take.new.self c.page.new.trial = subst (λ f. FillsTo places c.take.new.self f c.page.new.trial) c.in-Fired.is c.in_ok-filled.ensures in
+    let fired : HasFired places c.in-Fired.demerits c.take.new.self c.page.new.trials.page = subst (λ f. FillsTo places c.take.new.self f c.page.new.trials.page) c.in-Fired.is c.in_ok-filled.ensures in
     let copy = c.in_ok-next-in-Fired.ensures in
-    let next : HasFired places c.in-Fired.demerits c.take.new.self c.in_ok-next-in-Fired.next = fired-copied places c.in-Fired.demerits c.take.new.self c.page.new.trial c.in_ok-next-in-Fired.next copy.branch copy.state copy.ahead fired in
+    let next : HasFired places c.in-Fired.demerits c.take.new.self c.in_ok-next-in-Fired.next = fired-copied places c.in-Fired.demerits c.take.new.self c.page.new.trials.page c.in_ok-next-in-Fired.next copy.branch copy.state copy.ahead fired in
     if-both c.settle.result _ _ _ c.settle.ensures.continues c.settle.ensures.searched
     (λ on searched. summed-searched c.args.self.now c.args.left c.args.start c.cut.new.self (c.items.left - 1) (after e) (taken e) c.in_ok-cut.ensures.table.range c.in_ok-next-in-Fired.next c.in-Fired.demerits next c.settle.new.self on searched)
 
@@ -115,7 +115,7 @@ end-requires-clause-rated c =
     let e = (goal.at.end-requires-clause-rated c).Else-not-branch in
     let none : c.items.left - 1 ≡ 0 = let t = c.if-left-eq0.true in omega (arith, t) in
     let places = place_penalties c.cut.new.self.galley.now.items in
-    let quiet : IsQuiet (shown c.take.new.self) = subst (λ f. FillsTo places c.take.new.self f c.page.new.trial) c.in-Quiet.is c.in_ok-filled.ensures in
+    let quiet : IsQuiet (shown c.take.new.self) = subst (λ f. FillsTo places c.take.new.self f c.page.new.trials.page) c.in-Quiet.is c.in_ok-filled.ensures in
     end-rated c.cut.new.self.galley.now (after e) (subst (λ n. IsReached c.cut.new.self.galley.now n (after e)) none (taken e).reached) quiet
 
 pub end-requires-clause-bounded : goal.end-requires-clause-bounded
@@ -129,7 +129,7 @@ returns-then-left-eq0-clause-searched c =
     let e = (goal.at.returns-then-left-eq0-clause-searched c).Else-not-branch in
     let none : c.items.left - 1 ≡ 0 = let t = c.if-left-eq0.true in omega (arith, t) in
     let places = place_penalties c.cut.new.self.galley.now.items in
-    let quiet : IsQuiet (shown c.take.new.self) = subst (λ f. FillsTo places c.take.new.self f c.page.new.trial) c.in-Quiet.is c.in_ok-filled.ensures in
+    let quiet : IsQuiet (shown c.take.new.self) = subst (λ f. FillsTo places c.take.new.self f c.page.new.trials.page) c.in-Quiet.is c.in_ok-filled.ensures in
     taken-ended c.args.self.now c.args.left c.args.start c.cut.new.self (c.items.left - 1) (after e) (taken e) c.end.new.self none quiet c.end.ensures.continues c.end.ensures.best
 
 -- ---- no run goes on
@@ -141,7 +141,7 @@ pub returns-in-Refused-clause-searched : goal.returns-in-Refused-clause-searched
 returns-in-Refused-clause-searched c =
     let e = (goal.at.returns-in-Refused-clause-searched c).Else-not-branch in
     let places = place_penalties c.cut.new.self.galley.now.items in
-    let refused : IsRefused (shown c.take.new.self) = subst (λ f. FillsTo places c.take.new.self f c.page.new.trial) c.in-Refused.is c.in_ok-filled.ensures in
+    let refused : IsRefused (shown c.take.new.self) = subst (λ f. FillsTo places c.take.new.self f c.page.new.trials.page) c.in-Refused.is c.in_ok-filled.ensures in
     taken-refused c.args.self.now c.args.left c.args.start c.cut.new.self (c.items.left - 1) (after e) (taken e) refused
 
 -- ---- the next item
@@ -149,13 +149,13 @@ returns-in-Refused-clause-searched c =
 pub items-preserved-else-left-eq0 : goal.items-preserved-else-left-eq0
 items-preserved-else-left-eq0 c =
     let places = place_penalties c.cut.new.self.galley.now.items in
-    let quiet : IsQuiet (shown c.take.new.self) = subst (λ f. FillsTo places c.take.new.self f c.page.new.trial) c.in-Quiet.is c.in_ok-filled.ensures in
+    let quiet : IsQuiet (shown c.take.new.self) = subst (λ f. FillsTo places c.take.new.self f c.page.new.trials.page) c.in-Quiet.is c.in_ok-filled.ensures in
     record { table = c.in_ok-cut.ensures.table; on = taken (goal.at.items-preserved-else-left-eq0 c).Else-not-branch; may = inl quiet.quiet; some = inl (let t = c.if-left-eq0.false in omega (arith, t)) }
 
 pub items-preserved : goal.items-preserved
 items-preserved c =
     let places = place_penalties c.cut.new.self.galley.now.items in
-    let full : IsFull (shown c.take.new.self) = subst (λ f. FillsTo places c.take.new.self f c.page.new.trial) c.in-Full.is c.in_ok-filled.ensures in
+    let full : IsFull (shown c.take.new.self) = subst (λ f. FillsTo places c.take.new.self f c.page.new.trials.page) c.in-Full.is c.in_ok-filled.ensures in
     record { table = c.in_ok-cut.ensures.table; on = taken (goal.at.items-preserved c).Else-not-branch; may = full-may (shown c.take.new.self) full; some = inr full.step }
 
 pub returns-clause-levels : goal.returns-clause-levels

@@ -27,7 +27,7 @@ pub items-preserved : goal.items-preserved
 items-preserved c =
     let g = c.args.self.now.galley.now in
     let i = c.items.invariant in
-    let x : Start = record { branch = c.items.trial; way = c.args.start.now.way } in
+    let x : Start = record { branch = c.items.trials.page; way = c.args.start.now.way } in
     let test = c.items-test.true in
     let below = i.below in
     let inside = c.requires.inside in
@@ -50,5 +50,5 @@ returns c none =
     let g = c.args.self.now.galley.now in
     let i = c.items.invariant in
     let test = c.items-test.false in
-    far-calm (shown c.args.start.now.branch) (shown c.items.trial) (items_ahead g c.args.left) (items_ahead g c.items.behind) c.args.count (c.items.behind - (c.args.left - c.args.count)) i.same
+    far-calm (shown c.args.start.now.branch) (shown c.items.trials.page) (items_ahead g c.args.left) (items_ahead g c.items.behind) c.args.count (c.items.behind - (c.args.left - c.args.count)) i.same
     (omega (arith, test)) (c.in_ok-line.ensures none)
