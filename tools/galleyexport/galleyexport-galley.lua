@@ -366,6 +366,7 @@ local function write_part(part, path, title)
   if part.two_columns then put("twocolumn") end
   if part.head then put(part.head) end
   for k = 1, part.start_notes do put("note start." .. k) end
+  if part.first_page_higher then put("enlarge " .. part.first_page_higher) end
   for k, line in ipairs(part.lines) do
     put(line)
     if part.begins[k] then map:write(written, " ", part.begins[k], "\n") end
@@ -394,6 +395,14 @@ local function first_number(part, pages)
   return number
 end
 
+-- In one column the first page of all may be higher than those behind it.
+local function tell_first_page(part, by)
+  if by == 0 then return end
+  parameters.use_new()
+  part.first_page_higher = by
+  log.chosen(string.format("the first page is higher by %d (enlarge)", by))
+end
+
 local function has_footnotes()
   for _, record in ipairs(records) do
     if record.kind == "insertion" and insertions.is_footnote(record) then return true end
@@ -404,7 +413,9 @@ end
 -- Writes all galleys of the document. Gives their number, and the counts of what stands in them.
 function M.write(job, pages)
   parameters.settle(has_footnotes())
+  local higher = two_columns and 0 or parameters.first_page_higher()
   local list = parts(pages)
+  tell_first_page(list[1], higher)
   for _, part in ipairs(list) do
     for k, stretch in ipairs(part.stretches) do put_stretch(part, stretch, k == #part.stretches) end
   end

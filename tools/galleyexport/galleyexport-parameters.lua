@@ -59,6 +59,7 @@ for _, row in ipairs(ROWS) do ROW[row[1]] = row end
 local own = {}         -- the values at the document's begin; after settle() those that are written
 local votes = {}       -- by part (the clears before it): name -> value -> number of columns
 local part = 0
+local first_height     -- the height of the document's first column, if it was made before a clear; `none` if not
 
 local fills = {}       -- the glue above a rule that stretches or shrinks, without its width; by the rule's parameter
 local unsaid = {}      -- what no value of a parameter says -> the parameter
@@ -152,6 +153,7 @@ local function key(name, seen) return name .. " " .. seen end
 -- A column has this value. For topskip see watch(), for parskip float_parskip(): these alone tell which was used.
 function M.column(name, value)
   if name == "topskip" or name == "parskip" or name == "pool" then return end
+  if name == "textheight" then first_height = first_height or (part == 0 and value or "none") end
   local command = ROW[name] and ROW[name].command
   add_vote(command and key(name, meaning(command)) or name, with_fill(name, value))
 end
@@ -320,6 +322,17 @@ function M.settle(has_notes)
     end
   end
   own.topskip = first.topskip or own.topskip
+end
+
+-- By how much the first page is higher than the others up to the first clear, or below 0 lower: some classes set \textheight
+-- when LaTeX has taken the height of the first page already. 0 if there are no others, or most are as high as the first. Its
+-- vote counts no more.
+function M.first_page_higher()
+  local heights = votes[0] and votes[0].textheight
+  local most = heights and winner(heights, own.textheight)
+  if not most or not heights[first_height] or most == first_height then return 0 end
+  heights[first_height] = heights[first_height] > 1 and heights[first_height] - 1 or nil
+  return tonumber(first_height) - tonumber(most)
 end
 
 -- Whether version 3 is needed: a parameter of it has another value than in an earlier version, or a line of it is written.

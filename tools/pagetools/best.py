@@ -8,6 +8,7 @@ from bisect import bisect_left
 from dataclasses import dataclass, field
 
 from . import report
+from .galley import at_line
 
 FORCED = -10000
 STRENGTHS = {'0': 0, '1': 51, '2': 151, '3': 301, '4': 10000}      # the penalties of nopagebreak, by its number
@@ -88,13 +89,14 @@ class Item:
 
 class Text:
     """The items of a galley, the names of its boxes and rules, for each two neighbours of these whether they are lines of
-    one paragraph, and whether all pages are to have one height (`set bottom flush`)."""
+    one paragraph, and by lines whether pages are to have one height from there on (`set bottom flush`)."""
 
     def __init__(self, galley):
-        self.items, self.is_flush, inside = [], False, False
+        self.items, self.flush, inside = [], [(0, False)], False
         for number, line in enumerate(galley.splitlines(), 1):
             words = line.split()
-            self.is_flush |= words[:3] == ['set', 'bottom', 'flush']
+            if words[:2] == ['set', 'bottom']:
+                self.flush.append((number, words[2:] == ['flush']))
             if not words or words[0].startswith('#') or words[0] in HEADER or words[0] == 'end':
                 continue
             if words[0] == 'endfoot':
@@ -112,6 +114,10 @@ class Text:
                 room = []
             elif item.words[0] not in PASSED:
                 room.append(item.words[0])
+
+    def is_flush(self, line):
+        """Whether a page that ends at this line is to have the height of all; 0 stands for the end."""
+        return at_line(self.flush, line) if line else self.flush[-1][1]
 
     def penalty(self, line):
         """The penalty of the item on this line, 0 if it is none."""

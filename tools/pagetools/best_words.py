@@ -63,7 +63,7 @@ def fill(ending, text):
         return '%s too full' % points(-ending.short)
     if ending.short < 0:
         return 'squeezed by %s' % points(-ending.short)
-    if text.is_flush and badness(ending):
+    if text.is_flush(ending.line) and badness(ending):
         return '%s short, with glue that stretches by %s' % (points(ending.short), points(ending.stretch[0]))
     return '%s short' % points(ending.short)
 

@@ -1,4 +1,6 @@
 """The parameters of a galley that decide where floats go, with their values (docs/FORMATS.md)."""
+from bisect import bisect_right
+
 from .galley import sp
 from .tries import scaled
 
@@ -19,16 +21,40 @@ def value(name, text):
     return fraction(text) if name in FRACTIONS else int(text) if name in NUMBERS else sp(text)
 
 
+def defaults():
+    """What holds before a galley sets anything."""
+    found = {name: value(name, text) for known in (FRACTIONS, NUMBERS, SIZES) for name, text in known.items()}
+    return {**found, 'suppressfloats': False}
+
+
+class Settings:
+    """The parameters of a galley by its lines, since a `set` may stand among the items. Those that a float is tested by hold
+    as they do at its own line till it has landed: they change only where no float waits."""
+
+    def __init__(self):
+        self.lines, self.values = [0], [defaults()]     # what holds from each of these lines on
+
+    def take(self, line, name, new):
+        """From this line on the parameter has this value."""
+        if new != self.values[-1][name]:
+            self.lines.append(line)
+            self.values.append({**self.values[-1], name: new})
+
+    def at(self, line):
+        """The values that hold at a line, and under `suppressfloats` whether such a line stands above it."""
+        return self.values[bisect_right(self.lines, line) - 1]
+
+
 def read(text):
-    """The values that a galley sets, the defaults of the others, and under `suppressfloats` whether it has such a line."""
-    out = {name: value(name, it) for known in (FRACTIONS, NUMBERS, SIZES) for name, it in known.items()}
-    out['suppressfloats'] = False
-    for line in text.splitlines():
+    """The parameters of a galley."""
+    found = Settings()
+    for number, line in enumerate(text.split('\n'), 1):
         words = line.split()
-        out['suppressfloats'] |= words[:1] == ['suppressfloats']
-        if words[:1] == ['set'] and len(words) > 2 and words[1] in out:
-            out[words[1]] = value(words[1], words[2])
-    return out
+        if words[:1] == ['suppressfloats']:
+            found.take(number, 'suppressfloats', True)
+        elif words[:1] == ['set'] and len(words) > 2 and words[1] in found.values[0]:
+            found.take(number, words[1], value(words[1], words[2]))
+    return found
 
 
 def share(part, height):

@@ -202,7 +202,13 @@ class Story:
             return [head + ': it stands beside its line.']
         return [head + ': it moves down by %s, since it is to begin %s below the top, and the notes before it reach %s down, '
                 'marginparpush (%s) included.' % (points(note.shift), points(note.text - note.high), points(note.reach),
-                                                 points(self.settings['marginparpush']))]
+                                                 points(self.push_before(note)))]
+
+    def push_before(self, note):
+        """What marginparpush is where the note before this one in its column is called, since it is a part of the reach."""
+        those = [one for one in self.run.notes if one.spot == note.spot]
+        before = those[max(those.index(note) - 1, 0)]
+        return self.settings.at(before.line)['marginparpush']
 
     def reason(self, it):
         """The reason for which it waited longest, in words; '' if it waited for none."""

@@ -61,6 +61,7 @@ class Decision:
     """What was asked of a float at one place, and where it went."""
     kind: str            # call, start or clear
     spot: Spot
+    line: int = 0        # of the galley, on which the float is called
     text: int = 0        # at a call: the height of the text so far
     places: str = ''     # of the float
     height: int = 0      # of the column, or of the page where the spot is a whole one; 0 if the lines do not tell
@@ -235,7 +236,7 @@ class _Reader:
     def decision_of(self, it):
         """The float's decision in this pass, a new one if nothing was asked of it yet."""
         if id(it) not in self.open:
-            self.open[id(it)] = Decision(self.kind, self.spot, height=self.height, places=it.places)
+            self.open[id(it)] = Decision(self.kind, self.spot, it.line, height=self.height, places=it.places)
             it.decisions.append(self.open[id(it)])
         return self.open[id(it)]
 

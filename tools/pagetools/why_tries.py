@@ -34,9 +34,19 @@ def changed(text, target, change):
         words[4 if change.what == 'places' else 5] = change.value
         lines[at] = ' '.join(words)
         return '\n'.join(lines), 0, 0
-    at = head_end(lines)
-    lines.insert(at, 'set %s %s' % (change.what, change.value))
-    return '\n'.join(lines), at + 1, 1
+    return with_parameter(lines, at, change)
+
+
+def with_parameter(lines, at, change):
+    """Likewise with another value of a parameter, where the line `at` (from 0) is. Where a `set` among the items gave it the
+    value that holds there, that one is changed; else the value of the head, which the items set no other before."""
+    new, end = 'set %s %s' % (change.what, change.value), head_end(lines)
+    among = [k for k in range(end, at) if lines[k].split()[:2] == ['set', change.what]]
+    if among:
+        lines[among[-1]] = new
+        return '\n'.join(lines), 0, 0
+    lines.insert(end, new)
+    return '\n'.join(lines), end + 1, 1
 
 
 def head_end(lines):
@@ -62,7 +72,7 @@ def run_of(program, text):
     return why.read(told_of(program, text))
 
 
-def outcome(program, text, it, target, change, settings):
+def outcome(program, text, it, target, change):
     """Where the float `it` lands after a change of `target`. Where it is no earlier, since a later test of the same decision
     fails by the same parameter, the value that passes that one is tried. None if the run with it is refused before."""
     for _ in range(ROUNDS):
@@ -71,7 +81,7 @@ def outcome(program, text, it, target, change, settings):
         found = landing_in(told, it, first, moved)
         if found and found.landed and is_earlier(found, it):
             break
-        more = further(told, target, first, moved, change, settings) if change.bound else None
+        more = further(told, new, target, line_in(target, first, moved), change) if change.bound else None
         if not more:
             break
         change = more
@@ -95,13 +105,13 @@ def landing_in(told, it, first, moved):
     return why.Landing(it.landed, it.where, it.place, it.column, it.late())
 
 
-def further(told, target, first, moved, change, settings):
-    """The next value of what was changed, by the first decision that keeps the float still; None if it has none."""
-    those = why.read(told).named(target.name, line_in(target, first, moved))
+def further(told, new, target, line, change):
+    """The next value of what was changed, by the first decision that keeps the float still, on this line of the new galley;
+    None if it has none."""
+    those = why.read(told).named(target.name, line)
     if not those or len(those[0].decisions) > len(target.decisions):
         return None
-    found = those[0]
-    settings = {**settings, change.what: known.value(change.what, change.value)} if change.what in settings else settings
+    found, settings = those[0], known.read(new)
     for decision in found.missed():
         for test in decision.failed():
             for one in why_words.changes(test, found, decision, settings):
@@ -138,12 +148,12 @@ def of_decision(it, decision, settings, behind):
 def tried(program, text, it, settings):
     """The outcome of each change: those by which the float is earlier, the earliest first and one for each parameter and
     float, and the changes that were of no use. Places in all letters are tried where no one letter is of use."""
-    helps, others = tried_of(program, text, it, candidates(it, settings), settings)
+    helps, others = tried_of(program, text, it, candidates(it, settings))
     if it.width == 'single' and not any(one.change.what == 'places' and one.target is it for one in helps):
         tried_before = [change for _, change in others]
         every = [why_words.with_places(it, letters) for letters in ('htbp', '!htbp')]
         more = [(it, one) for one in every if one.value != it.places and one not in tried_before]
-        more = tried_of(program, text, it, more, settings)
+        more = tried_of(program, text, it, more)
         helps, others = helps + more[0], sorted(others + more[1], key=lambda pair: pair[1] == CLEAR)
     helps.sort(key=lambda one: (one.found.place, one.found.column))
     first = {}
@@ -153,10 +163,10 @@ def tried(program, text, it, settings):
     return list(first.values()), [pair for pair in others if (id(pair[0]), pair[1].what) not in useful]
 
 
-def tried_of(program, text, it, pairs, settings):
+def tried_of(program, text, it, pairs):
     """The outcomes by which the float is earlier, and the changes that were of no use, both in order."""
     with ThreadPoolExecutor(4) as pool:
-        ran = list(pool.map(lambda pair: outcome(program, text, it, *pair, settings), pairs))
+        ran = list(pool.map(lambda pair: outcome(program, text, it, *pair), pairs))
     good = [one is not None and is_earlier(one.found, it) for one in ran]
     return [one for one, helps in zip(ran, good) if helps], [pair for pair, helps in zip(pairs, good) if not helps]
 

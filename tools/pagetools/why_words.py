@@ -1,6 +1,7 @@
 """A test that failed, in words, and the changes of which each alone makes it hold.
 
-`in_words` and `changes` take a test of `why.read`, its decision, and the parameters of the galley (`settings.read`)."""
+`in_words` and `changes` take a test of `why.read`, its decision, and the parameters of the galley (`settings.read`), of which
+those count that hold where the float is called."""
 from dataclasses import dataclass
 
 from . import settings as known
@@ -58,11 +59,11 @@ def floats(number):
     return '%d float%s' % (number, '' if number == 1 else 's')
 
 
-def is_now(name, settings):
+def is_now(name, values):
     """`topfraction is 0.7`."""
-    if not settings:
+    if not values:
         return name
-    value = settings[name]
+    value = values[name]
     return '%s is %s' % (name, known.decimal(value) if name in known.FRACTIONS else value)
 
 
@@ -72,20 +73,20 @@ def in_words(test, decision, settings=None):
     """Why the test failed, as a part of a sentence whose subject is the float; '' if it holds."""
     if not test.failed:
         return ''
-    return TELLERS[test.failed](test, decision, settings)
+    return TELLERS[test.failed](test, decision, settings and settings.at(decision.line))
 
 
-def _places(test, decision, settings):
+def _places(test, decision, values):
     if test.area == 'enter':
         return 'it may only go on a page of floats'
     return 'it lacks the place %s' % LETTERS[test.area]
 
 
-def _wide(test, decision, settings):
+def _wide(test, decision, values):
     return 'it is as wide as both columns, so it can only go above the columns of a later page'
 
 
-def _class(test, decision, settings):
+def _class(test, decision, values):
     name = test.blocker
     if test.area == 'here':
         return '%s of its class is at the bottom of this column' % name
@@ -94,52 +95,52 @@ def _class(test, decision, settings):
     return '%s of its class waits before it' % name
 
 
-def _count(test, decision, settings):
+def _count(test, decision, values):
     allowed, used, _ = test.count
     where, name = AREAS[test.area], COUNTS[test.area]
     if used < allowed:
         return '\\suppressfloats lets no float into %s' % where
     have = 'has %s already' % floats(used) if used else 'may have no float'
-    return '%s %s (%s)' % (where, have, is_now(name, settings))
+    return '%s %s (%s)' % (where, have, is_now(name, values))
 
 
-def _room(test, decision, settings):
+def _room(test, decision, values):
     over = points(test.lacks(), up=True)
     if test.area == 'wide':
-        return '%s more than %s may hold (%s)' % (over, AREAS['wide'], is_now('dbltopfraction', settings))
+        return '%s more than %s may hold (%s)' % (over, AREAS['wide'], is_now('dbltopfraction', values))
     rest = {'here': 'with intextsep round it, ', 'top': 'with the space below it, ', 'bottom': 'with the space above it, '}
     enter = decision.test('enter')
     least = enter.least if enter else 0
-    return '%s%s too high for this column%s' % (rest.get(test.area, ''), over, _beside(least, decision, settings))
+    return '%s%s too high for this column%s' % (rest.get(test.area, ''), over, _beside(least, decision, values))
 
 
-def _beside(least, decision, settings):
+def _beside(least, decision, values):
     """What the float is too high beside: the text so far, or the least that there must be."""
     if least <= decision.text:
         return ' beside the text so far' if decision.text else ''
     if '!' in decision.places:
         return ' beside the floats in its text'
-    part = known.share(settings['textfraction'], decision.height) if settings else least
+    part = known.share(values['textfraction'], decision.height) if values else least
     others = ' and the floats in it' if part < least else ''
-    return ' beside the text that must be there (%s)%s' % (is_now('textfraction', settings), others)
+    return ' beside the text that must be there (%s)%s' % (is_now('textfraction', values), others)
 
 
-def _share(test, decision, settings):
+def _share(test, decision, values):
     return '%s more than %s may hold (%s)' % (points(test.lacks(), up=True), AREAS[test.area],
-                                              is_now(SHARES[test.area], settings))
+                                              is_now(SHARES[test.area], values))
 
 
-def _tall(test, decision, settings):
+def _tall(test, decision, values):
     return '%s higher than the column' % points(test.lacks(), up=True)
 
 
-def _sum(test, decision, settings):
+def _sum(test, decision, values):
     if test.area == 'joins':
         return 'the floats before it leave %s too little of the page of floats' % points(test.lacks(), up=True)
     name = 'floatpagefraction' if decision.spot.column else 'dblfloatpagefraction'
     group = 'it is' if test.floats == 1 else 'the %s that could share a page of floats are' % floats(test.floats)
     return '%s %s high, and a page of floats needs more than %s (%s)' % (
-        group, points(test.sum), points(test.least), is_now(name, settings))
+        group, points(test.sum), points(test.least), is_now(name, values))
 
 
 def root_of(test):
@@ -169,7 +170,7 @@ def changes(test, it, decision, settings):
     later tests may fail still. None if no such change does."""
     if not test.failed:
         return []
-    found = MAKERS.get(test.failed, lambda *_: [])(test, it, decision, settings)
+    found = MAKERS.get(test.failed, lambda *_: [])(test, it, decision, settings.at(it.line))
     return [change for change in found if change]
 
 
@@ -201,49 +202,49 @@ def fraction_of_at_most(name, target, height):
     return Change(name, known.at_most(min(((target + 1) * 65536 - 1) // height, 65536)), 'most')
 
 
-def _pass_places(test, it, decision, settings):
+def _pass_places(test, it, decision, values):
     letters = 'htb' if test.area == 'enter' else LETTERS[test.area]
     return [with_places(it, letter) for letter in letters]
 
 
-def _pass_count(test, it, decision, settings):
+def _pass_count(test, it, decision, values):
     allowed, used, _ = test.count
-    suppressed = used < allowed or decision.kind == 'call' and settings['suppressfloats']      # or may be: the line can't tell
+    suppressed = used < allowed or decision.kind == 'call' and values['suppressfloats']       # or may be: the line can't tell
     return [None if suppressed else Change(COUNTS[test.area], str(used + 1), 'least'), with_bang(it)]
 
 
-def _pass_share(test, it, decision, settings):
+def _pass_share(test, it, decision, values):
     name = SHARES[test.area]
-    taken = known.share(settings[name], decision.height) - test.share
+    taken = known.share(values[name], decision.height) - test.share
     return [fraction_of_at_least(name, test.high + taken + 1, decision.height), with_bang(it), lower(test, it)]
 
 
-def _pass_wide_room(test, it, decision, settings):
-    height = settings['textheight']
-    full = known.share(settings['dbltopfraction'], height)
+def _pass_wide_room(test, it, decision, values):
+    height = values['textheight']
+    full = known.share(values['dbltopfraction'], height)
     if it.has_bang():
         return [lower(test, it)]
     bang = with_bang(it) if test.room + height - full > test.high else None
     return [fraction_of_at_least('dbltopfraction', test.high + full - test.room + 1, height), bang, lower(test, it)]
 
 
-def _pass_room(test, it, decision, settings):
+def _pass_room(test, it, decision, values):
     if test.area == 'wide':
-        return _pass_wide_room(test, it, decision, settings)
+        return _pass_wide_room(test, it, decision, values)
     high, least = it.high, decision.test('enter').least
     beside = test.need - max(decision.text, least) - high      # the separators
     most = test.room - 1 - beside - high                       # what the text may be
-    part = 0 if it.has_bang() else known.share(settings['textfraction'], decision.height)
+    part = 0 if it.has_bang() else known.share(values['textfraction'], decision.height)
     if it.has_bang() or least <= decision.text or decision.text > most or least - part > most:
         return [lower(test, it)]
     return [fraction_of_at_most('textfraction', most - (least - part), decision.height), with_bang(it), lower(test, it)]
 
 
-def _pass_tall(test, it, decision, settings):
+def _pass_tall(test, it, decision, values):
     return [lower(test, it)]
 
 
-def _pass_sum(test, it, decision, settings):
+def _pass_sum(test, it, decision, values):
     if test.area == 'joins':
         return [lower(test, it)]
     name = 'floatpagefraction' if decision.spot.column else 'dblfloatpagefraction'

@@ -82,6 +82,10 @@ class Words(unittest.TestCase):
         short = ending(9, badness='800', short=44 * pt, stretch=(22 * pt, 0, 0, 0))
         self.assertEqual(self.said(short, short, flush),
                          ['page 1 is 44.0pt short, with glue that stretches by 22.0pt, as before'])
+        # a page that ends before the height of all is asked for is not meant
+        later = self.TEXT.replace('end\n', 'set bottom flush\nbox z 1 0\nend\n')
+        early = ending(3, line=6, badness='800', short=44 * pt, stretch=(22 * pt, 0, 0, 0))
+        self.assertEqual(self.said(early, early, later), ['page 1 is 44.0pt short, as before'])
         self.assertEqual(self.said(ending(9), ending(8, badness='*', short=-3 * pt)), ['new: page 1 is 3.0pt too full'])
         self.assertEqual(self.said(short, ending(8, held=1)), ['page 1 was 44.0pt short; now it splits one footnote'])
         self.assertEqual(self.said(ending(9), ending(8)), [])

@@ -106,6 +106,36 @@ class Enlarged(Latex):
         self.assertEqual(self.heights()[1:], [0] * len(self.heights()[1:]))
         self.assert_all('enlarge %d' % (20 * PT))
 
+    def export_other_first(self, text, first, others):
+        """A document whose class gives the pages their height when LaTeX has taken that of the first page."""
+        self.export(text, preamble=r'\textheight %dpt\AtBeginDocument{\textheight %dpt}' % (first, others))
+
+    def test_a_first_page_of_another_height(self):
+        for first, others in ((500, 550), (600, 550)):
+            self.export_other_first(NOTE + LINES * 30, first, others)
+            self.assertEqual(self.heights()[:2], [first - others, 0])
+            self.assert_all('enlarge %d' % ((first - others) * PT))
+            said = self.read('test.galleylog')
+            self.assertIn('by the pages: the first page is higher by %d (enlarge)' % ((first - others) * PT), said)
+            self.assertNotIn('not the same', said)
+
+    def test_a_first_page_of_another_height_with_floats(self):
+        # the places behind a float on it are weighed for the height of the others
+        self.export_other_first(LINES * 3 + FIGURE % 't' + NOTE + LINES * 2 + FIGURE % 'b' + LINES * 30, 500, 550)
+        self.assertIn('enlarge %d' % (-50 * PT), self.lines())
+        self.assert_pages()
+
+    def test_a_first_page_alone_before_a_clear(self):
+        self.export_other_first(LINES + r'\clearpage ' + LINES * 30, 500, 550)
+        self.assertIn('\nclearpage\nset textheight %d\n' % (550 * PT), self.read('test.galley'))
+        self.assertNotIn('enlarge', self.read('test.galley'))
+        self.assert_pages()
+
+    def test_a_height_from_the_second_page_on(self):
+        self.export(LINES * 3 + r'\textheight 300pt ' + LINES * 30)
+        self.assertEqual(self.heights()[:2], [250, 0])
+        self.assert_all('enlarge %d' % (250 * PT))
+
     def test_a_class_without_enlarged_pages(self):
         # as under revtex; the kernel's own column maker gets the insertion back
         log = self.export(LINES, preamble=r'\let\kept\@kludgeins \let\@kludgeins\undefined '

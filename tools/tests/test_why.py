@@ -218,7 +218,6 @@ class Words(unittest.TestCase):
         self.assertEqual(why_words.points(72088, down=True), '1.0pt')
 
     def test_fractions(self):
-        self.assertEqual(settings.read('set topfraction 0.85\nset topfraction 32768/65536')['topfraction'], 32768)
         for text in ('0.7', '0.123', '1', '0.5', '0'):
             part = settings.fraction(text)
             self.assertEqual(settings.fraction(settings.decimal(part)), part)
