@@ -83,7 +83,7 @@ module _ (top : ℤ) where
   top-node l (ins i) xs more ih h = ap (λ ns. record { line = l; kind = ins i } ∷ ns) (ih h)
   top-node l (act a) xs more ih h = ap (λ ns. record { line = l; kind = act a } ∷ ns) (ih h)
 
-  box-first : (xs more : List PlainNode) → holds_box xs ≡ true → pruned_nodes top (xs ++ more) ≡ pruned_nodes top xs ++ more
+  pub box-first : (xs more : List PlainNode) → holds_box xs ≡ true → pruned_nodes top (xs ++ more) ≡ pruned_nodes top xs ++ more
   box-first [] more h = let no : ⊥ = grind (arith, h) in absurd no
   box-first (n ∷ xs) more h = top-node n.line n.kind xs more (box-first xs more) h
 

@@ -26,3 +26,9 @@ pub mod LimitLemmas
 pub mod CountedFirings
 pub mod CountedStates
 pub mod LimitRuns
+pub mod PlacePricesParams
+pub mod PlacePricesReach
+pub mod PlacePricesStep
+pub mod PlainFirings
+pub mod PlainReach
+pub mod PlainPages

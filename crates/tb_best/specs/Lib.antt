@@ -9,3 +9,5 @@ pub mod PageTables
 pub mod BestOf
 pub mod BestLines
 pub mod Rows
+pub mod PlacePrices
+pub mod PlainPages
