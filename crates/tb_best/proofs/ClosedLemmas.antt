@@ -16,7 +16,7 @@ use Rattle.tb_rate.specs.RatedRun.{floats_waiting, insertions_first, demerits_if
 use Rattle.tb_best.specs.PlanDemerits.{step_demerits}
 use Rattle.tb_best.specs.ItemsAhead.{Ahead, forced, state_with}
 use Rattle.tb_best.specs.ClosedTables.{Table, IsNoBetter, IsAsGood, IsClosed}
-use Rattle.tb_best.specs.Sides.{may_alternate, AheadKeep}
+use Rattle.tb_best.specs.Sides.{sides_of, AheadKeep}
 use Rattle.tb_best.proofs.SideItems.{planned-keep}
 use Rattle.tb_best.proofs.Paths.{planned, marked, Path, finished, taken, cut, filled, run-paths, path-runs, path-marks}
 use Rattle.tb_best.proofs.PlanMarks.{breaks_after}
@@ -130,11 +130,11 @@ merged a e d breaks cs less ms (inl h) k = by (less-or-same e d (int_lt e d) ref
 
 module _ (g : Galley) (total : ℤ) (best : List ℕ) where
   -- a way from a state ends no better, if none from one that is as good does
-  pub as-good-way : (k : ℕ) (t u : State) (cs : List Ahead) (ms : List Bool) (d a : ℤ) (breaks : List ℕ) → Path (place_penalties g.items) k t cs ms d → AheadKeep (may_alternate g) cs → IsAsGood g t u
+  pub as-good-way : (k : ℕ) (t u : State) (cs : List Ahead) (ms : List Bool) (d a : ℤ) (breaks : List ℕ) → Path (place_penalties g.items) k t cs ms d → AheadKeep (sides_of g) cs → IsAsGood g t u
       → ((others : List Bool) (e : ℤ) → Path (place_penalties g.items) k u cs others e → IsNoBetter total best (a +ℤ (e +ℤ pos (1000 * marked others))) (breaks_after breaks cs others))
       → IsNoBetter total best (a +ℤ (d +ℤ pos (1000 * marked ms))) (breaks_after breaks cs ms)
   as-good-way k t u cs ms d a breaks way keep good claim =
-      let run = good k (planned ms cs) d (planned-keep (may_alternate g) ms cs keep) (path-runs (place_penalties g.items) k t cs ms d way) in
+      let run = good k (planned ms cs) d (planned-keep (sides_of g) ms cs keep) (path-runs (place_penalties g.items) k t cs ms d way) in
       let other = run-paths (place_penalties g.items) k u cs ms run.0 (path-marks (place_penalties g.items) k t cs ms d way) run.1 in
       no-worse total (a +ℤ (run.0 +ℤ pos (1000 * marked other.0))) (a +ℤ (d +ℤ pos (1000 * marked ms))) best (breaks_after breaks cs other.0) (breaks_after breaks cs ms)
       (merged a run.0 d breaks cs other.0 ms other.2 run.2)
@@ -146,13 +146,13 @@ module _ (g : Galley) (total : ℤ) (best : List ℕ) (Known : Table) (closed : 
 
   -- no way with this fuel from what the table knows ends better
   abbrev Claim : ℕ → Type 0
-  Claim k = (s : State) (cs : List Ahead) (ms : List Bool) (d a : ℤ) (breaks : List ℕ) → AheadKeep (may_alternate g) cs → Ways k s cs ms d → Known s cs a breaks → IsNoBetter total best (a +ℤ (d +ℤ pos (1000 * marked ms))) (breaks_after breaks cs ms)
+  Claim k = (s : State) (cs : List Ahead) (ms : List Bool) (d a : ℤ) (breaks : List ℕ) → AheadKeep (sides_of g) cs → Ways k s cs ms d → Known s cs a breaks → IsNoBetter total best (a +ℤ (d +ℤ pos (1000 * marked ms))) (breaks_after breaks cs ms)
 
   abbrev Earlier : ℕ → Type 0
   Earlier zero = Unit {0}
   Earlier (suc k) = Claim k
 
-  ways-with : (k : ℕ) → Earlier k → (s : State) (cs : List Ahead) (ms : List Bool) (d : ℤ) → AheadKeep (may_alternate g) cs → Ways k s cs ms d → (a : ℤ) (breaks : List ℕ) → Known s cs a breaks
+  ways-with : (k : ℕ) → Earlier k → (s : State) (cs : List Ahead) (ms : List Bool) (d : ℤ) → AheadKeep (sides_of g) cs → Ways k s cs ms d → (a : ℤ) (breaks : List ℕ) → Known s cs a breaks
       → IsNoBetter total best (a +ℤ (d +ℤ pos (1000 * marked ms))) (breaks_after breaks cs ms)
   ways-with _ later _ _ _ _ keep (finished k s es rs left quiet e) a breaks known = subst (λ x. IsNoBetter total best x breaks) (nothing-more a) (closed.finishes s a breaks es rs left known quiet e)
   ways-with _ later _ _ _ _ keep (taken k s c cs ms d quiet h) a breaks known = ways-with k later (state_with c.nodes s) cs ms d keep.1 h a breaks (closed.takes s c cs a breaks known quiet)
@@ -179,6 +179,6 @@ module _ (g : Galley) (total : ℤ) (best : List ℕ) (Known : Table) (closed : 
   all-claims (suc k) s cs ms d a breaks keep way known = ways-with (suc k) (all-claims k) s cs ms d keep way a breaks known
 
   -- no way from what the table knows ends better
-  pub closed-ways : (k : ℕ) (s : State) (cs : List Ahead) (ms : List Bool) (d a : ℤ) (breaks : List ℕ) → AheadKeep (may_alternate g) cs → Ways k s cs ms d → Known s cs a breaks
+  pub closed-ways : (k : ℕ) (s : State) (cs : List Ahead) (ms : List Bool) (d a : ℤ) (breaks : List ℕ) → AheadKeep (sides_of g) cs → Ways k s cs ms d → Known s cs a breaks
       → IsNoBetter total best (a +ℤ (d +ℤ pos (1000 * marked ms))) (breaks_after breaks cs ms)
   closed-ways k s cs ms d a breaks keep way known = all-claims k s cs ms d a breaks keep way known

@@ -37,6 +37,7 @@ use Rattle.tb_output.specs.Clear.{clear_again, cleared_front, deferred_again, do
 use Rattle.tb_output.specs.Text.{without_firing_box, notes_height, list_back, here_nodes, puts_interline, only_here, with_top, defer, float_goes, note_nodes, moved_warning, with_note_bottom, note_goes, note_at, first_goes, float_or_note_in, float_or_note}
 use Rattle.tb_output.specs.Output.{is_int, hold, output_by, with_goal, is_crowded, leave_column, goal_by, next_goal, after_page, waiting_again, out, blank_column}
 use Rattle.tb_best.specs.Counts.{Counts, counts_of, AreNoGreater}
+use Rattle.tb_best.specs.Sides.{note_among}
 use Rattle.tb_best.proofs.LimitLemmas.{lim, current-lim, next-place-lim, text-column-lim, notes-nodes-lim}
 
 -- what may be other in a second work
@@ -84,7 +85,7 @@ place-same : (p : Params) (c e : Counts) → (is_on p.mparswitch ≡ true → (c
 place-same p c e h two first high bottom m =
     ap (λ even. placed_on p high bottom m (if (if two then first else (if is_on p.reversemargin then not even else even)) then side.Left else side.Right)) (even-same c.number e.number (is_on p.mparswitch) h)
 
-module _ (p : Params) (m : ℤ) (may : Bool) (keep : is_on p.mparswitch ≡ true → may ≡ true) where
+module _ (p : Params) (m : ℤ) (may : Bool) where
   -- the parameters with another limit on nodes
   abbrev q : Params
   q = lim p m
@@ -105,9 +106,17 @@ module _ (p : Params) (m : ℤ) (may : Bool) (keep : is_on p.mparswitch ≡ true
   abbrev Keeps : (Params → Work → Work) → Type 0
   Keeps f = (w : Work) (k : Other) → Fits k w → IsLike (f q (other k w)) (f p w)
 
+  -- a note among these entries changes sides from page to page only if notes may
+  abbrev pub MayChange : List Entry → Type 0
+  MayChange es = note_among es ≡ true → is_on p.mparswitch ≡ true → may ≡ true
+
   -- it does so while no page was refused
+  abbrev IsAllowed : Other → Work → Type 0
+  IsAllowed k w = (k.refused ≡ false) × AreNoGreater may k.counts (counts_of w.state)
+
+  -- and if the notes of the current list change sides only if they may
   abbrev KeepsAllowed : (Params → Work → Work) → Type 0
-  KeepsAllowed f = (w : Work) (k : Other) → (k.refused ≡ false) × AreNoGreater may k.counts (counts_of w.state) → IsLike (f q (other k w)) (f p w)
+  KeepsAllowed f = (w : Work) (k : Other) → MayChange w.state.floats.current → IsAllowed k w → IsLike (f q (other k w)) (f p w)
 
   onto : (f : Params → Work → Work) → Keeps f → (x y : Work) → IsLike x y → IsLike (f q x) (f p y)
   onto f h x y a = let b = h y a.0 a.1 in (b.0, b.1, ap (f q) a.2 ∙ b.2)
@@ -385,49 +394,49 @@ module _ (p : Params) (m : ℤ) (may : Bool) (keep : is_on p.mparswitch ≡ true
       let v = with_note_bottom at.bottom (with_floats left w) in
       onto (λ z u. puts_interline z n.nobreak (puts (note_nodes depth n at) u)) (λ u o i. (o, i, refl)) (moved_warning n at (other k v)) (moved_warning n at v) (moved-keep n at v k h)
 
-  note-at-keep : (height depth : ℤ) (n : Margin) (left : FloatLists) → KeepsAllowed (λ z w. note_at z height depth n left w)
-  note-at-keep height depth n left w k (still, less) =
+  note-at-keep : (height depth : ℤ) (n : Margin) (left : FloatLists) → (is_on p.mparswitch ≡ true → may ≡ true) → (w : Work) (k : Other) → IsAllowed k w → IsLike (note_at q height depth n left (other k w)) (note_at p height depth n left w)
+  note-at-keep height depth n left keep w k (still, less) =
       let two = w.state.two_columns in
       let first = w.state.first_column in
       let at = placed_note p w.state.number two first height w.state.note_bottom n in
       subst (λ x. IsLike (note_goes q depth n left (other k w) x) (note_goes p depth n left w at)) (sym (place-same p k.counts (counts_of w.state) (λ on. less.sides (keep on)) two first height w.state.note_bottom n)) (note-keep depth n left at w k (inr (still, less)))
 
-  first-keep : (vert : Bool) (height depth high : ℤ) (es : List Entry) → KeepsAllowed (λ z w. first_goes z vert height depth high es w)
-  first-keep vert height depth high [] w k h = (k, inr h, refl)
-  first-keep vert height depth high (entries.Float f ∷ fs) w k h =
+  first-keep : (vert : Bool) (height depth high : ℤ) (es : List Entry) → MayChange es → (w : Work) (k : Other) → IsAllowed k w → IsLike (first_goes q vert height depth high es (other k w)) (first_goes p vert height depth high es w)
+  first-keep vert height depth high [] keep w k h = (k, inr h, refl)
+  first-keep vert height depth high (entries.Float f ∷ fs) keep w k h =
       let left = record w.state.floats { current = fs } in
       let place = current_place p w.state.floats w.state.suppress high f in
       subst (λ x. IsLike (float_goes q vert f left (other k w) x) (float_goes p vert f left w place)) (sym (current-lim p m w.state.floats w.state.suppress high f)) (goes-keep vert f left place w k (inr h))
-  first-keep vert height depth high (entries.Left n ∷ []) w k h = note-at-keep height depth n (record w.state.floats { current = [] }) w k h
-  first-keep vert height depth high (entries.Left n ∷ e ∷ fs) w k h = note-at-keep height depth n (record w.state.floats { current = fs }) w k h
-  first-keep vert height depth high (entries.Right n ∷ fs) w k h = (k, inr h, refl)
+  first-keep vert height depth high (entries.Left n ∷ []) keep w k h = note-at-keep height depth n (record w.state.floats { current = [] }) (keep refl) w k h
+  first-keep vert height depth high (entries.Left n ∷ e ∷ fs) keep w k h = note-at-keep height depth n (record w.state.floats { current = fs }) (keep refl) w k h
+  first-keep vert height depth high (entries.Right n ∷ fs) keep w k h = (k, inr h, refl)
 
   -- the list so far goes back, with these insertions behind it
   abbrev back_with : List PlainNode → List PlainNode → Work → Work
   back_with ns notes w = puts (ns ++ notes) (record w { state = record w.state { held_page = []; boxes = emptied_boxes w.state.boxes } })
 
   float-note-keep : (vert : Bool) (ns : List PlainNode) → KeepsAllowed (λ z w. float_or_note_in z vert ns w)
-  float-note-keep vert ns w k h =
+  float-note-keep vert ns w k keep h =
       let shapes = map node_shape ns in
       let depth = last_depth shapes in
       let height = size_of shapes -ℤ depth in
       let high = height +ℤ depth +ℤ notes_height (footnotes w.state) in
       subst (λ ms. IsLike (first_goes q vert height depth high w.state.floats.current (back_with ns ms (other k w))) (first_goes p vert height depth high w.state.floats.current (list_back p ns w)))
       (sym (notes-nodes-lim p m (footnotes w.state)))
-      (first-keep vert height depth high w.state.floats.current (list_back p ns w) k h)
+      (first-keep vert height depth high w.state.floats.current keep (list_back p ns w) k h)
 
   -- ---- a firing
 
   held-keep : (vert : Bool) (body : List PlainNode) → KeepsAllowed (λ z w. float_or_note z vert body w)
-  held-keep vert body w k h = float-note-keep vert (w.state.held_page ++ without_firing_box body) w k h
+  held-keep vert body w k keep h = float-note-keep vert (w.state.held_page ++ without_firing_box body) w k keep h
 
   penalty-keep : (f : Fired) → KeepsAllowed (λ z w. output_by z f w)
-  penalty-keep f w k h =
+  penalty-keep f w k keep h =
       let v = other k w in
       either (int_le eject_penalty f.penalty) (ordinary q f.body v) (ordinary p f.body w) _ _ (ordinary-keep f.body w k (inr h))
       (either (is_int f.penalty clear_penalty) (clear q f.body v) (clear p f.body w) _ _ (clear-by-keep f.body (standing_notes (footnotes w.state)) w k (inr h))
-      (either (is_int f.penalty par_penalty) (float_or_note q false f.body v) (float_or_note p false f.body w) _ _ (held-keep false f.body w k h)
-      (either (is_int f.penalty vert_penalty) (float_or_note q true f.body v) (float_or_note p true f.body w) (hold f.body v) (hold f.body w) (held-keep true f.body w k h) (k, inr h, refl))))
+      (either (is_int f.penalty par_penalty) (float_or_note q false f.body v) (float_or_note p false f.body w) _ _ (held-keep false f.body w k keep h)
+      (either (is_int f.penalty vert_penalty) (float_or_note q true f.body v) (float_or_note p true f.body w) (hold f.body v) (hold f.body w) (held-keep true f.body w k keep h) (k, inr h, refl))))
 
   leave-keep : Keeps (λ z w. leave_column w)
   leave-keep w k h =
@@ -444,10 +453,10 @@ module _ (p : Params) (m : ℤ) (may : Bool) (keep : is_on p.mparswitch ≡ true
       (either (is_crowded p room) (leave_column v) (leave_column w) (with_goal room v) (with_goal room w) (leave-keep w k h) (k, h, refl))
 
   -- a firing with another limit on nodes, another left column and counts that are no greater
-  pub out-keep : (s : State) (f : Fired) (l : Option PlainColumn) (c : Counts) → AreNoGreater may c (counts_of s) → IsLike (out q (counted m l c s) f) (out p s f)
+  pub out-keep : (s : State) (f : Fired) (l : Option PlainColumn) (c : Counts) → MayChange s.floats.current → AreNoGreater may c (counts_of s) → IsLike (out q (counted m l c s) f) (out p s f)
   unfolding out
-  out-keep s f l c h =
+  out-keep s f l c keep h =
       let w = begun (after_page s f) in
       let k : Other = record { left = l; counts = record c { dead_cycles = c.dead_cycles + 1 }; sent = []; records = []; refused = false } in
       onto (λ z v. waiting_again f v) (λ v o i. (o, i, refl)) (next_goal q f.penalty (output_by q f (other k w))) (next_goal p f.penalty (output_by p f w))
-      (onto (λ z v. next_goal z f.penalty v) (goal-keep f.penalty) (output_by q f (other k w)) (output_by p f w) (penalty-keep f w k (refl, begun-no-greater c (counts_of s) h)))
+      (onto (λ z v. next_goal z f.penalty v) (goal-keep f.penalty) (output_by q f (other k w)) (output_by p f w) (penalty-keep f w k keep (refl, begun-no-greater c (counts_of s) h)))

@@ -8,7 +8,6 @@ use Rattle.tb_node.specs.declared.Act.{Act}
 use Rattle.tb_node.specs.declared.Act.TheVariants as acts
 use Rattle.tb_param.specs.declared.Params.{Params}
 use Rattle.tb_param.specs.Changes.{set_place}
-use Rattle.tb_margin.specs.Margin.{is_on}
 use Rattle.tb_galley.specs.declared.Galley.{Galley}
 use Rattle.tb_builder.specs.declared.Ask.{Ask}
 use Rattle.tb_builder.specs.declared.Try.{Try}
@@ -33,11 +32,12 @@ use Rattle.tb_best.specs.ItemsAhead.{state_with}
 use Rattle.tb_best.specs.ClosedTables.{IsAsGood, AreAlike}
 use Rattle.tb_best.specs.Counts.{Counts, counts_of, AreNoGreater}
 use Rattle.tb_best.proofs.Paths.{more-some}
-use Rattle.tb_best.specs.Sides.{may_alternate, KeepsSides}
+use Rattle.tb_best.specs.Sides.{Sides, sides_of, alternate, may_alternate, is_beyond, any_beyond, KeepSides, KeepsSides}
 use Rattle.tb_best.proofs.SideItems.{sides-with}
+use Rattle.tb_best.proofs.SteadyNodes.{both-false}
 use Rattle.tb_best.proofs.SteadySteps.{AfterKeeps, sides-kept, page-sides}
 use Rattle.tb_best.proofs.LimitLemmas.{lim, changed-lim}
-use Rattle.tb_best.proofs.CountedFirings.{Other, counted, swapped, not-both, Fits, out-keep}
+use Rattle.tb_best.proofs.CountedFirings.{Other, counted, swapped, not-both, Fits, MayChange, out-keep}
 
 -- ---- the acts
 
@@ -143,7 +143,7 @@ champion-sent : (best : Option Try) (xs : List PlainSent) → champion_or best (
 champion-sent best [] = refl
 champion-sent best (x ∷ xs) = champion-sent best xs
 
-champion-before : (best : Option Try) (es : List RunEvent) (xs : List PlainSent) → champion_or best (es ++ map sent xs) ≡ champion_or best es
+pub champion-before : (best : Option Try) (es : List RunEvent) (xs : List PlainSent) → champion_or best (es ++ map sent xs) ≡ champion_or best es
 champion-before best [] xs = champion-sent best xs
 champion-before best (offered t ∷ es) xs = champion-before (later_champion best t) es xs
 champion-before best (sent e ∷ es) xs = champion-before best es xs
@@ -153,7 +153,11 @@ abbrev IsLost : Step → Type 0
 IsLost (ends es rs e) = demerits_at e ≡ None
 IsLost (goes_on es rs t) = ⊥
 
-module _ (m : ℤ) (may : Bool) where
+module _ (m : ℤ) (sides : Sides) where
+  -- notes may change sides
+  abbrev may : Bool
+  may = alternate sides
+
   -- both steps end the same, or go on in states of which the first has another left column and counts that are no greater, and broke at the same place
   abbrev AreSame : Step → Step → Type 0
   AreSame (ends es rs e) (ends fs qs f) = e ≡ f
@@ -170,10 +174,10 @@ module _ (m : ℤ) (may : Bool) where
   either-like false x y u v h k = k
 
   -- a firing after these events and records
-  firing-as : (p : Params) (keep : is_on p.mparswitch ≡ true → may ≡ true) (es : List RunEvent) (rs : List Recorded) (w : Work) (k : Other) → Fits p m may keep k w → IsNoWorse (unlimited_firing es rs (swapped m k w)) (unlimited_firing es rs w)
-  firing-as p keep es rs w k h = by k.refused w.refused refl refl h
+  firing-as : (p : Params) (es : List RunEvent) (rs : List Recorded) (w : Work) (k : Other) → Fits p m may k w → IsNoWorse (unlimited_firing es rs (swapped m k w)) (unlimited_firing es rs w)
+  firing-as p es rs w k h = by k.refused w.refused refl refl h
     where
-      by : (s t : Bool) → k.refused ≡ s → w.refused ≡ t → Fits p m may keep k w
+      by : (s t : Bool) → k.refused ≡ s → w.refused ≡ t → Fits p m may k w
           → IsNoWorse (if s then ends (es ++ map sent k.sent) (rs ++ k.records) (page_limit (pred k.counts.page)) else goes_on (es ++ map sent k.sent) (rs ++ k.records) (counted m k.left k.counts w.state))
           (if t then ends (es ++ map sent w.sent) (rs ++ w.records) (page_limit (pred w.state.page)) else goes_on (es ++ map sent w.sent) (rs ++ w.records) w.state)
       by s true e f fits = inl refl
@@ -194,29 +198,29 @@ module _ (m : ℤ) (may : Bool) where
       by false true i j = within-cycles p c e h i j
       by true true i j = like
 
-  fire-as : (a : Ask) (w : Reach) (q : Progress) → (is_on q.state.params.mparswitch ≡ true → may ≡ true) → (l : Option PlainColumn) (c : Counts) → AreNoGreater may c (counts_of q.state) → IsNoWorse (unlimited_fire a w (progress_as m may l c q)) (unlimited_fire a w q)
+  fire-as : (a : Ask) (w : Reach) (q : Progress) → MayChange q.state.params m may q.state.floats.current → (l : Option PlainColumn) (c : Counts) → AreNoGreater may c (counts_of q.state) → IsNoWorse (unlimited_fire a w (progress_as m may l c q)) (unlimited_fire a w q)
   fire-as a w q keep l c h =
       let page = fired_of a q.state.classes q.state.boxes w in
       let p = q.state.params in
-      let like = out-keep p m may keep q.state page l c h in
+      let like = out-keep p m may q.state page l c keep h in
       cycles-as p q.events q.records c.dead_cycles q.state.dead_cycles h.dead_cycles (unlimited_firing q.events q.records (out (lim p m) (counted m l c q.state) page)) (unlimited_firing q.events q.records (out p q.state page))
       (subst (λ x. IsNoWorse (unlimited_firing q.events q.records x) (unlimited_firing q.events q.records (out p q.state page))) (sym like.2)
-      (firing-as p keep q.events q.records (out p q.state page) like.0 like.1))
+      (firing-as p q.events q.records (out p q.state page) like.0 like.1))
 
-  fault-as : (a : Ask) (w : Reach) (q : Progress) → (is_on q.state.params.mparswitch ≡ true → may ≡ true) → (l : Option PlainColumn) (c : Counts) → AreNoGreater may c (counts_of q.state) → (o : Option (ℕ × ℕ)) → IsNoWorse (unlimited_progress a w (progress_as m may l c q) o) (unlimited_progress a w q o)
+  fault-as : (a : Ask) (w : Reach) (q : Progress) → MayChange q.state.params m may q.state.floats.current → (l : Option PlainColumn) (c : Counts) → AreNoGreater may c (counts_of q.state) → (o : Option (ℕ × ℕ)) → IsNoWorse (unlimited_progress a w (progress_as m may l c q) o) (unlimited_progress a w q o)
   fault-as a w q keep l c h None =
       let end = ends q.events (q.records ++ emptied q.state.floats ∷ []) (done w.passed) in
       either-like w.fires (unlimited_fire a w (progress_as m may l c q)) (unlimited_fire a w q) end end (fire-as a w q keep l c h) (inr refl)
   fault-as a w q keep l c h (Some f) = inl refl
 
-  step-as : (s : State) → KeepsSides may s → (l : Option PlainColumn) (c : Counts) → AreNoGreater may c (counts_of s) → IsNoWorse (unlimited_step (counted m l c s)) (unlimited_step s)
+  step-as : (s : State) → KeepsSides sides s → (l : Option PlainColumn) (c : Counts) → AreNoGreater may c (counts_of s) → IsNoWorse (unlimited_step (counted m l c s)) (unlimited_step s)
   unfolding unlimited_step
   step-as s keep l c h =
       let w = reach_in s in
       let q = progress w.reached awful_bad s in
       let x = progress-as m may w.reached awful_bad s l c h in
       subst (λ a. IsNoWorse (unlimited_step_of (counted m l c s) a (reach_of a s.classes s.boxes [] s.waiting)) (unlimited_step_of s (ask_for s) w)) (sym (ap (λ t. ask_of t.params t) (led-as m may s.waiting s l c h).2))
-      (subst (λ r. IsNoWorse (unlimited_progress (ask_for s) w r r.fault) (unlimited_progress (ask_for s) w q q.fault)) (sym x.3) (fault-as (ask_for s) w q (page-sides may s keep) x.0 x.1 x.2 q.fault))
+      (subst (λ r. IsNoWorse (unlimited_progress (ask_for s) w r r.fault) (unlimited_progress (ask_for s) w q q.fault)) (sym x.3) (fault-as (ask_for s) w q (page-sides sides s keep) x.0 x.1 x.2 q.fault))
 
 -- ---- the run
 
@@ -230,11 +234,11 @@ module _ (p : Params) (m : ℤ) (places : List PlacePenalty) (a b waiting held :
   number-any None = refl
   number-any (Some t) = rated-any t (int_lt t.penalty eject_penalty)
 
-module _ (m : ℤ) (may : Bool) (places : List PlacePenalty) where
+module _ (m : ℤ) (sides : Sides) (places : List PlacePenalty) where
   abbrev from : ℕ → State → Option ℤ
   from = unlimited_demerits_from places
 
-  same-demerits : (s t : State) (x y : Step) → AreSame m may x y → step_demerits places t x ≡ step_demerits places s y
+  same-demerits : (s t : State) (x y : Step) → AreSame m sides x y → step_demerits places t x ≡ step_demerits places s y
   same-demerits s t (ends es rs e) (ends fs qs f) h = refl
   same-demerits s t (ends es rs e) (goes_on fs qs u) h = absurd h
   same-demerits s t (goes_on es rs v) (ends fs qs f) h = absurd h
@@ -244,12 +248,12 @@ module _ (m : ℤ) (may : Bool) (places : List PlacePenalty) where
 
   -- with this fuel a run from a state with counts that are no greater has the same demerits, if it ends well
   abbrev Runs : ℕ → Type 0
-  Runs k = (s : State) → KeepsSides may s → (l : Option PlainColumn) (c : Counts) → AreNoGreater may c (counts_of s) → (d : ℤ) → from k s ≡ Some d → from k (counted m l c s) ≡ Some d
+  Runs k = (s : State) → KeepsSides sides s → (l : Option PlainColumn) (c : Counts) → AreNoGreater (alternate sides) c (counts_of s) → (d : ℤ) → from k s ≡ Some d → from k (counted m l c s) ≡ Some d
 
   none-some : {X : Type 0} (d : ℤ) → None ≡ Some d → X
   none-some d h = let no : ⊥ = (cc) in absurd no
 
-  after-as : (k : ℕ) → Runs k → (x y : Step) (a b d : ℤ) → AfterKeeps may y → IsNoWorse m may x y → (AreSame m may x y → a ≡ b) → demerits_after (λ t. from k t) b y ≡ Some d → demerits_after (λ t. from k t) a x ≡ Some d
+  after-as : (k : ℕ) → Runs k → (x y : Step) (a b d : ℤ) → AfterKeeps sides y → IsNoWorse m sides x y → (AreSame m sides x y → a ≡ b) → demerits_after (λ t. from k t) b y ≡ Some d → demerits_after (λ t. from k t) a x ≡ Some d
   after-as k runs x (ends fs qs f) a b d keep (inl lost) same h = none-some d (sym lost ∙ h)
   after-as k runs x (goes_on fs qs u) a b d keep (inl lost) same h = absurd lost
   after-as k runs (ends es rs e) (ends fs qs f) a b d keep (inr is) same h = ap demerits_at is ∙ h
@@ -265,14 +269,27 @@ module _ (m : ℤ) (may : Bool) (places : List PlacePenalty) where
   run-as (suc k) s keep l c less d h =
       let x = unlimited_step (counted m l c s) in
       let y = unlimited_step s in
-      after-as k (run-as k) x y (step_demerits places (counted m l c s) x) (step_demerits places s y) d (sides-kept may s keep) (step-as m may s keep l c less) (same-demerits s (counted m l c s) x y) h
+      after-as k (run-as k) x y (step_demerits places (counted m l c s) x) (step_demerits places s y) d (sides-kept sides s keep) (step-as m sides s keep l c less) (same-demerits s (counted m l c s) x y) h
 
 as-great : (may : Bool) (c : Counts) → AreNoGreater may c c
 as-great may c = record { pages = omega arith; dead_cycles = omega arith; sides = λ on. refl }
 
--- notes may change sides in any run
-any-sides : (s : State) → KeepsSides true s
-any-sides s = record { now = λ _. refl; waiting = λ _. refl; held = λ _. refl }
+-- sides that may change, and notes that may be
+abbrev any : Sides
+any = record { change = true; notes = true }
+
+any-kind : (k : PlainKind) → is_beyond any k ≡ false
+any-kind (act (acts.Set c)) = refl
+any-kind (act (acts.TakeMargin m)) = refl
+any-kind k = refl
+
+any-nodes : (ns : List PlainNode) → KeepSides any ns
+any-nodes [] = refl
+any-nodes (n ∷ ns) = both-false (is_beyond any n.kind) (any_beyond any ns) (any-kind n.kind) (any-nodes ns)
+
+-- so it is in any run
+any-sides : (s : State) → KeepsSides any s
+any-sides s = record { now = λ _. refl; current = λ _. refl; waiting = any-nodes s.waiting; held = any-nodes s.held_page }
 
 same-if : (a b : Option ℤ) → ((d : ℤ) → a ≡ Some d → b ≡ Some d) → ((d : ℤ) → b ≡ Some d → a ≡ Some d) → a ≡ b
 same-if (Some d) b f h = sym (f d refl)
@@ -284,13 +301,13 @@ pub limit-alike : (places : List PlacePenalty) (k : ℕ) (s : State) (m : ℤ) (
 limit-alike places k s m l =
     let from = unlimited_demerits_from places k in
     same-if (from (counted m l (counts_of s) s)) (from s)
-    (run-as s.params.maxnodes true places k (counted m l (counts_of s) s) (any-sides (counted m l (counts_of s) s)) s.left_column (counts_of s) (as-great true (counts_of s)))
-    (run-as m true places k s (any-sides s) l (counts_of s) (as-great true (counts_of s)))
+    (run-as s.params.maxnodes any places k (counted m l (counts_of s) s) (any-sides (counted m l (counts_of s) s)) s.left_column (counts_of s) (as-great true (counts_of s)))
+    (run-as m any places k s (any-sides s) l (counts_of s) (as-great true (counts_of s)))
 
 -- a state with counts that are no greater is as good
-pub counts-good : (g : Galley) (s : State) (l : Option PlainColumn) (c : Counts) → KeepsSides (may_alternate g) s → AreNoGreater (may_alternate g) c (counts_of s) → IsAsGood g s (counted s.params.maxnodes l c s)
+pub counts-good : (g : Galley) (s : State) (l : Option PlainColumn) (c : Counts) → KeepsSides (sides_of g) s → AreNoGreater (may_alternate g) c (counts_of s) → IsAsGood g s (counted s.params.maxnodes l c s)
 counts-good g s l c keep h fuel more d behind e =
-    (d, run-as s.params.maxnodes (may_alternate g) (place_penalties g.items) fuel (state_with more s) (sides-with (may_alternate g) s more keep behind) l c h d e, omega (arith, ints))
+    (d, run-as s.params.maxnodes (sides_of g) (place_penalties g.items) fuel (state_with more s) (sides-with (sides_of g) s more keep behind) l c h d e, omega (arith, ints))
 
 -- a state with another left column is like it
 pub left-alike : (g : Galley) (s : State) (l : Option PlainColumn) → AreAlike g s (record s { left_column = l })

@@ -1,5 +1,5 @@
 -- Each firing that goes on lowers what is left of the firings, so the fuel of a run without the limit on nodes is never used up.
-use Rattle.std.proofs.Common.{◌≡◌, refl, ◌∙◌, ap, ℕ, zero, suc, ◌+◌, ◌<◌, ◌≤◌, ℤ, Bool, true, false, List, ◌++◌, map, Option, Some, arith}
+use Rattle.std.proofs.Common.{◌≡◌, refl, ◌∙◌, ap, ℕ, zero, suc, ◌<◌, ◌≤◌, ℤ, Bool, true, false, List, ◌++◌, map, Option, Some, arith}
 use Rattle.std.specs.Prelude.{pred, if◌then◌else◌}
 use Rattle.tb_scaled.specs.Scaled.{awful_bad}
 use Rattle.tb_output.specs.State.{State, Work, Recorded}

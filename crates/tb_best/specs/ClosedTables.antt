@@ -10,7 +10,7 @@ use Rattle.tb_items.specs.RunEvents.{RunEvent}
 use Rattle.tb_steps.specs.Run.{done, ends, goes_on}
 use Rattle.tb_rate.specs.Places.{place_penalties}
 use Rattle.tb_best.specs.PlanDemerits.{reach_in, unlimited_step, step_demerits, unlimited_demerits_from}
-use Rattle.tb_best.specs.Sides.{may_alternate, KeepSides}
+use Rattle.tb_best.specs.Sides.{sides_of, KeepSides}
 use Rattle.tb_best.specs.ItemsAhead.{Ahead, all_ahead, empty_start, forced, state_with}
 
 -- what a table knows: a state with these items ahead was reached at these demerits with these breaks, the last one first, or by a better way
@@ -43,9 +43,9 @@ rows_know (r ∷ rs) s cs d breaks = IsRowOf r s cs d breaks ⊎ rows_know rs s 
 abbrev pub demerits_with : Galley → ℕ → List PlainNode → State → Option ℤ
 demerits_with g fuel more s = unlimited_demerits_from (place_penalties g.items) fuel (state_with more s)
 
--- whatever is behind, the run from the second state has no more demerits than that from the first; if marginal notes keep their sides in the galley, the nodes behind let them do so too
+-- whatever is behind, the run from the second state has no more demerits than that from the first; if marginal notes keep their sides in the galley, or there are none, the nodes behind leave it so
 abbrev pub IsAsGood : Galley → State → State → Type 0
-IsAsGood g s t = (fuel : ℕ) (more : List PlainNode) (d : ℤ) → KeepSides (may_alternate g) more → demerits_with g fuel more s ≡ Some d → (e : ℤ) × (demerits_with g fuel more t ≡ Some e) × (e ≤ℤ d)
+IsAsGood g s t = (fuel : ℕ) (more : List PlainNode) (d : ℤ) → KeepSides (sides_of g) more → demerits_with g fuel more s ≡ Some d → (e : ℤ) × (demerits_with g fuel more t ≡ Some e) × (e ≤ℤ d)
 
 -- whatever is behind, both have the same
 abbrev pub AreAlike : Galley → State → State → Type 0

@@ -17,7 +17,7 @@ ghost use Rattle.tb_best.specs.PlanDemerits.{reach_in, unlimited_step, step_deme
 ghost use Rattle.tb_best.specs.BestPlan.{IsBest, HasNoPlan, with_limit};
 ghost use Rattle.tb_best.specs.BestOf.{RatedPlan, best_of};
 ghost use Rattle.tb_best.specs.ItemsAhead.{Ahead, all_ahead, empty_start, forced, state_with};
-ghost use Rattle.tb_best.specs.Sides.{may_alternate, AheadKeep, KeepSides, KeepsSides};
+ghost use Rattle.tb_best.specs.Sides.{may_alternate, sides_of, AheadKeep, KeepSides, KeepsSides, Sides};
 ghost use Rattle.tb_best.specs.Counts.{counts_of, with_counts, AreNoGreater, Counts};
 ghost use Rattle.tb_best.specs.ClosedTables.{Row, rows_know, AreAlike, IsAsGood, IsClosed, Reaches, IsEnd};
 ghost use Rattle.tb_best.specs.Tidied.{tidied};
@@ -65,19 +65,20 @@ pub fn left_columns_are_alike()
 {}
 
 /// A state is as good as one whose counts are no smaller: the run from it has no more demerits. So a search may leave out one
-/// that has shipped more pages, or has fired more often since, for no gain. If marginal notes may change sides from page to
-/// page somewhere in the galley, they must go to the same sides in both.
+/// that has shipped more pages, or has fired more often since, for no gain. If the galley has marginal notes and they
+/// may change sides from page to page somewhere in it, they must go to the same sides in both.
 pub fn smaller_counts_are_as_good()
-    ensures { (g : Galley) (s : State) (c : Counts) → KeepsSides (may_alternate g) s → AreNoGreater (may_alternate g) c (counts_of s) → IsAsGood g s (with_counts c s) }
+    ensures { (g : Galley) (s : State) (c : Counts) → KeepsSides (sides_of g) s → AreNoGreater (may_alternate g) c (counts_of s) → IsAsGood g s (with_counts c s) }
 {}
 
 /// Marginal notes keep their sides throughout a run of a galley whose parameters do not let them change sides from page to page
-/// and whose items do not either: they do where it begins, with the nodes of each item, and after each step.
+/// and whose items do not either, and there is none throughout a run of a galley without one: so it is where it begins, with the
+/// nodes of each item, and after each step.
 pub fn notes_keep_sides()
-    ensures begins { (g : Galley) → KeepsSides (may_alternate g) (empty_start g) }
-    ensures items { (g : Galley) → AheadKeep (may_alternate g) (all_ahead g) }
-    ensures takes { (may : Bool) (s : State) (more : List PlainNode) → KeepsSides may s → KeepSides may more → KeepsSides may (state_with more s) }
-    ensures steps { (may : Bool) (s t : State) (es : List RunEvent) (rs : List Recorded) → KeepsSides may s → unlimited_step s ≡ goes_on es rs t → KeepsSides may t }
+    ensures begins { (g : Galley) → KeepsSides (sides_of g) (empty_start g) }
+    ensures items { (g : Galley) → AheadKeep (sides_of g) (all_ahead g) }
+    ensures takes { (x : Sides) (s : State) (more : List PlainNode) → KeepsSides x s → KeepSides x more → KeepsSides x (state_with more s) }
+    ensures steps { (x : Sides) (s t : State) (es : List RunEvent) (rs : List Recorded) → KeepsSides x s → unlimited_step s ≡ goes_on es rs t → KeepsSides x t }
 {}
 
 /// A page with a box fires where a break is put in, and any page fires at a float or marginal note that has firings of its own.
