@@ -14,7 +14,7 @@ use Rattle.tb_output.specs.State.{State}
 use Rattle.tb_best.specs.BestPlan.{IsBest}
 use Rattle.tb_best.specs.PlanDemerits.{reach_in, step_demerits, unlimited_step, unlimited_demerits_from, unlimited_demerits, plan_demerits}
 use Rattle.tb_best.specs.ItemsAhead.{Ahead, all_ahead, empty_start}
-use Rattle.tb_best.specs.Sides.{may_alternate, KeepsSides}
+use Rattle.tb_best.specs.Sides.{sides_of, KeepsSides}
 use Rattle.tb_best.proofs.SideItems.{start-keeps}
 use Rattle.tb_best.specs.ClosedTables.{Row, rows_know, Reaches, begun}
 use Rattle.tb_search.specs.declared.branch.Branch.{Branch}
@@ -26,6 +26,7 @@ use Rattle.tb_search.specs.Searched.{IsSearched}
 use Rattle.tb_search.specs.Starts.{rows_of, IsStart, IsTable}
 use Rattle.tb_search.specs.Continues.{HasSearched}
 use Rattle.tb_search.proofs.AheadLemmas.{all-counted, all-are-ahead}
+use Rattle.tb_search.proofs.PlainFlags.{flag-off}
 use Rattle.tb_search.proofs.SearchedLemmas.{searched-best}
 
 -- no page fires where nothing waits
@@ -44,17 +45,18 @@ module _ (g : Galley) (left : ℕ) (b : Branch) (w : Way) (state : shown b ≡ e
       (subst (λ (bs : List ℕ). Reaches g (empty_start g) (all_ahead g) (pos 0) (reverse bs)) (sym none) begun)))
 
   -- it can be kept
-  pub first-start : (bound : ℤ) → IsBranch b → HasAhead g b.ahead (all_ahead g) → pos 0 ≤ℤ bound → IsStart g bound left (record { branch = b; way = w })
-  first-start bound branch ahead low = record {
+  pub first-start : (bound : ℤ) → IsBranch b → HasAhead g b.ahead (all_ahead g) → b.plain ≡ false → pos 0 ≤ℤ bound → IsStart g bound left (record { branch = b; way = w })
+  first-start bound branch ahead plain low = record {
     branch = branch;
     ahead = subst (HasAhead g b.ahead) (sym all-left) ahead;
     classes = ap (λ (s : State). s.classes) state;
-    sides = subst (KeepsSides (may_alternate g)) (sym state) (start-keeps g);
+    sides = subst (KeepsSides (sides_of g)) (sym state) (start-keeps g);
     some = let n = all-counted g in omega (arith, n, all);
     quiet = inl (ap (λ (s : State). (reach_in s).fires) state ∙ empty-quiet g);
     reached = first-reached;
     low = omega (arith, ints, zero-way);
     high = subst (λ (d : ℤ). d ≤ℤ bound) (sym zero-way) low;
+    plain = flag-off g left b plain;
   }
 
   -- where it is known, the beginning is

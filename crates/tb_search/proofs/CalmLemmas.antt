@@ -7,7 +7,7 @@ use Rattle.tb_builder.specs.Reach.{Reach}
 use Rattle.tb_builder.specs.FiredPages.{reach_of}
 use Rattle.tb_output.specs.State.{State}
 use Rattle.tb_best.specs.PlanDemerits.{reach_in}
-use Rattle.tb_best.specs.Sides.{may_alternate, KeepsSides}
+use Rattle.tb_best.specs.Sides.{sides_of, KeepsSides}
 use Rattle.tb_best.specs.ItemsAhead.{Ahead, all_ahead, state_with}
 use Rattle.tb_best.proofs.FiredMore.{begun-more}
 use Rattle.tb_best.proofs.StepMore.{asked-more}
@@ -20,8 +20,9 @@ use Rattle.tb_search.specs.Branches.{shown, next_of, IsBranch, HasTaken}
 use Rattle.tb_search.specs.AheadInCode.{items_ahead, HasAhead}
 use Rattle.tb_search.specs.Starts.{row_of, IsReached}
 use Rattle.tb_search.specs.Continues.{HasSearched, IsTakenOn}
-use Rattle.tb_search.specs.Calm.{nodes_of_first, IsCalm}
+use Rattle.tb_search.specs.Calm.{nodes_of_first, with_first, IsCalm}
 use Rattle.tb_search.proofs.AheadLemmas.{next-is, next_ahead}
+use Rattle.tb_search.proofs.PlainFlags.{flag-copied}
 use Rattle.tb_search.proofs.OrderLemmas.{no-better-same}
 use Rattle.tb_search.proofs.ReachedWays.{reached-taken, shown-taken}
 use Rattle.tb_search.proofs.ExpandLemmas.{taken-done}
@@ -60,15 +61,16 @@ none-behind s = ap (λ ws. record s { waiting = ws }) (append-nil s.waiting)
 -- ---- in code
 
 -- a copy is reached in the same way
-pub reached-copy : (g : Galley) (left : ℕ) (x : Start) (c : Branch) → IsReached g left x → IsBranch c → shown c ≡ shown x.branch → c.ahead ≡ x.branch.ahead
+pub reached-copy : (g : Galley) (left : ℕ) (x : Start) (c : Branch) → IsReached g left x → IsBranch c → shown c ≡ shown x.branch → c.ahead ≡ x.branch.ahead → c.plain ≡ x.branch.plain
     → IsReached g left (record { branch = c; way = x.way })
-reached-copy g left x c h is state ahead = record {
+reached-copy g left x c h is state ahead plain = record {
   branch = is;
   ahead = subst (λ o. HasAhead g o (items_ahead g left)) (sym ahead) h.ahead;
   classes = ap (λ (s : State). s.classes) state ∙ h.classes;
-  sides = subst (KeepsSides (may_alternate g)) (sym state) h.sides;
+  sides = subst (KeepsSides (sides_of g)) (sym state) h.sides;
   reached = subst (λ s. Reaches g s (items_ahead g left) x.way.demerits (reverse x.way.breaks.items)) (sym state) h.reached;
   low = h.low;
+  plain = flag-copied g left x.branch c state plain h.plain;
 }
 
 -- an item is taken from a state that has some ahead
@@ -92,10 +94,9 @@ module _ (g : Galley) (x : Start) (behind : ℕ) (c : Branch) (inside : behind �
   pub one-calm : (j k : ℕ) → j ≡ suc k → IsCalm (shown x.branch) (items_ahead g behind) j → IsCalm (shown c) (items_ahead g (behind - 1)) k
   one-calm j k e h = subst (λ s. (reach_in s).fires ≡ false) (one-far j k e) h
 
--- the state at which no page fires is that behind so many items
-pub far-calm : (s t : State) (cs ds : List Ahead) (j k : ℕ) → state_with (nodes_of_first j cs) s ≡ state_with (nodes_of_first k ds) t → k ≡ 0 → (reach_in t).fires ≡ false → IsCalm s cs j
-far-calm s t cs ds j k same none quiet =
-    subst (λ x. (reach_in x).fires ≡ false) (sym (same ∙ ap (λ n. state_with (nodes_of_first n ds) t) none ∙ none-behind t)) quiet
+-- the state is that behind so many items, if none of them is left
+pub far-same : (s t : State) (cs ds : List Ahead) (j k : ℕ) → with_first j cs s ≡ with_first k ds t → k ≡ 0 → with_first j cs s ≡ t
+far-same s t cs ds j k same none = same ∙ ap (λ n. with_first n ds t) none ∙ none-behind t
 
 -- if the state up to which items were taken is searched, so is the first
 pub taken-joined : (t : Table) (left : ℕ) (x : Start) (u : Table) (behind : ℕ) (y : Start) → IsTakenOn t left x u behind y → (v : Table) → HasSearched (row_of u.galley.now behind y ∷ []) u v → HasSearched (row_of t.galley.now left x ∷ []) t v

@@ -1,5 +1,5 @@
 -- The lists of a page that was shipped are closed: the state after it stays as it was.
-use Rattle.std.proofs.Common.{◌≡◌, refl, sym, subst, ◌∙◌, ap, ◌++◌, ℤ, List, Option}
+use Rattle.std.proofs.Common.{◌≡◌, refl, sym, subst, ◌∙◌, ap, false, ◌++◌, ℤ, List, Option}
 use Rattle.std.specs.Global.{Box}
 use Rattle.tb_output.specs.State.{State}
 use Rattle.tb_items.specs.declared.items_left.ItemsLeft.{ItemsLeft}
@@ -15,9 +15,9 @@ use Rattle.tb_search.specs.Branches.{shown, IsBranch}
 use Rattle.tb_search.specs.FilledBranches.{HasFired}
 
 -- a branch that shows the same, with the same ahead
-pub fired-copied : (places : List PlacePenalty) (d : ℤ) (b c e : Branch) → IsBranch e → shown e ≡ shown c → e.ahead ≡ c.ahead
+pub fired-copied : (places : List PlacePenalty) (d : ℤ) (b c e : Branch) → IsBranch e → shown e ≡ shown c → e.ahead ≡ c.ahead → e.plain ≡ c.plain
     → HasFired places d b c → HasFired places d b e
-fired-copied places d b c e branch state ahead h = record {
+fired-copied places d b c e branch state ahead plain h = record {
   events = h.events;
   records = h.records;
   fires = h.fires;
@@ -28,17 +28,18 @@ fired-copied places d b c e branch state ahead h = record {
   branch = branch;
   ahead = ahead ∙ h.ahead;
   classes = ap (λ (s : State). s.classes) state ∙ h.classes;
+  plain = plain ∙ h.plain;
 }
 
 -- a routine that shows the same, over other lists
 pub fired-closed : (places : List PlacePenalty) (d : ℤ) (b : Branch) (r : Box Routine) (o : Option ItemsLeft) (q : Box Routine) → IsReady q.value → state_of q.value ≡ state_of r.value → q.value.left ≡ r.value.left
-    → HasFired places d b (record { routine = r; ahead = o }) → HasFired places d b (record { routine = q; ahead = o })
+    → HasFired places d b (record { routine = r; ahead = o; plain = false }) → HasFired places d b (record { routine = q; ahead = o; plain = false })
 fired-closed places d b r o q ready state left h =
-    let branch : IsBranch (record { routine = q; ahead = o }) = record {
+    let branch : IsBranch (record { routine = q; ahead = o; plain = false }) = record {
       ready = ready;
       none = left ∙ h.branch.none;
       items = subst (λ (s : State). AreItemsLeft s.classes o) (sym state) h.branch.items;
       served = subst (λ (s : State). IsServed (s.waiting ++ nodes_left o) s) (sym state) h.branch.served;
       few = h.branch.few;
     } in
-    fired-copied places d b (record { routine = r; ahead = o }) (record { routine = q; ahead = o }) branch state refl h
+    fired-copied places d b (record { routine = r; ahead = o; plain = false }) (record { routine = q; ahead = o; plain = false }) branch state refl refl h

@@ -29,6 +29,7 @@ pub taken-copy : (b c e : Branch) → shown c ≡ shown b → c.ahead ≡ b.ahea
 taken-copy b c e state ahead h = record {
   state = h.state ∙ (λ i. state_with (break_before (ahead i) ++ next_of (ahead i)) (state i));
   ahead = subst (λ o. IsPast o e.ahead) ahead h.ahead;
+  plain = h.plain;
 }
 
 -- there is a flag for each item ahead

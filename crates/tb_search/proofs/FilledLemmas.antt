@@ -126,7 +126,7 @@ module _ (b : Branch) (h : IsBranch b) (q : Routine) (page : Page) (hs : List Ha
       (without-waiting (w.state.waiting ++ more) more w.state (subst (λ (y : Work). IsServed y.state.waiting y.state) (behind q.machine.params (state_of q) x more) served-more))
 
   abbrev after : Branch
-  after = record { routine = record b.routine { value = d }; ahead = b.ahead }
+  after = record { routine = record b.routine { value = d }; ahead = b.ahead; plain = false }
 
   -- the search can go on from the state after the page
   pub fired-branch : IsBranch after
@@ -159,6 +159,7 @@ module _ (b : Branch) (h : IsBranch b) (q : Routine) (page : Page) (hs : List Ha
           branch = fired-branch;
           ahead = refl;
           classes = classes ∙ f.classes;
+          plain = refl;
         }
 
 -- ---- it did not

@@ -45,7 +45,7 @@ not-below : (n : ℕ) (z : ℤ) → z ≤ℤ pos n → int_lt (pos n) z ≡ fals
 not-below n z h = grind (arith, ints, h)
 
 -- if the places that were tried are wanted, all events are noted
-all-noted : (es : List RunEvent) → noted true es ≡ es
+pub all-noted : (es : List RunEvent) → noted true es ≡ es
 all-noted [] = refl
 all-noted (offered t ∷ es) = ap (λ fs. offered t ∷ fs) (all-noted es)
 all-noted (sent e ∷ es) = ap (λ fs. sent e ∷ fs) (all-noted es)

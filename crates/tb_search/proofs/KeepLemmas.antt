@@ -1,15 +1,16 @@
 -- A state is kept among those that wait.
-use Rattle.std.proofs.Common.{◌≡◌, refl, sym, ap, subst, ◌∙◌, inl, inr, ℕ, zero, suc, ◌+◌, ◌<◌, List, [], ◌∷◌, ◌++◌, map, length, get_or, set, arith}
-use Rattle.std.specs.Prelude.{ℤ, pos, reverse}
+use Rattle.std.proofs.Common.{◌≡◌, refl, sym, ap, subst, ◌∙◌, inl, inr, ℕ, zero, suc, ◌+◌, ◌<◌, true, false, true≢false, List, [], ◌∷◌, ◌++◌, map, length, get_or, set, Option, Some, None, arith}
+use Rattle.std.specs.Prelude.{ℤ, ◌<ℤ◌, pos, reverse, is_some, IfSome}
 use Rattle.std.specs.List.{AllByRecursion}
 use Rattle.std.specs.declared.alloc.Global.{Global}
 use Rattle.std.specs.declared.vec.Vec.{Vec}
 use Rattle.std.proofs.lemmas.List.{get_or-set_same, length-set}
 use Rattle.tb_galley.specs.declared.Galley.{Galley}
 use Rattle.tb_output.specs.State.{State}
+use Rattle.tb_items.specs.Classes.{classes_of}
 use Rattle.tb_best.specs.ItemsAhead.{Ahead}
 use Rattle.tb_best.specs.ClosedTables.{Row, rows_know, IsAsGood}
-use Rattle.tb_best.specs.Sides.{may_alternate, KeepsSides}
+use Rattle.tb_best.specs.Sides.{may_alternate, sides_of, KeepsSides}
 use Rattle.tb_best.specs.Counts.{counts_of, AreNoGreater}
 use Rattle.tb_best.proofs.CountedFirings.{counted}
 use Rattle.tb_best.proofs.CountedStates.{counts-good}
@@ -20,6 +21,8 @@ use Rattle.tb_search.specs.Branches.{shown, IsBranch}
 use Rattle.tb_search.specs.AheadInCode.{items_ahead}
 use Rattle.tb_search.specs.SameStates.{without_counts}
 use Rattle.tb_search.specs.KeptStarts.{HasRowAsGood, IsNeedlessAt, IsNoWorseWay, MayStandFor, StandsAt}
+use Rattle.std.proofs.lemmas.Int.{ints}
+use Rattle.tb_search.specs.Plain.{IsLowStart}
 use Rattle.tb_search.specs.Searched.{KnowsMore, KnowsAsMuch}
 use Rattle.tb_search.specs.Continues.{Continues}
 use Rattle.tb_search.specs.Starts.{row_of, rows_from, rows_of, IsStart, AreStarts, IsTable}
@@ -55,6 +58,12 @@ module _ (g : Galley) (left : ℕ) where
   known-at [] k x w h e b = absurd (omega (arith, h))
   known-at (y ∷ xs) zero x w h e b = inl (ap (λ (z : Start). shown z.branch) e, refl, subst (λ (z : Start). IsNoWorseWay z.way w) (sym e) b)
   known-at (y ∷ xs) (suc k) x w h e b = inr (known-at xs k x w (omega (arith, h)) e b)
+
+  -- the same at these demerits, which are more than those of its way
+  pub known-fewer : (xs : List Start) (k : ℕ) (x : Start) (d : ℤ) (breaks : List ℕ) → k < length xs → get_or xs k x ≡ x → x.way.demerits <ℤ d → rows_know (map (row_of g left) xs) (shown x.branch) (items_ahead g left) d breaks
+  known-fewer [] k x d breaks h e b = absurd (omega (arith, h))
+  known-fewer (y ∷ xs) zero x d breaks h e b = inl (ap (λ (z : Start). shown z.branch) e, refl, inl (subst (λ (z : Start). z.way.demerits <ℤ d) (sym e) b))
+  known-fewer (y ∷ xs) (suc k) x d breaks h e b = inr (known-fewer xs k x d breaks (omega (arith, h)) e b)
 
   -- with another state for one of them, which is as good and was reached in a way that is no worse, they know as much
   pub known-set : (xs : List Start) (k : ℕ) (y d : Start) → IsAsGood g (shown (get_or xs k d).branch) (shown y.branch) → IsNoWorseWay y.way (get_or xs k d).way → KnowsAsMuch g (map (row_of g left) xs) (map (row_of g left) (set xs k y))
@@ -131,10 +140,10 @@ set-known g vs k w h =
 -- ---- a state that may stand for another
 
 -- a state that is the same but for the left column and for counts that are no greater is as good
-pub counts-as-good : (g : Galley) (s t : State) → without_counts t ≡ without_counts s → KeepsSides (may_alternate g) s → AreNoGreater (may_alternate g) (counts_of t) (counts_of s) → IsAsGood g s t
+pub counts-as-good : (g : Galley) (s t : State) → without_counts t ≡ without_counts s → KeepsSides (sides_of g) s → AreNoGreater (may_alternate g) (counts_of t) (counts_of s) → IsAsGood g s t
 counts-as-good g s t e keep h = subst (λ (u : State). IsAsGood g s u) (ap (λ (u : State). counted u.params.maxnodes t.left_column (counts_of t) u) (sym e)) (counts-good g s t.left_column (counts_of t) keep h)
 
-pub stands-as-good : (g : Galley) (x y : Start) → KeepsSides (may_alternate g) (shown y.branch) → MayStandFor (may_alternate g) x y → IsAsGood g (shown y.branch) (shown x.branch)
+pub stands-as-good : (g : Galley) (x y : Start) → KeepsSides (sides_of g) (shown y.branch) → MayStandFor (may_alternate g) x y → IsAsGood g (shown y.branch) (shown x.branch)
 stands-as-good g x y keep h = counts-as-good g (shown y.branch) (shown x.branch) h.same keep h.counts
 
 -- ---- a table of which one level is set
@@ -154,6 +163,10 @@ any-default : {X : Type 0} (xs : List X) (k : ℕ) (d e : X) → k < length xs �
 any-default [] k d e h = absurd (omega (arith, h))
 any-default (x ∷ xs) zero d e h = refl
 any-default (x ∷ xs) (suc k) d e h = any-default xs k d e (omega (arith, h))
+
+-- what stands at a place is what stands there whatever stands past the end
+pub get-same : {X : Type 0} (xs : List X) (k : ℕ) (d : X) → k < length xs → get_or xs k d ≡ get_or xs k (get_or xs k d)
+get-same xs k d h = any-default xs k d (get_or xs k d) h
 
 module _ (t : Table) (left : ℕ) (inside : left < length t.starts.items) (table : IsTable t) where
   -- the states of this level can be gone on from
@@ -179,7 +192,7 @@ module _ (t : Table) (left : ℕ) (inside : left < length t.starts.items) (table
         none-known (rows_of t) (shown x.branch) (items_ahead t.galley.now left) x.way.demerits (reverse x.way.breaks.items) none (item-known x.way (no-better-same x.way.demerits (reverse x.way.breaks.items)))
 
     -- if this state may stand for another, the table knows one that is as good as that
-    pub stands-known : KeepsSides (may_alternate t.galley.now) (shown y.branch) → MayStandFor t.may_alternate x y → HasRowAsGood t left (shown y.branch) y.way
+    pub stands-known : KeepsSides (sides_of t.galley.now) (shown y.branch) → MayStandFor t.may_alternate x y → HasRowAsGood t left (shown y.branch) y.way
     stands-known keep h = (
       shown x.branch,
       stands-as-good t.galley.now x y keep (subst (λ may. MayStandFor may x y) table.alternate h),
@@ -224,19 +237,34 @@ module _ (t : Table) (left : ℕ) (inside : left < length t.starts.items) (table
   pub looked-branches : AllByRecursion (λ (x : Start). IsBranch x.branch) xs
   looked-branches = all-more (IsStart t.galley.now t.bound left) (λ x. IsBranch x.branch) xs (λ x h. h.branch) looked-through
 
-  pub looked-classes : (y : Start) → IsStart t.galley.now t.bound left y → AllByRecursion (λ (x : Start). (shown x.branch).classes ≡ (shown y.branch).classes) xs
-  looked-classes y start = all-more (IsStart t.galley.now t.bound left) (λ x. (shown x.branch).classes ≡ (shown y.branch).classes) xs (λ x h. h.classes ∙ sym start.classes) looked-through
+  pub looked-classes : (y : Start) → (shown y.branch).classes ≡ classes_of t.galley.now → AllByRecursion (λ (x : Start). (shown x.branch).classes ≡ (shown y.branch).classes) xs
+  looked-classes y classes = all-more (IsStart t.galley.now t.bound left) (λ x. (shown x.branch).classes ≡ (shown y.branch).classes) xs (λ x h. h.classes ∙ sym classes) looked-through
+
+  pub looked-low : AllByRecursion IsLowStart xs
+  looked-low =
+      all-more (IsStart t.galley.now t.bound left) IsLowStart xs
+      (λ x h. let high = h.high in let range = table.range in record { branch = h.branch; way = record { low = h.low; high = omega (arith, ints, high, range) } }) looked-through
 
   here-too : (k : ℕ) → k < length xs → k < length v.items
   here-too k h = subst (λ zs. k < length zs) seen h
 
   -- one of them may stand for a state: the table knows one that is as good
-  pub found-known : (y : Start) (k : ℕ) → KeepsSides (may_alternate t.galley.now) (shown y.branch) → StandsAt t.may_alternate xs k y → HasRowAsGood t left (shown y.branch) y.way
+  found-known : (y : Start) (k : ℕ) → KeepsSides (sides_of t.galley.now) (shown y.branch) → StandsAt t.may_alternate xs k y → HasRowAsGood t left (shown y.branch) y.way
   found-known y k keep h = stands-known t left inside table v is k y (here-too k h.inside) keep (subst (λ zs. MayStandFor t.may_alternate (get_or zs k y) y) seen (h.stands y))
 
   -- and it has rows
-  pub found-rows : (y : Start) (k : ℕ) → StandsAt t.may_alternate xs k y → rows_of t ≡ [] → ⊥
+  found-rows : (y : Start) (k : ℕ) → StandsAt t.may_alternate xs k y → rows_of t ≡ [] → ⊥
   found-rows y k h none = some-rows t left inside table v is k y (here-too k h.inside) none
+
+  -- the same of what was found, if anything was
+  pub found-some : (y : Start) (o : Option ℕ) → KeepsSides (sides_of t.galley.now) (shown y.branch) → IfSome o (λ k. StandsAt t.may_alternate xs k y) → is_some o ≡ true → HasRowAsGood t left (shown y.branch) y.way
+  found-some y (Some k) keep h some = found-known y k keep h
+  found-some y None keep h some = absurd (true≢false (sym some))
+
+  -- without rows nothing is found
+  pub found-none : (y : Start) (o : Option ℕ) → IfSome o (λ k. StandsAt t.may_alternate xs k y) → rows_of t ≡ [] → is_some o ≡ false
+  found-none y (Some k) h none = absurd (found-rows y k h none)
+  found-none y None h none = refl
 
 -- ---- a state is left out for one that may stand for it
 

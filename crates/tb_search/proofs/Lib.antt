@@ -6,6 +6,7 @@ pub mod BoxLemmas
 pub mod CalmLemmas
 pub mod OrderLemmas
 pub mod AheadLemmas
+pub mod PlainFlags
 pub mod PlaceFlags
 pub mod SearchedLemmas
 pub mod LaterLemmas
@@ -27,3 +28,6 @@ pub mod LevelLemmas
 pub mod SumLemmas
 pub mod BeginLemmas
 pub mod CutLemmas
+pub mod ToldLemmas
+pub mod StopLemmas
+pub mod PlainLemmas

@@ -1,5 +1,5 @@
 -- A state after a move of the search, reached as the definition has it.
-use Rattle.std.proofs.Common.{◌≡◌, sym, ◌∙◌, ap, subst, ℕ, suc, ◌+◌, ◌<◌, ◌≤◌, ℤ, true, false, List, [], ◌∷◌, ◌++◌, length, get_or, zero, true≢false, ◌-◌, arith}
+use Rattle.std.proofs.Common.{◌≡◌, refl, sym, ◌∙◌, ap, subst, ℕ, suc, ◌<◌, ◌≤◌, ℤ, true, List, [], ◌∷◌, ◌++◌, length, get_or, zero, ◌-◌, arith, Bool}
 use Rattle.std.specs.Prelude.{pos, ◌+ℤ◌, ◌≤ℤ◌, reverse}
 use Rattle.std.proofs.lemmas.Int.{ints}
 use Rattle.std.proofs.lemmas.List.{reverse-reverse, reverse-append}
@@ -14,7 +14,7 @@ use Rattle.tb_rate.specs.declared.PlacePenalty.{PlacePenalty}
 use Rattle.tb_rate.specs.Places.{place_penalties}
 use Rattle.tb_best.specs.PlanDemerits.{reach_in, unlimited_step, step_demerits, plan_demerits}
 use Rattle.tb_best.specs.ItemsAhead.{Ahead, last_ahead, all_ahead, forced, state_with}
-use Rattle.tb_best.specs.Sides.{may_alternate, KeepSides, KeepsSides}
+use Rattle.tb_best.specs.Sides.{sides_of, KeepSides, KeepsSides}
 use Rattle.tb_best.specs.ClosedTables.{Reaches}
 use Rattle.tb_best.specs.ClosedTables as reached
 use Rattle.tb_best.proofs.WayLemmas.{ends-are-plans}
@@ -23,11 +23,14 @@ use Rattle.tb_best.proofs.SteadySteps.{next-keeps}
 use Rattle.tb_search.specs.declared.branch.Branch.{Branch}
 use Rattle.tb_search.specs.declared.branch.Filled.{Filled}
 use Rattle.tb_search.specs.declared.branch.Filled.TheVariants as filled
+use Rattle.tb_search.specs.declared.table.Way.{Way}
 use Rattle.tb_search.specs.declared.table.Start.{Start}
+use Rattle.tb_search.specs.PlainStarts.{IsPlainStart}
 use Rattle.tb_search.specs.Branches.{shown, next_of, break_before, IsBranch, HasTaken}
 use Rattle.tb_search.specs.FilledBranches.{IsQuiet, IsFull, IsRefused, HasTooMany, HasFired, FillsTo}
 use Rattle.tb_search.specs.AheadInCode.{items_ahead, HasAhead}
 use Rattle.tb_search.specs.Starts.{IsReached, IsStart, IsRated, MayTake}
+use Rattle.tb_search.proofs.PlainFlags.{flag-off, flag-apart}
 use Rattle.tb_search.proofs.AheadLemmas.{none-ahead, next-is, next_ahead, next-taken}
 
 -- ---- a page
@@ -45,6 +48,7 @@ fills-copy places b c e (filled.Fired d) state ahead h = record {
   branch = h.branch;
   classes = h.classes ∙ ap (λ (s : State). s.classes) state;
   ahead = h.ahead ∙ ahead;
+  plain = h.plain;
 }
 fills-copy places b c e filled.Quiet state ahead h = subst IsQuiet state h
 fills-copy places b c e filled.Full state ahead h = subst IsFull state h
@@ -57,8 +61,8 @@ one-of P (x ∷ xs) zero d all h = all.0
 one-of P (x ∷ xs) (suc k) d all h = one-of P xs k d all.1 h
 
 -- the nodes of an item ahead let marginal notes keep their sides
-next-sides : (g : Galley) (k : ℕ) → KeepSides (may_alternate g) (next_ahead g k).nodes
-next-sides g k = one-of (λ (c : Ahead). KeepSides (may_alternate g) c.nodes) (all_ahead g) (length (all_ahead g) - suc k) (last_ahead g) (items-keep g) (λ e. absurd (true≢false (sym e)))
+pub next-sides : (g : Galley) (k : ℕ) → KeepSides (sides_of g) (next_ahead g k).nodes
+next-sides g k = one-of (λ (c : Ahead). KeepSides (sides_of g) c.nodes) (all_ahead g) (length (all_ahead g) - suc k) (last_ahead g) (items-keep g) refl
 
 module _ (g : Galley) where
   abbrev places : List PlacePenalty
@@ -73,11 +77,12 @@ module _ (g : Galley) where
     branch = k.branch;
     ahead = subst (λ o. HasAhead g o (items_ahead g left)) (sym k.ahead) h.ahead;
     classes = k.classes ∙ h.classes;
-    sides = next-keeps (may_alternate g) (shown x.branch) (shown c) k.events k.records h.sides k.step;
+    sides = next-keeps (sides_of g) (shown x.branch) (shown c) k.events k.records h.sides k.step;
     reached =
         subst (λ e. Reaches g (shown c) (items_ahead g left) (x.way.demerits +ℤ e) (reverse x.way.breaks.items)) (sym k.demerits)
         (reached.fills (shown x.branch) (shown c) (items_ahead g left) x.way.demerits (reverse x.way.breaks.items) k.events k.records h.reached k.fires k.step);
     low = with-low x.way.demerits d h.low k.low;
+    plain = flag-off g left c k.plain;
   }
 
   -- the state that is shown after an item
@@ -93,12 +98,13 @@ module _ (g : Galley) where
         branch = is;
         ahead = t.after;
         classes = ap (λ (s : State). s.classes) k.state ∙ h.classes;
-        sides = subst (KeepsSides (may_alternate g)) (sym (shown-taken left x c some h k)) (sides-with (may_alternate g) (shown x.branch) (next_ahead g left).nodes h.sides (next-sides g left));
+        sides = subst (KeepsSides (sides_of g)) (sym (shown-taken left x c some h k)) (sides-with (sides_of g) (shown x.branch) (next_ahead g left).nodes h.sides (next-sides g left));
         reached =
             subst (λ s. Reaches g s (items_ahead g left) x.way.demerits (reverse x.way.breaks.items)) (ap (λ ns. state_with ns (shown x.branch)) (sym t.nodes) ∙ sym k.state)
             (reached.takes (shown x.branch) (next_ahead g left) (items_ahead g left) x.way.demerits (reverse x.way.breaks.items)
             (subst (λ cs. Reaches g (shown x.branch) cs x.way.demerits (reverse x.way.breaks.items)) (next-is g left some) h.reached));
         low = h.low;
+        plain = flag-off g left c k.plain;
       }
 
   -- and after a break before it
@@ -120,21 +126,26 @@ module _ (g : Galley) where
         branch = is;
         ahead = t.after;
         classes = ap (λ (s : State). s.classes) k.state ∙ h.classes;
-        sides = subst (KeepsSides (may_alternate g)) (sym (shown-cut left x c some h place k)) (sides-with (may_alternate g) (shown x.branch) (forced (next_ahead g left) ∷ (next_ahead g left).nodes) h.sides (next-sides g left));
+        sides = subst (KeepsSides (sides_of g)) (sym (shown-cut left x c some h place k)) (sides-with (sides_of g) (shown x.branch) (forced (next_ahead g left) ∷ (next_ahead g left).nodes) h.sides (next-sides g left));
         reached =
             subst (λ bs. Reaches g (shown c) (items_ahead g left) (x.way.demerits +ℤ pos 1000) bs) (sym (ap reverse more ∙ reverse-append x.way.breaks.items ((next_ahead g left).number ∷ [])))
             (subst (λ s. Reaches g s (items_ahead g left) (x.way.demerits +ℤ pos 1000) ((next_ahead g left).number ∷ reverse x.way.breaks.items)) (sym (shown-cut left x c some h place k))
             (reached.cuts (shown x.branch) (next_ahead g left) (items_ahead g left) x.way.demerits (reverse x.way.breaks.items)
             (subst (λ cs. Reaches g (shown x.branch) cs x.way.demerits (reverse x.way.breaks.items)) (next-is g left some) h.reached) place));
         low = with-cost x.way.demerits h.low;
+        plain = flag-off g left c k.plain;
       }
+
+  -- with its flag set if it is the state after a plain page
+  pub reached-flag : (left : ℕ) (b : Branch) (p : Bool) (w : Way) → IsReached g left (record { branch = b; way = w }) → (p ≡ true → IsPlainStart g left (shown b)) → IsReached g left (record { branch = record b { plain = p }; way = w })
+  reached-flag left b p w h is = record { branch = flag-apart b p h.branch; ahead = h.ahead; classes = h.classes; sides = h.sides; reached = h.reached; low = h.low; plain = is }
 
   -- a state in which no page fires is one from which the search goes on
   pub start-of : (bound : ℤ) (left : ℕ) (x : Start) → IsReached g left x → 0 < left → MayTake (shown x.branch) → x.way.demerits ≤ℤ bound → IsStart g bound left x
-  start-of bound left x h some may high = record { branch = h.branch; ahead = h.ahead; classes = h.classes; sides = h.sides; some = some; quiet = may; reached = h.reached; low = h.low; high = high }
+  start-of bound left x h some may high = record { branch = h.branch; ahead = h.ahead; classes = h.classes; sides = h.sides; some = some; quiet = may; reached = h.reached; low = h.low; high = high; plain = h.plain }
 
   pub start-reached : (bound : ℤ) (left : ℕ) (x : Start) → IsStart g bound left x → IsReached g left x
-  start-reached bound left x h = record { branch = h.branch; ahead = h.ahead; classes = h.classes; sides = h.sides; reached = h.reached; low = h.low }
+  start-reached bound left x h = record { branch = h.branch; ahead = h.ahead; classes = h.classes; sides = h.sides; reached = h.reached; low = h.low; plain = h.plain }
 
   -- if nothing is ahead and the run ends well there, the way is a plan
   pub end-rated : (x : Start) → IsReached g 0 x → IsQuiet (shown x.branch) → IsRated g x.way

@@ -12,7 +12,7 @@ use Rattle.tb_plans.specs.Plans.{IsPlan}
 use Rattle.tb_rate.specs.Places.{place_penalties}
 use Rattle.tb_best.specs.PlanDemerits.{reach_in, unlimited_step, step_demerits, plan_demerits}
 use Rattle.tb_best.specs.BestPlan.{IsBest}
-use Rattle.tb_best.specs.Sides.{may_alternate, AheadKeep}
+use Rattle.tb_best.specs.Sides.{sides_of, AheadKeep}
 use Rattle.tb_best.proofs.SideItems.{items-keep}
 use Rattle.tb_best.specs.ItemsAhead.{Ahead, all_ahead, empty_start, forced, state_with}
 use Rattle.tb_best.specs.ClosedTables.{Row, rows_know, IsAsGood, IsNoBetter}
@@ -159,7 +159,7 @@ module _ (g : Galley) (bound total : ℤ) (best : List ℕ) (high : total ≤ℤ
   ended-way _ _ _ _ (filled k s _ ms d es rs t fires e w) a breaks still h = not-fires s _ fires still
 
   -- no way from a state that is searched ends better
-  no-better-way : (s : State) (cs : List Ahead) (a : ℤ) (breaks : List ℕ) → AheadKeep (may_alternate g) cs → IsSearched g bound total best [] s cs a breaks → AllEnd s cs a breaks
+  no-better-way : (s : State) (cs : List Ahead) (a : ℤ) (breaks : List ℕ) → AheadKeep (sides_of g) cs → IsSearched g bound total best [] s cs a breaks → AllEnd s cs a breaks
   no-better-way _ _ _ _ keep (over s cs a breaks h) k ms d way = inl (over-low a (d +ℤ pos (1000 * marked ms)) h (way-low (place_penalties g.items) k s cs ms d way))
   no-better-way _ _ _ _ keep (waits s cs a breaks h) k ms d way = absurd h
   no-better-way _ _ _ _ keep (stuck s cs a breaks h) k ms d way = refused-way k s cs ms d way h

@@ -1,5 +1,5 @@
 -- The state in which the search begins.
-use Rattle.std.proofs.Common.{◌≡◌, sym, subst, ap, ◌++◌, List, [], None, Some, arith}
+use Rattle.std.proofs.Common.{◌≡◌, sym, subst, ap, ◌++◌, false, List, [], None, Some, arith}
 use Rattle.std.specs.Global.{Box}
 use Rattle.tb_node.specs.PlainNodes.{PlainNode}
 use Rattle.tb_param.specs.declared.Params.{Params}
@@ -21,7 +21,7 @@ use Rattle.tb_search.specs.Branches.{IsBranch}
 
 -- all items of a galley are ahead of a routine in which nothing waits
 pub start-branch : (g : Galley) (r : Box Routine) (l : ItemsLeft) → IsReady r.value → r.value.left ≡ None → state_of r.value ≡ first_state g.params (classes_of g) [] → nodes_left (Some l) ≡ expanded g → l.items.now ≡ g.items → AreItems (classes_of g) g.items → AreGalleyNodes (classes_of g) (expanded g)
-    → IsBranch (record { routine = r; ahead = Some l })
+    → IsBranch (record { routine = r; ahead = Some l; plain = false })
 start-branch g r l ready none state nodes items each all = record {
   ready = ready;
   none = none;

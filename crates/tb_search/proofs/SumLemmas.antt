@@ -1,6 +1,6 @@
 -- Sums of demerits fit, and tests of them.
 use Rattle.std.proofs.Common.{◌≡◌, sym, ◌∙◌, ap, subst, ℤ, true, false, FitsSigned, to_z, of_z, arith}
-use Rattle.std.specs.Prelude.{pos, ◌+ℤ◌, ◌≤ℤ◌, ◌<ℤ◌, int_le, int_lt}
+use Rattle.std.specs.Prelude.{pos, ◌+ℤ◌, ◌-ℤ◌, ◌≤ℤ◌, ◌<ℤ◌, int_le, int_lt}
 use Rattle.std.specs.Int.{w128}
 use Rattle.std.proofs.lemmas.Int.{ints, to_z-of_z}
 
@@ -79,6 +79,16 @@ module _ (a b : ℤ) (low : pos 0 ≤ℤ a) (high : a ≤ℤ b) (range : b ≤�
   pub cost-within : int_lt (held b) (held (held a +ℤ pos 1000)) ≡ false → (a +ℤ pos 1000) ≤ℤ b
   cost-within e = let t = cost-test ∙ e in grind (arith, ints, t)
 
+  -- what the bound leaves behind a break
+  rest-both : (a +ℤ pos 1000) ≤ℤ b → FitsSigned w128 (b -ℤ (a +ℤ pos 1000))
+  rest-both h = omega (arith, ints, low, h, range)
+
+  pub rest-fits : (a +ℤ pos 1000) ≤ℤ b → FitsSigned w128 (held b -ℤ held (held a +ℤ pos 1000))
+  rest-fits h = subst (FitsSigned w128) (λ i. sym (to_z-of_z w128 b cost-bound) i -ℤ sym cost-is i) (rest-both h)
+
+  pub rest-is : (a +ℤ pos 1000) ≤ℤ b → held (held b -ℤ held (held a +ℤ pos 1000)) ≡ (b -ℤ (a +ℤ pos 1000))
+  rest-is h = to_z-of_z w128 (held b -ℤ held (held a +ℤ pos 1000)) (rest-fits h) ∙ (λ i. to_z-of_z w128 b cost-bound i -ℤ cost-is i)
+
 -- ---- the cost of a break, and then that of a page
 
 module _ (a b d : ℤ) (low : pos 0 ≤ℤ a) (high : (a +ℤ pos 1000) ≤ℤ b) (range : b ≤ℤ pos 1000000000000000000000000000) (more : pos 0 ≤ℤ d) (few : d ≤ℤ pos 352689971456) where
@@ -113,3 +123,24 @@ module _ (a b d : ℤ) (low : pos 0 ≤ℤ a) (high : (a +ℤ pos 1000) ≤ℤ b
   paid-above e =
       let t : int_lt b ((a +ℤ pos 1000) +ℤ d) ≡ true = (λ i. int_lt (sym (to_z-of_z w128 b (cost-bound a b low before-paid range)) i) ((sym paid-sum ∙ paid-held) i)) ∙ e in
       grind (arith, ints, t)
+
+-- ---- what one way has more than another with the cost of a break
+
+module _ (a x : ℤ) (low : pos 0 ≤ℤ a) (high : a ≤ℤ pos 1000000000000000000000000000) (low_x : pos 0 ≤ℤ x) (high_x : x ≤ℤ pos 1000000000000000000000000000) where
+  first-fits : FitsSigned w128 a
+  first-fits = omega (arith, ints, low, high)
+
+  second-fits : FitsSigned w128 x
+  second-fits = omega (arith, ints, low_x, high_x)
+
+  paid-fits-too : FitsSigned w128 (held a +ℤ pos 1000)
+  paid-fits-too = subst (λ y. FitsSigned w128 (y +ℤ pos 1000)) (sym (to_z-of_z w128 a first-fits)) (omega (arith, ints, low, high))
+
+  paid-is-too : held (held a +ℤ pos 1000) ≡ (a +ℤ pos 1000)
+  paid-is-too = to_z-of_z w128 (held a +ℤ pos 1000) paid-fits-too ∙ ap (λ y. y +ℤ pos 1000) (to_z-of_z w128 a first-fits)
+
+  less-fits : FitsSigned w128 (held x -ℤ held (held a +ℤ pos 1000))
+  less-fits = subst (FitsSigned w128) (λ i. sym (to_z-of_z w128 x second-fits) i -ℤ sym paid-is-too i) (omega (arith, ints, low, high, low_x, high_x))
+
+  pub less-is : held (held x -ℤ held (held a +ℤ pos 1000)) ≡ (x -ℤ (a +ℤ pos 1000))
+  less-is = to_z-of_z w128 (held x -ℤ held (held a +ℤ pos 1000)) less-fits ∙ (λ i. to_z-of_z w128 x second-fits i -ℤ paid-is-too i)

@@ -49,7 +49,7 @@ module _ (b : Branch) (l : ItemsLeft) (is : b.ahead ≡ Some l) (h : IsBranch b)
 
     module _ (m : Routine) (same : m ≡ record q { most = m.most }) where
       abbrev after : Branch
-      after = record { routine = record b.routine { value = m }; ahead = rest }
+      after = record { routine = record b.routine { value = m }; ahead = rest; plain = false }
 
       pub taken-branch : IsBounded 4194304 m → IsBranch after
       taken-branch few = record {

@@ -72,10 +72,11 @@ abbrev pub IsPast : Option ItemsLeft → Option ItemsLeft → Type 0
 IsPast None o = o ≡ None
 IsPast (Some l) o = IsPastNext l o
 
--- these nodes wait behind the others, and what comes after the next item is ahead
+-- these nodes wait behind the others, what comes after the next item is ahead, and the flag is not set
 pub record HasTaken (ns : List PlainNode) (b c : Branch) : Type 0 where
   pub state : shown c ≡ state_with ns (shown b)
   pub ahead : IsPast b.ahead c.ahead
+  pub plain : c.plain ≡ false
 
 -- ---- a kern behind which nothing waits but acts
 

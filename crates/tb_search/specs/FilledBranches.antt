@@ -46,7 +46,7 @@ pub record HasTooMany (s : State) : Type 0 where
   pub step : unlimited_step s ≡ goes_on events records state
   pub many : 4194304 < held_count state
 
--- the page of the state fired; the second branch shows the state after it, and these are the demerits of the step
+-- the page of the state fired; the second branch shows the state after it with its flag not set, and these are the demerits of the step
 pub record HasFired (places : List PlacePenalty) (d : ℤ) (b c : Branch) : Type 0 where
   pub events : List RunEvent
   pub records : List Recorded
@@ -58,6 +58,7 @@ pub record HasFired (places : List PlacePenalty) (d : ℤ) (b c : Branch) : Type
   pub branch : IsBranch c
   pub ahead : c.ahead ≡ b.ahead
   pub classes : (shown c).classes ≡ (shown b).classes
+  pub plain : c.plain ≡ false
 
 -- what becomes of a page before whose firing the run does not end well, by whether what waited ends in a kern
 abbrev pub stopped : Bool → Filled

@@ -3,7 +3,10 @@ pub mod FilledBranches
 pub mod SameStates
 pub mod Ways
 pub mod AheadInCode
+pub mod PlainStarts
 pub mod Calm
+pub mod Told
+pub mod Plain
 pub mod Searched
 pub mod Starts
 pub mod Continues

@@ -9,7 +9,7 @@ use Rattle.tb_items.specs.Classes.{classes_of}
 use Rattle.tb_plans.specs.Plans.{IsPlan}
 use Rattle.tb_rate.specs.Places.{place_penalties, IsMildPlace}
 use Rattle.tb_best.specs.ItemsAhead.{all_ahead}
-use Rattle.tb_best.specs.Sides.{may_alternate, KeepsSides}
+use Rattle.tb_best.specs.Sides.{may_alternate, sides_of, KeepsSides}
 use Rattle.tb_best.specs.PlanDemerits.{plan_demerits, reach_in}
 use Rattle.tb_best.specs.ClosedTables.{Row, Reaches}
 use Rattle.tb_search.specs.declared.table.Way.{Way}
@@ -18,6 +18,7 @@ use Rattle.tb_search.specs.declared.table.Table.{Table}
 use Rattle.tb_search.specs.Branches.{shown, IsBranch}
 use Rattle.tb_search.specs.FilledBranches.{IsRefused}
 use Rattle.tb_search.specs.AheadInCode.{items_ahead, HasAhead}
+use Rattle.tb_search.specs.PlainStarts.{PlainIfSet}
 
 -- a state with so many items ahead, reached in this way, as a row
 abbrev pub row_of : Galley → ℕ → Start → Row
@@ -37,9 +38,10 @@ pub record IsReached (g : Galley) (left : ℕ) (x : Start) : Type 0 where
   pub branch : IsBranch x.branch
   pub ahead : HasAhead g x.branch.ahead (items_ahead g left)
   pub classes : (shown x.branch).classes ≡ classes_of g
-  pub sides : KeepsSides (may_alternate g) (shown x.branch)
+  pub sides : KeepsSides (sides_of g) (shown x.branch)
   pub reached : Reaches g (shown x.branch) (items_ahead g left) x.way.demerits (reverse x.way.breaks.items)
   pub low : pos 0 ≤ℤ x.way.demerits
+  pub plain : PlainIfSet g left x.branch
 
 -- no page fires in a state, so items may be taken, or from it no run goes on
 abbrev pub MayTake : State → Type 0
@@ -50,11 +52,12 @@ pub record IsStart (g : Galley) (bound : ℤ) (left : ℕ) (x : Start) : Type 0 
   pub branch : IsBranch x.branch
   pub ahead : HasAhead g x.branch.ahead (items_ahead g left)
   pub classes : (shown x.branch).classes ≡ classes_of g
-  pub sides : KeepsSides (may_alternate g) (shown x.branch)
+  pub sides : KeepsSides (sides_of g) (shown x.branch)
   pub some : 0 < left
   pub quiet : MayTake (shown x.branch)
   pub reached : Reaches g (shown x.branch) (items_ahead g left) x.way.demerits (reverse x.way.breaks.items)
   pub low : pos 0 ≤ℤ x.way.demerits
+  pub plain : PlainIfSet g left x.branch
   pub high : x.way.demerits ≤ℤ bound
 
 -- so are all states that wait

@@ -1,7 +1,7 @@
 //! A state of the search, with its moves.
 
 ghost use Rattle.std.specs.List.{AllByRecursion};
-ghost use Rattle.std.specs.Prelude.{◌≡◌, ◌<◌, ◌++◌, pos, ◌≤ℤ◌, true, false, None, IfOk, IfSome, OnOk};
+ghost use Rattle.std.specs.Prelude.{◌≡◌, ◌<◌, ◌++◌, pos, ◌≤ℤ◌, true, false, None, IfOk, IfSome, OnOk, map, Bool};
 ghost use Rattle.tb_builder.specs.Reach.{holds_box};
 ghost use Rattle.tb_galley.specs.GalleyNodes.{expanded};
 ghost use Rattle.tb_items.specs.Classes.{classes_of};
@@ -17,19 +17,25 @@ ghost use Rattle.tb_rate.specs.Rating.{rating, IsTried};
 ghost use Rattle.tb_rate.specs.RatedRun.{demerits_if, floats_waiting, insertions_first};
 ghost use Rattle.tb_rate.specs.Tries.{last_champion};
 ghost use Rattle.tb_best.specs.ItemsAhead.{all_ahead, empty_start};
-ghost use Rattle.tb_best.specs.PlanDemerits.{reach_in};
 ghost use Rattle.tb_run.specs.declared.routine.Ending.TheVariants.{Done};
 ghost use Rattle.tb_search.specs.AheadInCode.{HasAhead};
 ghost use Rattle.tb_search.specs.FilledBranches.{stopped, unfired, unserved, FillsTo};
+ghost use Rattle.tb_node.specs.PlainNodes.{node_shape, without_acts};
+ghost use Rattle.tb_break.specs.Places.{ends_lasting};
+ghost use Rattle.tb_best.specs.PlacePrices.{sets_any};
+ghost use Rattle.tb_search.specs.Told.{is_place_item, IsPlaceNext, StopsAt};
+ghost use Rattle.tb_search.specs.declared.branch.Stop.TheVariants.{Nowhere};
 ghost use Rattle.tb_search.specs.Branches.{shown, nodes_ahead, next_of, break_before, IsBranch, HasTaken};
 
 use crate::copies::copy_routine;
-use crate::moves::{ends_in_kern, hand_cut, hand_next, holds_box};
+use crate::moves::{ends_in_kern, ends_lasting, hand_cut, hand_next, holds_box, sets_any};
+use crate::prices::are_dear;
 use std::alloc::{AllocError, Global};
-use tb_galley::Galley;
+use tb_galley::{Galley, ItemKind};
 use tb_items::{Happening, ItemsLeft, all_items};
 use tb_rate::{PlacePenalty, insertions_first, last_champion, rate};
 use tb_run::{Ending, Filled as PageFilled, Routine};
+use tb_scaled::INF_PENALTY;
 
 /// What becomes of the page of a state when it is filled.
 #[derive(Clone, Copy)]
@@ -50,6 +56,18 @@ pub enum Filled {
     TooMany,
 }
 
+/// Where a page stops that is filled.
+#[derive(Clone, Copy)]
+pub(crate) enum Stop {
+    /// The page fires, and the last place that was tried is on this line; 0 if the run ends in another way.
+    Line(u32),
+    /// No page fires.
+    Nowhere {
+        /// Whether the places that were tried tell what the page costs at least if a break is put in.
+        told: bool,
+    },
+}
+
 /// A state of the search: a run in which the nodes wait that were taken and are on no page, and the items that are ahead.
 #[derive(Drop)]
 pub struct Branch<'a> {
@@ -57,6 +75,8 @@ pub struct Branch<'a> {
     pub(crate) routine: Box<Routine<'a>>,
     // None once the clear at the end was taken.
     ahead: Option<ItemsLeft<'a>>,
+    /// Whether this is known to be the state after a plain page that was broken before the item that was taken last.
+    pub(crate) plain: bool,
 }
 
 impl<'a> Branch<'a> {
@@ -71,11 +91,13 @@ impl<'a> Branch<'a> {
         ensures ahead { IfOk result (λ b. nodes_ahead b ≡ expanded galley.now) }
         ensures items { IfOk result (λ b. HasAhead galley.now b.ahead (all_ahead galley.now)) }
         ensures branch { IfOk result IsBranch }
+        ensures plain { IfOk result (λ b. b.plain ≡ false) }
     {
         let routine = Box::new(alloc, Routine::empty(alloc, galley)?)?;
         Ok(Branch {
             routine,
             ahead: Some(all_items(galley)),
+            plain: false,
         })
     }
 
@@ -89,12 +111,17 @@ impl<'a> Branch<'a> {
         ensures branch { IfOk result (λ few. few ≡ true → IsBranch self.new) }
         ensures many { IfOk result (λ few. few ≡ false → 4194304 < held_count (shown self.new)) }
     {
-        let Some(ahead) = self.ahead else {
+        self.plain = false;
+        let Some(ahead) = &mut self.ahead else {
             return Ok(true);
         };
         let routine = &mut *self.routine;
-        self.ahead = hand_next(routine, ahead)?;
-        Ok(routine.most_limit().is_none())
+        let more = hand_next(routine, ahead)?;
+        let few = routine.most_limit().is_none();
+        if !more {
+            self.ahead = None;
+        }
+        Ok(few)
     }
 
     /// A break is put in before the next item, and the item is taken: a penalty of -10000 on the line of the item waits behind
@@ -106,12 +133,17 @@ impl<'a> Branch<'a> {
         ensures branch { IfOk result (λ few. few ≡ true → IsBranch self.new) }
         ensures many { IfOk result (λ few. few ≡ false → 4194304 < held_count (shown self.new)) }
     {
-        let Some(ahead) = self.ahead else {
+        self.plain = false;
+        let Some(ahead) = &mut self.ahead else {
             return Ok(true);
         };
         let routine = &mut *self.routine;
-        self.ahead = hand_cut(routine, ahead)?;
-        Ok(routine.most_limit().is_none())
+        let more = hand_cut(routine, ahead)?;
+        let few = routine.most_limit().is_none();
+        if !more {
+            self.ahead = None;
+        }
+        Ok(few)
     }
 
     /// Whether a box or rule waits. Before the first box of a page a break need not be put in.
@@ -130,6 +162,22 @@ impl<'a> Branch<'a> {
         ends_in_kern(&self.routine.store, self.routine.builder.waiting())
     }
 
+    // Whether what waits ends in a node that does not vanish at the top of a page, acts aside.
+    fn ends_lasting(&self) -> bool
+        requires { IsBranch self.now }
+        ensures { result ≡ ends_lasting (map node_shape (without_acts (shown self.now).waiting)) }
+    {
+        ends_lasting(&self.routine.store, self.routine.builder.waiting())
+    }
+
+    // Whether a node that waits sets a parameter.
+    fn sets_any(&self) -> bool
+        requires { IsBranch self.now }
+        ensures { result ≡ sets_any (shown self.now).waiting }
+    {
+        sets_any(&self.routine.store, self.routine.builder.waiting())
+    }
+
     /// A copy, from which the search goes on as if there were no other. It fails only if memory runs out.
     #[inline(never)]
     pub fn copy(&self, alloc: Global) -> Result<Self, AllocError>
@@ -138,11 +186,13 @@ impl<'a> Branch<'a> {
         ensures branch { IfOk result IsBranch }
         ensures state { IfOk result (λ c. shown c ≡ shown self.now) }
         ensures ahead { IfOk result (λ c. c.ahead ≡ self.now.ahead) }
+        ensures plain { IfOk result (λ c. c.plain ≡ self.now.plain) }
     {
         let routine = Box::new(alloc, self.routine.copy(alloc)?)?;
         Ok(Branch {
             routine,
             ahead: self.ahead,
+            plain: self.plain,
         })
     }
 
@@ -154,24 +204,63 @@ impl<'a> Branch<'a> {
         ensures branch { OnOk result (IsBranch self.new) }
         ensures state { OnOk result (shown self.new ≡ shown other.now) }
         ensures ahead { OnOk result (self.new.ahead ≡ other.now.ahead) }
+        ensures plain { OnOk result (self.new.plain ≡ other.now.plain) }
     {
         copy_routine(alloc, &mut self.routine, &other.routine)?;
         self.ahead = other.ahead;
+        self.plain = other.plain;
         Ok(())
     }
 
-    /// Fills the page of what waits, and returns the line of its stop if it fires, or none if no page fires. If the run ends in
-    /// another way, the line is 0. The state is not to be used then. It fails only if memory runs out.
-    pub(crate) fn stop_line(&mut self, alloc: Global) -> Result<Option<u32>, AllocError>
+    /// Fills the page of what waits, and returns where it stops. `happened` holds the places that were tried then. The state is
+    /// not to be used then. It fails only if memory runs out.
+    pub(crate) fn stop(&mut self, happened: &mut Vec<Happening>) -> Result<Stop, AllocError>
         requires { IsBranch self.old }
 
-        ensures { IfOk result (λ o. o ≡ None → (reach_in (shown self.old)).fires ≡ false) }
+        ensures { IfOk result (λ s. StopsAt (shown self.old) happened.new.items s) }
     {
-        let mut happened = Vec::new(alloc);
-        let filled = self.routine.fill(true, &mut happened)?;
+        let steady = !self.sets_any();
+        happened.clear();
+        let filled = self.routine.fill(true, happened)?;
         match filled {
-            PageFilled::Fires(_) => Ok(Some(last_line(&happened))),
-            PageFilled::Ends(ending) => Ok(line_of_end(ending)),
+            PageFilled::Fires(_) => Ok(Stop::Line(last_line(happened.as_slice()))),
+            PageFilled::Ends(ending) => {
+                let dear = are_dear(happened.as_slice());
+                Ok(stop_of(ending, steady, dear))
+            }
+        }
+    }
+
+    /// The line of the next item, if that is a penalty or glue at which a page may end. Other items are not looked at.
+    pub(crate) fn next_place(&self) -> Option<u32>
+        requires { IsBranch self.now }
+
+        ensures { IfSome result (λ line. IsPlaceNext (shown self.now).waiting self.now.ahead line) }
+    {
+        let Some(ahead) = &self.ahead else {
+            return None;
+        };
+        let items = ahead.items();
+        if items.is_empty() {
+            return None;
+        }
+        let item = &items[0];
+        if self.is_place(&item.kind) {
+            Some(item.line)
+        } else {
+            None
+        }
+    }
+
+    // Whether an item of this kind is a legal place behind what waits.
+    fn is_place(&self, kind: &ItemKind) -> bool
+        requires { IsBranch self.now }
+        ensures { result ≡ is_place_item (shown self.now).waiting kind.now }
+    {
+        match kind {
+            ItemKind::Penalty(penalty) => *penalty < INF_PENALTY,
+            ItemKind::Skip(_) => self.ends_lasting(),
+            _ => false,
         }
     }
 
@@ -185,6 +274,7 @@ impl<'a> Branch<'a> {
         ensures { IfOk result (λ f. FillsTo places.now self.old f self.new) }
     {
         let kern = self.ends_in_kern();
+        self.plain = false;
         let routine = &mut *self.routine;
         let mut happened = Vec::new(alloc);
         let page = match routine.fill(true, &mut happened)? {
@@ -212,13 +302,16 @@ fn last_line(happened: &[Happening]) -> u32 {
     line
 }
 
-// No line if a run ends well, else 0.
-fn line_of_end(ending: Ending) -> Option<u32>
-    ensures { result ≡ None → ending ≡ Done }
+// Where a page stops before whose firing the run ends so. The places that were tried tell its prices if no node that waits sets a
+// parameter, and none of the places costs less than a forced break.
+fn stop_of(ending: Ending, steady: bool, dear: bool) -> Stop
+    ensures { (told : Bool) → result ≡ Nowhere told → (ending ≡ Done) × (told ≡ true → (steady ≡ true) × (dear ≡ true)) }
 {
     match ending {
-        Ending::Done => None,
-        _ => Some(0),
+        Ending::Done => Stop::Nowhere {
+            told: steady && dear,
+        },
+        _ => Stop::Line(0),
     }
 }
 

@@ -1,23 +1,40 @@
 //! How many items the search may take before a page can fire.
 
-ghost use Rattle.std.specs.Prelude.{◌≡◌, ◌<◌, ◌≤◌, None, length, IfOk};
+ghost use Rattle.std.specs.Prelude.{◌≡◌, ◌<◌, ◌≤◌, true, length, IfOk};
 ghost use Rattle.tb_best.specs.ItemsAhead.{all_ahead};
 ghost use Rattle.tb_search.specs.Branches.{shown};
 ghost use Rattle.tb_search.specs.AheadInCode.{items_ahead};
-ghost use Rattle.tb_search.specs.Calm.{IsCalm};
+ghost use Rattle.tb_search.specs.Calm.{with_first, IsCalm};
+ghost use Rattle.tb_search.specs.Told.{StopsAt, Tells};
 ghost use Rattle.tb_search.specs.Starts.{IsReached, IsTable};
 
+use crate::branch::Stop;
 use crate::search::BestFault;
 use crate::table::{Start, Table};
 use crate::trials::Trials;
 use std::alloc::Global;
 use tb_galley::Item;
+use tb_items::Happening;
 
-// So many items are tried first. Few pages hold more.
-const MANY_ITEMS: usize = 256;
+// No more items than these are tried first. Few pages hold more.
+const MANY_ITEMS: usize = 512;
 
 // So often fewer are tried.
 const TRIES: u32 = 4;
+
+/// Items that may be taken before a page can fire.
+#[derive(Clone, Copy)]
+pub(crate) struct Calm {
+    /// How many.
+    pub(crate) count: usize,
+    /// Whether the places that were tried with them tell what the page costs at least if a break is put in.
+    pub(crate) told: bool,
+}
+
+const NOT_CALM: Calm = Calm {
+    count: 0,
+    told: false,
+};
 
 // How many items stand before the first one on this line or behind it; all if there is none.
 fn items_before(items: &[Item], line: u32) -> usize {
@@ -29,40 +46,55 @@ fn items_before(items: &[Item], line: u32) -> usize {
     items.len()
 }
 
+// How many items are tried first from the next state, after so many were found from this one. Unless a page fired behind more,
+// there may be more of them.
+fn next_guess(count: usize, fired: bool) -> usize {
+    if count >= MANY_ITEMS / 4 {
+        return MANY_ITEMS;
+    }
+    if fired { count * 2 + 16 } else { count * 4 }
+}
+
 impl<'a> Table<'a> {
     /// How many items may be taken from a state with so many items ahead, so that no page fires behind the last of them: as
-    /// many as there are before the stop of the page, or fewer. It fails only if memory runs out.
+    /// many as there are before the stop of the page, or fewer. `happened` holds the places that were tried with them. It fails
+    /// only if memory runs out.
     pub(crate) fn calm_items(
         &self,
         alloc: Global,
         left: usize,
         start: &Start<'a>,
+        happened: &mut Vec<Happening>,
         trials: &mut Trials<'a>,
-    ) -> Result<usize, BestFault>
+    ) -> Result<Calm, BestFault>
         requires table { IsTable self.now }
         requires some { 0 < left }
         requires inside { left ≤ length (all_ahead self.now.galley.now) }
         requires reached { IsReached self.now.galley.now left start.now }
 
-        ensures fewer { IfOk result (λ k. k < left) }
-        ensures calm { IfOk result (λ k. 0 < k → IsCalm (shown start.now.branch) (items_ahead self.now.galley.now left) k) }
+        ensures fewer { IfOk result (λ c. c.count < left) }
+        ensures calm { IfOk result (λ c. 0 < c.count → IsCalm (shown start.now.branch) (items_ahead self.now.galley.now left) c.count) }
+        ensures told { IfOk result (λ c. c.told ≡ true → Tells happened.new.items (with_first c.count (items_ahead self.now.galley.now left) (shown start.now.branch))) }
     {
-        let mut count = MANY_ITEMS;
-        'tries: for _ in 0..TRIES {
+        let mut count = trials.guess;
+        'tries: for k in 0..TRIES {
             if count >= left {
                 count = left - 1;
             }
             if count == 0 {
-                return Ok(0);
+                return Ok(NOT_CALM);
             }
-            match self.stop_behind(alloc, left, start, count, trials)? {
-                Some(line) => {
+            match self.stop_behind(alloc, left, start, count, happened, trials)? {
+                Stop::Line(line) => {
                     count = self.fewer_items(left, count, line);
                 }
-                None => return Ok(count),
+                Stop::Nowhere { told } => {
+                    trials.guess = next_guess(count, k > 0);
+                    return Ok(Calm { count, told });
+                }
             }
         }
-        Ok(0)
+        Ok(NOT_CALM)
     }
 
     // How many items are to be tried after so many, behind which a page fires at a stop on this line.
@@ -81,33 +113,33 @@ impl<'a> Table<'a> {
         if before < count { before } else { count - 1 }
     }
 
-    // The line of the stop at which a page fires behind so many of the items ahead; none if no page fires there. Where the run
-    // ends in another way, or too many nodes are held, the line is 0.
+    // Where the page stops with so many of the items ahead behind a state. Where too many nodes are held, the line is 0.
     fn stop_behind(
         &self,
         alloc: Global,
         left: usize,
         start: &Start<'a>,
         count: usize,
+        happened: &mut Vec<Happening>,
         trials: &mut Trials<'a>,
-    ) -> Result<Option<u32>, BestFault>
+    ) -> Result<Stop, BestFault>
         requires table { IsTable self.now }
         requires inside { left ≤ length (all_ahead self.now.galley.now) }
         requires fewer { count < left }
         requires reached { IsReached self.now.galley.now left start.now }
 
-        ensures { IfOk result (λ o. o ≡ None → IsCalm (shown start.now.branch) (items_ahead self.now.galley.now left) count) }
+        ensures { IfOk result (λ o. StopsAt (with_first count (items_ahead self.now.galley.now left) (shown start.now.branch)) happened.new.items o) }
     {
         trials.page.copy_from(&start.branch, alloc)?;
         let last = left - count;
         let mut behind = left;
         'items: while behind > last {
             if !trials.page.take()? {
-                return Ok(Some(0));
+                return Ok(Stop::Line(0));
             }
             behind -= 1;
         }
-        let line = trials.page.stop_line(alloc)?;
-        Ok(line)
+        let stop = trials.page.stop(happened)?;
+        Ok(stop)
     }
 }

@@ -5,7 +5,10 @@
 mod branch;
 mod calm;
 mod copies;
+mod cuts;
 mod moves;
+mod plain;
+mod prices;
 mod same;
 mod search;
 mod table;

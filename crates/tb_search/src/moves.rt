@@ -1,8 +1,12 @@
 //! Nodes are handed to a routine in which nothing is left.
 
-ghost use Rattle.std.specs.Prelude.{◌≡◌, ◌≤◌, false, [], None, IfOk};
+ghost use Rattle.std.specs.Prelude.{◌≡◌, ◌≤◌, false, [], None, Some, IfOk, if◌then◌else◌, map};
 ghost use Rattle.tb_pool.specs.Lists.{IsLive};
-ghost use Rattle.tb_node.specs.PlainNodes.{plain_list, shape_of};
+ghost use Rattle.tb_node.specs.PlainNodes.{node_shape, plain_list, shape_of, without_acts};
+ghost use Rattle.tb_break.specs.Places.{ends_lasting};
+ghost use Rattle.tb_best.specs.PlacePrices.{sets_any};
+ghost use Rattle.tb_best.specs.PlainPages.{all_plain};
+ghost use Rattle.tb_search.specs.Told.{is_plain_kind, is_set, lasting_after};
 ghost use Rattle.tb_builder.specs.Reach.{holds_box};
 ghost use Rattle.tb_node.specs.Shape.{is_box};
 ghost use Rattle.tb_builder.specs.Contents.{node_count};
@@ -13,52 +17,55 @@ ghost use Rattle.tb_search.specs.Branches.{first_break, kern_after, HasHanded};
 
 use std::alloc::AllocError;
 use tb_items::{ItemsLeft, put};
-use tb_node::{Kind, Node};
+use tb_node::{Act, Kind, Node};
 use tb_pool::{ListId, Lists};
 use tb_run::Routine;
 use tb_scaled::EJECT_PENALTY;
 
-/// Hands over the nodes of the next item, or of the clear at the end, and returns what is ahead then.
+/// Hands over the nodes of the next item, or of the clear at the end. What is ahead becomes what is ahead then; returns whether
+/// anything is.
 pub(crate) fn hand_next<'a>(
     routine: &mut Routine<'a>,
-    ahead: ItemsLeft<'a>,
-) -> Result<Option<ItemsLeft<'a>>, AllocError>
+    ahead: &mut ItemsLeft<'a>,
+) -> Result<bool, AllocError>
     requires ready { IsReady routine.old }
     requires none { routine.old.left ≡ None }
-    requires items { AreItems (state_of routine.old).classes ahead.items.now }
-    requires few { node_count (next_nodes ahead) ≤ 600005 }
-    ensures { IfOk result (λ rest. HasHanded [] ahead.entry rest routine.old routine.new) }
+    requires items { AreItems (state_of routine.old).classes ahead.old.items.now }
+    requires few { node_count (next_nodes ahead.old) ≤ 600005 }
+    ensures { IfOk result (λ more. HasHanded [] ahead.old (if more then Some ahead.new else None) routine.old routine.new) }
 {
-    let rest = ahead.hand_next(&mut routine.store, &mut routine.builder)?;
-    routine.most += ahead.next_count();
-    Ok(rest)
+    let count = ahead.next_count();
+    let more = ahead.hand_on(&mut routine.store, &mut routine.builder)?;
+    routine.most += count;
+    Ok(more)
 }
 
 /// The same, after a forced break before an item.
 pub(crate) fn hand_cut<'a>(
     routine: &mut Routine<'a>,
-    ahead: ItemsLeft<'a>,
-) -> Result<Option<ItemsLeft<'a>>, AllocError>
+    ahead: &mut ItemsLeft<'a>,
+) -> Result<bool, AllocError>
     requires ready { IsReady routine.old }
     requires none { routine.old.left ≡ None }
-    requires items { AreItems (state_of routine.old).classes ahead.items.now }
-    requires few { node_count (next_nodes ahead) ≤ 600005 }
-    ensures { IfOk result (λ rest. HasHanded (first_break ahead.entry.items.now) ahead.entry rest routine.old routine.new) }
+    requires items { AreItems (state_of routine.old).classes ahead.old.items.now }
+    requires few { node_count (next_nodes ahead.old) ≤ 600005 }
+    ensures { IfOk result (λ more. HasHanded (first_break ahead.old.items.now) ahead.old (if more then Some ahead.new else None) routine.old routine.new) }
 {
     let items = ahead.items();
     if items.is_empty() {
         return hand_next(routine, ahead);
     }
     let line = items[0].line;
+    let count = ahead.next_count();
     put(
         &mut routine.store,
         &mut routine.builder,
         line,
         Kind::Pen(EJECT_PENALTY),
     )?;
-    let rest = ahead.hand_next(&mut routine.store, &mut routine.builder)?;
-    routine.most += 1 + ahead.next_count();
-    Ok(rest)
+    let more = ahead.hand_on(&mut routine.store, &mut routine.builder)?;
+    routine.most += 1 + count;
+    Ok(more)
 }
 
 /// Whether a list has a box or rule.
@@ -101,4 +108,65 @@ fn kern_after(kern: bool, node: &Node) -> bool
         Kind::Kern(_) => true,
         _ => false,
     }
+}
+
+/// Whether a list ends in a node that does not vanish at the top of a page, acts aside.
+pub(crate) fn ends_lasting(store: &Lists<Node>, list: ListId) -> bool
+    requires { IsLive store.now list }
+    ensures { result ≡ ends_lasting (map node_shape (without_acts (plain_list store.now list))) }
+{
+    let mut lasting = false;
+    for node in store.iter(list) {
+        lasting = lasting_after(lasting, node);
+    }
+    lasting
+}
+
+// Whether nodes end in one that lasts with this one behind them, if they did before.
+fn lasting_after(lasting: bool, node: &Node) -> bool
+    ensures { result ≡ lasting_after lasting node.now.kind }
+{
+    match &node.kind {
+        Kind::Act(_) => lasting,
+        Kind::Skip(_) | Kind::Kern(_) | Kind::Pen(_) => false,
+        _ => true,
+    }
+}
+
+/// Whether a list has a node that sets a parameter.
+pub(crate) fn sets_any(store: &Lists<Node>, list: ListId) -> bool
+    requires { IsLive store.now list }
+    ensures { result ≡ sets_any (plain_list store.now list) }
+{
+    for node in store.iter(list) {
+        if is_set(node) {
+            return true;
+        }
+    }
+    false
+}
+
+fn is_set(node: &Node) -> bool
+    ensures { result ≡ is_set node.now.kind }
+{
+    matches!(&node.kind, Kind::Act(Act::Set(_)))
+}
+
+/// Whether no insertion and no act is in a list.
+pub(crate) fn are_plain(store: &Lists<Node>, list: ListId) -> bool
+    requires { IsLive store.now list }
+    ensures { result ≡ all_plain (plain_list store.now list) }
+{
+    for node in store.iter(list) {
+        if !is_plain(node) {
+            return false;
+        }
+    }
+    true
+}
+
+fn is_plain(node: &Node) -> bool
+    ensures { result ≡ is_plain_kind node.now.kind }
+{
+    !matches!(&node.kind, Kind::Ins(_) | Kind::Act(_))
 }

@@ -1,9 +1,8 @@
 //! The search: from each state between two pages all pages are made that may come next.
 
 ghost use Rattle.std.specs.List.{AllByRecursion};
-ghost use Rattle.std.specs.Prelude.{◌≡◌, ◌+◌, ◌<◌, ◌≤◌, pos, ◌+ℤ◌, ◌≤ℤ◌, true, false, [], ◌∷◌, map, length, reverse, get_or, Some, IfOk, OnOk};
+ghost use Rattle.std.specs.Prelude.{◌≡◌, ◌+◌, ◌<◌, ◌≤◌, pos, ◌+ℤ◌, ◌≤ℤ◌, [], ◌∷◌, map, length, reverse, Some, IfOk, OnOk, ◌-◌};
 ghost use Rattle.tb_galley.specs.Valid.{IsValid};
-ghost use Rattle.tb_builder.specs.Reach.{holds_box};
 ghost use Rattle.tb_rate.specs.Places.{place_penalties};
 ghost use Rattle.tb_best.specs.PlanDemerits.{plan_demerits};
 ghost use Rattle.tb_best.specs.BestPlan.{IsBest};
@@ -13,13 +12,14 @@ ghost use Rattle.tb_search.specs.Branches.{shown, IsBranch};
 ghost use Rattle.tb_search.specs.FilledBranches.{FillsTo, IsQuiet};
 ghost use Rattle.tb_search.specs.AheadInCode.{items_ahead};
 ghost use Rattle.tb_search.specs.Starts.{row_of, rows_of, IsReached, IsStart, IsTable};
-ghost use Rattle.tb_search.specs.Continues.{IsLater, IsTakenOn, Continues, HasSearched, IsSearchedAsGoodBy, IsCutSearched};
+ghost use Rattle.tb_search.specs.Continues.{IsLater, IsTakenOn, Continues, HasSearched, IsSearchedAsGoodBy};
 
-use crate::table::{Start, Table, Way, breaks_with};
+use crate::table::{Start, Table, Way};
 use crate::trials::Trials;
 use crate::{Branch, Filled};
 use std::alloc::{AllocError, Global};
 use tb_galley::Galley;
+use tb_items::Happening;
 
 /// The best plan of a galley.
 #[derive(Drop)]
@@ -268,11 +268,18 @@ impl<'a> Table<'a> {
         ensures taken { IfOk result (λ x. IsTakenOn self.old left start.entry self.new x.0 x.1) }
         ensures start { IfOk result (λ x. IsStart self.new.galley.now self.new.bound x.0 x.1) }
     {
-        let mut calm = self.calm_items(alloc, left, &start, trials)?;
+        let mut happened = Vec::new(alloc);
+        let found = self.calm_items(alloc, left, &start, &mut happened, trials)?;
+        let told = if found.told {
+            Some(happened.as_slice())
+        } else {
+            None
+        };
         let Start { mut branch, way } = start;
         let mut left = left;
+        let mut calm = found.count;
         'items: while calm > 0 {
-            self.cut(alloc, left, &branch, &way, trials)?;
+            self.cut(alloc, left, &branch, &way, told, trials)?;
             if !branch.take()? {
                 return Err(BestFault::Choices);
             }
@@ -302,7 +309,7 @@ impl<'a> Table<'a> {
         let Start { mut branch, way } = start;
         let mut left = left;
         'items: while left > 0 {
-            self.cut(alloc, left, &branch, &way, trials)?;
+            self.cut(alloc, left, &branch, &way, None, trials)?;
             if !branch.take()? {
                 return Err(BestFault::Choices);
             }
@@ -314,9 +321,9 @@ impl<'a> Table<'a> {
                         breaks: way.breaks,
                         demerits: way.demerits + demerits,
                     };
-                    let next = trials.copy(alloc)?;
+                    self.go_on(alloc, left, way, trials)?;
                     trials.give_back(branch);
-                    return self.settle(alloc, left, next, way, trials);
+                    return Ok(());
                 }
                 Filled::Quiet => {
                     if left == 0 {
@@ -332,84 +339,28 @@ impl<'a> Table<'a> {
         Ok(())
     }
 
-    // The page into which a break is put before the next item, if it has a box and a break may be put in there.
-    fn cut(
+    // The same from the state in which a page was tried: it is copied, unless a state that is kept may stand for it.
+    pub(crate) fn go_on(
         &mut self,
         alloc: Global,
         left: usize,
-        branch: &Branch<'a>,
-        way: &Way,
+        way: Way,
         trials: &mut Trials<'a>,
     ) -> Result<(), BestFault>
         requires table { IsTable self.old }
-        requires some { 0 < left }
-        requires level { left ≤ length self.old.starts.items }
-        requires inside { left ≤ length (all_ahead self.old.galley.now) }
-        requires reached { IsReached self.old.galley.now left (record { branch = branch.now; way = way.now }) }
-        requires high { way.now.demerits ≤ℤ self.old.bound }
+        requires level { left < length self.old.starts.items }
+        requires reached { IsReached self.old.galley.now left (record { branch = trials.old.page; way = way }) }
+        requires high { way.demerits ≤ℤ (self.old.bound +ℤ pos 1000000000000) }
 
         ensures table { OnOk result (IsTable self.new) }
         ensures continues { OnOk result (Continues self.old self.new) }
-        ensures searched { OnOk result (IsCutSearched self.new (shown branch.now) (items_ahead self.old.galley.now left) way.now.demerits (reverse way.now.breaks.items)) }
+        ensures searched { OnOk result (IsSearchedAsGoodBy self.new (shown trials.old.page) (items_ahead self.old.galley.now left) way.demerits (reverse way.breaks.items)) }
     {
-        let number = self.is_place.len() - left;
-        if !self.is_place[number] {
+        if self.is_known(left, &trials.page, &way) {
             return Ok(());
         }
-        if way.demerits + 1000 > self.bound {
-            return Ok(());
-        }
-        if !branch.holds_box() {
-            return Ok(());
-        }
-        self.put_break(alloc, left, branch, way, number, trials)
-    }
-
-    // The page into which a break is put before the next item, which has this number.
-    fn put_break(
-        &mut self,
-        alloc: Global,
-        left: usize,
-        branch: &Branch<'a>,
-        way: &Way,
-        number: usize,
-        trials: &mut Trials<'a>,
-    ) -> Result<(), BestFault>
-        requires table { IsTable self.old }
-        requires some { 0 < left }
-        requires level { left ≤ length self.old.starts.items }
-        requires inside { left ≤ length (all_ahead self.old.galley.now) }
-        requires number { number + left ≡ length (all_ahead self.old.galley.now) }
-        requires place { get_or self.old.is_place.items number false ≡ true }
-        requires boxed { holds_box (shown branch.now).waiting ≡ true }
-        requires reached { IsReached self.old.galley.now left (record { branch = branch.now; way = way.now }) }
-        requires high { (way.now.demerits +ℤ pos 1000) ≤ℤ self.old.bound }
-
-        ensures table { OnOk result (IsTable self.new) }
-        ensures continues { OnOk result (Continues self.old self.new) }
-        ensures searched { OnOk result (IsCutSearched self.new (shown branch.now) (items_ahead self.old.galley.now left) way.now.demerits (reverse way.now.breaks.items)) }
-    {
-        trials.page.copy_from(branch, alloc)?;
-        if !trials.page.cut()? {
-            return Err(BestFault::Choices);
-        }
-        let breaks = breaks_with(alloc, way.breaks.as_slice(), Some(number as u32))?;
-        match trials.page.fill(alloc, self.penalties.as_slice())? {
-            Filled::Fired { demerits } => {
-                let way = Way {
-                    breaks,
-                    demerits: way.demerits + 1000 + demerits,
-                };
-                // Most breaks cost too much: no state is made for them.
-                if way.demerits > self.bound {
-                    return Ok(());
-                }
-                let next = trials.copy(alloc)?;
-                self.settle(alloc, left - 1, next, way, trials)
-            }
-            Filled::Quiet | Filled::Full | Filled::Refused => Ok(()),
-            Filled::TooMany => Err(BestFault::Choices),
-        }
+        let next = trials.copy(alloc)?;
+        self.settle(alloc, left, next, way, trials)
     }
 
     // Pages are filled while they fire without a further item; then the state is kept, or the run ends if nothing is ahead. A

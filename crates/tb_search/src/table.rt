@@ -5,7 +5,8 @@ ghost use Rattle.std.specs.Prelude.{◌≡◌, ◌<◌, ◌+◌, pos, ◌≤ℤ�
 ghost use Rattle.tb_galley.specs.Valid.{IsValid};
 ghost use Rattle.tb_lines.specs.LeastSolution.{is_greater};
 ghost use Rattle.tb_best.specs.ItemsAhead.{all_ahead};
-ghost use Rattle.tb_best.specs.Sides.{has_switch, is_switch, is_switch_item, may_alternate};
+ghost use Rattle.tb_best.specs.Sides.{has_note, has_switch, is_note_item, is_switch, is_switch_item, may_alternate, sides_of, KeepsSides};
+ghost use Rattle.tb_items.specs.Classes.{classes_of};
 ghost use Rattle.tb_margin.specs.Margin.{is_on};
 ghost use Rattle.tb_best.specs.PlanDemerits.{plan_demerits};
 ghost use Rattle.tb_search.specs.Branches.{shown, IsBranch};
@@ -135,29 +136,34 @@ impl Way {
 }
 
 impl Start<'_> {
-    // Whether this state may stand for another: they are the same but for the left column, no count of it is greater, marginal
-    // notes go to the same sides if they may change sides, and its way is no worse.
-    fn stands_for(&self, other: &Start<'_>, may_alternate: bool) -> bool
+    // Whether this state may stand for another, which was reached in this way: they are the same but for the left column, no
+    // count of it is greater, marginal notes go to the same sides if they may change sides, and its way is no worse.
+    fn stands_for(&self, branch: &Branch<'_>, way: &Way, may_alternate: bool) -> bool
         requires mine { IsBranch self.now.branch }
-        requires others { IsBranch other.now.branch }
-        requires classes { (shown self.now.branch).classes ≡ (shown other.now.branch).classes }
-        ensures { result ≡ true → MayStandFor may_alternate self.now other.now }
+        requires others { IsBranch branch.now }
+        requires classes { (shown self.now.branch).classes ≡ (shown branch.now).classes }
+        ensures { result ≡ true → MayStandFor may_alternate self.now (record { branch = branch.now; way = way.now }) }
     {
-        !other.way.is_better(&self.way)
-            && self.branch.counts_within(&other.branch, may_alternate)
-            && self.branch.is_same(&other.branch)
+        !way.is_better(&self.way)
+            && self.branch.counts_within(branch, may_alternate)
+            && self.branch.is_same(branch)
     }
 }
 
-// The place of a state that may stand for this one.
-fn place_for(starts: &[Start<'_>], start: &Start<'_>, may_alternate: bool) -> Option<usize>
+// The place of a state that may stand for this one, which was reached in this way.
+fn place_for(
+    starts: &[Start<'_>],
+    branch: &Branch<'_>,
+    way: &Way,
+    may_alternate: bool,
+) -> Option<usize>
     requires starts { AllByRecursion (λ x. IsBranch x.branch) starts.now }
-    requires classes { AllByRecursion (λ x. (shown x.branch).classes ≡ (shown start.now.branch).classes) starts.now }
-    requires start { IsBranch start.now.branch }
-    ensures { IfSome result (λ k. StandsAt may_alternate starts.now k start.now) }
+    requires classes { AllByRecursion (λ x. (shown x.branch).classes ≡ (shown branch.now).classes) starts.now }
+    requires branch { IsBranch branch.now }
+    ensures { IfSome result (λ k. StandsAt may_alternate starts.now k (record { branch = branch.now; way = way.now })) }
 {
-    for (k, other) in starts.iter().enumerate() {
-        if other.stands_for(start, may_alternate) {
+    for (k, start) in starts.iter().enumerate() {
+        if start.stands_for(branch, way, may_alternate) {
             return Some(k);
         }
     }
@@ -172,7 +178,7 @@ fn needless_place(starts: &[Start<'_>], start: &Start<'_>, may_alternate: bool) 
     ensures { IfSome result (λ k. IsNeedlessAt may_alternate starts.now k start.now) }
 {
     for (k, other) in starts.iter().enumerate() {
-        if start.stands_for(other, may_alternate) {
+        if start.stands_for(&other.branch, &other.way, may_alternate) {
             return Some(k);
         }
     }
@@ -248,14 +254,31 @@ impl<'a> Table<'a> {
         ensures known { OnOk result (HasRowAsGood self.new left (shown branch.entry) way) }
         ensures first { rows_of self.old ≡ [] → OnOk result (HasRow self.new left (shown branch.entry) way) }
     {
-        let start = Start { branch, way };
-        match place_for(self.starts[left].as_slice(), &start, self.may_alternate) {
-            Some(_) => {
-                trials.give_back(start.branch);
-                Ok(())
-            }
-            None => self.insert(left, start),
+        if self.is_known(left, &branch, &way) {
+            trials.give_back(branch);
+            return Ok(());
         }
+        self.insert(left, Start { branch, way })
+    }
+
+    /// Whether a state that is kept may stand for this one, which has so many items ahead.
+    pub(crate) fn is_known(&self, left: usize, branch: &Branch<'_>, way: &Way) -> bool
+        requires table { IsTable self.now }
+        requires left { left < length self.now.starts.items }
+        requires branch { IsBranch branch.now }
+        requires classes { (shown branch.now).classes ≡ classes_of self.now.galley.now }
+        requires sides { KeepsSides (sides_of self.now.galley.now) (shown branch.now) }
+
+        ensures known { result ≡ true → HasRowAsGood self.now left (shown branch.now) way.now }
+        ensures first { rows_of self.now ≡ [] → result ≡ false }
+    {
+        place_for(
+            self.starts[left].as_slice(),
+            branch,
+            way,
+            self.may_alternate,
+        )
+        .is_some()
     }
 
     // Keeps a state in place of one for which it may stand, or as one more.
@@ -309,14 +332,28 @@ impl<'a> Table<'a> {
     }
 }
 
-// Whether marginal notes may change sides from page to page in a galley: from its beginning, or from an item on.
+// Whether there are marginal notes in a galley that may change sides from page to page: from its beginning, or from an item on.
 fn may_alternate(galley: &Galley) -> bool
     ensures { result ≡ may_alternate galley.now }
 {
-    is_on(galley.params.mparswitch) || has_switch(galley.items.as_slice())
+    let items = galley.items.as_slice();
+    (is_on(galley.params.mparswitch) || has_switch(items)) && has_note(items)
 }
 
-// Whether one of these items says that they do or do not.
+// Whether one of these items is a marginal note.
+fn has_note(items: &[Item]) -> bool
+    ensures { result ≡ has_note items.now }
+{
+    items.iter().any(|item| is_note_item(&item.kind))
+}
+
+fn is_note_item(kind: &ItemKind) -> bool
+    ensures { result ≡ is_note_item kind.now }
+{
+    matches!(kind, ItemKind::Margin { .. })
+}
+
+// Whether one of these items says that notes do or do not change sides.
 fn has_switch(items: &[Item]) -> bool
     ensures { result ≡ has_switch items.now }
 {

@@ -12,14 +12,20 @@ use tb_galley::Galley;
 pub(crate) struct Trials<'a> {
     /// What it shows between two tries is of no account.
     pub(crate) page: Branch<'a>,
+    /// How many items are tried first, to see how many can be taken before a page fires.
+    pub(crate) guess: usize,
     spare: Vec<Branch<'a>>,
 }
+
+// So many items are tried first from the first state.
+const FIRST_GUESS: usize = 64;
 
 impl<'a> Trials<'a> {
     /// Pages are tried in this state, and no other can be used again yet.
     pub(crate) fn start(alloc: Global, page: Branch<'a>) -> Self {
         Trials {
             page,
+            guess: FIRST_GUESS,
             spare: Vec::new(alloc),
         }
     }
@@ -31,6 +37,7 @@ impl<'a> Trials<'a> {
         ensures branch { IfOk result IsBranch }
         ensures state { IfOk result (λ c. shown c ≡ shown self.old.page) }
         ensures ahead { IfOk result (λ c. c.ahead ≡ self.old.page.ahead) }
+        ensures plain { IfOk result (λ c. c.plain ≡ self.old.page.plain) }
     {
         let Some(spare) = self.spare.pop() else {
             return self.page.copy(alloc);
@@ -41,7 +48,9 @@ impl<'a> Trials<'a> {
     }
 
     /// A state is of no account from now on. If there is no memory to keep it, it is dropped.
-    pub(crate) fn give_back(&mut self, branch: Branch<'a>) {
+    pub(crate) fn give_back(&mut self, branch: Branch<'a>)
+        ensures { self.new.page ≡ self.old.page }
+    {
         let _ = self.spare.push(branch);
     }
 }

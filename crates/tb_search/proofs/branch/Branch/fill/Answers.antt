@@ -1,4 +1,4 @@
-use Rattle.std.proofs.Common.{sym, subst, ◌∙◌, ap, true, FitsSigned, rules}
+use Rattle.std.proofs.Common.{sym, subst, ◌∙◌, ap, true, false, FitsSigned, rules}
 use Rattle.std.specs.Prelude.{IfNone, IfSome}
 use Rattle.std.specs.Int.{w128}
 use Rattle.std.proofs.lemmas.Int.{to_z-of_z}
@@ -22,7 +22,7 @@ returns-in-Ends c =
     let b = c.args.self.now in
     let q = c.fill.new.self in
     let hs = c.fill.new.happened.items in
-    let now : Branch = record { routine = record b.routine { value = q }; ahead = b.ahead } in
+    let now : Branch = record { routine = record b.routine { value = q }; ahead = b.ahead; plain = false } in
     let last : IsFilledLast true b.routine.value c.in-Ends.ending q hs = subst (λ o. Fills true b.routine.value o q hs) c.in-Ends.is (subst (λ (x : Routine). Fills true x c.in_ok-page.field-0 q hs) c.deref_mut-routine.ensures.value c.in_ok-page.ensures) in
     subst (λ o. FillsTo c.args.places.now b o now) (sym c.unfired.ensures)
     (unfired-so c.args.places.now b now q hs c.in-Ends.ending last c.ends_in_kern-kern.result c.ends_in_kern-kern.ensures)
@@ -34,7 +34,7 @@ returns-in-Some c =
     let hs = c.fill.new.happened.items in
     let d = c.serve_unlimited.new.self in
     let page = c.in-Fires.page in
-    let now : Branch = record { routine = record b.routine { value = d }; ahead = b.ahead } in
+    let now : Branch = record { routine = record b.routine { value = d }; ahead = b.ahead; plain = false } in
     let firing : IsFiring true b.routine.value page q hs = subst (λ o. Fills true b.routine.value o q hs) c.in-Fires.is (subst (λ (x : Routine). Fills true x c.in_ok-page.field-0 q hs) c.deref_mut-routine.ensures.value c.in_ok-page.ensures) in
     subst (λ o. FillsTo c.args.places.now b o now) (sym c.unserved.ensures)
     (unserved-so c.args.places.now b now q hs page firing d c.in-Some.ending

@@ -50,7 +50,7 @@ keep-requires-clause-start c =
     let w : Way = record { breaks = c.new.result; demerits = pos 0 } in
     subst (λ (g : Galley). IsStart g c.args.self.now.bound (c.len.result + 1) (record { branch = c.in_ok-first.first; way = w })) (sym c.requires.galley)
     (first-start c.args.galley.now (c.len.result + 1) c.in_ok-first.first w c.in_ok-first.ensures.state (all-items (goal.at.keep-requires-clause-start c).After-len) c.new.ensures.items refl c.args.self.now.bound c.in_ok-first.ensures.branch
-    c.in_ok-first.ensures.items c.requires.low)
+    c.in_ok-first.ensures.items c.in_ok-first.ensures.plain c.requires.low)
 
 pub returns-clause-begun : goal.returns-clause-begun
 returns-clause-begun c =

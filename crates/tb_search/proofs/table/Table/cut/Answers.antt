@@ -1,9 +1,16 @@
-use Rattle.std.proofs.Common.{◌≡◌, sym, ◌∙◌, ap, ◌-◌, false, true, get_or, arith}
+use Rattle.std.proofs.Common.{◌≡◌, sym, subst, ◌∙◌, ap, suc, ◌-◌, false, true, get_or, arith}
+use Rattle.std.specs.Prelude.{IfSome}
 use Rattle.tb_search.specs.declared.table.Start.{Start}
+use Rattle.tb_search.specs.Branches.{shown}
+use Rattle.tb_search.specs.AheadInCode.{items_ahead}
+use Rattle.tb_search.specs.Starts.{IsReached}
+use Rattle.tb_search.specs.Told.{TellsBehind}
 use Rattle.tb_search.proofs.LaterLemmas.{continues-itself}
 use Rattle.tb_search.proofs.CutLemmas.{flags-counted, next-flag, not-place, no-box, cut-over, of-next, get-any}
+use Rattle.tb_search.proofs.StopLemmas.{too-dear, plain-start, beaten-searched}
 use Rattle.tb_search.proofs.SumLemmas.{cost-fits, cost-above, cost-within}
 use Rattle.tb_search.proofs.table.Table.cut.Goals as goal
+use Rattle.tb_search.proofs.table.Table.cut.Goals.{After-is_too_dear}
 
 pub overflow_sub-number : goal.overflow_sub-number
 overflow_sub-number c = let a = c.len.ensures in let b = flags-counted c.args.self.now c.requires.table in let i = c.requires.inside in omega (arith, a, b, i)
@@ -56,6 +63,49 @@ returns-then-not-holds_box-clause-searched c =
     of-next c.args.self.now c.args.left x c.args.self.now s
     (no-box c.args.self.now (c.args.left - 1) x (omega (arith, i, s)) c.args.self.now (sym c.holds_box.ensures ∙ c.if-not-holds_box.true))
 
+-- what is told of the page
+told : (c : After-is_too_dear) → TellsBehind c.in-Some.happened.now (shown c.args.branch.now) (items_ahead c.args.self.now.galley.now (suc (c.args.left - 1)))
+told c =
+    let s = c.requires.some in
+    let next : c.args.left ≡ suc (c.args.left - 1) = omega (arith, s) in
+    let g = c.args.self.now.galley.now in
+    subst (λ n. TellsBehind c.in-Some.happened.now (shown c.args.branch.now) (items_ahead g n)) next
+    (subst (λ o. IfSome o (λ h. TellsBehind h.now (shown c.args.branch.now) (items_ahead g c.args.left))) c.in-Some.is c.requires.told)
+
+reached : (c : After-is_too_dear) → IsReached c.args.self.now.galley.now (suc (c.args.left - 1)) (record { branch = c.args.branch.now; way = c.args.way.now })
+reached c =
+    let s = c.requires.some in
+    let next : c.args.left ≡ suc (c.args.left - 1) = omega (arith, s) in
+    subst (λ n. IsReached c.args.self.now.galley.now n (record { branch = c.args.branch.now; way = c.args.way.now })) next c.requires.reached
+
+pub returns-then-is_too_dear-clause-continues : goal.returns-then-is_too_dear-clause-continues
+returns-then-is_too_dear-clause-continues c = continues-itself c.args.self.now
+
+pub returns-then-is_too_dear-clause-searched : goal.returns-then-is_too_dear-clause-searched
+returns-then-is_too_dear-clause-searched c =
+    let t = c.args.self.now in
+    let i = c.requires.inside in
+    let s = c.requires.some in
+    let at = (goal.at.returns-then-is_too_dear-clause-searched c).After-is_too_dear in
+    let x : Start = record { branch = c.args.branch.now; way = c.args.way.now } in
+    of-next t c.args.left x t s
+    (too-dear t (c.args.left - 1) x (omega (arith, i, s)) c.requires.table (reached at) c.in-Some.happened.now (sym c.holds_box.ensures ∙ c.if-not-holds_box.false) (told at) (c.is_too_dear.ensures c.if-is_too_dear.true))
+
+pub returns-then-is_beaten-clause-continues : goal.returns-then-is_beaten-clause-continues
+returns-then-is_beaten-clause-continues c = continues-itself c.args.self.now
+
+pub returns-then-is_beaten-clause-searched : goal.returns-then-is_beaten-clause-searched
+returns-then-is_beaten-clause-searched c =
+    let t = c.args.self.now in
+    let i = c.requires.inside in
+    let s = c.requires.some in
+    let level = c.requires.level in
+    let at = (goal.at.returns-then-is_beaten-clause-searched c).After-is_too_dear in
+    let x : Start = record { branch = c.args.branch.now; way = c.args.way.now } in
+    of-next t c.args.left x t s
+    (beaten-searched t (c.args.left - 1) x (omega (arith, i, s)) c.requires.table (reached at) c.in-Some.happened.now (sym c.holds_box.ensures ∙ c.if-not-holds_box.false) (told at) (c.is_plain_page-plain.ensures c.if-plain.true)
+    (omega (arith, s, level)) (c.is_beaten.ensures c.if-is_beaten.true) x)
+
 -- ---- a break is put in
 
 pub put_break-requires-clause-number : goal.put_break-requires-clause-number
@@ -75,3 +125,10 @@ put_break-requires-clause-boxed c = sym c.holds_box.ensures ∙ c.if-not-holds_b
 
 pub put_break-requires-clause-high : goal.put_break-requires-clause-high
 put_break-requires-clause-high c = cost-within c.args.way.now.demerits c.args.self.now.bound c.requires.reached.low c.requires.high c.requires.table.range c.if-way-self.false
+
+pub put_break-requires-2-clause-plain : goal.put_break-requires-2-clause-plain
+put_break-requires-2-clause-plain c is =
+    let i = c.requires.inside in
+    let s = c.requires.some in
+    let at = (goal.at.put_break-requires-2-clause-plain c).After-is_too_dear in
+    plain-start c.args.self.now (c.args.left - 1) (record { branch = c.args.branch.now; way = c.args.way.now }) (omega (arith, i, s)) c.requires.table (reached at) c.in-Some.happened.now (sym c.holds_box.ensures ∙ c.if-not-holds_box.false) (told at) (c.is_plain_page-plain.ensures is)

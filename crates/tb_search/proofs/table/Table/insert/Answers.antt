@@ -11,7 +11,7 @@ needless_place-requires-clause-starts c = looked-branches c.args.self.now c.args
 
 pub needless_place-requires-clause-classes : goal.needless_place-requires-clause-classes
 needless_place-requires-clause-classes c =
-    looked-classes c.args.self.now c.args.left c.requires.left c.requires.table c.index.result.now c.index.ensures c.as_slice.result.now c.as_slice.ensures.value c.args.start c.requires.start
+    looked-classes c.args.self.now c.args.left c.requires.left c.requires.table c.index.result.now c.index.ensures c.as_slice.result.now c.as_slice.ensures.value c.args.start c.requires.start.classes
 
 pub returns-in-Some-clause-table : goal.returns-in-Some-clause-table
 returns-in-Some-clause-table c =

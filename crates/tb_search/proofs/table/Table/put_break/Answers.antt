@@ -1,6 +1,8 @@
 use Rattle.std.proofs.Common.{◌≡◌, sym, ◌∙◌, ap, subst, ◌-◌, ◌++◌, [], ◌∷◌, reverse}
 use Rattle.std.specs.Prelude.{pos, ◌+ℤ◌}
 use Rattle.tb_rate.specs.Places.{place_penalties}
+use Rattle.tb_steps.specs.Run.{goes_on}
+use Rattle.tb_best.specs.PlanDemerits.{unlimited_step}
 use Rattle.tb_search.specs.declared.table.Start.{Start}
 use Rattle.tb_search.specs.Branches.{shown, IsBranch}
 use Rattle.tb_search.specs.FilledBranches.{HasFired, FillsTo}
@@ -8,9 +10,8 @@ use Rattle.tb_search.specs.AheadInCode.{items_ahead}
 use Rattle.tb_search.specs.Starts.{IsReached}
 use Rattle.tb_search.specs.Continues.{IsSearchedAsGoodBy}
 use Rattle.tb_search.proofs.AheadLemmas.{next_ahead}
-use Rattle.tb_search.proofs.ClosedLemmas.{fired-copied}
 use Rattle.tb_search.proofs.LaterLemmas.{continues-itself}
-use Rattle.tb_search.proofs.ReachedWays.{reached-cut, reached-fired}
+use Rattle.tb_search.proofs.ReachedWays.{shown-cut, reached-cut, reached-fired, reached-flag}
 use Rattle.tb_search.proofs.SearchSteps.{if-both}
 use Rattle.tb_search.proofs.SumLemmas.{paid-above, paid-fits, paid-sum, paid-high}
 use Rattle.tb_search.proofs.CutLemmas.{IsCutBefore, cut-before, read-back, of-next, cut-fired, cut-paid-over, cut-unfired}
@@ -31,58 +32,56 @@ fired c =
     subst (λ f. FillsTo (place_penalties c.args.self.now.galley.now.items) c.cut.new.self f c.fill.new.self) c.in-Fired.is
     (subst (λ ps. FillsTo ps c.cut.new.self c.in_ok-demerits.field-0 c.fill.new.self) (c.as_slice-2.ensures.value ∙ c.requires.table.penalties) c.in_ok-demerits.ensures)
 
-pub copy-requires : goal.copy-requires
-copy-requires c = (fired (goal.at.copy-requires c).In-Fired).branch
-
 pub overflow_add-way-in-Fired : goal.overflow_add-way-in-Fired
 overflow_add-way-in-Fired c =
     paid-fits c.args.way.now.demerits c.args.self.now.bound c.in-Fired.demerits c.requires.reached.low c.requires.high c.requires.table.range (fired (goal.at.overflow_add-way-in-Fired c).In-Fired).low (fired (goal.at.overflow_add-way-in-Fired c).In-Fired).high
 
-pub settle-requires-clause-reached : goal.settle-requires-clause-reached
-settle-requires-clause-reached c =
+pub go_on-requires-clause-reached : goal.go_on-requires-clause-reached
+go_on-requires-clause-reached c =
     let g = c.args.self.now.galley.now in
     let k = c.args.left - 1 in
     let x : Start = record { branch = c.args.branch.now; way = c.args.way.now } in
     let a = c.args.way.now.demerits in
     let breaks = c.in_ok-breaks.breaks in
-    let m = made (goal.at.settle-requires-clause-reached c).After-fill in
-    let copy = c.in_ok-next-in-Fired.ensures in
-    let f = fired-copied (place_penalties c.args.self.now.galley.now.items) c.in-Fired.demerits c.cut.new.self c.fill.new.self c.in_ok-next-in-Fired.next copy.branch copy.state copy.ahead (fired (goal.at.settle-requires-clause-reached c).In-Fired) in
+    let m = made (goal.at.go_on-requires-clause-reached c).After-fill in
+    let f = fired (goal.at.go_on-requires-clause-reached c).In-Fired in
     let is : IsBranch c.cut.new.self = c.in_ok-cut.ensures.branch c.if-not-branch.false in
     let y : Start = record { branch = c.cut.new.self; way = record { breaks = breaks; demerits = a +ℤ pos 1000 } } in
     let more : breaks.items ≡ c.args.way.now.breaks.items ++ (next_ahead g k).number ∷ [] =
     c.in_ok-breaks.ensures ∙ (λ i. c.as_slice.ensures.value i ++ sym m.numbered i ∷ [])
     in
     let cut = reached-cut g k x c.cut.new.self breaks m.some m.reached m.place m.taken is more in
-    subst (λ e. IsReached g k (record { branch = c.in_ok-next-in-Fired.next; way = record { breaks = breaks; demerits = e } }))
+    let same = shown-cut g k x c.cut.new.self m.some m.reached m.place m.taken in
+    reached-flag g k c.fill.new.self c.args.plain _
+    (subst (λ e. IsReached g k (record { branch = c.fill.new.self; way = record { breaks = breaks; demerits = e } }))
     (sym (paid-sum a c.args.self.now.bound c.in-Fired.demerits c.requires.reached.low c.requires.high c.requires.table.range f.low f.high))
-    (reached-fired g k y c.in_ok-next-in-Fired.next c.in-Fired.demerits cut f)
+    (reached-fired g k y c.fill.new.self c.in-Fired.demerits cut f))
+    (λ set. c.requires.plain set f.events f.records (shown c.fill.new.self) (subst (λ z. unlimited_step z ≡ goes_on f.events f.records (shown c.fill.new.self)) same f.step))
 
-pub settle-requires-clause-high : goal.settle-requires-clause-high
-settle-requires-clause-high c =
-    paid-high c.args.way.now.demerits c.args.self.now.bound c.in-Fired.demerits c.requires.reached.low c.requires.high c.requires.table.range (fired (goal.at.settle-requires-clause-high c).In-Fired).low (fired (goal.at.settle-requires-clause-high c).In-Fired).high
+pub go_on-requires-clause-high : goal.go_on-requires-clause-high
+go_on-requires-clause-high c =
+    paid-high c.args.way.now.demerits c.args.self.now.bound c.in-Fired.demerits c.requires.reached.low c.requires.high c.requires.table.range (fired (goal.at.go_on-requires-clause-high c).In-Fired).low (fired (goal.at.go_on-requires-clause-high c).In-Fired).high
 
-pub returns-in_ok-next-in-Fired-clause-searched : goal.returns-in_ok-next-in-Fired-clause-searched
-returns-in_ok-next-in-Fired-clause-searched c =
+pub returns-else-way-self-clause-searched : goal.returns-else-way-self-clause-searched
+returns-else-way-self-clause-searched c =
     let t = c.args.self.now in
-    let u = c.settle.new.self in
+    let u = c.go_on.new.self in
     let k = c.args.left - 1 in
     let x : Start = record { branch = c.args.branch.now; way = c.args.way.now } in
     let a = c.args.way.now.demerits in
-    let m = made (goal.at.returns-in_ok-next-in-Fired-clause-searched c).After-fill in
-    let copy = c.in_ok-next-in-Fired.ensures in
-    let f = fired-copied (place_penalties t.galley.now.items) c.in-Fired.demerits c.cut.new.self c.fill.new.self c.in_ok-next-in-Fired.next copy.branch copy.state copy.ahead (fired (goal.at.returns-in_ok-next-in-Fired-clause-searched c).In-Fired) in
+    let m = made (goal.at.returns-else-way-self-clause-searched c).After-fill in
+    let f = fired (goal.at.returns-else-way-self-clause-searched c).In-Fired in
     let sum = paid-sum a t.bound c.in-Fired.demerits c.requires.reached.low c.requires.high c.requires.table.range f.low f.high in
     let back : reverse c.in_ok-breaks.breaks.items ≡ (next_ahead t.galley.now k).number ∷ reverse c.args.way.now.breaks.items =
     read-back c.in_ok-breaks.breaks.items c.args.way.now.breaks.items (next_ahead t.galley.now k).number c.args.number
     (c.in_ok-breaks.ensures ∙ ap (λ bs. bs ++ c.args.number ∷ []) c.as_slice.ensures.value) m.numbered
     in
-    if-both c.settle.result _ _ _ c.settle.ensures.continues c.settle.ensures.searched
+    if-both c.go_on.result _ _ _ c.go_on.ensures.continues c.go_on.ensures.searched
     (λ on searched.
     of-next t c.args.left x u c.requires.some
-    (cut-fired t k x m.some m.reached m.place c.cut.new.self m.taken u c.in_ok-next-in-Fired.next c.in-Fired.demerits on.later f
-    (subst (λ bs. IsSearchedAsGoodBy u (shown c.in_ok-next-in-Fired.next) (items_ahead t.galley.now k) ((a +ℤ pos 1000) +ℤ c.in-Fired.demerits) bs) back
-    (subst (λ e. IsSearchedAsGoodBy u (shown c.in_ok-next-in-Fired.next) (items_ahead t.galley.now k) e (reverse c.in_ok-breaks.breaks.items)) sum searched))))
+    (cut-fired t k x m.some m.reached m.place c.cut.new.self m.taken u c.fill.new.self c.in-Fired.demerits on.later f
+    (subst (λ bs. IsSearchedAsGoodBy u (shown c.fill.new.self) (items_ahead t.galley.now k) ((a +ℤ pos 1000) +ℤ c.in-Fired.demerits) bs) back
+    (subst (λ e. IsSearchedAsGoodBy u (shown c.fill.new.self) (items_ahead t.galley.now k) e (reverse c.in_ok-breaks.breaks.items)) sum searched))))
 
 -- ---- it costs too much
 

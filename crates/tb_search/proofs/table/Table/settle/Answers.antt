@@ -1,4 +1,4 @@
-use Rattle.std.proofs.Common.{refl, sym, subst, ℤ, ◌<◌, ◌≤◌, length, arith}
+use Rattle.std.proofs.Common.{refl, sym, subst, ◌<◌, length, arith}
 use Rattle.std.proofs.lemmas.Result.{on_ok_weaker}
 use Rattle.std.specs.Prelude.{pos, ◌≤ℤ◌}
 use Rattle.tb_rate.specs.Places.{place_penalties}
@@ -43,7 +43,7 @@ within c = within-bound c.fires.way.demerits c.fires.self.bound c.fires.invarian
 copied : (c : goal.After-struct_told-in-Fired-1) → HasFired (place_penalties c.fires.self.galley.now.items) c.in-Fired.demerits c.fires.branch c.copy_from.new.self
 copied c =
     let copy = c.in_ok-copy_from-in-Fired.ensures in
-    fired-copied (place_penalties c.fires.self.galley.now.items) c.in-Fired.demerits c.fires.branch c.page.new.trials.page c.copy_from.new.self copy.branch copy.state copy.ahead (fired c)
+    fired-copied (place_penalties c.fires.self.galley.now.items) c.in-Fired.demerits c.fires.branch c.page.new.trials.page c.copy_from.new.self copy.branch copy.state copy.ahead copy.plain (fired c)
 
 pub copy_from-requires : goal.copy_from-requires
 copy_from-requires c =

@@ -1,5 +1,4 @@
 use Rattle.std.proofs.Common.{◌≡◌, ◌∙◌, subst, inl, inr, ◌-◌, arith}
-use Rattle.std.proofs.lemmas.Result.{on_ok_weaker}
 use Rattle.tb_rate.specs.Places.{place_penalties}
 use Rattle.tb_best.specs.PlanDemerits.{unlimited_step}
 use Rattle.tb_search.specs.declared.table.Start.{Start}
@@ -7,10 +6,9 @@ use Rattle.tb_search.specs.Branches.{shown}
 use Rattle.tb_search.specs.FilledBranches.{HasFired, IsQuiet, IsFull, IsRefused, IsRefusal, FillsTo}
 use Rattle.tb_search.specs.Starts.{IsReached}
 use Rattle.tb_search.specs.Continues.{IsTakenOn}
-use Rattle.tb_search.proofs.ClosedLemmas.{fired-copied}
 use Rattle.tb_search.proofs.ExpandLemmas.{none-taken, next-taken-on, inside-now, level-now, taken-refused, taken-ended, taken-left, summed-fits, summed-high, summed-reached, summed-searched}
 use Rattle.tb_search.proofs.ReachedWays.{start-reached, end-rated}
-use Rattle.tb_search.proofs.SearchSteps.{if-both, full-may}
+use Rattle.tb_search.proofs.SearchSteps.{full-may}
 use Rattle.tb_search.proofs.table.Table.step_on.Goals as goal
 use Rattle.tb_search.proofs.table.Table.step_on.Goals.{Else-not-branch}
 
@@ -64,49 +62,37 @@ overflow_add-way c =
     let fired : HasFired places c.in-Fired.demerits c.take.new.self c.page.new.trials.page = subst (λ f. FillsTo places c.take.new.self f c.page.new.trials.page) c.in-Fired.is c.in_ok-filled.ensures in
     summed-fits c.args.self.now c.args.left c.args.start c.cut.new.self (c.items.left - 1) (after e) (taken e) c.in_ok-cut.ensures.table.range c.page.new.trials.page c.in-Fired.demerits fired
 
-pub copy-requires : goal.copy-requires
-copy-requires c =
+pub go_on-requires-clause-reached : goal.go_on-requires-clause-reached
+go_on-requires-clause-reached c =
+    let e = (goal.at.go_on-requires-clause-reached c).Else-not-branch in
     let places = place_penalties c.cut.new.self.galley.now.items in
     let fired : HasFired places c.in-Fired.demerits c.take.new.self c.page.new.trials.page = subst (λ f. FillsTo places c.take.new.self f c.page.new.trials.page) c.in-Fired.is c.in_ok-filled.ensures in
-    fired.branch
+    summed-reached c.args.self.now c.args.left c.args.start c.cut.new.self (c.items.left - 1) (after e) (taken e) c.in_ok-cut.ensures.table.range c.page.new.trials.page c.in-Fired.demerits fired
 
-pub settle-requires-clause-reached : goal.settle-requires-clause-reached
-settle-requires-clause-reached c =
-    let e = (goal.at.settle-requires-clause-reached c).Else-not-branch in
+pub go_on-requires-clause-high : goal.go_on-requires-clause-high
+go_on-requires-clause-high c =
+    let e = (goal.at.go_on-requires-clause-high c).Else-not-branch in
     let places = place_penalties c.cut.new.self.galley.now.items in
     let fired : HasFired places c.in-Fired.demerits c.take.new.self c.page.new.trials.page = subst (λ f. FillsTo places c.take.new.self f c.page.new.trials.page) c.in-Fired.is c.in_ok-filled.ensures in
-    let copy = c.in_ok-next-in-Fired.ensures in
-    let next : HasFired places c.in-Fired.demerits c.take.new.self c.in_ok-next-in-Fired.next = fired-copied places c.in-Fired.demerits c.take.new.self c.page.new.trials.page c.in_ok-next-in-Fired.next copy.branch copy.state copy.ahead fired in
-    summed-reached c.args.self.now c.args.left c.args.start c.cut.new.self (c.items.left - 1) (after e) (taken e) c.in_ok-cut.ensures.table.range c.in_ok-next-in-Fired.next c.in-Fired.demerits next
+    summed-high c.args.self.now c.args.left c.args.start c.cut.new.self (c.items.left - 1) (after e) (taken e) c.in_ok-cut.ensures.table.range c.page.new.trials.page c.in-Fired.demerits fired
 
-pub settle-requires-clause-high : goal.settle-requires-clause-high
-settle-requires-clause-high c =
-    let e = (goal.at.settle-requires-clause-high c).Else-not-branch in
-    let places = place_penalties c.cut.new.self.galley.now.items in
-    let fired : HasFired places c.in-Fired.demerits c.take.new.self c.page.new.trials.page = subst (λ f. FillsTo places c.take.new.self f c.page.new.trials.page) c.in-Fired.is c.in_ok-filled.ensures in
-    let copy = c.in_ok-next-in-Fired.ensures in
-    let next : HasFired places c.in-Fired.demerits c.take.new.self c.in_ok-next-in-Fired.next = fired-copied places c.in-Fired.demerits c.take.new.self c.page.new.trials.page c.in_ok-next-in-Fired.next copy.branch copy.state copy.ahead fired in
-    summed-high c.args.self.now c.args.left c.args.start c.cut.new.self (c.items.left - 1) (after e) (taken e) c.in_ok-cut.ensures.table.range c.in_ok-next-in-Fired.next c.in-Fired.demerits next
-
-pub settle-requires-clause-level : goal.settle-requires-clause-level
-settle-requires-clause-level c =
+pub go_on-requires-clause-level : goal.go_on-requires-clause-level
+go_on-requires-clause-level c =
     let level = level-now c.args.self.now c.args.left c.args.start c.items.self c.items.left (record { branch = c.items.branch; way = c.args.start.way }) c.items.invariant.on c.requires.level in
     let levels = c.in_ok-cut.ensures.continues.levels in
     let some = c.items-test.true in
     omega (arith, level, levels, some)
 
 pub returns-in-Fired-clause-levels : goal.returns-in-Fired-clause-levels
-returns-in-Fired-clause-levels c = on_ok_weaker c.settle.result (λ on. on.levels ∙ (taken (goal.at.returns-in-Fired-clause-levels c).Else-not-branch).levels) c.settle.ensures.continues
+returns-in-Fired-clause-levels c = c.in_ok-go_on-in-Fired.ensures.continues.levels ∙ (taken (goal.at.returns-in-Fired-clause-levels c).Else-not-branch).levels
 
 pub returns-in-Fired-clause-searched : goal.returns-in-Fired-clause-searched
 returns-in-Fired-clause-searched c =
     let e = (goal.at.returns-in-Fired-clause-searched c).Else-not-branch in
     let places = place_penalties c.cut.new.self.galley.now.items in
     let fired : HasFired places c.in-Fired.demerits c.take.new.self c.page.new.trials.page = subst (λ f. FillsTo places c.take.new.self f c.page.new.trials.page) c.in-Fired.is c.in_ok-filled.ensures in
-    let copy = c.in_ok-next-in-Fired.ensures in
-    let next : HasFired places c.in-Fired.demerits c.take.new.self c.in_ok-next-in-Fired.next = fired-copied places c.in-Fired.demerits c.take.new.self c.page.new.trials.page c.in_ok-next-in-Fired.next copy.branch copy.state copy.ahead fired in
-    if-both c.settle.result _ _ _ c.settle.ensures.continues c.settle.ensures.searched
-    (λ on searched. summed-searched c.args.self.now c.args.left c.args.start c.cut.new.self (c.items.left - 1) (after e) (taken e) c.in_ok-cut.ensures.table.range c.in_ok-next-in-Fired.next c.in-Fired.demerits next c.settle.new.self on searched)
+    summed-searched c.args.self.now c.args.left c.args.start c.cut.new.self (c.items.left - 1) (after e) (taken e) c.in_ok-cut.ensures.table.range c.page.new.trials.page c.in-Fired.demerits fired c.go_on.new.self
+    c.in_ok-go_on-in-Fired.ensures.continues c.in_ok-go_on-in-Fired.ensures.searched
 
 -- ---- the run ends well
 
