@@ -12,6 +12,7 @@ use Rattle.tb_galley.specs.declared.Cause.TheVariants as causes
 use Rattle.tb_galley.specs.declared.Fault.{Fault}
 use Rattle.tb_galley.specs.declared.fields.At.{At}
 use Rattle.tb_node.specs.declared.Area.TheVariants as areas
+use Rattle.tb_node.specs.declared.Float.{Float}
 use Rattle.tb_param.specs.declared.fields.Field.{Field}
 use Rattle.tb_param.specs.declared.Value.{Value}
 use Rattle.tb_galley.specs.declared.ItemKind.{ItemKind}
@@ -20,11 +21,11 @@ use Rattle.tb_galley.specs.declared.LeafKind.{LeafKind}
 use Rattle.tb_galley.specs.declared.LeafKind.TheVariants as leaves
 use Rattle.tb_galley.specs.declared.contents.Content.{Content}
 use Rattle.tb_galley.specs.declared.contents.Content.TheVariants as contents
-use Rattle.tb_galley.specs.Words.{LineWord, hbox, skip, kern, penalty, setting, foot, endfoot, newpage, suppressfloats, Phase, at_start, among_sets, among_items, after_clear, after_two, in_foot, ended, word_of, is_leaf_word, Known}
+use Rattle.tb_galley.specs.Words.{LineWord, hbox, skip, kern, penalty, setting, foot, endfoot, float, newpage, clearpage, onecolumn, twocolumn, suppressfloats, Phase, at_start, among_sets, among_items, after_clear, after_two, in_foot, ended, word_of, is_leaf_word, Known}
 use Rattle.tb_galley.specs.Faults.{asked_place, place_causes, cause_if}
-use Rattle.tb_galley.specs.FieldReader.{Left, ◌>>=◌, mapped, finished, end_left, settled, at_fault, dimension_left, range_left, sized_left, glue_left, set_left, area_left, foot_left, named_class, content_left}
+use Rattle.tb_galley.specs.FieldReader.{Left, ◌>>=◌, mapped, finished, end_left, settled, at_fault, dimension_left, range_left, sized_left, glue_left, float_left, set_left, area_left, foot_left, named_class, content_left}
 use Rattle.tb_galley.specs.Line.{Said, said, first_of, content_line, line_left}
-use Rattle.tb_galley.specs.GalleyReader.{State, known_in, phase_past, item_phase, foot_phase, endfoot_phase, takes_leaf, takes_setting, past_word, IsBoxLine, IsLineOf, IsBareItem, with_leaf, with_bare_item, with_setting, with_foot_begun, with_foot_ended, past_said, said_first, said_unless, take_said}
+use Rattle.tb_galley.specs.GalleyReader.{State, known_in, phase_past, item_phase, clear_phase, two_phase, foot_phase, endfoot_phase, takes_leaf, takes_item, takes_setting, past_word, IsBoxLine, IsLineOf, IsBareItem, with_leaf, with_item_line, with_setting, with_foot_begun, with_foot_ended, past_said, said_first, said_unless, take_said}
 
 -- ---- what is read to the end, as something else
 
@@ -208,6 +209,44 @@ set_step s first free line few f v h =
     ∙ ap (λ q. said_unless s (line_left q (known_in s.draft) s.count (s.lines + 1) (115 ∷ 101 ∷ 116 ∷ 32 ∷ l.rest))) phase
     ∙ ap (said_unless s) (set_line_left (known_in s.draft) s.count (s.lines + 1) l.rest place.1 l.few (contents.Set f v) l.read))
 
+-- ---- a float
+
+one_more : (p : Phase) (count : ℕ) → takes_item p count ≡ true → first_of (cause_if (nat_le 100000 count) causes.Items) ≡ None
+one_more among_items count h = ap (λ t. first_of (cause_if t causes.Items)) (many count h)
+one_more after_clear count h = ap (λ t. first_of (cause_if t causes.Items)) (many count h)
+one_more after_two count h = ap (λ t. first_of (cause_if t causes.Items)) (many count h)
+one_more p count h = cc
+
+float_placed : (p : Phase) (a : Option SetPlace) (count : ℕ) → takes_item p count ≡ true → first_of (place_causes p a (Some float)) ≡ None
+float_placed among_items a count h = refl
+float_placed after_clear a count h = refl
+float_placed after_two a count h = refl
+float_placed p a count h = cc
+
+phase_behind_item : (p : Phase) (count : ℕ) → takes_item p count ≡ true → item_phase p ≡ among_items
+phase_behind_item among_items count h = refl
+phase_behind_item after_clear count h = refl
+phase_behind_item after_two count h = refl
+phase_behind_item p count h = cc
+
+float_line_left : (p : Phase) (k : Known) (count n : ℕ) (rest : List ℕ) → takes_item p count ≡ true → length (102 ∷ 108 ∷ 111 ∷ 97 ∷ 116 ∷ 32 ∷ rest) ≤ 255 → (f : Float × Bool)
+    → finished (float_left k.version n (past_word rest)) ≡ Ok f → line_left p k count n (102 ∷ 108 ∷ 111 ∷ 97 ∷ 116 ∷ 32 ∷ rest) ≡ Ok (Some (float, contents.Item (items.Float f.0 f.1)))
+unfolding line_left content_line content_left word_of
+float_line_left p k count n rest free few f read =
+    let asked : Option SetPlace = asked_place k.version (fields_of rest) in
+    ap (λ t. if t then at_fault 0 causes.LineLength else placed (first_of (place_causes p asked (Some float))) (first_of (cause_if (nat_le 100000 count) causes.Items)) (said float (finished (content_left k n float (past_word rest))))) (short (102 ∷ 108 ∷ 111 ∷ 97 ∷ 116 ∷ 32 ∷ rest) few)
+    ∙ ap (λ o. placed o (first_of (cause_if (nat_le 100000 count) causes.Items)) (said float (finished (content_left k n float (past_word rest))))) (float_placed p asked count free)
+    ∙ ap (λ o. placed None o (said float (finished (content_left k n float (past_word rest))))) (one_more p count free)
+    ∙ ap (said float) (finished_as (λ f. contents.Item (items.Float f.0 f.1)) (float_left k.version n (past_word rest)) f read)
+
+pub float_step : (s : State) → s.first ≡ None → takes_item s.phase s.count ≡ true → (line : List ℕ) → length line ≤ 255 → (f : Float × Bool)
+    → IsLineOf (codes "float") (float_left s.draft.version (s.lines + 1)) line f → with_item_line s (items.Float f.0 f.1) ≡ take_said s line
+float_step s first free line few f h =
+    let l = spaced (codes "float") (float_left s.draft.version (s.lines + 1)) line few f h in
+    ap (λ p. record (with_item_line s (items.Float f.0 f.1)) { phase = p }) (sym (phase_behind_item s.phase s.count free))
+    ∙ sym (ap (take_said s) l.begins ∙ ap (said_first s (102 ∷ 108 ∷ 111 ∷ 97 ∷ 116 ∷ 32 ∷ l.rest)) first
+    ∙ ap (said_unless s) (float_line_left s.phase (known_in s.draft) s.count (s.lines + 1) l.rest free l.few f l.read))
+
 -- ---- one word alone
 
 foot_left_alone : (k : Known) (n count : ℕ) → takes_leaf among_items count ≡ true → line_left among_items k count n (codes "foot") ≡ Ok (Some (foot, contents.Foot 254))
@@ -225,6 +264,21 @@ newpage_left_alone : (k : Known) (n count : ℕ) → takes_leaf among_items coun
 unfolding line_left content_line content_left word_of
 newpage_left_alone k n count free =
     ap (λ o. placed None o (said newpage (finished (content_left k n newpage (past_word []))))) (items_left among_items count free)
+
+clearpage_left_alone : (k : Known) (n count : ℕ) → takes_leaf among_items count ≡ true → line_left among_items k count n (codes "clearpage") ≡ Ok (Some (clearpage, contents.Item items.ClearPage))
+unfolding line_left content_line content_left word_of
+clearpage_left_alone k n count free =
+    ap (λ o. placed None o (said clearpage (finished (content_left k n clearpage (past_word []))))) (items_left among_items count free)
+
+onecolumn_left_alone : (k : Known) (n count : ℕ) → takes_leaf among_items count ≡ true → line_left among_items k count n (codes "onecolumn") ≡ Ok (Some (onecolumn, contents.Item items.OneColumn))
+unfolding line_left content_line content_left word_of
+onecolumn_left_alone k n count free =
+    ap (λ o. placed None o (said onecolumn (finished (content_left k n onecolumn (past_word []))))) (items_left among_items count free)
+
+twocolumn_left_alone : (k : Known) (n count : ℕ) → takes_leaf among_items count ≡ true → line_left among_items k count n (codes "twocolumn") ≡ Ok (Some (twocolumn, contents.Item items.TwoColumn))
+unfolding line_left content_line content_left word_of
+twocolumn_left_alone k n count free =
+    ap (λ o. placed None o (said twocolumn (finished (content_left k n twocolumn (past_word []))))) (items_left among_items count free)
 
 suppressfloats_left_alone : (k : Known) (n count : ℕ) → takes_leaf among_items count ≡ true → line_left among_items k count n (codes "suppressfloats") ≡ Ok (Some (suppressfloats, contents.Item (items.Suppress areas.All)))
 unfolding line_left content_line content_left word_of area_left
@@ -252,14 +306,23 @@ module _ (s : State) (first : s.first ≡ None) (free : takes_leaf s.phase s.cou
 
   bare : (bytes line : List ℕ) (w : LineWord) (kind : ItemKind) → s.phase ≡ among_items → line ≡ bytes
       → line_left among_items (known_in s.draft) s.count (s.lines + 1) bytes ≡ Ok (Some (w, contents.Item kind))
-      → past_said s (Some (w, contents.Item kind)) ≡ record (with_bare_item s kind) { phase = item_phase s.phase } → with_bare_item s kind ≡ take_said s line
-  bare bytes line w kind phase e read past =
-      ap (λ q. record (with_bare_item s kind) { phase = q }) (sym (same_phase s.phase s.count free)) ∙ sym past
-      ∙ said_by bytes line among_items w (contents.Item kind) phase e read
+      → with_item_line s kind ≡ past_said s (Some (w, contents.Item kind)) → with_item_line s kind ≡ take_said s line
+  bare bytes line w kind phase e read past = past ∙ said_by bytes line among_items w (contents.Item kind) phase e read
 
-  pub bare_step : (line : List ℕ) (kind : ItemKind) → s.phase ≡ among_items → IsBareItem line kind → with_bare_item s kind ≡ take_said s line
+  pub bare_step : (line : List ℕ) (kind : ItemKind) → s.phase ≡ among_items → IsBareItem line kind → with_item_line s kind ≡ take_said s line
   bare_step line items.NewPage phase e =
-      bare (codes "newpage") line newpage items.NewPage phase e (newpage_left_alone (known_in s.draft) (s.lines + 1) s.count (subst (λ p. takes_leaf p s.count ≡ true) phase free)) refl
+      bare (codes "newpage") line newpage items.NewPage phase e (newpage_left_alone (known_in s.draft) (s.lines + 1) s.count (subst (λ p. takes_leaf p s.count ≡ true) phase free))
+      (ap (λ p. record (with_item_line s items.NewPage) { phase = item_phase p }) (sym phase))
+  bare_step line items.ClearPage phase e =
+      bare (codes "clearpage") line clearpage items.ClearPage phase e (clearpage_left_alone (known_in s.draft) (s.lines + 1) s.count (subst (λ p. takes_leaf p s.count ≡ true) phase free))
+      (ap (λ p. record (with_item_line s items.ClearPage) { phase = clear_phase p }) (sym phase))
+  bare_step line items.OneColumn phase e =
+      bare (codes "onecolumn") line onecolumn items.OneColumn phase e (onecolumn_left_alone (known_in s.draft) (s.lines + 1) s.count (subst (λ p. takes_leaf p s.count ≡ true) phase free))
+      (ap (λ p. record (with_item_line s items.OneColumn) { phase = clear_phase p }) (sym phase))
+  bare_step line items.TwoColumn phase e =
+      bare (codes "twocolumn") line twocolumn items.TwoColumn phase e (twocolumn_left_alone (known_in s.draft) (s.lines + 1) s.count (subst (λ p. takes_leaf p s.count ≡ true) phase free))
+      (ap (λ p. record (with_item_line s items.TwoColumn) { phase = two_phase p }) (sym phase))
   bare_step line (items.Suppress areas.All) phase e =
-      bare (codes "suppressfloats") line suppressfloats (items.Suppress areas.All) phase e (suppressfloats_left_alone (known_in s.draft) (s.lines + 1) s.count (subst (λ p. takes_leaf p s.count ≡ true) phase free)) refl
+      bare (codes "suppressfloats") line suppressfloats (items.Suppress areas.All) phase e (suppressfloats_left_alone (known_in s.draft) (s.lines + 1) s.count (subst (λ p. takes_leaf p s.count ≡ true) phase free))
+      (ap (λ p. record (with_item_line s (items.Suppress areas.All)) { phase = item_phase p }) (sym phase))
   bare_step line _ phase e = absurd e

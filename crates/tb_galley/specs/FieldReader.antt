@@ -141,6 +141,11 @@ range_left low high c l = field_read (range_slot low high c) integer_in l
 unfoldable pub choice_left : List ℕ → List ℕ → Cause → Left → Result (Bool × Left) At
 choice_left first second c l = field_read (word_slot (first ∷ second ∷ []) c) (λ f. bytes_eq f second) l
 
+-- a word ends with the line or before a space
+abbrev pub ends_word : List ℕ → Bool
+ends_word [] = true
+ends_word (b ∷ bs) = b == 32
+
 -- this word
 unfoldable pub word_left : List ℕ → Cause → Left → Result (Bool × Left) At
 word_left text c l = field_read (word_slot (text ∷ []) c) (λ f. bytes_eq f text) l

@@ -30,6 +30,7 @@ pub enum Content {
 }
 
 // Whether `nobreak` is there, which may be from version 3 on.
+#[inline(always)]
 #[tactic(auto, unfolding(crate::specs::FieldReader::nobreak_left))]
 fn nobreak(version: u8, fields: &mut Fields<'_>) -> Result<bool, At>
     ensures { Gives result (left_of fields.new) (nobreak_left version (left_of fields.old)) }
@@ -40,16 +41,18 @@ fn nobreak(version: u8, fields: &mut Fields<'_>) -> Result<bool, At>
     fields.word(b"nobreak", Cause::UnknownWord)
 }
 
+/// A float in a galley of this version, and whether it is between paragraphs.
+#[inline(always)]
 #[tactic(auto, unfolding(crate::specs::FieldReader::float_left))]
-fn float(version: u8, line: u32, fields: &mut Fields<'_>) -> Result<(Float, bool), At>
+pub(crate) fn float(version: u8, line: u32, fields: &mut Fields<'_>) -> Result<(Float, bool), At>
     ensures { Gives result (left_of fields.new) (float_left version line (left_of fields.old)) }
 {
     let name = fields.name()?;
     let class = fields.integer_within(1, 26, Cause::Class)?;
-    let wide = fields.choice(b"single", b"double", Cause::UnknownWord)?;
+    let wide = fields.is_double()?;
     let (places, bang) = fields.places()?;
     let height = fields.dimension_from(0, Cause::Dimension)?;
-    let vert = fields.choice(b"par", b"vert", Cause::UnknownWord)?;
+    let vert = fields.is_vert()?;
     let nobreak = nobreak(version, fields)?;
     Ok((
         Float {
@@ -74,7 +77,7 @@ fn margin(version: u8, line: u32, fields: &mut Fields<'_>) -> Result<(Margin, bo
     let (name, left_height, left_depth) = fields.sized()?;
     let right_height = fields.dimension_from(0, Cause::Dimension)?;
     let right_depth = fields.dimension_from(0, Cause::Dimension)?;
-    let vert = fields.choice(b"par", b"vert", Cause::UnknownWord)?;
+    let vert = fields.is_vert()?;
     let nobreak = nobreak(version, fields)?;
     Ok((
         Margin {

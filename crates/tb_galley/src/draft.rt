@@ -175,6 +175,8 @@ impl Draft {
     }
 }
 
+// It is inlined, so that of a kern only the width is copied.
+#[inline(always)]
 fn item_kind(leaf: LeafKind) -> ItemKind
     ensures { result ≡ item_kind leaf }
 {

@@ -2,16 +2,16 @@
 //! its word.
 ghost use Rattle.std.specs.Prelude.{◌≡◌, ◌≤◌, ◌∷◌, negsuc, pos, true, codes, length, IfSome, Ok};
 ghost use Rattle.tb_text.specs.Lines.{begins_with, fields_of, is_skipped};
-ghost use Rattle.tb_galley.specs.FieldReader.{left_of, finished, dimension_left, range_left, glue_left, sized_left, set_left};
+ghost use Rattle.tb_galley.specs.FieldReader.{left_of, finished, dimension_left, range_left, glue_left, sized_left, float_left, set_left};
 ghost use Rattle.tb_galley.specs.declared.contents.Content.TheVariants.{Set};
-ghost use Rattle.tb_galley.specs.GalleyReader.{takes_leaf, takes_setting, past_word, IsBoxLine, IsLineOf, IsBareItem};
+ghost use Rattle.tb_galley.specs.GalleyReader.{takes_leaf, takes_item, takes_setting, past_word, bare_item, phase_behind, IsBoxLine, IsLineOf, IsBareItem};
 
-use crate::contents::{Content, set};
+use crate::contents::{Content, float, set};
 use crate::fields::Fields;
 use crate::glue_words::begins_with_space;
 use crate::words::{MAX_ITEMS, Phase};
-use crate::{Cause, ItemKind};
-use tb_node::{Area, Name};
+use crate::{Cause, ItemKind, Word};
+use tb_node::{Float, Name};
 use tb_param::{Field, Value};
 use tb_scaled::Glue;
 
@@ -21,6 +21,16 @@ pub(crate) fn takes_leaf(phase: Phase, count: u32) -> bool
 {
     match phase {
         Phase::Items | Phase::Inside => count < MAX_ITEMS,
+        _ => false,
+    }
+}
+
+/// Whether an item of one line that needs no other before it may come here, outside a footnote.
+pub(crate) fn takes_item(phase: Phase, count: u32) -> bool
+    ensures { result ≡ takes_item phase count }
+{
+    match phase {
+        Phase::Items | Phase::AfterClear | Phase::AfterTwo => count < MAX_ITEMS,
         _ => false,
     }
 }
@@ -86,6 +96,16 @@ fn after_penalty(line: &[u8]) -> Option<&[u8]>
         [b'p', b'e', b'n', b'a', b'l', b't', b'y', rest @ ..] if begins_with_space(rest) => Some(
             rest,
         ),
+        _ => None,
+    }
+}
+
+// What follows `float`, which is a space and more.
+fn after_float(line: &[u8]) -> Option<&[u8]>
+    ensures { IfSome result (λ r. (line.now ≡ 102 ∷ 108 ∷ 111 ∷ 97 ∷ 116 ∷ r.now) × (begins_with 32 r.now ≡ true)) }
+{
+    match line {
+        [b'f', b'l', b'o', b'a', b't', rest @ ..] if begins_with_space(rest) => Some(rest),
         _ => None,
     }
 }
@@ -169,6 +189,27 @@ fn lone_penalty(rest: &[u8]) -> Option<i64>
     }
 }
 
+/// A float and whether it is between paragraphs, if that is what the line of this number says.
+#[inline(always)]
+pub(crate) fn read_float(version: u8, number: u32, line: &[u8]) -> Option<(Float, bool)>
+    requires { length line.now ≤ 255 }
+    ensures { IfSome result (λ f. IsLineOf (codes "float") (float_left version number) line.now f) }
+{
+    lone_float(version, number, after_float(line)?)
+}
+
+#[inline(never)]
+fn lone_float(version: u8, number: u32, rest: &[u8]) -> Option<(Float, bool)>
+    requires { length rest.now ≤ 255 }
+    ensures { IfSome result (λ f. finished (float_left version number (past_word rest.now)) ≡ Ok f) }
+{
+    let mut fields = fields_after(rest);
+    match float(version, number, &mut fields) {
+        Ok(read) if fields.is_at_end() => Some(read),
+        _ => None,
+    }
+}
+
 /// A parameter and its value, if that is what the line says.
 #[inline(always)]
 pub(crate) fn read_setting(version: u8, line: &[u8]) -> Option<(Field, Value)>
@@ -190,21 +231,38 @@ fn lone_setting(version: u8, rest: &[u8]) -> Option<(Field, Value)>
     }
 }
 
-/// An item of one word that leaves the phase as it is, if it may come here and the word is all that the line says.
+/// The word of an item of one word, if it may come here and the word is all that the line says.
 #[inline(always)]
-pub(crate) fn read_bare_item(phase: Phase, line: &[u8]) -> Option<ItemKind>
-    ensures phase { IfSome result (λ k. phase ≡ Phase.Items) }
-    ensures line { IfSome result (λ k. IsBareItem line.now k) }
+pub(crate) fn read_bare_word(phase: Phase, line: &[u8]) -> Option<Word>
+    ensures phase { IfSome result (λ w. phase ≡ Phase.Items) }
+    ensures line { IfSome result (λ w. IsBareItem line.now (bare_item w)) }
 {
     let Phase::Items = phase else {
         return None;
     };
     if line == b"newpage".as_slice() {
-        Some(ItemKind::NewPage)
+        Some(Word::Newpage)
+    } else if line == b"clearpage".as_slice() {
+        Some(Word::Clearpage)
+    } else if line == b"onecolumn".as_slice() {
+        Some(Word::Onecolumn)
+    } else if line == b"twocolumn".as_slice() {
+        Some(Word::Twocolumn)
     } else if line == b"suppressfloats".as_slice() {
-        Some(ItemKind::Suppress(Area::All))
+        Some(Word::Suppressfloats)
     } else {
         None
+    }
+}
+
+/// The phase after an item of one word or a float, outside a footnote.
+pub(crate) fn phase_behind(kind: &ItemKind) -> Phase
+    ensures { result ≡ phase_behind kind.now }
+{
+    match kind {
+        ItemKind::ClearPage | ItemKind::OneColumn => Phase::AfterClear,
+        ItemKind::TwoColumn => Phase::AfterTwo,
+        _ => Phase::Items,
     }
 }
 

@@ -96,7 +96,8 @@ fn end_sizes(out: &mut Vec<u8>, height: i64, depth: i64) -> Result<(), AllocErro
     end_line(out)
 }
 
-// A line of a text, a top, a height and a depth.
+// A line of a text, a top, a height and a depth. Few lines are such, so it is kept out of the way of boxes.
+#[inline(never)]
 fn put_sized(
     out: &mut Vec<u8>,
     text: &[u8],
@@ -204,7 +205,29 @@ fn put_classed(out: &mut Vec<u8>, name: &Name, class: u8, place: Where) -> Resul
     put_text(out, where_text(place))
 }
 
+// The line of a float. If it is no title and no number is below 0, it is written at once. It is kept out of the way of boxes,
+// which are more.
+#[inline(never)]
 fn put_float(
+    out: &mut Vec<u8>,
+    name: &Name,
+    class: u8,
+    place: Where,
+    top: i128,
+    height: i64,
+) -> Result<(), AllocError>
+    ensures { PutsAfter result out.old.items (line (float_label name.now class place ++ and_number top ++ and_number height)) out.new.items }
+{
+    let known = name.as_bytes();
+    if class == 0 || known.len() > 63 || top < 0 || top > i128::from(u64::MAX) || height < 0 {
+        return put_any_float(out, name, class, place, top, height);
+    }
+    put_plain_float(out, known, class, place, top as u64, height as u64)
+}
+
+#[cold]
+#[inline(never)]
+fn put_any_float(
     out: &mut Vec<u8>,
     name: &Name,
     class: u8,
@@ -216,6 +239,56 @@ fn put_float(
 {
     put_float_label(out, name, class, place)?;
     end_height(out, top, height)
+}
+
+#[inline(always)]
+fn put_plain_float(
+    out: &mut Vec<u8>,
+    name: &[u8],
+    class: u8,
+    place: Where,
+    top: u64,
+    height: u64,
+) -> Result<(), AllocError>
+    requires { length name.now ≤ 63 }
+    ensures { PutsAfter result out.old.items ((codes "float " ++ name.now) ++ and_count class ++ and_text (where_text place) ++ line (and_count top ++ and_count height)) out.new.items }
+{
+    let mut text = [0; 160];
+    let at = write_height(top, height, &mut text, 160);
+    let at = write_place(class, where_text(place), &mut text, at);
+    let start = write_named(b"float ", name, &mut text, at);
+    put(out, &text[start..])
+}
+
+// Writes a top and a height and the end of the line so that they end at `end`, and returns where they start.
+#[inline(always)]
+fn write_height(top: u64, height: u64, text: &mut [u8], end: usize) -> usize
+    requires room { 43 ≤ end }
+    requires inside { end ≤ length text.old }
+    ensures start { end ≤ result + 43 }
+    ensures before { result ≤ end }
+    ensures same { length text.new ≡ length text.old }
+    ensures written { drop result text.new ≡ line (and_count top ++ and_count height) ++ drop end text.old }
+{
+    let below = write_text(b"\n", text, end);
+    let below = write_field(height, text, below);
+    write_field(top, text, below)
+}
+
+// Writes a class and a place so that they end at `end`, and returns where they start.
+#[inline(always)]
+fn write_place(class: u8, place: &[u8], text: &mut [u8], end: usize) -> usize
+    requires place { length place.now ≤ 8 }
+    requires room { 30 ≤ end }
+    requires inside { end ≤ length text.old }
+    ensures start { end ≤ result + 30 }
+    ensures before { result ≤ end }
+    ensures same { length text.new ≡ length text.old }
+    ensures written { drop result text.new ≡ (and_count class ++ and_text place.now) ++ drop end text.old }
+{
+    let at = write_text(place, text, end);
+    let at = write_text(b" ", text, at);
+    write_field(u64::from(class), text, at)
 }
 
 // A top and a height, and the end of the line.
@@ -243,6 +316,7 @@ fn put_moved(
 }
 
 // The line of a marginal note's box, after this word.
+#[inline(never)]
 fn put_noted(
     out: &mut Vec<u8>,
     word: &[u8],

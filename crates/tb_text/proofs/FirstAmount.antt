@@ -1,12 +1,12 @@
 -- The first field of a line, as an amount of a number that was read.
-use Rattle.std.proofs.Common.{◌≡◌, ℕ, ◌+◌, ◌-◌, ◌*◌, ◌<◌, ◌≤◌, pos, Bool, true, false, ◌&&◌, List, [], ◌∷◌, ◌++◌, length, take, drop, get_or, codes, if◌then◌else◌, refl, ap, sym, ◌∙◌, arith, length-drop, one-add}
+use Rattle.std.proofs.Common.{◌≡◌, ℕ, ℤ, ◌+◌, ◌-◌, ◌*◌, ◌<◌, ◌≤◌, pos, Bool, true, false, ◌&&◌, List, [], ◌∷◌, ◌++◌, length, take, drop, get_or, codes, if◌then◌else◌, refl, ap, sym, ◌∙◌, arith, length-drop, one-add}
 use Rattle.std.specs.List.{list_all, prefix_len}
 use Rattle.std.proofs.lemmas.List.Sums.{prefix_len_passes, prefix_len-le-length}
 use Rattle.std.proofs.lemmas.List.{length-take, drop-drop}
 use Rattle.std.proofs.Math.Seq.{take-add}
 use Rattle.std.proofs.lemmas.Bool.Decides.{nat_tests}
 use Rattle.tb_text.specs.Lines.{is_blank, is_mark, fields_of}
-use Rattle.tb_text.specs.Parts.{IsFront, IsFirstAmount}
+use Rattle.tb_text.specs.Parts.{IsFront, IsFirstNumber, IsFirstAmount}
 use Rattle.tb_text.specs.Numbers.{is_digit, digits_at, past_digits, number_of, dimension_by, stretch_by}
 use Rattle.tb_text.proofs.Digits.{digit_small}
 use Rattle.tb_text.proofs.FirstField.{first_field_is}
@@ -96,6 +96,16 @@ module _ (line : List ℕ) (n : ℕ) (rest : List ℕ) (front : IsFront line n r
     stretch = ap stretch_by (plain_part (digits_at line) (codes "pt") (digits_all line) front.some refl) ∙ by_points_stretch n (digits_at line) numeral few;
     shorter = let size : length rest ≡ length (112 ∷ 116 ∷ after) = ap length e in omega (arith, rest_shorter);
   }
+
+-- the amount of a line after its blanks
+pub behind_blanks : (line : List ℕ) (n : ℕ) (rest : List ℕ) (first : IsFirstNumber line n rest) (v : ℤ) (after : List ℕ) → IsFirstAmount first.text v after → IsFirstAmount line v after
+behind_blanks line n rest first v after a = record {
+  field = a.field;
+  fields = sym first.fields ∙ a.fields;
+  dimension = a.dimension;
+  stretch = a.stretch;
+  shorter = let shorter : length after < length first.text = a.shorter in let text : length first.text ≤ length line = first.shorter in omega arith;
+}
 
 -- ---- one digit and `pt`
 

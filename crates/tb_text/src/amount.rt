@@ -1,8 +1,8 @@
 //! The first field of a line as an amount, read as it is split off.
-ghost use Rattle.std.specs.Prelude.{◌≡◌, ◌<◌, ◌==◌, ◌∷◌, List, ℕ, pos, IfSome};
+ghost use Rattle.std.specs.Prelude.{◌≡◌, ◌≤◌, ◌==◌, ◌∷◌, List, ℕ, pos, length, IfSome};
 ghost use Rattle.std.specs.List.{prefix_len};
-ghost use Rattle.tb_text.specs.Lines.{is_mark};
-ghost use Rattle.tb_text.specs.Parts.{IsFront, IsFirstAmount};
+ghost use Rattle.tb_text.specs.Lines.{is_mark, fields_of};
+ghost use Rattle.tb_text.specs.Parts.{IsFirstNumber, IsFirstAmount};
 
 use crate::line::{is_blank, past_blanks};
 use crate::number::{front_number, is_digit};
@@ -52,15 +52,57 @@ fn byte_of_points(line: &[u8]) -> Option<(u8, &[u8])>
 fn split_digits_amount(line: &[u8]) -> Option<(i64, &[u8])>
     ensures { IfSome result (λ r. IsFirstAmount line.now r.0 r.1.now) }
 {
-    let line = past_blanks(line);
-    let (number, rest) = front_number(line)?;
+    let (number, rest) = first_number(line)?;
     let (amount, rest) = amount_before(number, rest)?;
     Some((i64::from(amount), rest))
 }
 
+// The number of a few digits with which the first field begins, and what follows it. Most fields begin after one space, so
+// that is tried first.
+#[inline(always)]
+fn first_number(line: &[u8]) -> Option<(u32, &[u8])>
+    ensures { IfSome result (λ r. IsFirstNumber line.now r.0 r.1.now) }
+{
+    match near_number(line) {
+        Some(near) => Some(near),
+        None => far_number(line),
+    }
+}
+
+// The same after one space; `None` says nothing of other lines.
+#[inline(always)]
+fn near_number(line: &[u8]) -> Option<(u32, &[u8])>
+    ensures { IfSome result (λ r. IsFirstNumber line.now r.0 r.1.now) }
+{
+    let text = after_space(line)?;
+    let (number, rest) = front_number(text)?;
+    Some((number, rest))
+}
+
+// The same after any number of blanks.
+#[inline(always)]
+fn far_number(line: &[u8]) -> Option<(u32, &[u8])>
+    ensures { IfSome result (λ r. IsFirstNumber line.now r.0 r.1.now) }
+{
+    let text = past_blanks(line);
+    let (number, rest) = front_number(text)?;
+    Some((number, rest))
+}
+
+// What follows a space.
+fn after_space(line: &[u8]) -> Option<&[u8]>
+    ensures fields { IfSome result (λ r. fields_of r.now ≡ fields_of line.now) }
+    ensures shorter { IfSome result (λ r. length r.now ≤ length line.now) }
+{
+    match line {
+        [b' ', rest @ ..] => Some(rest),
+        _ => None,
+    }
+}
+
 // The amount of a number and of what follows its digits.
 fn amount_before(number: u32, rest: &[u8]) -> Option<(u32, &[u8])>
-    ensures { (line : List ℕ) → IsFront line number rest.now → IfSome result (λ r. IsFirstAmount line (pos r.0) r.1.now) }
+    ensures { (line : List ℕ) → IsFirstNumber line number rest.now → IfSome result (λ r. IsFirstAmount line (pos r.0) r.1.now) }
 {
     if ends_field(rest) {
         return Some((number, rest));

@@ -5,7 +5,7 @@ use Rattle.tb_text.specs.Fields.{and_number}
 use Rattle.tb_text.specs.Fronts.{PutsFront, PutsAfter}
 use Rattle.tb_text.proofs.FrontLemmas.{cut, fails, on_joined}
 use Rattle.tb_report.specs.Lines.{float_label}
-use Rattle.tb_report.proofs.items.put_float.Goals as goal
+use Rattle.tb_report.proofs.items.put_any_float.Goals as goal
 
 -- the parts, one after another
 joined : (a b d e : List ℕ) → a ++ (b ++ d ++ e) ≡ (a ++ b ++ d) ++ e
