@@ -454,7 +454,7 @@ impl Builder {
     // The first waiting node on a page that is laid out, no act and no insertion: its place is tried if it is legal,
     // and the node goes on the page unless that is a stop. Returns whether it was tried; `tried` has the result.
     #[inline(always)]
-    pub(crate) fn step(&mut self, store: &mut Lists<Node>) -> bool
+    fn step(&mut self, store: &mut Lists<Node>) -> bool
         requires own { IsOwned (ids_of self.old) store.old }
         requires some { IsSome (slice_get (list_at store.old self.old.waiting) 0) }
         requires on { self.old.stopped ≡ false }

@@ -1,6 +1,6 @@
 //! A page begins: its first box or rule comes after the top glue, and its goal and depth limit are frozen.
 
-ghost use Rattle.std.specs.Prelude.{◌≡◌, ◌<◌, ◌≤◌, List, [], ◌∷◌, ◌++◌, false, Some, None, IsSome, slice_get, length};
+ghost use Rattle.std.specs.Prelude.{◌≡◌, ◌<◌, ◌≤◌, List, [], ◌∷◌, ◌++◌, true, false, Some, None, IsSome, slice_get, length};
 ghost use Rattle.tb_pool.specs.Lists.{list_at};
 ghost use Rattle.tb_node.specs.declared.Node.{Node as NodeOf};
 ghost use Rattle.tb_node.specs.PlainNodes.{plain_of, PlainNode};
@@ -18,6 +18,7 @@ ghost use Rattle.tb_builder.specs.declared.Seen.TheVariants.{Space};
 ghost use Rattle.tb_builder.specs.declared.Ask.{Ask as AskOf};
 ghost use Rattle.tb_builder.specs.PageTurns.{TopWaits, with_top, ChangesPage, Shifted, StepIs, StartsPage, PutFits, event_of, TurnIs};
 
+use crate::courses::stops;
 use crate::front_nodes::{first_in, glue_in, still_count};
 use crate::fronts::move_front;
 use crate::{Ask, Builder};
@@ -93,12 +94,39 @@ impl Builder {
         ensures ids { ids_of self.new ≡ ids_of self.old }
     {
         if self.course.lasting {
-            store.push_front(self.waiting, glue);
-            return self.step(store);
+            self.try_top(store, glue);
+            return true;
         }
         self.course.put_glue(glue_in(&glue));
         store.push_back(self.page, glue);
         false
+    }
+
+    // The place before the top glue, which is legal, is tried, and the glue goes on the page unless that is a stop. Only then
+    // does it wait first: it need not be among the waiting nodes to be tried.
+    #[inline(always)]
+    fn try_top(&mut self, store: &mut Lists<Node>, glue: Node)
+        requires own { IsOwned (ids_of self.old) store.old }
+        requires room { 0 < store.old.spare }
+        requires on { self.old.stopped ≡ false }
+        requires space { seen_of glue.kind ≡ Space }
+        requires lasting { self.old.course.lasting ≡ true }
+        requires waits { TopWaits self.old (with_top store.old self.old.waiting glue) glue }
+        ensures moves { ChangesPage self.old (with_top store.old self.old.waiting glue) self.new store.new }
+        ensures step { StepIs (event_of true self.new.tried) (kept_frozen (contents_of self.old (with_top store.old self.old.waiting glue))) self.new.course (contents_of self.old (with_top store.old self.old.waiting glue)) (contents_of self.new store.new) }
+        ensures behind { (n : NodeOf) (ns : List NodeOf) → self.new.stopped ≡ false → list_at (with_top store.old self.old.waiting glue) self.old.waiting ≡ n ∷ ns → list_at store.new self.new.waiting ≡ ns }
+        ensures opened { self.new.opened ≡ self.old.opened }
+        ensures frozen { self.new.frozen ≡ self.old.frozen }
+        ensures ids { ids_of self.new ≡ ids_of self.old }
+    {
+        self.tried = self.course.offer(store.len(self.page), glue.line, 0);
+        if stops(&self.tried) {
+            store.push_front(self.waiting, glue);
+            self.stopped = true;
+            return;
+        }
+        self.course.put_glue(glue_in(&glue));
+        store.push_back(self.page, glue);
     }
 
     // Freezes the goal and the depth limit of the page, unless they are frozen already.

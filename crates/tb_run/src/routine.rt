@@ -114,7 +114,8 @@ fn line_of(act: &Act) -> u32
 }
 
 // The routine of a galley that has these classes, with these of its items left. The machine is made last, so that no failure
-// lets go of it.
+// lets go of it. A routine is too large to be moved from call to call, so this is inlined.
+#[inline(always)]
 fn begun<'a>(
     alloc: Global,
     galley: &'a Galley,

@@ -15,6 +15,10 @@ use Rattle.tb_builder.proofs.Turns.FillLemmas.{Went, went_from}
 pub top_list : (s : Lists Node) (l : ℕ) (g : Node) → list_at (with_top s l g) l ≡ g ∷ list_at s l
 top_list s l g = ap (λ o. unwrap_or o []) (get-insert_same s.lists l (g ∷ list_at s l))
 
+-- the page is as it was
+pub top_page : (b : Builder) (s : Lists Node) (g : Node) → IsOwned (ids_of b) s → list_at (with_top s b.waiting g) b.page ≡ list_at s b.page
+top_page b s g own = ap (λ o. unwrap_or o []) (get-insert_other s.lists b.waiting (g ∷ list_at s b.waiting) b.page own.differ.0.0)
+
 same_tail : (g m : Node) (xs ys ns : List Node) → xs ≡ g ∷ ys → xs ≡ m ∷ ns → ys ≡ ns
 same_tail g m xs ys ns e h = let k : (g ∷ ys) ≡ (m ∷ ns) = sym e ∙ h in cc
 
@@ -33,7 +37,7 @@ module _ (b d : Builder) (s y : Lists Node) (g : Node) (ids : ids_of d ≡ ids_o
   other q np = ap (λ m. get m q) pushed ∙ get-insert_other s.lists b.page (list_at s b.page ++ g ∷ []) q np
 
   page_same : list_at t b.page ≡ list_at s b.page
-  page_same = ap (λ o. unwrap_or o []) (get-insert_other s.lists b.waiting (g ∷ list_at s b.waiting) b.page apart)
+  page_same = top_page b s g own
 
   moved : (m : Node) (ns : List Node) → list_at t b.waiting ≡ m ∷ ns → y.lists ≡ insert (with_list t b.waiting ns) b.page (list_at t b.page ++ m ∷ [])
   moved m ns e =

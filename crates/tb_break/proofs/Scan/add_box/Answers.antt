@@ -18,4 +18,4 @@ invariant_of-self c =
     let h : FitsSigned w64 c.args.height = c.ranges.height in
     let d : FitsSigned w64 c.args.depth = c.ranges.depth in
     let is = simp to_z-of_z at c.add_box.ensures in
-    (c.self.invariant.0, added_small c.args.self.now _ _ _ _ (box c.args.height c.args.depth) c.self.view_is is c.requires.fits, c.self.invariant.2)
+    (c.self.invariant.0, added_small c.args.self.now _ _ _ _ (box c.args.height c.args.depth) c.self.view_is is c.requires.fits, c.self.invariant.2, c.self.invariant.3)

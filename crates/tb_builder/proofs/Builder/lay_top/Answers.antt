@@ -1,4 +1,4 @@
-use Rattle.std.proofs.Common.{◌≡◌, refl, sym, subst, ◌∙◌, ap, ℕ, ◌+◌, ◌-◌, drop, map, None, is_some, arith}
+use Rattle.std.proofs.Common.{refl, sym, subst, drop, map, None}
 use Rattle.tb_pool.specs.Lists.{Lists, list_at}
 use Rattle.tb_node.specs.declared.Node.{Node}
 use Rattle.tb_node.specs.PlainNodes.{plain_of}
@@ -7,59 +7,18 @@ use Rattle.tb_node.specs.SmallAmounts.{IsSmall, IsSmallShape}
 use Rattle.tb_break.specs.SplitPlace.{penalty_by}
 use Rattle.tb_builder.specs.Contents.{contents_of}
 use Rattle.tb_builder.specs.Courses.{kept_frozen, nodes_glue_first}
-use Rattle.tb_builder.specs.PageTurns.{TopWaits, with_top, ChangesPage, StepFits, StepIs, event_of, places_on}
-use Rattle.tb_builder.proofs.Turns.FillLemmas.{Went, same_first}
+use Rattle.tb_builder.specs.PageTurns.{with_top, places_on}
+use Rattle.tb_builder.proofs.Turns.FillLemmas.{Went}
 use Rattle.tb_builder.proofs.Turns.StepLemmas.{step_sums, penalty_first, plain_first, passed_step}
 use Rattle.tb_builder.proofs.Turns.TopLemmas.{top_list, top_went}
-use Rattle.tb_builder.proofs.Builder.lay_top.Goals.{Start, After-push_front, After-push_back}
+use Rattle.tb_builder.proofs.Builder.lay_top.Goals.{Start, After-push_back}
 use Rattle.tb_builder.proofs.Builder.lay_top.Goals as goal
 
 -- the lists with the glue before what waits
 abbrev top : (c : Start) → Lists Node
 top c = with_top c.args.store.now c.args.self.now.waiting c.args.glue
 
-one_less : (n m : ℕ) → n + 1 ≡ m → n ≡ m - 1
-one_less n m e = omega (arith, e)
-
--- ---- the place before the glue may be legal
-
-pushed : (c : After-push_front) → c.push_front.new.self ≡ top (goal.at.After-push_front c).Start
-pushed c = λ i. record { lists = c.push_front.ensures.pushed i; spare = one_less c.push_front.new.self.spare c.args.store.now.spare c.push_front.ensures.spare i }
-
-waits : (c : After-push_front) → TopWaits c.args.self.now c.push_front.new.self c.args.glue
-waits c = subst (λ t. TopWaits c.args.self.now t c.args.glue) (sym (pushed c)) c.requires.waits
-
-pub step-requires-clause-own : goal.step-requires-clause-own
-step-requires-clause-own c = (waits (goal.at.step-requires-clause-own c).After-push_front).own
-
-pub step-requires-clause-some : goal.step-requires-clause-some
-step-requires-clause-some c = ap is_some (waits (goal.at.step-requires-clause-some c).After-push_front).first
-
-pub step-requires-clause-underway : goal.step-requires-clause-underway
-step-requires-clause-underway c = (waits (goal.at.step-requires-clause-underway c).After-push_front).underway
-
-pub step-requires-clause-fits : goal.step-requires-clause-fits
-step-requires-clause-fits c = λ m e.
-    let w = waits (goal.at.step-requires-clause-fits c).After-push_front in
-    let b = c.args.self.now in
-    let s = c.push_front.new.self in
-    subst (StepFits (kept_frozen (contents_of b s)) (contents_of b s).page (list_at s)) (same_first (list_at s b.waiting) c.args.glue m w.first e) w.fits
-
-pub returns-then-self-clause-moves : goal.returns-then-self-clause-moves
-returns-then-self-clause-moves c = subst (λ t. ChangesPage c.args.self.now t c.step.new.self c.step.new.store) (pushed (goal.at.returns-then-self-clause-moves c).After-push_front) c.step.ensures.moves
-
-pub returns-then-self-clause-step : goal.returns-then-self-clause-step
-returns-then-self-clause-step c =
-    let b = c.args.self.now in
-    let d = c.step.new.self in
-    let y = c.step.new.store in
-    subst (λ t. StepIs (event_of c.step.result d.tried) (kept_frozen (contents_of b t)) d.course (contents_of b t) (contents_of d y)) (pushed (goal.at.returns-then-self-clause-step c).After-push_front) c.step.ensures.step
-
-pub returns-then-self-clause-behind : goal.returns-then-self-clause-behind
-returns-then-self-clause-behind c = λ n ns go e.
-    c.step.ensures.behind n ns go (ap (λ t. list_at t c.args.self.now.waiting) (pushed (goal.at.returns-then-self-clause-behind c).After-push_front) ∙ e)
-
--- ---- it is no legal place
+-- ---- the place is not legal
 
 pub put_glue-requires-clause-node : goal.put_glue-requires-clause-node
 put_glue-requires-clause-node c = subst IsSmallShape c.glue_in.ensures c.requires.waits.fits.small
