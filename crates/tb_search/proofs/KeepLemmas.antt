@@ -205,7 +205,7 @@ module _ (t : Table) (left : ℕ) (inside : left < length t.starts.items) (table
 
     pub set-table : AllByRecursion (IsStart t.galley.now t.bound left) w.items → IsTable after
     set-table all = record {
-      mild = table.mild;
+      fit = table.fit;
       alternate = table.alternate;
       range = table.range;
       penalties = table.penalties;

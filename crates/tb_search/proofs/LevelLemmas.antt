@@ -35,7 +35,7 @@ module _ (t : Table) (w : Vec (Vec Start Global) Global) (v : Vec Start Global) 
   -- a table without its last level
   pub without-last : IsTable (record t { starts = w })
   without-last = record {
-    mild = h.mild;
+    fit = h.fit;
     alternate = h.alternate;
     range = h.range;
     penalties = h.penalties;

@@ -1,3 +1,4 @@
+pub mod LastNodeLemmas
 pub mod WaitingLemmas
 pub mod ServedLemmas
 pub mod StartLemmas
@@ -28,6 +29,7 @@ pub mod LevelLemmas
 pub mod SumLemmas
 pub mod BeginLemmas
 pub mod CutLemmas
+pub mod PenaltyLemmas
 pub mod ToldLemmas
 pub mod StopLemmas
 pub mod PlainLemmas

@@ -1,7 +1,9 @@
 -- A page that was filled and does not fire: what is told of it, and a break in it that costs too much.
-use Rattle.std.proofs.Common.{◌≡◌, refl, sym, subst, ◌∙◌, ap, ℕ, suc, ◌≤◌, Bool, true, false, true≢false, ◌==◌, ◌||◌, List, [], ◌∷◌, ◌++◌, map, length, get_or, Option, Some, None, arith}
-use Rattle.std.specs.Prelude.{ℤ, pos, pred, ◌%◌, ◌<◌, ◌+ℤ◌, ◌-ℤ◌, ◌<ℤ◌, int_lt, if◌then◌else◌, reverse, IfSome}
+use Rattle.std.proofs.Common.{◌≡◌, refl, sym, subst, ◌∙◌, ap, ℕ, suc, ◌≤◌, Bool, true, false, true≢false, ◌==◌, ◌&&◌, ◌||◌, List, [], ◌∷◌, ◌++◌, map, length, get_or, Option, Some, None, arith}
+use Rattle.std.specs.Prelude.{ℤ, pos, pred, ◌%◌, ◌<◌, ◌+ℤ◌, ◌-ℤ◌, ◌<ℤ◌, int_lt, if◌then◌else◌, reverse, option_copied, IfSome}
+use Rattle.std.specs.Borrow.{Bor}
 use Rattle.std.proofs.lemmas.Int.{ints}
+use Rattle.std.specs.List.{AllByRecursion}
 use Rattle.tb_scaled.specs.Scaled.{awful_bad}
 use Rattle.tb_pool.specs.Lists.{Lists}
 use Rattle.tb_node.specs.declared.Node.{Node}
@@ -37,7 +39,7 @@ use Rattle.tb_best.specs.ItemsAhead.{Ahead, all_ahead, item_ahead, ahead_from, l
 use Rattle.tb_best.specs.PageTables.{with_page}
 use Rattle.tb_best.specs.Counts.{counts_of, AreNoGreater}
 use Rattle.tb_best.specs.Sides.{may_alternate, sides_of}
-use Rattle.tb_best.specs.PlainPages.{all_plain, IsBare, after_plain}
+use Rattle.tb_best.specs.PlainPages.{is_plain, all_plain, IsBare, after_plain}
 use Rattle.tb_best.specs.PlacePrices.{tries_among, sets_parameter, sets_any, is_place_behind, AreAbove, AreDear}
 use Rattle.tb_best.proofs.CutPages.{cut-fires}
 use Rattle.tb_best.proofs.PlacePricesStep.{cut-price}
@@ -57,8 +59,10 @@ use Rattle.tb_search.specs.PlainStarts.{IsPlainStart}
 use Rattle.tb_search.specs.Searched.{over, waits, stuck, fills}
 use Rattle.tb_search.specs.Starts.{IsReached, IsStart, IsTable}
 use Rattle.tb_search.specs.Continues.{IsSearchedBy, IsSearchedAsGoodBy, IsCutSearched}
-use Rattle.tb_search.specs.Told.{tried_in, is_place_item, IsPlaceFirst, IsPlaceNext, Tells, TellsBehind, StopsAt}
+use Rattle.tb_search.specs.declared.calm.Told.{Told}
+use Rattle.tb_search.specs.Told.{tried_in, is_place_item, IsDearIn, IsPlaceFirst, IsPlaceNext, Tells, TellsBehind, StopsAt}
 use Rattle.tb_search.specs.Plain.{Beats, CostsAbove, IsBeaten, IsPlainPage}
+use Rattle.tb_search.proofs.ToldLemmas.{above-among, dear-in}
 use Rattle.tb_search.proofs.AheadLemmas.{next_ahead, next-is}
 use Rattle.tb_search.proofs.EndLemmas.{full-end, dead-end, limit-end}
 use Rattle.tb_search.proofs.FiredLemmas.{all-noted}
@@ -77,23 +81,32 @@ tried-events store (happenings.Tried t ∷ hs) = ap (λ ts. t ∷ ts) (tried-eve
 tried-events store (happenings.Sent e ∷ hs) = tried-events store hs
 
 -- where the page of a routine stopped
-pub stop-so : (r q : Routine) (e : Ending) (hs : List Happening) → IsFilledLast true r e q hs → (steady dear : Bool) → (steady ≡ true → sets_any (state_of r).waiting ≡ false) → (dear ≡ true → AreDear (tried_in hs))
-    → (s : Stop) → ((told : Bool) → s ≡ stops.Nowhere told → (e ≡ endings.Done) × (told ≡ true → (steady ≡ true) × (dear ≡ true))) → StopsAt (state_of r) hs s
-stop-so r q e hs last steady dear sets costs (stops.Line l) h = tt
-stop-so r q e hs last steady dear sets costs (stops.Nowhere told) h =
-    let k = h told refl in (
+pub stop-so : (r q : Routine) (e : Ending) (hs : List Happening) → IsFilledLast true r e q hs → (steady dear fine : Bool) → (steady ≡ true → sets_any (state_of r).waiting ≡ false) → (dear ≡ true → AllByRecursion IsDearIn hs)
+    → (fine ≡ true → all_plain (state_of r).waiting ≡ true) → (s : Stop)
+    → ((told flat : Bool) → s ≡ stops.Nowhere told flat → (e ≡ endings.Done) × ((told ≡ true → (steady ≡ true) × (dear ≡ true)) × (flat ≡ fine))) → StopsAt (state_of r) hs s
+stop-so r q e hs last steady dear fine sets costs plains (stops.Line l) h = tt
+stop-so r q e hs last steady dear fine sets costs plains (stops.Nowhere told flat) h =
+    let k = h told flat refl in (
       (is-quiet r q e hs last k.0).quiet,
-      λ is. record {
-        steady = sets (k.1 is).0;
-        tries = sym (tried-events q.store hs) ∙ ap tries_among (last.filled.events q.store ∙ all-noted (progress (reach_in (state_of r)).reached awful_bad (state_of r)).events);
-        dear = costs (k.1 is).1;
-      },
+      (
+        λ is. record {
+          steady = sets (k.1.0 is).0;
+          tries = sym (tried-events q.store hs) ∙ ap tries_among (last.filled.events q.store ∙ all-noted (progress (reach_in (state_of r)).reached awful_bad (state_of r)).events);
+          dear = costs (k.1.0 is).1;
+        },
+        λ is. plains (sym k.1.1 ∙ is),
+      ),
     )
 
 -- what follows of something, if there is one
 pub if-some-more : {X : Type 0} (P Q : X → Type 0) (o : Option X) → ((x : X) → P x → Q x) → IfSome o P → IfSome o Q
 if-some-more P Q (Some x) f h = f x h
 if-some-more P Q None f h = tt
+
+-- the same of a reference to it
+pub if-some-now : {X : Type 0} (P : X → Type 0) (o : Option (Bor X)) (p : Option X) → option_copied o ≡ p → IfSome p P → IfSome o (λ x. P x.now)
+if-some-now P (Some x) p e h = subst (λ q. IfSome q P) (sym e) h
+if-some-now P None p e h = tt
 
 -- ---- the next item
 
@@ -177,9 +190,18 @@ sets-front : (xs ys : List PlainNode) → sets_any (xs ++ ys) ≡ false → sets
 sets-front [] ys h = refl
 sets-front (x ∷ xs) ys h = set-front (sets_parameter x.kind) (sets_any (xs ++ ys)) (sets_any xs) (sets-front xs ys) h
 
+plain-both : (t u : Bool) → (t && u) ≡ true → (t ≡ true) × (u ≡ true)
+plain-both true u h = (refl, h)
+plain-both false u h = absurd (true≢false (sym h))
+
+-- nodes in front of others are plain if all are
+pub plain-front : (xs ys : List PlainNode) → all_plain (xs ++ ys) ≡ true → all_plain xs ≡ true
+plain-front [] ys h = refl
+plain-front (x ∷ xs) ys h = let k = plain-both (is_plain x.kind) (all_plain (xs ++ ys)) h in (λ i. k.0 i && plain-front xs ys k.1 i)
+
 -- a page with a break before the next item, which was tried with items behind
-module _ (t : Table) (k : ℕ) (x : Start) (some : suc k ≤ length (all_ahead t.galley.now)) (table : IsTable t) (reached : IsReached t.galley.now (suc k) x) (hs : List Happening)
-    (box : holds_box (shown x.branch).waiting ≡ true) (tells : TellsBehind hs (shown x.branch) (items_ahead t.galley.now (suc k))) where
+module _ (t : Table) (k : ℕ) (x : Start) (some : suc k ≤ length (all_ahead t.galley.now)) (table : IsTable t) (reached : IsReached t.galley.now (suc k) x) (prices : Told)
+    (box : holds_box (shown x.branch).waiting ≡ true) (tells : TellsBehind (place_penalties t.galley.now.items) (shown x.branch) (items_ahead t.galley.now (suc k)) prices) where
   abbrev g : Galley
   g = t.galley.now
 
@@ -188,6 +210,10 @@ module _ (t : Table) (k : ℕ) (x : Start) (some : suc k ≤ length (all_ahead t
 
   abbrev c : Ahead
   c = next_ahead g k
+
+  -- what happened when the page was tried
+  abbrev hs : List Happening
+  hs = tells.told.happened
 
   abbrev broken : State
   broken = state_with (forced c ∷ c.nodes) s
@@ -213,23 +239,26 @@ module _ (t : Table) (k : ℕ) (x : Start) (some : suc k ≤ length (all_ahead t
     whole = (λ i. with_first (suc tells.more) (next-is g k some i) s) ∙ ap (λ ns. state_with (ns ++ rest) s) next.nodes
 
     told : Tells hs (state_with (next.node ∷ rest) s)
-    told = subst (Tells hs) whole tells.tells
+    told = subst (Tells hs) whole tells.told.tells
+
+    dear : AreDear (tries_among (progress (reach_in (state_with (next.node ∷ rest) s)).reached awful_bad (state_with (next.node ∷ rest) s)).events)
+    dear = subst AreDear told.tries (dear-in hs told.dear)
 
     calm : (reach_in (state_with (next.node ∷ rest) s)).fires ≡ false
     calm = subst (λ y. (reach_in y).fires ≡ false) whole tells.calm
 
     -- the page costs more than this if each place that was tried on the line does
-    costs-more : (most : ℤ) → AreAbove s.params t.penalties.items line most (tried_in hs) → (es : List RunEvent) (rs : List Recorded) (u : State) → unlimited_step broken ≡ goes_on es rs u
+    costs-more : (most : ℤ) → CostsAbove line most prices.prices.items → (es : List RunEvent) (rs : List Recorded) (u : State) → unlimited_step broken ≡ goes_on es rs u
         → most <ℤ step_demerits (place_penalties g.items) broken (goes_on es rs u)
-    costs-more most above es rs u e =
-        cut-price (place_penalties g.items) s c next.node rest most next.on box (sets-front s.waiting (next.node ∷ rest) told.steady) next.place calm (subst AreDear told.tries told.dear)
-        (subst (AreAbove s.params (place_penalties g.items) c.line most) told.tries
-        (subst (λ l. AreAbove s.params (place_penalties g.items) l most (tried_in hs)) next.here (subst (λ ps. AreAbove s.params ps line most (tried_in hs)) table.penalties above)))
+    costs-more most costs es rs u e =
+        let above = above-among s.params (place_penalties g.items) line most hs (subst (CostsAbove line most) tells.told.prices costs) in
+        cut-price (place_penalties g.items) s c next.node rest most next.on box (sets-front s.waiting (next.node ∷ rest) told.steady) next.place calm dear
+        (subst (AreAbove s.params (place_penalties g.items) c.line most) told.tries (subst (λ l. AreAbove s.params (place_penalties g.items) l most (tried_in hs)) next.here above))
         es rs u e
 
     -- after a plain page nothing is left but the item
     leaves-plain : IsBare s → all_plain s.waiting ≡ true → (es : List RunEvent) (rs : List Recorded) (u : State) → unlimited_step broken ≡ goes_on es rs u → u ≡ after_plain c s
-    leaves-plain bare fine es rs u e = plain-cut s c next.node rest bare fine box next.place calm (subst AreDear told.tries told.dear) es rs u e
+    leaves-plain bare fine es rs u e = plain-cut s c next.node rest bare fine box next.place calm dear es rs u e
 
   -- the ways with the break are searched if the page costs too much or the state after it is
   by-step : ((es : List RunEvent) (rs : List Recorded) (u : State) → unlimited_step broken ≡ goes_on es rs u → IsSearchedAsGoodBy t u (items_ahead g k) (paid es rs u) breaks)
@@ -243,64 +272,65 @@ module _ (t : Table) (k : ℕ) (x : Start) (some : suc k ≤ length (all_ahead t
       → IsCutSearched t s (items_ahead g (suc k)) x.way.demerits (reverse x.way.breaks.items)
   searched-by f = cut-searched t g k s x.way.demerits (reverse x.way.breaks.items) some (λ place holds. by-step f (unlimited_step broken) refl (step-not broken (cut-fires s c box)))
 
-  -- ---- the page costs too much
+  module _ (line : ℕ) (place : IsPlaceNext s.waiting x.branch.ahead line) where
+    -- ---- the page costs too much
 
-  pub too-dear : CostsAbove x.branch t.penalties.items (t.bound -ℤ (x.way.demerits +ℤ pos 1000)) (tried_in hs) → IsCutSearched t s (items_ahead g (suc k)) x.way.demerits (reverse x.way.breaks.items)
-  too-dear h =
-      searched-by (λ es rs u e.
-      let more = costs-more h.line h.place (t.bound -ℤ (x.way.demerits +ℤ pos 1000)) h.above es rs u e in
-      (u, as-good-itself g u, over u (items_ahead g k) (paid es rs u) breaks (omega (arith, ints, more))))
+    pub too-dear : CostsAbove line (t.bound -ℤ (x.way.demerits +ℤ pos 1000)) prices.prices.items → IsCutSearched t s (items_ahead g (suc k)) x.way.demerits (reverse x.way.breaks.items)
+    too-dear h =
+        searched-by (λ es rs u e.
+        let more = costs-more line place (t.bound -ℤ (x.way.demerits +ℤ pos 1000)) h es rs u e in
+        (u, as-good-itself g u, over u (items_ahead g k) (paid es rs u) breaks (omega (arith, ints, more))))
 
-  -- ---- the state after the page
+    -- ---- the state after the page
 
-  boxes_void : emptied_boxes s.boxes ≡ void_boxes (classes_of g)
-  boxes_void = shown-void x.branch reached.branch ∙ ap void_boxes reached.classes
+    boxes_void : emptied_boxes s.boxes ≡ void_boxes (classes_of g)
+    boxes_void = shown-void x.branch reached.branch ∙ ap void_boxes reached.classes
 
-  -- the state after a plain page is one
-  pub plain-start : IsPlainPage x.branch → (es : List RunEvent) (rs : List Recorded) (u : State) → unlimited_step broken ≡ goes_on es rs u → IsPlainStart g k u
-  plain-start h es rs u e = record {
-    from = s;
-    bare = h.bare;
-    classes = reached.classes;
-    boxes = boxes_void;
-    is = leaves-plain h.line h.place h.bare h.plain es rs u e;
-  }
+    -- the state after a plain page is one
+    pub plain-start : IsPlainPage s → (es : List RunEvent) (rs : List Recorded) (u : State) → unlimited_step broken ≡ goes_on es rs u → IsPlainStart g k u
+    plain-start h es rs u e = record {
+      from = s;
+      bare = h.bare;
+      classes = reached.classes;
+      boxes = boxes_void;
+      is = leaves-plain line place h.bare h.plain es rs u e;
+    }
 
-  -- a state that is kept stands for it
-  module _ (page : IsPlainPage x.branch) (inside : k < length t.starts.items) (beaten : IsBeaten t k x.branch x.way (tried_in hs)) (y : Start) (y_is : y ≡ get_or beaten.level.items beaten.place y) where
-    beats : Beats y x.branch x.way t.penalties.items (tried_in hs)
-    beats = subst (λ z. Beats z x.branch x.way t.penalties.items (tried_in hs)) (sym y_is) (beaten.beats.beats y)
+    -- a state that is kept stands for it
+    module _ (page : IsPlainPage s) (inside : k < length t.starts.items) (beaten : IsBeaten t k x.branch x.way line prices.prices.items) (y : Start) (y_is : y ≡ get_or beaten.level.items beaten.place y) where
+      beats : Beats t.may_alternate y x.branch x.way line prices.prices.items
+      beats = subst (λ z. Beats t.may_alternate z x.branch x.way line prices.prices.items) (sym y_is) (beaten.beats.beats y)
 
-    start : IsStart g t.bound k y
-    start = subst (IsStart g t.bound k) (sym y_is) (all-at (IsStart g t.bound k) beaten.level.items beaten.place y (level-starts t k inside table beaten.level beaten.here) beaten.beats.inside)
+      start : IsStart g t.bound k y
+      start = subst (IsStart g t.bound k) (sym y_is) (all-at (IsStart g t.bound k) beaten.level.items beaten.place y (level-starts t k inside table beaten.level beaten.here) beaten.beats.inside)
 
-    stands : (es : List RunEvent) (rs : List Recorded) (u : State) → unlimited_step broken ≡ goes_on es rs u → IsSearchedAsGoodBy t u (items_ahead g k) (paid es rs u) breaks
-    stands es rs u e =
-        let p = start.plain beats.plain in
-        let left = leaves-plain page.line page.place page.bare page.plain es rs u e in
-        let same : without_counts (shown y.branch) ≡ without_counts u =
-        ap without_counts p.is
-        ∙ plain-same c s p.from page.bare p.bare (sym (ap (λ (z : State). z.params) p.is) ∙ beats.leads.params) (p.classes ∙ sym reached.classes) (sym (ap (λ (z : State). z.first_column) p.is) ∙ beats.leads.first_column) (p.boxes ∙ sym boxes_void)
-        ∙ sym (ap without_counts left)
-        in
-        let pages_u = ap (λ (z : State). z.page) left in
-        let number = ap (λ (z : State). z.number) left in
-        let dead = ap (λ (z : State). z.dead_cycles) p.is in
-        let pages_y = beats.leads.page in
-        let counts : AreNoGreater (may_alternate g) (counts_of (shown y.branch)) (counts_of u) = record {
-          pages = omega (arith, pages_u, pages_y);
-          dead_cycles = omega (arith, dead);
-          sides = λ on. ap (λ n. n % 2) (beats.leads.number ∙ sym number);
-        } in
-        let more = costs-more beats.costs.line beats.costs.place (y.way.demerits -ℤ (x.way.demerits +ℤ pos 1000)) beats.costs.above es rs u e in
-        let fewer : y.way.demerits <ℤ paid es rs u = omega (arith, ints, more) in (
-          shown y.branch,
-          counts-as-good g u (shown y.branch) same (next-keeps (sides_of g) broken u es rs (sides-with (sides_of g) s (forced c ∷ c.nodes) reached.sides (next-sides g k)) e) counts,
-          waits (shown y.branch) (items_ahead g k) (paid es rs u) breaks
-              (level-rows t k inside table beaten.level beaten.here (shown y.branch) (items_ahead g k) (paid es rs u) breaks (known-fewer g k beaten.level.items beaten.place y (paid es rs u) breaks beaten.beats.inside (sym y_is) fewer)),
-        )
+      stands : (es : List RunEvent) (rs : List Recorded) (u : State) → unlimited_step broken ≡ goes_on es rs u → IsSearchedAsGoodBy t u (items_ahead g k) (paid es rs u) breaks
+      stands es rs u e =
+          let p = start.plain beats.plain in
+          let left = leaves-plain line place page.bare page.plain es rs u e in
+          let same : without_counts (shown y.branch) ≡ without_counts u =
+          ap without_counts p.is
+          ∙ plain-same c s p.from page.bare p.bare (sym (ap (λ (z : State). z.params) p.is) ∙ beats.leads.params) (p.classes ∙ sym reached.classes) (sym (ap (λ (z : State). z.first_column) p.is) ∙ beats.leads.first_column) (p.boxes ∙ sym boxes_void)
+          ∙ sym (ap without_counts left)
+          in
+          let pages_u = ap (λ (z : State). z.page) left in
+          let number = ap (λ (z : State). z.number) left in
+          let dead = ap (λ (z : State). z.dead_cycles) p.is in
+          let pages_y = beats.leads.page in
+          let counts : AreNoGreater (may_alternate g) (counts_of (shown y.branch)) (counts_of u) = record {
+            pages = omega (arith, pages_u, pages_y);
+            dead_cycles = omega (arith, dead);
+            sides = λ on. ap (λ n. n % 2) (beats.leads.number (table.alternate ∙ on) ∙ sym number);
+          } in
+          let more = costs-more line place (y.way.demerits -ℤ (x.way.demerits +ℤ pos 1000)) beats.costs es rs u e in
+          let fewer : y.way.demerits <ℤ paid es rs u = omega (arith, ints, more) in (
+            shown y.branch,
+            counts-as-good g u (shown y.branch) same (next-keeps (sides_of g) broken u es rs (sides-with (sides_of g) s (forced c ∷ c.nodes) reached.sides (next-sides g k)) e) counts,
+            waits (shown y.branch) (items_ahead g k) (paid es rs u) breaks
+                (level-rows t k inside table beaten.level beaten.here (shown y.branch) (items_ahead g k) (paid es rs u) breaks (known-fewer g k beaten.level.items beaten.place y (paid es rs u) breaks beaten.beats.inside (sym y_is) fewer)),
+          )
 
-  pub beaten-searched : IsPlainPage x.branch → k < length t.starts.items → IsBeaten t k x.branch x.way (tried_in hs) → (y : Start) → IsCutSearched t s (items_ahead g (suc k)) x.way.demerits (reverse x.way.breaks.items)
-  beaten-searched page inside h d =
-      let y = get_or h.level.items h.place d in
-      searched-by (stands page inside h y (get-same h.level.items h.place d h.beats.inside))
+    pub beaten-searched : IsPlainPage s → k < length t.starts.items → IsBeaten t k x.branch x.way line prices.prices.items → (y : Start) → IsCutSearched t s (items_ahead g (suc k)) x.way.demerits (reverse x.way.breaks.items)
+    beaten-searched page inside h d =
+        let y = get_or h.level.items h.place d in
+        searched-by (stands page inside h y (get-same h.level.items h.place d h.beats.inside))

@@ -12,6 +12,10 @@ demerits-fit a h k = omega (arith, ints, h, k)
 abbrev pub held : ℤ → ℤ
 held a = to_z w128 (of_z w128 a)
 
+-- a number in the range of plans is itself in 128 bits
+pub in-range : (d : ℤ) → pos 0 ≤ℤ d → d ≤ℤ pos 1000000000000000000000000000 → held d ≡ d
+in-range d low high = to_z-of_z w128 d (demerits-fit d low (omega (arith, ints, high)))
+
 module _ (a b : ℤ) (low : pos 0 ≤ℤ a) (high : a ≤ℤ (b +ℤ pos 1000000000000)) (range : b ≤ℤ pos 1000000000000000000000000000) where
   pub fits-so-far : FitsSigned w128 a
   fits-so-far = omega (arith, ints, low, high, range)

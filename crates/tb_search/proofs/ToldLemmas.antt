@@ -1,5 +1,5 @@
 -- What is told of a page by the places that were tried: walks over them and over the nodes that wait.
-use Rattle.std.proofs.Common.{◌≡◌, refl, ◌∙◌, ℕ, zero, suc, ◌≤◌, ℤ, Bool, false, ◌||◌, List, [], ◌∷◌, map, length, drop, arith}
+use Rattle.std.proofs.Common.{◌≡◌, refl, sym, ◌∙◌, ℕ, zero, suc, ◌≤◌, ℤ, Bool, true, false, true≢false, ◌||◌, List, [], ◌∷◌, map, length, drop, arith}
 use Rattle.std.specs.Prelude.{not}
 use Rattle.std.specs.List.{list_any, AllByRecursion}
 use Rattle.tb_node.specs.Shape.{is_discardable}
@@ -15,7 +15,10 @@ use Rattle.tb_items.specs.declared.happenings.Happening.{Happening}
 use Rattle.tb_items.specs.declared.happenings.Happening.TheVariants as happenings
 use Rattle.tb_rate.specs.declared.PlacePenalty.{PlacePenalty}
 use Rattle.tb_best.specs.PlacePrices.{sets_parameter, sets_any, AreAbove, AreDear}
-use Rattle.tb_search.specs.Told.{tried_in, IsAboveIn, IsDearIn, is_set, lasting_after}
+use Rattle.tb_search.specs.LastNodes.{is_act_kind, last_but_acts}
+use Rattle.tb_search.specs.Prices.{prices_among, IsPriceAbove}
+use Rattle.tb_search.proofs.LastNodeLemmas.{folded, told_by, IsToldByLast, told-by-last}
+use Rattle.tb_search.specs.Told.{tried_in, IsDearIn, is_set, lasting_after}
 
 -- ---- a walk that ends early unless something holds of each element
 
@@ -35,14 +38,14 @@ all-walked P xs i h all = all (none-left P xs i h)
 
 -- ---- the places that were tried
 
-pub above-in : (p : Params) (places : List PlacePenalty) (line : ℕ) (d : ℤ) (hs : List Happening) → AllByRecursion (IsAboveIn p places line d) hs → AreAbove p places line d (tried_in hs)
-above-in p places line d [] h = tt
-above-in p places line d (happenings.Tried t ∷ hs) h = (h.0, above-in p places line d hs h.1)
-above-in p places line d (happenings.Sent e ∷ hs) h = above-in p places line d hs h.1
+pub above-among : (p : Params) (places : List PlacePenalty) (line : ℕ) (d : ℤ) (hs : List Happening) → AllByRecursion (IsPriceAbove line d) (prices_among p places hs) → AreAbove p places line d (tried_in hs)
+above-among p places line d [] h = tt
+above-among p places line d (happenings.Tried t ∷ hs) h = (h.0, above-among p places line d hs h.1)
+above-among p places line d (happenings.Sent e ∷ hs) h = above-among p places line d hs h
 
 pub dear-in : (hs : List Happening) → AllByRecursion IsDearIn hs → AreDear (tried_in hs)
 dear-in [] h = tt
-dear-in (happenings.Tried t ∷ hs) h = (h.0, dear-in hs h.1)
+dear-in (happenings.Tried t ∷ hs) h = (h.0.0, dear-in hs h.1)
 dear-in (happenings.Sent e ∷ hs) h = dear-in hs h.1
 
 -- ---- the nodes that wait
@@ -64,9 +67,22 @@ sets-shown held [] = refl
 sets-shown held (n ∷ ns) = λ i. set-same held n.line n.kind i || sets-shown held ns i
 
 -- whether nodes of a store end in one that lasts, one after another, or this if there are acts alone
-abbrev pub lasting_among : Bool → List Node → Bool
-lasting_among t [] = t
-lasting_among t (n ∷ ns) = lasting_among (lasting_after t n.kind) ns
+abbrev lasting_among : Bool → List Node → Bool
+lasting_among t ns = folded lasting_after t ns
+
+lasting-by-last : IsToldByLast lasting_after
+lasting-by-last = record {
+  acts = λ t k e. act-same t k e;
+  others = λ t u k e. other-same t u k e;
+}
+  where
+    act-same : (t : Bool) (k : Kind) → is_act_kind k ≡ true → lasting_after t k ≡ t
+    act-same t (kinds.Act a) e = refl
+    act-same t k e = absurd (true≢false (sym e))
+
+    other-same : (t u : Bool) (k : Kind) → is_act_kind k ≡ false → lasting_after t k ≡ lasting_after u k
+    other-same t u (kinds.Act a) e = absurd (true≢false e)
+    other-same t u k e = refl
 
 -- the same of a list as the definitions see it
 abbrev last_lasting : Bool → List PlainNode → Bool
@@ -81,5 +97,6 @@ lasting-all : (held : ℕ → List Node) (t : Bool) (ns : List Node) → lasting
 lasting-all held t [] = refl
 lasting-all held t (n ∷ ns) = lasting-all held (lasting_after t n.kind) ns ∙ lasting-step held n.line t n.kind (map (plain_of held) ns)
 
-pub lasting-shown : (held : ℕ → List Node) (ns : List Node) → lasting_among false ns ≡ ends_lasting (map node_shape (without_acts (map (plain_of held) ns)))
-lasting-shown held ns = lasting-all held false ns
+-- the last node that is no act tells it
+pub lasting-last : (held : ℕ → List Node) (ns : List Node) → told_by lasting_after false (last_but_acts ns) ≡ ends_lasting (map node_shape (without_acts (map (plain_of held) ns)))
+lasting-last held ns = sym (told-by-last lasting_after lasting-by-last false ns) ∙ lasting-all held false ns

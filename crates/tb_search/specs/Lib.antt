@@ -1,3 +1,4 @@
+pub mod LastNodes
 pub mod Branches
 pub mod FilledBranches
 pub mod SameStates
@@ -5,6 +6,8 @@ pub mod Ways
 pub mod AheadInCode
 pub mod PlainStarts
 pub mod Calm
+pub mod Penalties
+pub mod Prices
 pub mod Told
 pub mod Plain
 pub mod Searched

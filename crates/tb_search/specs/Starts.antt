@@ -7,7 +7,8 @@ use Rattle.tb_galley.specs.declared.Galley.{Galley}
 use Rattle.tb_output.specs.State.{State}
 use Rattle.tb_items.specs.Classes.{classes_of}
 use Rattle.tb_plans.specs.Plans.{IsPlan}
-use Rattle.tb_rate.specs.Places.{place_penalties, IsMildPlace}
+use Rattle.tb_rate.specs.Places.{place_penalties}
+use Rattle.tb_search.specs.Penalties.{IsPenalties}
 use Rattle.tb_best.specs.ItemsAhead.{all_ahead}
 use Rattle.tb_best.specs.Sides.{may_alternate, sides_of, KeepsSides}
 use Rattle.tb_best.specs.PlanDemerits.{plan_demerits, reach_in}
@@ -72,9 +73,9 @@ pub record IsRated (g : Galley) (w : Way) : Type 0 where
 
 -- a table of the search: what it says of the galley is true, its states can be gone on from, and its best way is a plan
 pub record IsTable (t : Table) : Type 0 where
-  pub mild : AllByRecursion IsMildPlace t.penalties.items
+  pub fit : IsPenalties t.penalties
   pub range : t.bound ≤ℤ pos 1000000000000000000000000000
-  pub penalties : t.penalties.items ≡ place_penalties t.galley.now.items
+  pub penalties : t.penalties.places.items ≡ place_penalties t.galley.now.items
   pub places : t.is_place.items ≡ map (λ c. c.is_place) (all_ahead t.galley.now)
   pub alternate : t.may_alternate ≡ may_alternate t.galley.now
   pub few : length (all_ahead t.galley.now) ≤ 4294967296

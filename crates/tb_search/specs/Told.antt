@@ -1,11 +1,11 @@
 -- What the search is told of a page by the places that were tried while it was filled.
-use Rattle.std.specs.Prelude.{◌≡◌, ◌<ℤ◌, ◌≤ℤ◌, true, false, ℕ, suc, ℤ, Bool, List, [], ◌∷◌, map, Option, Some, None, int_lt}
+use Rattle.std.specs.List.{AllByRecursion}
+use Rattle.std.specs.Prelude.{◌≡◌, ◌≤ℤ◌, pos, true, false, ℕ, suc, Bool, List, [], ◌∷◌, map, Option, Some, None, int_lt}
 use Rattle.tb_scaled.specs.Scaled.{awful_bad, eject_penalty, inf_penalty}
 use Rattle.tb_node.specs.declared.Act.TheVariants as acts
 use Rattle.tb_node.specs.declared.Kind.{Kind}
 use Rattle.tb_node.specs.declared.Kind.TheVariants as kinds
 use Rattle.tb_node.specs.PlainNodes.{PlainNode, node_shape, without_acts}
-use Rattle.tb_param.specs.declared.Params.{Params}
 use Rattle.tb_break.specs.Places.{ends_lasting}
 use Rattle.tb_builder.specs.declared.Try.{Try}
 use Rattle.tb_galley.specs.declared.Item.{Item}
@@ -19,7 +19,10 @@ use Rattle.tb_steps.specs.Run.{progress}
 use Rattle.tb_rate.specs.declared.PlacePenalty.{PlacePenalty}
 use Rattle.tb_best.specs.PlanDemerits.{reach_in}
 use Rattle.tb_best.specs.ItemsAhead.{Ahead}
-use Rattle.tb_best.specs.PlacePrices.{price, tries_among, sets_any, AreDear}
+use Rattle.tb_best.specs.PlacePrices.{tries_among, sets_any}
+use Rattle.tb_best.specs.PlainPages.{all_plain}
+use Rattle.tb_search.specs.declared.calm.Told.{Told}
+use Rattle.tb_search.specs.Prices.{prices_among}
 use Rattle.tb_search.specs.declared.branch.Stop.{Stop}
 use Rattle.tb_search.specs.declared.branch.Stop.TheVariants as stops
 use Rattle.tb_search.specs.Calm.{with_first}
@@ -30,14 +33,9 @@ tried_in [] = []
 tried_in (happenings.Tried t ∷ hs) = t ∷ tried_in hs
 tried_in (happenings.Sent e ∷ hs) = tried_in hs
 
--- if this is a place on this line, its price is above d
-abbrev pub IsAboveIn : Params → List PlacePenalty → ℕ → ℤ → Happening → Type 0
-IsAboveIn p places line d (happenings.Tried t) = t.line ≡ line → d <ℤ price p places t
-IsAboveIn p places line d (happenings.Sent e) = Unit {0}
-
--- if this is a place, it costs no less than a forced break
+-- if this is a place, it costs no less than a forced break, and its badness is not below 0
 abbrev pub IsDearIn : Happening → Type 0
-IsDearIn (happenings.Tried t) = eject_penalty ≤ℤ t.cost
+IsDearIn (happenings.Tried t) = (eject_penalty ≤ℤ t.cost) × (pos 0 ≤ℤ t.badness)
 IsDearIn (happenings.Sent e) = Unit {0}
 
 -- ---- a page that was filled and does not fire
@@ -46,18 +44,25 @@ IsDearIn (happenings.Sent e) = Unit {0}
 pub record Tells (hs : List Happening) (s : State) : Type 0 where
   pub steady : sets_any s.waiting ≡ false
   pub tries : tried_in hs ≡ tries_among (progress (reach_in s).reached awful_bad s).events
-  pub dear : AreDear (tried_in hs)
+  pub dear : AllByRecursion IsDearIn hs
 
 -- where the page of a state stops, after this happened
 abbrev pub StopsAt : State → List Happening → Stop → Type 0
 StopsAt s hs (stops.Line l) = Unit {0}
-StopsAt s hs (stops.Nowhere told) = ((reach_in s).fires ≡ false) × (told ≡ true → Tells hs s)
+StopsAt s hs (stops.Nowhere told plain) = ((reach_in s).fires ≡ false) × ((told ≡ true → Tells hs s) × (plain ≡ true → all_plain s.waiting ≡ true))
 
--- no page fires with some of these items behind a state, and its prices are told
-pub record TellsBehind (hs : List Happening) (s : State) (cs : List Ahead) : Type 0 where
+-- these are the prices of a page in this state, and it is plain if it is said to be
+pub record IsTold (places : List PlacePenalty) (s : State) (t : Told) : Type 0 where
+  pub happened : List Happening
+  pub tells : Tells happened s
+  pub prices : t.prices.items ≡ prices_among s.params places happened
+  pub plain : t.plain ≡ true → all_plain s.waiting ≡ true
+
+-- so they are of a page on which some of these items are taken behind a state, and it does not fire
+pub record TellsBehind (places : List PlacePenalty) (s : State) (cs : List Ahead) (t : Told) : Type 0 where
   pub more : ℕ
   pub calm : (reach_in (with_first (suc more) cs s)).fires ≡ false
-  pub tells : Tells hs (with_first (suc more) cs s)
+  pub told : IsTold places (with_first (suc more) cs s) t
 
 -- a node of this kind sets a parameter
 abbrev pub is_set : Kind → Bool

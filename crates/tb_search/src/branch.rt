@@ -12,7 +12,7 @@ ghost use Rattle.tb_items.specs.Happenings.{events_of};
 ghost use Rattle.tb_run.specs.Routine.{state_of, IsReady};
 ghost use Rattle.tb_steps.specs.Run.{held_count};
 ghost use Rattle.tb_steps.specs.Runnable.{AreRunnable, AreRunClasses};
-ghost use Rattle.tb_rate.specs.Places.{IsMildPlace};
+ghost use Rattle.tb_search.specs.Penalties.{line_of, IsPenalties};
 ghost use Rattle.tb_rate.specs.Rating.{rating, IsTried};
 ghost use Rattle.tb_rate.specs.RatedRun.{demerits_if, floats_waiting, insertions_first};
 ghost use Rattle.tb_rate.specs.Tries.{last_champion};
@@ -29,11 +29,13 @@ ghost use Rattle.tb_search.specs.Branches.{shown, nodes_ahead, next_of, break_be
 
 use crate::copies::copy_routine;
 use crate::moves::{ends_in_kern, ends_lasting, hand_cut, hand_next, holds_box, sets_any};
+use crate::penalties::Penalties;
 use crate::prices::are_dear;
 use std::alloc::{AllocError, Global};
+use tb_builder::Try;
 use tb_galley::{Galley, ItemKind};
 use tb_items::{Happening, ItemsLeft, all_items};
-use tb_rate::{PlacePenalty, insertions_first, last_champion, rate};
+use tb_rate::{insertions_first, last_champion, rate};
 use tb_run::{Ending, Filled as PageFilled, Routine};
 use tb_scaled::INF_PENALTY;
 
@@ -65,6 +67,8 @@ pub(crate) enum Stop {
     Nowhere {
         /// Whether the places that were tried tell what the page costs at least if a break is put in.
         told: bool,
+        /// Whether no insertion and no act waits.
+        plain: bool,
     },
 }
 
@@ -219,6 +223,7 @@ impl<'a> Branch<'a> {
 
         ensures { IfOk result (λ s. StopsAt (shown self.old) happened.new.items s) }
     {
+        let plain = self.waits_plain();
         let steady = !self.sets_any();
         happened.clear();
         let filled = self.routine.fill(true, happened)?;
@@ -226,7 +231,7 @@ impl<'a> Branch<'a> {
             PageFilled::Fires(_) => Ok(Stop::Line(last_line(happened.as_slice()))),
             PageFilled::Ends(ending) => {
                 let dear = are_dear(happened.as_slice());
-                Ok(stop_of(ending, steady, dear))
+                Ok(stop_of(ending, steady, dear, plain))
             }
         }
     }
@@ -264,29 +269,34 @@ impl<'a> Branch<'a> {
         }
     }
 
-    /// Fills the page of what waits and serves it if it fires. `places` are the penalties at the galley's places.
+    /// Fills the page of what waits and serves it if it fires. `places` are the penalties at the galley's places, and `happened`
+    /// holds what happened then.
     ///
     /// If it does not fire, the search goes on from a copy that was made before. It fails only if memory runs out.
-    pub fn fill(&mut self, alloc: Global, places: &[PlacePenalty]) -> Result<Filled, AllocError>
+    pub fn fill(
+        &mut self,
+        places: &Penalties,
+        happened: &mut Vec<Happening>,
+    ) -> Result<Filled, AllocError>
         requires branch { IsBranch self.old }
-        requires mild { AllByRecursion IsMildPlace places.now }
+        requires fit { IsPenalties places.now }
 
-        ensures { IfOk result (λ f. FillsTo places.now self.old f self.new) }
+        ensures { IfOk result (λ f. FillsTo places.now.places.items self.old f self.new) }
     {
         let kern = self.ends_in_kern();
         self.plain = false;
         let routine = &mut *self.routine;
-        let mut happened = Vec::new(alloc);
-        let page = match routine.fill(true, &mut happened)? {
+        happened.clear();
+        let page = match routine.fill(true, happened)? {
             PageFilled::Fires(page) => page,
             PageFilled::Ends(ending) => return Ok(unfired(ending, kern)),
         };
-        if let Some(ending) = routine.serve_unlimited(page, &mut happened)? {
+        if let Some(ending) = routine.serve_unlimited(page, happened)? {
             return Ok(unserved(ending));
         }
-        let demerits = page_demerits(routine, places, &happened);
+        let demerits = page_demerits(routine, places, happened.as_slice());
         // What was shipped is closed, so that no copy holds it.
-        routine.done_with(&happened);
+        routine.done_with(happened.as_slice());
         Ok(Filled::Fired { demerits })
     }
 }
@@ -304,12 +314,13 @@ fn last_line(happened: &[Happening]) -> u32 {
 
 // Where a page stops before whose firing the run ends so. The places that were tried tell its prices if no node that waits sets a
 // parameter, and none of the places costs less than a forced break.
-fn stop_of(ending: Ending, steady: bool, dear: bool) -> Stop
-    ensures { (told : Bool) → result ≡ Nowhere told → (ending ≡ Done) × (told ≡ true → (steady ≡ true) × (dear ≡ true)) }
+fn stop_of(ending: Ending, steady: bool, dear: bool, plain: bool) -> Stop
+    ensures { (told flat : Bool) → result ≡ Nowhere told flat → (ending ≡ Done) × ((told ≡ true → (steady ≡ true) × (dear ≡ true)) × (flat ≡ plain)) }
 {
     match ending {
         Ending::Done => Stop::Nowhere {
             told: steady && dear,
+            plain,
         },
         _ => Stop::Line(0),
     }
@@ -342,13 +353,23 @@ fn unserved(ending: Ending) -> Filled
     }
 }
 
+// The line of a place; 0 if there is none.
+fn line_of(place: Option<Try>) -> u32
+    ensures { result ≡ line_of place }
+{
+    match place {
+        Some(t) => t.line,
+        None => 0,
+    }
+}
+
 // The demerits of the page that a routine served last, by what happened.
-fn page_demerits(routine: &Routine<'_>, places: &[PlacePenalty], happened: &[Happening]) -> i128
+fn page_demerits(routine: &Routine<'_>, places: &Penalties, happened: &[Happening]) -> i128
     requires ready { IsReady routine.now }
     requires tried { IfSome (last_champion (events_of routine.now.store happened.now)) IsTried }
-    requires mild { AllByRecursion IsMildPlace places.now }
+    requires fit { IsPenalties places.now }
 
-    ensures value { result ≡ demerits_if (rating (state_of routine.now).params places.now 0 (last_champion (events_of routine.now.store happened.now)) (floats_waiting (state_of routine.now).floats) (insertions_first (state_of routine.now).waiting)) }
+    ensures value { result ≡ demerits_if (rating (state_of routine.now).params places.now.places.items 0 (last_champion (events_of routine.now.store happened.now)) (floats_waiting (state_of routine.now).floats) (insertions_first (state_of routine.now).waiting)) }
     ensures low { pos 0 ≤ℤ result }
     ensures high { result ≤ℤ pos 352689971456 }
 {
@@ -356,7 +377,9 @@ fn page_demerits(routine: &Routine<'_>, places: &[PlacePenalty], happened: &[Hap
     let waiting = routine.machine.floats_waiting();
     let params = routine.machine.params();
     // The number of the page is not among the demerits.
-    match rate(params, places, 0, last_champion(happened), waiting, held) {
+    let champion = last_champion(happened);
+    let there = places.from_line(line_of(champion));
+    match rate(params, there, 0, champion, waiting, held) {
         Some(rating) => rating.demerits,
         None => 0,
     }

@@ -1,18 +1,21 @@
 //! How many items the search may take before a page can fire.
 
-ghost use Rattle.std.specs.Prelude.{◌≡◌, ◌<◌, ◌≤◌, true, length, IfOk};
+ghost use Rattle.std.specs.Prelude.{◌≡◌, ◌<◌, ◌≤◌, true, length, IfOk, IfSome};
+ghost use Rattle.tb_rate.specs.Places.{place_penalties};
 ghost use Rattle.tb_best.specs.ItemsAhead.{all_ahead};
-ghost use Rattle.tb_search.specs.Branches.{shown};
+ghost use Rattle.tb_best.specs.PlainPages.{all_plain};
+ghost use Rattle.tb_search.specs.Branches.{shown, IsBranch};
 ghost use Rattle.tb_search.specs.AheadInCode.{items_ahead};
 ghost use Rattle.tb_search.specs.Calm.{with_first, IsCalm};
-ghost use Rattle.tb_search.specs.Told.{StopsAt, Tells};
+ghost use Rattle.tb_search.specs.Told.{IsTold, StopsAt, Tells};
 ghost use Rattle.tb_search.specs.Starts.{IsReached, IsTable};
 
 use crate::branch::Stop;
+use crate::prices::{Priced, prices_of};
 use crate::search::BestFault;
 use crate::table::{Start, Table};
 use crate::trials::Trials;
-use std::alloc::Global;
+use std::alloc::{AllocError, Global};
 use tb_galley::Item;
 use tb_items::Happening;
 
@@ -29,12 +32,24 @@ pub(crate) struct Calm {
     pub(crate) count: usize,
     /// Whether the places that were tried with them tell what the page costs at least if a break is put in.
     pub(crate) told: bool,
+    /// Whether no insertion and no act waits once they are taken.
+    pub(crate) plain: bool,
 }
 
 const NOT_CALM: Calm = Calm {
     count: 0,
     told: false,
+    plain: false,
 };
+
+/// What the places tell of a page that were tried once items were taken.
+#[derive(Drop)]
+pub(crate) struct Told {
+    /// Their prices.
+    pub(crate) prices: Vec<Priced>,
+    /// Whether no insertion and no act waits then.
+    pub(crate) plain: bool,
+}
 
 // How many items stand before the first one on this line or behind it; all if there is none.
 fn items_before(items: &[Item], line: u32) -> usize {
@@ -75,6 +90,7 @@ impl<'a> Table<'a> {
         ensures fewer { IfOk result (λ c. c.count < left) }
         ensures calm { IfOk result (λ c. 0 < c.count → IsCalm (shown start.now.branch) (items_ahead self.now.galley.now left) c.count) }
         ensures told { IfOk result (λ c. c.told ≡ true → Tells happened.new.items (with_first c.count (items_ahead self.now.galley.now left) (shown start.now.branch))) }
+        ensures plain { IfOk result (λ c. c.plain ≡ true → all_plain (with_first c.count (items_ahead self.now.galley.now left) (shown start.now.branch)).waiting ≡ true) }
     {
         let mut count = trials.guess;
         'tries: for k in 0..TRIES {
@@ -88,13 +104,41 @@ impl<'a> Table<'a> {
                 Stop::Line(line) => {
                     count = self.fewer_items(left, count, line);
                 }
-                Stop::Nowhere { told } => {
+                Stop::Nowhere { told, plain } => {
                     trials.guess = next_guess(count, k > 0);
-                    return Ok(Calm { count, told });
+                    return Ok(Calm { count, told, plain });
                 }
             }
         }
         Ok(NOT_CALM)
+    }
+
+    /// What the places tell that were tried with so many of the items ahead behind a state; nothing if they don't tell what the
+    /// page costs at least. It fails only if memory runs out.
+    pub(crate) fn told(
+        &self,
+        alloc: Global,
+        left: usize,
+        start: &Start<'a>,
+        found: Calm,
+        happened: &[Happening],
+    ) -> Result<Option<Told>, AllocError>
+        requires table { IsTable self.now }
+        requires branch { IsBranch start.now.branch }
+        requires told { found.told ≡ true → Tells happened.now (with_first found.count (items_ahead self.now.galley.now left) (shown start.now.branch)) }
+        requires plain { found.plain ≡ true → all_plain (with_first found.count (items_ahead self.now.galley.now left) (shown start.now.branch)).waiting ≡ true }
+
+        ensures { IfOk result (λ o. IfSome o (IsTold (place_penalties self.now.galley.now.items) (with_first found.count (items_ahead self.now.galley.now left) (shown start.now.branch)))) }
+    {
+        if found.told {
+            let params = start.branch.routine.machine.params();
+            let prices = prices_of(alloc, params, &self.penalties, happened)?;
+            return Ok(Some(Told {
+                prices,
+                plain: found.plain,
+            }));
+        }
+        Ok(None)
     }
 
     // How many items are to be tried after so many, behind which a page fires at a stop on this line.

@@ -2,32 +2,34 @@
 
 ghost use Rattle.std.specs.Prelude.{◌≡◌, ◌+◌, ◌<◌, ◌≤◌, pos, ◌+ℤ◌, ◌≤ℤ◌, true, false, length, reverse, get_or, Some, IfSome, OnOk, ◌-ℤ◌, ◌-◌};
 ghost use Rattle.tb_builder.specs.Reach.{holds_box};
+ghost use Rattle.tb_rate.specs.Places.{place_penalties};
 ghost use Rattle.tb_best.specs.ItemsAhead.{all_ahead};
 ghost use Rattle.tb_search.specs.Branches.{shown, IsBranch};
 ghost use Rattle.tb_search.specs.AheadInCode.{items_ahead};
-ghost use Rattle.tb_search.specs.Told.{tried_in, TellsBehind};
+ghost use Rattle.tb_search.specs.Told.{TellsBehind};
 ghost use Rattle.tb_search.specs.Plain.{CostsAbove, IsBeaten, LeavesPlain};
 ghost use Rattle.tb_search.specs.Starts.{IsReached, IsTable};
 ghost use Rattle.tb_search.specs.Continues.{Continues, IsCutSearched};
 
+use crate::calm::Told;
 use crate::plain::place_of_better;
+use crate::prices::{Priced, are_above};
 use crate::search::BestFault;
 use crate::table::{Table, Way, breaks_with};
 use crate::trials::Trials;
 use crate::{Branch, Filled};
 use std::alloc::Global;
-use tb_items::Happening;
 
 impl<'a> Table<'a> {
-    /// The page into which a break is put before the next item, if it has a box and a break may be put in there. `told` are the
-    /// places that were tried with items behind, if they tell what the page costs at least.
+    /// The page into which a break is put before the next item, if it has a box and a break may be put in there. `told` is what
+    /// the places tell that were tried with items behind.
     pub(crate) fn cut(
         &mut self,
         alloc: Global,
         left: usize,
         branch: &Branch<'a>,
         way: &Way,
-        told: Option<&[Happening]>,
+        told: Option<&Told>,
         trials: &mut Trials<'a>,
     ) -> Result<(), BestFault>
         requires table { IsTable self.old }
@@ -36,7 +38,7 @@ impl<'a> Table<'a> {
         requires inside { left ≤ length (all_ahead self.old.galley.now) }
         requires reached { IsReached self.old.galley.now left (record { branch = branch.now; way = way.now }) }
         requires high { way.now.demerits ≤ℤ self.old.bound }
-        requires told { IfSome told (λ hs. TellsBehind hs.now (shown branch.now) (items_ahead self.old.galley.now left)) }
+        requires told { IfSome told (λ t. TellsBehind (place_penalties self.old.galley.now.items) (shown branch.now) (items_ahead self.old.galley.now left) t.now) }
 
         ensures table { OnOk result (IsTable self.new) }
         ensures continues { OnOk result (Continues self.old self.new) }
@@ -52,42 +54,45 @@ impl<'a> Table<'a> {
         if !branch.holds_box() {
             return Ok(());
         }
-        let Some(happened) = told else {
+        let Some(told) = told else {
             return self.put_break(alloc, left, branch, way, number, false, trials);
         };
-        if self.is_too_dear(branch, way, happened) {
+        let Some(line) = branch.next_place() else {
+            return self.put_break(alloc, left, branch, way, number, false, trials);
+        };
+        let prices = told.prices.as_slice();
+        if self.is_too_dear(way, line, prices) {
             return Ok(());
         }
-        let plain = branch.is_plain_page();
+        let plain = branch.is_plain_page(told.plain);
         if plain {
-            if self.is_beaten(left - 1, branch, way, happened) {
+            if self.is_beaten(left - 1, branch, way, line, prices) {
                 return Ok(());
             }
         }
         self.put_break(alloc, left, branch, way, number, plain, trials)
     }
 
-    // Whether the page costs too much with a break before the next item, by the places that were tried.
-    fn is_too_dear(&self, branch: &Branch<'a>, way: &Way, happened: &[Happening]) -> bool
+    // Whether the page costs too much with a break on this line, by the prices.
+    fn is_too_dear(&self, way: &Way, line: u32, prices: &[Priced]) -> bool
         requires table { IsTable self.now }
-        requires branch { IsBranch branch.now }
         requires low { pos 0 ≤ℤ way.now.demerits }
         requires high { (way.now.demerits +ℤ pos 1000) ≤ℤ self.now.bound }
 
-        ensures { result ≡ true → CostsAbove branch.now self.now.penalties.items (self.now.bound -ℤ (way.now.demerits +ℤ pos 1000)) (tried_in happened.now) }
+        ensures { result ≡ true → CostsAbove line (self.now.bound -ℤ (way.now.demerits +ℤ pos 1000)) prices.now }
     {
-        let most = self.bound - (way.demerits + 1000);
-        branch.costs_above(self.penalties.as_slice(), most, happened)
+        are_above(prices, line, self.bound - (way.demerits + 1000))
     }
 
-    // Whether a state is kept that stands for the one after the plain page with a break before the next item, with fewer
-    // demerits. That one would have so many items ahead.
+    // Whether a state is kept that may stand for the one after the plain page with a break on this line, with fewer demerits.
+    // That one would have so many items ahead.
     fn is_beaten(
         &self,
         behind: usize,
         branch: &Branch<'a>,
         way: &Way,
-        happened: &[Happening],
+        line: u32,
+        prices: &[Priced],
     ) -> bool
         requires table { IsTable self.now }
         requires level { behind < length self.now.starts.items }
@@ -95,16 +100,10 @@ impl<'a> Table<'a> {
         requires low { pos 0 ≤ℤ way.now.demerits }
         requires high { (way.now.demerits +ℤ pos 1000) ≤ℤ self.now.bound }
 
-        ensures { result ≡ true → IsBeaten self.now behind branch.now way.now (tried_in happened.now) }
+        ensures { result ≡ true → IsBeaten self.now behind branch.now way.now line prices.now }
     {
-        place_of_better(
-            self.starts[behind].as_slice(),
-            branch,
-            way,
-            self.penalties.as_slice(),
-            happened,
-        )
-        .is_some()
+        let starts = self.starts[behind].as_slice();
+        place_of_better(starts, branch, way, line, prices, self.may_alternate).is_some()
     }
 
     // The page into which a break is put before the next item, which has this number. `plain` tells that the page is plain.
@@ -138,7 +137,7 @@ impl<'a> Table<'a> {
             return Err(BestFault::Choices);
         }
         let breaks = breaks_with(alloc, way.breaks.as_slice(), Some(number as u32))?;
-        match trials.page.fill(alloc, self.penalties.as_slice())? {
+        match trials.page.fill(&self.penalties, &mut trials.happened)? {
             Filled::Fired { demerits } => {
                 let way = Way {
                     breaks,

@@ -2,11 +2,13 @@
 //! items that are still ahead, and the moves of the search are its calls.
 #![tactic(auto)]
 
+mod beam;
 mod branch;
 mod calm;
 mod copies;
 mod cuts;
 mod moves;
+mod penalties;
 mod plain;
 mod prices;
 mod same;
@@ -15,4 +17,5 @@ mod table;
 mod trials;
 
 pub use crate::branch::{Branch, Filled};
+pub use crate::penalties::Penalties;
 pub use crate::search::{BestFault, BestPlan, best_breaks};

@@ -1,7 +1,8 @@
 //! Nodes are handed to a routine in which nothing is left.
 
-ghost use Rattle.std.specs.Prelude.{◌≡◌, ◌≤◌, false, [], None, Some, IfOk, if◌then◌else◌, map};
-ghost use Rattle.tb_pool.specs.Lists.{IsLive};
+ghost use Rattle.std.specs.Prelude.{◌≡◌, ◌≤◌, false, [], None, Some, IfOk, if◌then◌else◌, map, option_copied};
+ghost use Rattle.tb_pool.specs.Lists.{list_at, IsLive};
+ghost use Rattle.tb_search.specs.LastNodes.{is_act_kind, last_but_acts};
 ghost use Rattle.tb_node.specs.PlainNodes.{node_shape, plain_list, shape_of, without_acts};
 ghost use Rattle.tb_break.specs.Places.{ends_lasting};
 ghost use Rattle.tb_best.specs.PlacePrices.{sets_any};
@@ -87,16 +88,37 @@ fn is_box(node: &Node) -> bool
     matches!(&node.kind, Kind::Hbox { .. } | Kind::Rule { .. })
 }
 
+// The last node of a list that is no act.
+fn last_but_acts(store: &Lists<Node>, list: ListId) -> Option<&Node>
+    requires { IsLive store.now list }
+    ensures { option_copied result ≡ last_but_acts (list_at store.now list) }
+{
+    let mut k = store.len(list);
+    'back: while k > 0 {
+        k -= 1;
+        let node = store.get(list, k)?;
+        if !is_act(node) {
+            return Some(node);
+        }
+    }
+    None
+}
+
+fn is_act(node: &Node) -> bool
+    ensures { result ≡ is_act_kind node.now.kind }
+{
+    matches!(&node.kind, Kind::Act(_))
+}
+
 /// Whether a list ends in a kern, acts behind it aside.
 pub(crate) fn ends_in_kern(store: &Lists<Node>, list: ListId) -> bool
     requires { IsLive store.now list }
     ensures { result ≡ kern_last false (plain_list store.now list) }
 {
-    let mut kern = false;
-    for node in store.iter(list) {
-        kern = kern_after(kern, node);
+    match last_but_acts(store, list) {
+        Some(node) => kern_after(false, node),
+        None => false,
     }
-    kern
 }
 
 // Whether nodes end in a kern with this one behind them, if they did before.
@@ -115,11 +137,10 @@ pub(crate) fn ends_lasting(store: &Lists<Node>, list: ListId) -> bool
     requires { IsLive store.now list }
     ensures { result ≡ ends_lasting (map node_shape (without_acts (plain_list store.now list))) }
 {
-    let mut lasting = false;
-    for node in store.iter(list) {
-        lasting = lasting_after(lasting, node);
+    match last_but_acts(store, list) {
+        Some(node) => lasting_after(false, node),
+        None => false,
     }
-    lasting
 }
 
 // Whether nodes end in one that lasts with this one behind them, if they did before.

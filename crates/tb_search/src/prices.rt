@@ -1,17 +1,29 @@
 //! What the places of a page tell that were tried while it was filled: what its column costs at least if a break is put in there.
 
-ghost use Rattle.std.specs.Prelude.{◌≡◌, true};
+ghost use Rattle.std.specs.Prelude.{◌≡◌, ◌++◌, true, IfOk, OnOk};
 ghost use Rattle.std.specs.List.{AllByRecursion};
-ghost use Rattle.tb_rate.specs.Places.{IsMildPlace};
 ghost use Rattle.tb_rate.specs.Rating.{IsTried};
-ghost use Rattle.tb_best.specs.PlacePrices.{forced_try, price, AreAbove, AreDear};
-ghost use Rattle.tb_search.specs.Told.{tried_in, IsAboveIn, IsDearIn};
+ghost use Rattle.tb_best.specs.PlacePrices.{forced_try, price};
+ghost use Rattle.tb_search.specs.Penalties.{IsPenalties};
+ghost use Rattle.tb_search.specs.Prices.{price_in, prices_among, IsPriceAbove};
+ghost use Rattle.tb_search.specs.Told.{IsDearIn};
 
+use crate::penalties::Penalties;
+use std::alloc::{AllocError, Global};
 use tb_builder::Try;
 use tb_items::Happening;
 use tb_param::Params;
-use tb_rate::{PlacePenalty, rate};
+use tb_rate::rate;
 use tb_scaled::EJECT_PENALTY;
+
+/// A place that was tried: what a column costs at least that is broken there by force.
+#[derive(Clone, Copy)]
+pub(crate) struct Priced {
+    /// The line of the place.
+    pub(crate) line: u32,
+    /// The demerits.
+    pub(crate) demerits: i128,
+}
 
 // The place as it is tried if its break is forced.
 fn forced_try(t: &Try) -> Try
@@ -24,73 +36,92 @@ fn forced_try(t: &Try) -> Try
 }
 
 // The demerits of a column that ends there by force, if nothing is left over.
-fn price(params: &Params, places: &[PlacePenalty], t: &Try) -> i128
+fn price(params: &Params, places: &Penalties, t: &Try) -> i128
     requires tried { IsTried (forced_try t.now) }
-    requires mild { AllByRecursion IsMildPlace places.now }
+    requires fit { IsPenalties places.now }
 
-    ensures { result ≡ price params.now places.now t.now }
+    ensures { result ≡ price params.now places.now.places.items t.now }
 {
-    match rate(params, places, 0, Some(forced_try(t)), 0, 0) {
+    let there = places.from_line(t.line);
+    match rate(params, there, 0, Some(forced_try(t)), 0, 0) {
         Some(rating) => rating.demerits,
         None => 0,
     }
 }
 
-// Whether this is no place on this line, or one whose price is above this. No badness is below 0.
-fn is_above(
+// Appends the price of a place, if one was tried.
+fn put_price(
+    prices: &mut Vec<Priced>,
     params: &Params,
-    places: &[PlacePenalty],
-    line: u32,
-    most: i128,
+    places: &Penalties,
     happening: &Happening,
-) -> bool
-    requires mild { AllByRecursion IsMildPlace places.now }
+) -> Result<(), AllocError>
+    requires dear { IsDearIn happening.now }
+    requires fit { IsPenalties places.now }
 
-    ensures { result ≡ true → IsAboveIn params.now places.now line most happening.now }
+    ensures { OnOk result (prices.new.items ≡ prices.old.items ++ price_in params.now places.now.places.items happening.now) }
 {
     let Happening::Tried(t) = happening else {
-        return true;
+        return Ok(());
     };
-    if t.line != line {
-        return true;
-    }
-    t.badness >= 0 && price(params, places, t) > most
+    prices.push(Priced {
+        line: t.line,
+        demerits: price(params, places, t),
+    })?;
+    Ok(())
 }
 
-/// Whether each place that was tried on a line costs more than this, if the page is broken there by force. `places` are the
-/// penalties at the galley's places.
-pub(crate) fn are_above(
+/// The prices of the places that were tried. It fails only if memory runs out.
+pub(crate) fn prices_of(
+    alloc: Global,
     params: &Params,
-    places: &[PlacePenalty],
-    line: u32,
-    most: i128,
+    places: &Penalties,
     happened: &[Happening],
-) -> bool
-    requires mild { AllByRecursion IsMildPlace places.now }
+) -> Result<Vec<Priced>, AllocError>
+    requires dear { AllByRecursion IsDearIn happened.now }
+    requires fit { IsPenalties places.now }
 
-    ensures { result ≡ true → AreAbove params.now places.now line most (tried_in happened.now) }
+    ensures { IfOk result (λ v. v.items ≡ prices_among params.now places.now.places.items happened.now) }
 {
+    let mut prices = Vec::new(alloc);
     for happening in happened {
-        if !is_above(params, places, line, most, happening) {
+        put_price(&mut prices, params, places, happening)?;
+    }
+    Ok(prices)
+}
+
+// Whether this is no place on a line, or its price is above this.
+fn is_above(price: &Priced, line: u32, most: i128) -> bool
+    ensures { result ≡ true → IsPriceAbove line most price.now }
+{
+    price.line != line || price.demerits > most
+}
+
+/// Whether each of these places on a line has a price above this.
+pub(crate) fn are_above(prices: &[Priced], line: u32, most: i128) -> bool
+    ensures { result ≡ true → AllByRecursion (IsPriceAbove line most) prices.now }
+{
+    for price in prices {
+        if !is_above(price, line, most) {
             return false;
         }
     }
     true
 }
 
-// Whether this is no place that costs less than a forced break.
+// Whether this is no place that costs less than a forced break. No badness is below 0.
 fn is_dear(happening: &Happening) -> bool
     ensures { result ≡ true → IsDearIn happening.now }
 {
     let Happening::Tried(t) = happening else {
         return true;
     };
-    t.cost >= EJECT_PENALTY
+    t.cost >= EJECT_PENALTY && t.badness >= 0
 }
 
 /// Whether no place that was tried costs less than a forced break.
 pub(crate) fn are_dear(happened: &[Happening]) -> bool
-    ensures { result ≡ true → AreDear (tried_in happened.now) }
+    ensures { result ≡ true → AllByRecursion IsDearIn happened.now }
 {
     for happening in happened {
         if !is_dear(happening) {

@@ -14,6 +14,7 @@ ghost use Rattle.tb_search.specs.AheadInCode.{items_ahead};
 ghost use Rattle.tb_search.specs.Starts.{row_of, rows_of, IsReached, IsStart, IsTable};
 ghost use Rattle.tb_search.specs.Continues.{IsLater, IsTakenOn, Continues, HasSearched, IsSearchedAsGoodBy};
 
+use crate::beam::beam_bound;
 use crate::table::{Start, Table, Way};
 use crate::trials::Trials;
 use crate::{Branch, Filled};
@@ -49,13 +50,6 @@ impl From<AllocError> for BestFault {
     }
 }
 
-// The search begins with this bound on the demerits.
-const FIRST_BOUND: i128 = 10_000;
-
-// So many bounds are tried at most before those near the greedy pages. Each is four times the one before, and the last is above
-// all demerits.
-const BOUNDS: u32 = 40;
-
 /// The best plan of a galley: of all ways to put page breaks in at its places the one of least demerits, and of several the
 /// one whose breaks, read from the last, are the greatest. `greedy` are the demerits of the galley without breaks put in.
 ///
@@ -69,72 +63,31 @@ pub fn best_breaks(alloc: Global, galley: &Galley, greedy: i128) -> Result<BestP
     ensures best { IfOk result (λ b. IsBest galley.now b.places.items b.demerits) }
 {
     let mut trials = Trials::start(alloc, Branch::start(alloc, galley)?);
-    best_by_bounds(alloc, galley, greedy, &mut trials)
+    let bound = low_bound(alloc, galley, greedy, &mut trials)?;
+    let plan = best_within(alloc, galley, greedy, bound, &mut trials)?;
+    if plan.demerits <= bound {
+        return Ok(plan);
+    }
+    best_within(alloc, galley, greedy, greedy, &mut trials)
 }
 
-// The same. Pages are tried in `trials`, here and below.
-fn best_by_bounds<'a>(
+// A bound that some plan is within: the demerits of pages that a narrow beam finds, and then a wider one.
+fn low_bound<'a>(
     alloc: Global,
     galley: &'a Galley,
     greedy: i128,
     trials: &mut Trials<'a>,
-) -> Result<BestPlan, BestFault>
+) -> Result<i128, BestFault>
     requires valid { IsValid galley.now }
     requires sum { plan_demerits galley.now [] ≡ Some greedy }
     requires low { pos 0 ≤ℤ greedy }
     requires high { greedy ≤ℤ pos 1000000000000000000000000000 }
 
-    ensures best { IfOk result (λ b. IsBest galley.now b.places.items b.demerits) }
+    ensures low { IfOk result (λ d. pos 0 ≤ℤ d) }
+    ensures fewer { IfOk result (λ d. d ≤ℤ greedy) }
 {
-    // A way with more demerits than a bound is not gone on. Low bounds leave most ways out, so they are tried first: a plan
-    // within the bound is the best of all.
-    let mut bound = FIRST_BOUND;
-    'bounds: for _ in 0..BOUNDS {
-        if bound < greedy / 4 {
-            let plan = best_within(alloc, galley, greedy, bound, trials)?;
-            if plan.demerits <= bound {
-                return Ok(plan);
-            }
-        }
-        bound = next_bound(bound, greedy);
-    }
-    best_near(alloc, galley, greedy, trials)
-}
-
-// The same, by bounds near the demerits of the greedy pages: much of them often can't be helped.
-fn best_near<'a>(
-    alloc: Global,
-    galley: &'a Galley,
-    greedy: i128,
-    trials: &mut Trials<'a>,
-) -> Result<BestPlan, BestFault>
-    requires valid { IsValid galley.now }
-    requires sum { plan_demerits galley.now [] ≡ Some greedy }
-    requires low { pos 0 ≤ℤ greedy }
-    requires high { greedy ≤ℤ pos 1000000000000000000000000000 }
-
-    ensures best { IfOk result (λ b. IsBest galley.now b.places.items b.demerits) }
-{
-    for part in [8, 64] {
-        let bound = greedy - greedy / part;
-        let plan = best_within(alloc, galley, greedy, bound, trials)?;
-        if plan.demerits <= bound {
-            return Ok(plan);
-        }
-    }
-    best_within(alloc, galley, greedy, greedy, trials)
-}
-
-// The bound after one that no plan is within.
-fn next_bound(bound: i128, greedy: i128) -> i128
-    requires low { pos 1 ≤ℤ bound }
-    requires high { bound ≤ℤ pos 4000000000000000000000000000 }
-    requires greedy { greedy ≤ℤ pos 1000000000000000000000000000 }
-
-    ensures low { pos 1 ≤ℤ result }
-    ensures high { result ≤ℤ pos 4000000000000000000000000000 }
-{
-    if bound < greedy { bound * 4 } else { bound }
+    let bound = beam_bound(alloc, galley, greedy, greedy, 4, trials)?;
+    beam_bound(alloc, galley, greedy, bound, 16, trials)
 }
 
 // The best of the plans within a bound, or one past the bound if there is none: no more than the greedy pages have.
@@ -164,8 +117,8 @@ fn best_within<'a>(
 }
 
 impl<'a> Table<'a> {
-    // The state in which a run begins waits.
-    fn begin(
+    /// The state in which a run begins waits.
+    pub(crate) fn begin(
         &mut self,
         alloc: Global,
         galley: &'a Galley,
@@ -229,8 +182,8 @@ impl<'a> Table<'a> {
         Ok(())
     }
 
-    // All pages that may come next after a state.
-    fn expand(
+    /// All pages that may come next after a state.
+    pub(crate) fn expand(
         &mut self,
         alloc: Global,
         left: usize,
@@ -270,11 +223,8 @@ impl<'a> Table<'a> {
     {
         let mut happened = Vec::new(alloc);
         let found = self.calm_items(alloc, left, &start, &mut happened, trials)?;
-        let told = if found.told {
-            Some(happened.as_slice())
-        } else {
-            None
-        };
+        let told = self.told(alloc, left, &start, found, happened.as_slice())?;
+        let told = told.as_ref();
         let Start { mut branch, way } = start;
         let mut left = left;
         let mut calm = found.count;
@@ -402,6 +352,7 @@ impl<'a> Table<'a> {
                 Filled::TooMany => return Err(BestFault::Choices),
             }
         }
+        trials.give_back(branch);
         Ok(())
     }
 
@@ -443,7 +394,7 @@ impl<'a> Table<'a> {
         ensures { IfOk result (λ f. FillsTo (place_penalties self.now.galley.now.items) branch.now f trials.new.page) }
     {
         trials.page.copy_from(branch, alloc)?;
-        let filled = trials.page.fill(alloc, self.penalties.as_slice())?;
+        let filled = trials.page.fill(&self.penalties, &mut trials.happened)?;
         Ok(filled)
     }
 }

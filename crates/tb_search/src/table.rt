@@ -1,7 +1,7 @@
 //! The states from which the search goes on, each with the best way to it.
 
 ghost use Rattle.std.specs.List.{AllByRecursion};
-ghost use Rattle.std.specs.Prelude.{◌≡◌, ◌<◌, ◌+◌, pos, ◌≤ℤ◌, [], ◌∷◌, ◌++◌, true, false, length, replicate, reverse, Option, IfOk, IfSome, OnOk};
+ghost use Rattle.std.specs.Prelude.{◌≡◌, ◌<◌, ◌+◌, pos, ◌≤ℤ◌, [], ◌∷◌, ◌++◌, true, false, length, replicate, reverse, set, Option, IfOk, IfSome, OnOk};
 ghost use Rattle.tb_galley.specs.Valid.{IsValid};
 ghost use Rattle.tb_lines.specs.LeastSolution.{is_greater};
 ghost use Rattle.tb_best.specs.ItemsAhead.{all_ahead};
@@ -16,12 +16,13 @@ ghost use Rattle.tb_search.specs.Starts.{rows_of, IsRated, IsStart, IsTable};
 ghost use Rattle.tb_search.specs.Ways.{marked, with_last};
 
 use crate::Branch;
+use crate::penalties::Penalties;
 use crate::search::BestFault;
 use crate::trials::Trials;
 use std::alloc::{AllocError, Global};
+use std::mem;
 use tb_galley::{Galley, Item, ItemKind};
 use tb_param::{Choice, Field};
-use tb_rate::{PlacePenalty, place_penalties};
 
 /// A way that the search went: the breaks that were put in, and the demerits so far.
 #[derive(Drop)]
@@ -47,7 +48,7 @@ pub(crate) struct Table<'a> {
     /// The galley.
     pub(crate) galley: &'a Galley,
     /// The penalties of its own at its places.
-    pub(crate) penalties: Vec<PlacePenalty>,
+    pub(crate) penalties: Penalties,
     /// Whether marginal notes may change sides from page to page.
     pub(crate) may_alternate: bool,
     /// Whether a break may be put in before each item, and before the clear at the end.
@@ -194,6 +195,14 @@ fn push_start<'a>(starts: &mut Vec<Start<'a>>, start: Start<'a>) -> Result<(), B
     }
 }
 
+// Keeps a state in place of one, which it returns.
+fn swap_start<'a>(starts: &mut Vec<Start<'a>>, k: usize, start: Start<'a>) -> Start<'a>
+    requires { k < length starts.old.items }
+    ensures { starts.new.items ≡ set starts.old.items k start.entry }
+{
+    mem::replace(&mut starts[k], start)
+}
+
 impl<'a> Table<'a> {
     /// No state is kept. `greedy` are the demerits of the galley without breaks put in. It fails only if memory runs out.
     pub(crate) fn new(
@@ -215,7 +224,7 @@ impl<'a> Table<'a> {
         ensures none { IfOk result (λ t. rows_of t ≡ []) }
         ensures levels { IfOk result (λ t. length t.starts.items ≡ length (all_ahead galley.now) + 1) }
     {
-        let penalties = place_penalties(alloc, galley.items.as_slice())?;
+        let penalties = Penalties::of_items(alloc, galley.items.as_slice())?;
         let places = tb_plans::places(alloc, galley)?;
         let count = galley.items.len() + 1;
         let is_place = flags(alloc, count, places.as_slice())?;
@@ -258,7 +267,7 @@ impl<'a> Table<'a> {
             trials.give_back(branch);
             return Ok(());
         }
-        self.insert(left, Start { branch, way })
+        self.insert(left, Start { branch, way }, trials)
     }
 
     /// Whether a state that is kept may stand for this one, which has so many items ahead.
@@ -282,7 +291,12 @@ impl<'a> Table<'a> {
     }
 
     // Keeps a state in place of one for which it may stand, or as one more.
-    fn insert(&mut self, left: usize, start: Start<'a>) -> Result<(), BestFault>
+    fn insert(
+        &mut self,
+        left: usize,
+        start: Start<'a>,
+        trials: &mut Trials<'a>,
+    ) -> Result<(), BestFault>
         requires table { IsTable self.old }
         requires left { left < length self.old.starts.items }
         requires start { IsStart self.old.galley.now self.old.bound left start }
@@ -293,7 +307,8 @@ impl<'a> Table<'a> {
     {
         match needless_place(self.starts[left].as_slice(), &start, self.may_alternate) {
             Some(k) => {
-                self.starts[left][k] = start;
+                let needless = swap_start(&mut self.starts[left], k, start);
+                trials.give_back(needless.branch);
                 Ok(())
             }
             None => self.add(left, start),

@@ -5,7 +5,7 @@ ghost use Rattle.tb_search.specs.Branches.{shown, IsBranch};
 
 use crate::Branch;
 use std::alloc::{AllocError, Global};
-use tb_galley::Galley;
+use tb_items::Happening;
 
 /// The state in which pages are tried, and states of no account, in whose memory the next copies are made.
 #[derive(Drop)]
@@ -14,6 +14,8 @@ pub(crate) struct Trials<'a> {
     pub(crate) page: Branch<'a>,
     /// How many items are tried first, to see how many can be taken before a page fires.
     pub(crate) guess: usize,
+    /// What happened when a page was filled. Between two tries it is of no account.
+    pub(crate) happened: Vec<Happening>,
     spare: Vec<Branch<'a>>,
 }
 
@@ -26,6 +28,7 @@ impl<'a> Trials<'a> {
         Trials {
             page,
             guess: FIRST_GUESS,
+            happened: Vec::new(alloc),
             spare: Vec::new(alloc),
         }
     }

@@ -1,7 +1,15 @@
 use Rattle.std.proofs.Common.{sym, ◌∙◌, ap, false}
+use Rattle.std.specs.Prelude.{option_copied}
 use Rattle.tb_pool.specs.Lists.{list_at}
-use Rattle.tb_search.proofs.KernLemmas.{kern_among, kern-shown}
+use Rattle.tb_search.specs.Branches.{kern_after}
+use Rattle.tb_search.proofs.LastNodeLemmas.{told_by}
+use Rattle.tb_search.proofs.KernLemmas.{kern-last}
 use Rattle.tb_search.proofs.moves.ends_in_kern.Goals as goal
 
-pub returns : goal.returns
-returns c = ap (kern_among c.loop-node.kern) (sym c.in-None.ensures.steps.0) ∙ c.loop-node.invariant.same ∙ kern-shown (list_at c.args.store.now) false (list_at c.args.store.now c.args.list)
+pub returns-in-Some : goal.returns-in-Some
+returns-in-Some c =
+    c.kern_after.ensures ∙ ap (told_by kern_after false) (sym (ap option_copied c.in-Some.is) ∙ c.last_but_acts.ensures) ∙ kern-last (list_at c.args.store.now) (list_at c.args.store.now c.args.list)
+
+pub returns-in-None : goal.returns-in-None
+returns-in-None c =
+    ap (told_by kern_after false) (sym (ap option_copied c.in-None.is) ∙ c.last_but_acts.ensures) ∙ kern-last (list_at c.args.store.now) (list_at c.args.store.now c.args.list)

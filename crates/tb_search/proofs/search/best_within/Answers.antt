@@ -1,5 +1,5 @@
-use Rattle.std.proofs.Common.{◌≡◌, refl, sym, ap, subst, ◌∙◌, inl, inr, rules, to_z, of_z, arith}
-use Rattle.std.specs.Prelude.{ℕ, ℤ, pos, ◌≤ℤ◌, List, reverse, FitsSigned}
+use Rattle.std.proofs.Common.{◌≡◌, refl, sym, ap, subst, ◌∙◌, inl, inr, to_z, of_z, arith}
+use Rattle.std.specs.Prelude.{ℕ, ℤ, ◌≤ℤ◌, List, reverse, FitsSigned}
 use Rattle.std.specs.Int.{w128}
 use Rattle.std.proofs.lemmas.Int.{ints, to_z-of_z}
 use Rattle.std.specs.Borrow.{Bor}
@@ -9,13 +9,8 @@ use Rattle.tb_best.specs.ClosedTables.{IsNoBetter}
 use Rattle.tb_search.specs.declared.table.Table.{Table}
 use Rattle.tb_search.specs.Continues.{IsNoWorse}
 use Rattle.tb_search.proofs.BeginLemmas.{end-best, plan-low}
+use Rattle.tb_search.proofs.SumLemmas.{in-range}
 use Rattle.tb_search.proofs.search.best_within.Goals as goal
-
--- a number in the range of plans is itself in 128 bits
-in-range : (d : ℤ) → pos 0 ≤ℤ d → d ≤ℤ pos 1000000000000000000000000000 → to_z w128 (of_z w128 d) ≡ d
-in-range d low bounded =
-    let fits : FitsSigned w128 d = search (rules, low, bounded) in
-    simp to_z-of_z refl
 
 -- what is no worse has no more demerits
 no-more : (a b : ℤ) (xs ys : List ℕ) → IsNoBetter a xs b ys → a ≤ℤ b

@@ -24,8 +24,8 @@ returns-in-Ends c =
     let hs = c.fill.new.happened.items in
     let now : Branch = record { routine = record b.routine { value = q }; ahead = b.ahead; plain = false } in
     let last : IsFilledLast true b.routine.value c.in-Ends.ending q hs = subst (λ o. Fills true b.routine.value o q hs) c.in-Ends.is (subst (λ (x : Routine). Fills true x c.in_ok-page.field-0 q hs) c.deref_mut-routine.ensures.value c.in_ok-page.ensures) in
-    subst (λ o. FillsTo c.args.places.now b o now) (sym c.unfired.ensures)
-    (unfired-so c.args.places.now b now q hs c.in-Ends.ending last c.ends_in_kern-kern.result c.ends_in_kern-kern.ensures)
+    subst (λ o. FillsTo c.args.places.now.places.items b o now) (sym c.unfired.ensures)
+    (unfired-so c.args.places.now.places.items b now q hs c.in-Ends.ending last c.ends_in_kern-kern.result c.ends_in_kern-kern.ensures)
 
 pub returns-in-Some : goal.returns-in-Some
 returns-in-Some c =
@@ -36,8 +36,8 @@ returns-in-Some c =
     let page = c.in-Fires.page in
     let now : Branch = record { routine = record b.routine { value = d }; ahead = b.ahead; plain = false } in
     let firing : IsFiring true b.routine.value page q hs = subst (λ o. Fills true b.routine.value o q hs) c.in-Fires.is (subst (λ (x : Routine). Fills true x c.in_ok-page.field-0 q hs) c.deref_mut-routine.ensures.value c.in_ok-page.ensures) in
-    subst (λ o. FillsTo c.args.places.now b o now) (sym c.unserved.ensures)
-    (unserved-so c.args.places.now b now q hs page firing d c.in-Some.ending
+    subst (λ o. FillsTo c.args.places.now.places.items b o now) (sym c.unserved.ensures)
+    (unserved-so c.args.places.now.places.items b now q hs page firing d c.in-Some.ending
     (subst (λ o. ServesUnlimited page q o d) c.in-Some.is c.in_ok-ending.ensures.served))
 
 pub page_demerits-demerits-requires-clause-tried : goal.page_demerits-demerits-requires-clause-tried
@@ -51,7 +51,7 @@ page_demerits-demerits-requires-clause-tried c =
     let firing : IsFiring true b.routine.value page q hs = subst (λ o. Fills true b.routine.value o q hs) c.in-Fires.is (subst (λ (x : Routine). Fills true x c.in_ok-page.field-0 q hs) c.deref_mut-routine.ensures.value c.in_ok-page.ensures) in
     let goes : HasGoneOn page q d = subst (λ o. ServesUnlimited page q o d) c.in_default.is c.in_ok-ending.ensures.served in
     let sent : HasSent page q d hs new = subst (λ o. IfNone o (HasSent page q d hs new)) c.in_default.is c.in_ok-ending.ensures.sent in
-    subst (λ xs. IfSome (last_champion (events_of d.store xs)) IsTried) (sym c.deref.ensures.value) (broke-tried b.routine.value q page hs firing d goes new sent)
+    subst (λ xs. IfSome (last_champion (events_of d.store xs)) IsTried) (sym c.as_slice.ensures.value) (broke-tried b.routine.value q page hs firing d goes new sent)
 
 pub returns : goal.returns
 returns c =
@@ -65,9 +65,9 @@ returns c =
     let goes : HasGoneOn page q d = subst (λ o. ServesUnlimited page q o d) c.in_default.is c.in_ok-ending.ensures.served in
     let sent : HasSent page q d hs new = subst (λ o. IfNone o (HasSent page q d hs new)) c.in_default.is c.in_ok-ending.ensures.sent in
     let ready : IsReady d = subst (λ o. IfNone o (IsReady d)) c.in_default.is c.in_ok-ending.ensures.ready in
-    let value = c.page_demerits-demerits.ensures.value ∙ ap (λ xs. demerits_if (rating (state_of d).params c.args.places.now 0 (last_champion (events_of d.store xs)) (floats_waiting (state_of d).floats) (insertions_first (state_of d).waiting))) c.deref.ensures.value in
+    let value = c.page_demerits-demerits.ensures.value ∙ ap (λ xs. demerits_if (rating (state_of d).params c.args.places.now.places.items 0 (last_champion (events_of d.store xs)) (floats_waiting (state_of d).floats) (insertions_first (state_of d).waiting))) c.as_slice.ensures.value in
     let fits : FitsSigned w128 c.page_demerits-demerits.result = search rules in
     let closed = c.done_with.ensures in
     simp to_z-of_z
-    (fired-closed c.args.places.now c.page_demerits-demerits.result b (record b.routine { value = d }) b.ahead (record b.routine { value = c.done_with.new.self }) closed.ready closed.state closed.left
-    (has-fired b c.requires.branch q page hs firing d goes ready c.in_ok-ending.ensures.classes c.args.places.now new sent c.page_demerits-demerits.result value c.page_demerits-demerits.ensures.low c.page_demerits-demerits.ensures.high))
+    (fired-closed c.args.places.now.places.items c.page_demerits-demerits.result b (record b.routine { value = d }) b.ahead (record b.routine { value = c.done_with.new.self }) closed.ready closed.state closed.left
+    (has-fired b c.requires.branch q page hs firing d goes ready c.in_ok-ending.ensures.classes c.args.places.now.places.items new sent c.page_demerits-demerits.result value c.page_demerits-demerits.ensures.low c.page_demerits-demerits.ensures.high))

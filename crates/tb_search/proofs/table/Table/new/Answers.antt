@@ -2,9 +2,8 @@ use Rattle.std.proofs.Common.{◌≡◌, refl, sym, ap, subst, ◌∙◌, ◌+�
 use Rattle.std.specs.Prelude.{ℤ, pos, ◌≤ℤ◌, replicate, FitsSigned}
 use Rattle.std.specs.Int.{w128}
 use Rattle.std.proofs.lemmas.Int.{ints, to_z-of_z}
-use Rattle.std.specs.List.{AllByRecursion}
 use Rattle.tb_plans.specs.Plans.{IsPlan}
-use Rattle.tb_rate.specs.Places.{place_penalties, IsMildPlace}
+use Rattle.tb_rate.specs.Places.{place_penalties}
 use Rattle.tb_best.specs.PlanDemerits.{plan_demerits}
 use Rattle.tb_search.specs.Ways.{marked}
 use Rattle.tb_search.proofs.AheadLemmas.{all-counted}
@@ -22,7 +21,7 @@ returns-clause-table c =
     let bound : to_z w128 (of_z w128 c.args.bound) ≡ c.args.bound = simp to_z-of_z refl in
     let count : c.len-count.result + 1 ≡ length g.items + 1 = ap (λ n. n + 1) c.len-count.ensures in
     record {
-      mild = subst (AllByRecursion IsMildPlace) (sym c.in_ok-penalties.ensures.places) c.in_ok-penalties.ensures.mild;
+      fit = c.in_ok-penalties.ensures.fit;
       range = let b = c.requires.bound in let r = c.requires.range in subst (λ (z : ℤ). z ≤ℤ pos 1000000000000000000000000000) (sym bound) (omega (arith, ints, b, r));
       penalties = c.in_ok-penalties.ensures.places ∙ ap place_penalties c.as_slice.ensures;
       places =

@@ -1,4 +1,4 @@
-use Rattle.std.proofs.Common.{subst, ◌∙◌}
+use Rattle.std.proofs.Common.{subst}
 use Rattle.tb_rate.specs.Places.{place_penalties}
 use Rattle.tb_search.specs.FilledBranches.{FillsTo}
 use Rattle.tb_search.proofs.ReachedWays.{fills-copy}
@@ -8,4 +8,4 @@ pub returns : goal.returns
 returns c =
     let copy = c.in_ok-copy_from.ensures in
     fills-copy (place_penalties c.args.self.now.galley.now.items) c.args.branch.now c.copy_from.new.self c.fill.new.self c.in_ok-filled.filled copy.state copy.ahead
-    (subst (λ ps. FillsTo ps c.copy_from.new.self c.in_ok-filled.filled c.fill.new.self) (c.as_slice.ensures.value ∙ c.requires.table.penalties) c.in_ok-filled.ensures)
+    (subst (λ ps. FillsTo ps c.copy_from.new.self c.in_ok-filled.filled c.fill.new.self) c.requires.table.penalties c.in_ok-filled.ensures)

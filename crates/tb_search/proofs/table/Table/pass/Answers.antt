@@ -1,19 +1,17 @@
-use Rattle.std.proofs.Common.{◌≡◌, sym, subst, inl, suc, ◌-◌, ◌<◌, List, arith}
-use Rattle.std.specs.Prelude.{IfSome}
+use Rattle.std.proofs.Common.{◌≡◌, sym, subst, inl, suc, ◌-◌, ◌<◌, arith}
 use Rattle.std.specs.Borrow.{Bor}
 use Rattle.tb_galley.specs.declared.Galley.{Galley}
 use Rattle.tb_search.specs.declared.table.Start.{Start}
 use Rattle.tb_search.specs.Branches.{shown}
 use Rattle.tb_search.specs.AheadInCode.{items_ahead}
 use Rattle.tb_search.specs.Calm.{with_first, IsCalm}
-use Rattle.tb_search.specs.Told.{Tells, TellsBehind}
+use Rattle.tb_rate.specs.Places.{place_penalties}
+use Rattle.tb_search.specs.Told.{IsTold, Tells}
 use Rattle.tb_search.proofs.CalmLemmas.{calm-now, one-far, one-calm}
-use Rattle.tb_search.proofs.StopLemmas.{if-some-more}
+use Rattle.tb_search.proofs.StopLemmas.{if-some-more, if-some-now}
 use Rattle.tb_search.proofs.ExpandLemmas.{none-taken, next-taken-on, inside-now, level-now}
 use Rattle.tb_search.proofs.ReachedWays.{start-of, start-reached}
-use Rattle.tb_items.specs.declared.happenings.Happening.{Happening}
 use Rattle.tb_search.proofs.table.Table.pass.Goals as goal
-use Rattle.tb_search.proofs.table.Table.pass.Goals.{then-found, else-found}
 
 -- ---- the loop
 
@@ -23,21 +21,21 @@ calm_items-requires-clause-some c = c.requires.start.some
 pub calm_items-requires-clause-reached : goal.calm_items-requires-clause-reached
 calm_items-requires-clause-reached c = start-reached c.args.self.now.galley.now c.args.self.now.bound c.args.left c.args.start c.requires.start
 
+pub told-requires-clause-branch : goal.told-requires-clause-branch
+told-requires-clause-branch c = c.requires.start.branch
+
+pub told-requires-clause-told : goal.told-requires-clause-told
+told-requires-clause-told c is = subst (λ hs. Tells hs (with_first c.in_ok-found.found.count (items_ahead c.args.self.now.galley.now c.args.left) (shown c.args.start.branch))) (sym c.as_slice.ensures.value) (c.in_ok-found.ensures.told is)
+
 pub items-init : goal.items-init
-items-init c =
-    let tells = λ (hs : Bor (List Happening)). 0 < c.in_ok-found.found.count → Tells hs.now (with_first c.in_ok-found.found.count (items_ahead c.args.self.now.galley.now c.args.left) (shown c.args.start.branch)) in
-    record {
-      table = c.requires.table;
-      on = none-taken c.args.self.now c.args.left c.args.start (start-reached c.args.self.now.galley.now c.args.self.now.bound c.args.left c.args.start c.requires.start) c.requires.start.high;
-      may = c.requires.start.quiet;
-      fewer = c.in_ok-found.ensures.fewer;
-      calm = c.in_ok-found.ensures.calm;
-      tells = elim c.if-found.branch [ then-found w ↦ subst (λ o. IfSome o tells) (sym w.told-is) (λ _. told-of w.as_slice.result.now w.as_slice.ensures.value (c.in_ok-found.ensures.told w.if-found.true)) | else-found w ↦ subst (λ o. IfSome o tells) (sym w.told-is) tt ];
-    }
-  where
-    told-of : (hs : List Happening) → hs ≡ c.calm_items.new.happened.items → Tells c.calm_items.new.happened.items (with_first c.in_ok-found.found.count (items_ahead c.args.self.now.galley.now c.args.left) (shown c.args.start.branch))
-        → Tells hs (with_first c.in_ok-found.found.count (items_ahead c.args.self.now.galley.now c.args.left) (shown c.args.start.branch))
-    told-of hs e h = subst (λ xs. Tells xs (with_first c.in_ok-found.found.count (items_ahead c.args.self.now.galley.now c.args.left) (shown c.args.start.branch))) (sym e) h
+items-init c = record {
+  table = c.requires.table;
+  on = none-taken c.args.self.now c.args.left c.args.start (start-reached c.args.self.now.galley.now c.args.self.now.bound c.args.left c.args.start c.requires.start) c.requires.start.high;
+  may = c.requires.start.quiet;
+  fewer = c.in_ok-found.ensures.fewer;
+  calm = c.in_ok-found.ensures.calm;
+  told = if-some-more _ _ c.as_ref-told.result (λ t h _. h) (if-some-now _ c.as_ref-told.result c.in_ok-told.told c.as_ref-told.ensures.value c.in_ok-told.ensures);
+}
 
 pub cut-requires-clause-some : goal.cut-requires-clause-some
 cut-requires-clause-some c = let test = c.items-test.true in let fewer = c.items.invariant.fewer in omega (arith, test, fewer)
@@ -59,15 +57,16 @@ cut-requires-clause-told c =
     let i = c.items.invariant in
     let test = c.items-test.true in
     let s = shown c.items.branch in
-    let cs = items_ahead c.items.self.galley.now c.items.left in
+    let g = c.items.self.galley.now in
+    let cs = items_ahead g c.items.left in
     let one : c.items.calm ≡ suc (c.items.calm - 1) = omega (arith, test) in
-    if-some-more (λ hs. 0 < c.items.calm → Tells hs.now (with_first c.items.calm cs s)) (λ hs. TellsBehind hs.now s cs) c.if-found.told
-    (λ hs tells. record {
+    if-some-more _ _ c.as_ref-told.result
+    (λ t told. record {
       more = c.items.calm - 1;
       calm = subst (λ n. IsCalm s cs n) one (i.calm test);
-      tells = subst (λ n. Tells hs.now (with_first n cs s)) one (tells test);
+      told = subst (λ n. IsTold (place_penalties g.items) (with_first n cs s) t.now) one (told test);
     })
-    i.tells
+    i.told
 
 pub take-requires : goal.take-requires
 take-requires c = c.items.invariant.on.reached.branch
@@ -98,13 +97,12 @@ items-preserved c =
       may = inl (calm-now (shown c.take.new.self) (items_ahead u.galley.now (c.items.left - 1)) (c.items.calm - 1) calm);
       fewer = omega (arith, test, fewer);
       calm = λ _. calm;
-      tells =
-          if-some-more (λ hs. 0 < c.items.calm → Tells hs.now (with_first c.items.calm (items_ahead t.galley.now c.items.left) (shown c.items.branch)))
-          (λ hs. 0 < (c.items.calm - 1) → Tells hs.now (with_first (c.items.calm - 1) (items_ahead u.galley.now (c.items.left - 1)) (shown c.take.new.self))) c.if-found.told
-          (λ hs tells _.
-          subst (λ (g : Bor Galley). Tells hs.now (with_first (c.items.calm - 1) (items_ahead g.now (c.items.left - 1)) (shown c.take.new.self))) (sym c.in_ok-cut.ensures.continues.later.galley)
-          (subst (Tells hs.now) (one-far t.galley.now x c.items.left c.take.new.self inside some i.on.reached taken c.items.calm (c.items.calm - 1) one) (tells test)))
-          i.tells;
+      told =
+          if-some-more _ _ c.as_ref-told.result
+          (λ w told _.
+          subst (λ (g : Bor Galley). IsTold (place_penalties g.now.items) (with_first (c.items.calm - 1) (items_ahead g.now (c.items.left - 1)) (shown c.take.new.self)) w.now) (sym c.in_ok-cut.ensures.continues.later.galley)
+          (subst (λ y. IsTold (place_penalties t.galley.now.items) y w.now) (one-far t.galley.now x c.items.left c.take.new.self inside some i.on.reached taken c.items.calm (c.items.calm - 1) one) (told test)))
+          i.told;
     }
 
 -- ---- the state up to which they were taken

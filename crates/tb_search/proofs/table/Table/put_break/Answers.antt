@@ -30,7 +30,7 @@ made c =
 fired : (c : In-Fired) → HasFired (place_penalties c.args.self.now.galley.now.items) c.in-Fired.demerits c.cut.new.self c.fill.new.self
 fired c =
     subst (λ f. FillsTo (place_penalties c.args.self.now.galley.now.items) c.cut.new.self f c.fill.new.self) c.in-Fired.is
-    (subst (λ ps. FillsTo ps c.cut.new.self c.in_ok-demerits.field-0 c.fill.new.self) (c.as_slice-2.ensures.value ∙ c.requires.table.penalties) c.in_ok-demerits.ensures)
+    (subst (λ ps. FillsTo ps c.cut.new.self c.in_ok-demerits.field-0 c.fill.new.self) c.requires.table.penalties c.in_ok-demerits.ensures)
 
 pub overflow_add-way-in-Fired : goal.overflow_add-way-in-Fired
 overflow_add-way-in-Fired c =
@@ -107,7 +107,7 @@ returns-in-Quiet c =
     let x : Start = record { branch = c.args.branch.now; way = c.args.way.now } in
     let m = made (goal.at.returns-in-Quiet c).After-fill in
     let f =
-    subst (λ ps. FillsTo ps c.cut.new.self c.in_ok-demerits.field-0 c.fill.new.self) (c.as_slice-2.ensures.value ∙ c.requires.table.penalties) c.in_ok-demerits.ensures
+    subst (λ ps. FillsTo ps c.cut.new.self c.in_ok-demerits.field-0 c.fill.new.self) c.requires.table.penalties c.in_ok-demerits.ensures
     in
     record {
       table = c.requires.table;
