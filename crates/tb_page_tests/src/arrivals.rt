@@ -158,6 +158,42 @@ fn arrive(p: &mut Paged, index: usize, ins: &Insertion)
         .arrive(&p.store, ins, index, &class, size, &mut p.scan);
 }
 
+// The same of an insertion whose class is cut off. Returns whether it is; else nothing changes.
+fn arrive_late(p: &mut Paged, index: usize, ins: &Insertion) -> bool
+    requires few { index < 5 }
+    requires inner { InnerFits p.old.store ins.now }
+    requires next { inserted_of (list_at p.old.store) ins.now ≡ get_or worked_notes index (inserted_of (list_at p.old.store) ins.now) }
+    requires stands { StandsAt p.old.account p.old.scan index }
+{
+    if !p.account.is_late(ins.class) {
+        return false;
+    }
+    p.account.arrive_late(ins, index);
+    true
+}
+
+// The third insertion is split, so the fourth is late: it takes nothing of the page, adds 77, and is not let in.
+#[test]
+fn an_insertion_comes_late(rt: HostRuntime) -> Result<(), Fail> {
+    let mut p = open(rt.alloc())?;
+    let short = short_note(&p, 254);
+    arrive(&mut p, 0, &short);
+    let short = short_note(&p, 254);
+    arrive(&mut p, 1, &short);
+    let long = long_note(&p);
+    arrive(&mut p, 2, &long);
+    assert_eq!(rt; (p.account.goal(), p.account.penalties()), (538000, 0));
+    let short = short_note(&p, 254);
+    assert!(rt; arrive_late(&mut p, 3, &short));
+    assert_eq!(rt; (p.account.goal(), p.account.penalties()), (538000, 77));
+    assert_eq!(rt; told_glue(&p.scan), (3000, 2000));
+    p.account.mark_best();
+    assert_eq!(rt; p.account.last_insertion(), Some(3));
+    assert_eq!(rt; p.account.last_in(254), Some(2));
+    assert_eq!(rt; p.account.cut_at(254), Some((2, 1)));
+    Ok(())
+}
+
 #[test]
 fn insertions_come_to_a_page(rt: HostRuntime) -> Result<(), Fail> {
     let mut p = open(rt.alloc())?;

@@ -1,5 +1,5 @@
 use std::test::Fail;
-use tb_param::{Choice, ParamFault, Params, Rule, Value, defaults};
+use tb_param::{Change, Choice, Field, ParamFault, Params, Rule, Value, defaults};
 use tb_scaled::{Glue, Order};
 
 const WIDE_GLUE: Glue = Glue {
@@ -14,6 +14,14 @@ const TOO_WIDE_GLUE: Glue = Glue {
     stretch: 0,
     order: Order::Normal,
     shrink: 0,
+};
+
+// The default of `skipfootins`: 9pt plus 4pt minus 2pt.
+const SKIP_FOOTINS: Glue = Glue {
+    width: 589_824,
+    stretch: 262_144,
+    order: Order::Normal,
+    shrink: 131_072,
 };
 
 // A rule between two kerns.
@@ -147,5 +155,81 @@ fn keeps_what_is_set(rt: HostRuntime) -> Result<(), Fail> {
         ),
         (-1, -1, 0)
     );
+    Ok(())
+}
+
+// A parameter that is set among the items: what it is set to, what it is then, and whether it is as before. Then it alone is
+// not.
+#[test]
+fn changes_among_the_items(rt: HostRuntime) -> Result<(), Fail> {
+    let rows: [(Field, Value, Value, bool); 17] = [
+        (Field::Topskip, Value::Dim(7), Value::Dim(7), false),
+        (
+            Field::Topskip,
+            Value::Dim(655_360),
+            Value::Dim(655_360),
+            true,
+        ),
+        (Field::Topskip, Value::Dim(0), Value::Dim(655_360), true),
+        (Field::Topskip, Value::Int(7), Value::Dim(655_360), true),
+        (Field::Textheight, Value::Dim(1), Value::Dim(1), false),
+        (Field::Totalnumber, Value::Int(0), Value::Int(0), false),
+        (
+            Field::Topfraction,
+            Value::Frac(65_536),
+            Value::Frac(65_536),
+            false,
+        ),
+        (
+            Field::Bottom,
+            Value::Word(Choice::Flush),
+            Value::Word(Choice::Flush),
+            false,
+        ),
+        (
+            Field::Parskip,
+            Value::Skip(WIDE_GLUE),
+            Value::Skip(WIDE_GLUE),
+            false,
+        ),
+        (Field::Footrule, Value::Rule(None), Value::Rule(None), false),
+        (Field::Pool, Value::Int(9), Value::Int(18), true),
+        (Field::Maxdeadcycles, Value::Int(9), Value::Int(100), true),
+        (Field::Maxpages, Value::Int(9), Value::Int(1_000_000), true),
+        (
+            Field::Maxnodes,
+            Value::Int(100),
+            Value::Int(4_194_304),
+            true,
+        ),
+        (
+            Field::Release,
+            Value::Word(Choice::R2014),
+            Value::Word(Choice::R2015),
+            true,
+        ),
+        (
+            Field::Skipfootins,
+            Value::Skip(WIDE_GLUE),
+            Value::Skip(SKIP_FOOTINS),
+            true,
+        ),
+        (
+            Field::Footlimit,
+            Value::Dim(9),
+            Value::Dim(37_890_293),
+            true,
+        ),
+    ];
+    for (field, value, want, same) in rows {
+        let before = defaults();
+        let mut params = defaults();
+        params.change(Change { field, value });
+        assert!(rt; params.value(field).is_same(&want));
+        assert_eq!(rt; params.value(field).is_same(&before.value(field)), same);
+        assert_eq!(rt; params.is_same(&before), same);
+        params.put(field, before.value(field));
+        assert!(rt; params.is_same(&before));
+    }
     Ok(())
 }

@@ -18,7 +18,7 @@ use tb_builder::{Ask, Builder, Page, new_builder};
 use tb_insert::Class;
 use tb_node::{Act, FOOTNOTES, HOLD_PENALTY, Kind, Node, PAR_PENALTY, What};
 use tb_output::{Full, Machine, RunFault, Turn, new_machine};
-use tb_param::Params;
+use tb_param::{Params, defaults};
 use tb_pool::{ListId, Lists};
 use tb_scaled::fixed;
 
@@ -46,6 +46,19 @@ pub(super) fn open(alloc: Global, p: &Params) -> Result<Scene, AllocError>
 {
     let mut store = Lists::new(alloc);
     let machine = new_machine(alloc, &mut store, p, &classes())?;
+    Ok(Scene {
+        alloc,
+        store,
+        machine,
+    })
+}
+
+// A copy of a scene, in place of a new machine for other parameters.
+pub(super) fn copied(alloc: Global, other: &Scene) -> Result<Scene, AllocError> {
+    let mut own = Lists::new(alloc);
+    let mut machine = new_machine(alloc, &mut own, &defaults(), &classes())?;
+    machine.copy_from(&other.machine)?;
+    let store = other.store.copy()?;
     Ok(Scene {
         alloc,
         store,
@@ -101,6 +114,11 @@ impl Scene {
     /// How many nodes the held page has.
     pub fn held_nodes(&self) -> u64 {
         self.machine.held_nodes(&self.store)
+    }
+
+    /// Whether no count is greater than that of another scene, and notes go to the same sides, if they may change sides.
+    pub fn counts_within(&self, other: &Scene, may_alternate: bool) -> bool {
+        self.machine.counts_within(&other.machine, may_alternate)
     }
 
     /// A page that is held, and then one that ends at a float or note in a paragraph. Returns what the second firing says.

@@ -5,7 +5,7 @@ ghost use Rattle.tb_param.specs.Ranges.{are_params};
 ghost use Rattle.tb_sheet.specs.Asked.{IsSizedAct};
 
 use super::given::{float, note};
-use super::scene::{Scene, Text, boxes, open};
+use super::scene::{Scene, Text, boxes, copied, open};
 use std::alloc::{AllocError, Global};
 use std::process::Abort;
 use std::test::Fail;
@@ -55,6 +55,42 @@ pub(super) fn run(rt: &impl Abort, alloc: Global, p: &Params, rows: &[Row]) -> R
         assert_eq!(rt; told.as_str(), row.1, "at step {k}");
     }
     Ok(())
+}
+
+// The same, but each step is done in a copy of the scene before it.
+pub(super) fn run_in_copies(
+    rt: &impl Abort,
+    alloc: Global,
+    p: &Params,
+    rows: &[Row],
+) -> Result<(), Fail>
+    requires { IsTrue (are_params p.now) }
+{
+    let mut s = open(alloc, p)?;
+    for (k, row) in rows.iter().enumerate() {
+        s = match row.0 {
+            Step::Open => open(alloc, p)?,
+            _ => copied(alloc, &s)?,
+        };
+        let told = tell(&mut s, alloc, row.0)?;
+        assert_eq!(rt; told.as_str(), row.1, "at step {k}");
+    }
+    Ok(())
+}
+
+// A new scene after pages that fire at these penalties, each of a box of this height.
+pub(super) fn after_firings(
+    alloc: Global,
+    p: &Params,
+    penalties: &[i64],
+) -> Result<Scene, AllocError>
+    requires { IsTrue (are_params p.now) }
+{
+    let mut s = open(alloc, p)?;
+    for penalty in penalties {
+        s.fire(&boxes(&[10]), *penalty)?;
+    }
+    Ok(s)
 }
 
 fn tell(s: &mut Scene, alloc: Global, step: Step) -> Result<String, Fail> {
