@@ -1,5 +1,5 @@
 -- What a page builder holds: the page so far, what waits, the class boxes, and what is held of a page that fired.
-use Rattle.std.specs.Prelude.{ℕ, ℤ, ◌+◌, Bool, true, false, List, [], ◌∷◌, ◌++◌, map, length, min, Option, Some, None, if◌then◌else◌}
+use Rattle.std.specs.Prelude.{ℕ, ◌+◌, Bool, true, false, List, [], ◌∷◌, ◌++◌, map, length, min, Option, Some, None, if◌then◌else◌}
 use Rattle.tb_pool.specs.Lists.{Lists, list_at}
 use Rattle.tb_node.specs.declared.Node.{Node}
 use Rattle.tb_node.specs.PlainNodes.{Leaf, leaf_of, PlainKind, plain, ins, act, PlainNode, plain_list}
@@ -11,18 +11,18 @@ use Rattle.tb_builder.specs.declared.Ask.{Ask}
 use Rattle.tb_builder.specs.declared.ClassList.{ClassList}
 use Rattle.tb_builder.specs.declared.Builder.{Builder}
 use Rattle.tb_builder.specs.Reach.{Reach, holds_box, reach_from}
-use Rattle.tb_builder.specs.FiredPages.{Boxed, content_of, class_boxes}
+use Rattle.tb_builder.specs.FiredPages.{Boxed, content_of, frozen_for}
 use Rattle.tb_builder.specs.LegalPlaces.{glue_first, page_places}
 
 -- the page so far, what waits, the class boxes in the order of the classes, the insertions that are held until
--- `put_back`, the goal and the depth limit once they are frozen, and whether a stop was tried last
+-- `put_back`, what the page is made for once its goal is frozen, and whether a stop was tried last
 pub record Contents : Type 0 where
   pub classes : List Class
   pub boxes : List Boxed
   pub page : List PlainNode
   pub waiting : List PlainNode
   pub held : List PlainNode
-  pub frozen : Option (ℤ × ℤ)
+  pub frozen : Option Ask
   pub stopped : Bool
 
 -- the box of a class, void
@@ -62,10 +62,14 @@ contents_of b store = record {
 
 -- ---- what is reached
 
--- the goal, the depth limit and the class boxes of the page: the frozen ones, or those asked for (TeX: The Program §987)
-abbrev pub frozen_or : Option (ℤ × ℤ) → Ask → List Class → List Boxed → Frozen
-frozen_or None ask cs boxes = record { goal = ask.goal; limit = ask.max_depth; classes = class_boxes cs boxes }
-frozen_or (Some f) ask cs boxes = record { goal = f.0; limit = f.1; classes = class_boxes cs boxes }
+-- what a page is made for: what is frozen, else what is asked for (TeX: The Program §987)
+abbrev pub frozen_with : Option Ask → Ask → Ask
+frozen_with None ask = ask
+frozen_with (Some f) ask = f
+
+-- the goal, the depth limit and the class boxes of such a page
+abbrev pub frozen_or : Option Ask → Ask → List Class → List Boxed → Frozen
+frozen_or o ask cs boxes = frozen_for (frozen_with o ask) cs boxes
 
 -- the goal, the depth limit and the class boxes of the page that a builder holds, frozen or asked for
 abbrev pub frozen_of : Contents → Ask → Frozen

@@ -1,6 +1,7 @@
 -- What holds of the page builder between its calls: one running scan and one running account, tied to the whole page.
 use Rattle.std.specs.Prelude.{◌≡◌, ℤ, pos, ◌+ℤ◌, ◌≤◌, Bool, true, false, ◌||◌, List, [], ◌∷◌, ◌++◌, take, length, Option, Some, None, is_some, IsSome, if◌then◌else◌}
 use Rattle.std.specs.List.{list_any}
+use Rattle.tb_scaled.specs.Glue.{fixed_glue}
 use Rattle.tb_pool.specs.Lists.{Lists}
 use Rattle.tb_node.specs.declared.Node.{Node}
 use Rattle.tb_node.specs.Shape.{Shape, box, glue, kern, penalty, other, is_box, is_discardable}
@@ -19,9 +20,9 @@ use Rattle.tb_builder.specs.declared.Course.{Course}
 use Rattle.tb_builder.specs.declared.Builder.{Builder}
 use Rattle.tb_builder.specs.declared.Ask.{Ask}
 use Rattle.tb_builder.specs.Reach.{holds_box, reach_from, breakpoints}
-use Rattle.tb_builder.specs.FiredPages.{Boxed, class_boxes}
+use Rattle.tb_builder.specs.FiredPages.{Boxed, frozen_for}
 use Rattle.tb_builder.specs.LegalPlaces.{page_shapes, glue_first, page_places, NoStop, NoActs}
-use Rattle.tb_builder.specs.Contents.{Contents, contents_of}
+use Rattle.tb_builder.specs.Contents.{Contents, contents_of, frozen_or}
 use Rattle.tb_builder.specs.Ownership.{IsOwned, ids_of}
 
 -- ---- the course of a page
@@ -98,30 +99,24 @@ pub record Unfrozen (k : Course) (page : List PlainNode) : Type 0 where
   pub loose : AllLoose page
   pub lasting_is : k.lasting ≡ ends_lasting (page_shapes page)
 
--- the goal and the depth limit of a page with its classes
-abbrev pub page_frozen : ℤ × ℤ → List Class → List Boxed → Frozen
-page_frozen f cs boxes = record { goal = f.0; limit = f.1; classes = class_boxes cs boxes }
+-- what a page is made for of which nothing is frozen: all is 0
+abbrev pub nothing_asked : Ask
+nothing_asked = record { goal = pos 0; max_depth = pos 0; top_skip = pos 0; foot_limit = pos 0; foot_skip = fixed_glue (pos 0) }
 
--- the frozen goal and depth limit, with the classes; both are 0 if none are frozen
-abbrev pub frozen_at : Option (ℤ × ℤ) → List Class → List Boxed → Frozen
-frozen_at None cs boxes = page_frozen (pos 0, pos 0) cs boxes
-frozen_at (Some f) cs boxes = page_frozen f cs boxes
+-- the frozen goal and depth limit, with the classes
+abbrev pub frozen_at : Option Ask → List Class → List Boxed → Frozen
+frozen_at o cs boxes = frozen_or o nothing_asked cs boxes
 
 -- the frozen goal and depth limit of what a builder holds, with its classes
 abbrev pub kept_frozen : Contents → Frozen
 kept_frozen c = frozen_at c.frozen c.classes c.boxes
 
--- what is frozen from now on: what was frozen, else what is asked for
-abbrev pub frozen_with : Option (ℤ × ℤ) → Ask → ℤ × ℤ
-frozen_with None ask = (ask.goal, ask.max_depth)
-frozen_with (Some f) ask = f
-
 -- the page so far, by whether its goal is frozen and whether a stop was tried last
-abbrev pub IsPageSoFar : Option (ℤ × ℤ) → Bool → Course → Contents → Type 0
+abbrev pub IsPageSoFar : Option Ask → Bool → Course → Contents → Type 0
 IsPageSoFar None false k c = Unfrozen k c.page
 IsPageSoFar None true k c = ⊥
-IsPageSoFar (Some f) false k c = Underway (page_frozen f c.classes c.boxes) k c.page c.waiting
-IsPageSoFar (Some f) true k c = AtStop (page_frozen f c.classes c.boxes) k c.page c.waiting
+IsPageSoFar (Some f) false k c = Underway (frozen_for f c.classes c.boxes) k c.page c.waiting
+IsPageSoFar (Some f) true k c = AtStop (frozen_for f c.classes c.boxes) k c.page c.waiting
 
 -- the list has a box, a rule or an insertion: the first of them on a page freezes its goal
 abbrev pub freezes : List PlainNode → Bool

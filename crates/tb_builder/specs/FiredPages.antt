@@ -150,13 +150,17 @@ box_content (b ∷ bs) k = if b.number == k then b.content else box_content bs k
 abbrev pub box_size : Option (List Leaf) → ℤ
 box_size content = size_of (map leaf_shape (content_of content))
 
--- the classes with the sizes of their boxes
-abbrev pub class_boxes : List Class → List Boxed → List ClassBox
-class_boxes cs boxes = map (λ c. record { class = c; size = box_size (box_content boxes c.number) }) cs
+-- a class as a page has it: footnotes have the limit and the skip that the page is made for
+abbrev pub class_for : Ask → Class → Class
+class_for ask c = record c { limit = if c.number == 254 then ask.foot_limit else c.limit; skip = if c.number == 254 then ask.foot_skip else c.skip }
+
+-- the classes as a page has them, with the sizes of their boxes
+abbrev pub class_boxes : Ask → List Class → List Boxed → List ClassBox
+class_boxes ask cs boxes = map (λ c. record { class = class_for ask c; size = box_size (box_content boxes c.number) }) cs
 
 -- what is frozen for a page that begins now
 abbrev pub frozen_for : Ask → List Class → List Boxed → Frozen
-frozen_for ask cs boxes = record { goal = ask.goal; limit = ask.max_depth; classes = class_boxes cs boxes }
+frozen_for ask cs boxes = record { goal = ask.goal; limit = ask.max_depth; classes = class_boxes ask cs boxes }
 
 -- what is reached with this page so far and these waiting nodes
 abbrev pub reach_of : Ask → List Class → List Boxed → List PlainNode → List PlainNode → Reach

@@ -1,5 +1,5 @@
 -- What the page builder returns, and what it requires of what it is given.
-use Rattle.std.specs.Prelude.{◌≡◌, ℕ, ℤ, pos, neg_ℤ, ◌<ℤ◌, ◌≤ℤ◌, Bool, true, false, List, [], ◌∷◌, ◌++◌, map, take, length, Option, Some, None}
+use Rattle.std.specs.Prelude.{◌≡◌, ℕ, ℤ, pos, neg_ℤ, ◌<ℤ◌, ◌≤ℤ◌, Bool, true, false, List, [], ◌∷◌, ◌++◌, map, take, length, Option, Some, None, All}
 use Rattle.std.specs.FinMap.{get}
 use Rattle.tb_pool.specs.Lists.{Lists, IsLive, list_at}
 use Rattle.tb_node.specs.declared.Node.{Node}
@@ -11,8 +11,8 @@ use Rattle.tb_node.specs.Sums.{size_of}
 use Rattle.tb_node.specs.PlainNodes.{leaf_shape, Inserted, PlainKind, plain, ins, act, PlainNode, node_shape, plain_list}
 use Rattle.tb_break.specs.declared.Best.{Best}
 use Rattle.tb_break.specs.Best.{Breakpoint, is_stop, least_cost}
-use Rattle.tb_insert.specs.Account.{Frozen, labelled}
-use Rattle.tb_insert.specs.Arrival.{PageFits}
+use Rattle.tb_insert.specs.Account.{ClassBox, Frozen, labelled}
+use Rattle.tb_insert.specs.Arrival.{ClassFits, PageFits}
 use Rattle.tb_builder.specs.declared.Ask.{Ask}
 use Rattle.tb_builder.specs.declared.Try.{Try}
 use Rattle.tb_builder.specs.declared.Page.{Page}
@@ -22,7 +22,7 @@ use Rattle.tb_builder.specs.declared.Event.TheVariants as events
 use Rattle.tb_builder.specs.Reach.{acted, tried, Reach, also_reached, try_of, breakpoints}
 use Rattle.tb_builder.specs.FiredPages.{Boxed, content_of, Fired, page_break, fired_by}
 use Rattle.tb_builder.specs.Ownership.{Lacks, inner_ids, Ids, owned}
-use Rattle.tb_builder.specs.Contents.{Contents, frozen_of, laid, reach_ahead, reach_whole, places_of}
+use Rattle.tb_builder.specs.Contents.{Contents, frozen_with, frozen_of, laid, reach_ahead, reach_whole, places_of}
 
 -- ---- what is required
 
@@ -66,6 +66,7 @@ pub record NodeFits (n : PlainNode) : Type 0 where
 pub record LaidFits (z : Frozen) (ns : List PlainNode) : Type 0 where
   pub pages : (before rest : List PlainNode) → before ++ rest ≡ ns → PageFits z before
   pub nodes : (before : List PlainNode) (n : PlainNode) (rest : List PlainNode) → before ++ n ∷ rest ≡ ns → NodeFits n
+  pub classes : All (λ (c : ClassBox). ClassFits c.class) z.classes
 
 -- the sizes of the class boxes fit
 abbrev pub BoxesFit : List Boxed → Type 0
@@ -85,8 +86,8 @@ pub record KeepsBoxes (c d : Contents) (ask : Ask) : Type 0 where
   pub classes : d.classes ≡ c.classes
   pub boxes : d.boxes ≡ c.boxes
   pub held : d.held ≡ c.held
-  pub frozen_so : frozen_of d ask ≡ frozen_of c ask
-  pub keeps : (f : ℤ × ℤ) → c.frozen ≡ Some f → d.frozen ≡ Some f
+  pub made : frozen_with d.frozen ask ≡ frozen_with c.frozen ask
+  pub keeps : (f : Ask) → c.frozen ≡ Some f → d.frozen ≡ Some f
 
 -- The place before a node is no stop: what is reached after it is reached from the contents now. ns is the page so far
 -- and what follows it, w what is reached of it past the page, and bs are the page's places.

@@ -10,8 +10,8 @@ use Rattle.tb_builder.specs.declared.Page.{Page}
 use Rattle.tb_builder.specs.declared.Event.{Event}
 use Rattle.tb_builder.specs.declared.Event.TheVariants as events
 use Rattle.tb_builder.specs.Reach.{Reached, acted, tried, Reach, breakpoints, try_of}
-use Rattle.tb_builder.specs.FiredPages.{Fired, frozen_for, reach_of, fired_of}
-use Rattle.tb_builder.specs.Contents.{Contents, frozen_of, laid, reach_ahead, places_of}
+use Rattle.tb_builder.specs.FiredPages.{Fired, reach_of, fired_of}
+use Rattle.tb_builder.specs.Contents.{Contents, frozen_with, laid, reach_ahead, places_of}
 use Rattle.tb_builder.specs.PageEvents.{fired_page, Without, PageIs, after_fired}
 
 -- what is reached of the whole page that starts with these contents
@@ -28,12 +28,12 @@ after_all rs w = record w { reached = rs ++ w.reached }
 
 -- ---- how far the page has come
 
--- classes, boxes and what is held are those of the start, and so are the goal and the depth limit
+-- classes, boxes and what is held are those of the start, and the page is made for what is asked
 pub record KeepsStart (s c : Contents) (ask : Ask) : Type 0 where
   pub classes : c.classes ≡ s.classes
   pub boxes : c.boxes ≡ s.boxes
   pub held : c.held ≡ s.held
-  pub frozen : frozen_of c ask ≡ frozen_for ask s.classes s.boxes
+  pub made : frozen_with c.frozen ask ≡ ask
 
 -- of the page that starts with s, rs was reached, and the rest is reached from here
 pub record GoesFrom (s : Contents) (rs : List Reached) (c : Contents) (ask : Ask) : Type 0 where

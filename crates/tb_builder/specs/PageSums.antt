@@ -8,7 +8,8 @@ use Rattle.tb_insert.specs.Terms.{sums_with}
 use Rattle.tb_builder.specs.declared.PageSums.{PageSums}
 use Rattle.tb_builder.specs.LegalPlaces.{page_shapes}
 use Rattle.tb_builder.specs.Contents.{Contents}
-use Rattle.tb_builder.specs.Courses.{page_frozen}
+use Rattle.tb_builder.specs.FiredPages.{frozen_for}
+use Rattle.tb_builder.specs.declared.Ask.{Ask}
 
 -- the goal while none is frozen, the greatest dimension: no page exceeds it (TeX: The Program §421)
 abbrev pub no_goal : ℤ
@@ -23,9 +24,9 @@ abbrev pub sums_frozen : Frozen → List PlainNode → PageSums
 sums_frozen z page = made_sums (sums_with (sums_of z.limit (page_shapes page)) (terms_after z page)) (terms_after z page).goal
 
 -- the sums and the goal, by the goal and the depth limit if they are frozen
-abbrev pub sums_by : Option (ℤ × ℤ) → Contents → PageSums
+abbrev pub sums_by : Option Ask → Contents → PageSums
 sums_by None c = made_sums (sums_of (pos 0) (page_shapes c.page)) no_goal
-sums_by (Some f) c = sums_frozen (page_frozen f c.classes c.boxes) c.page
+sums_by (Some f) c = sums_frozen (frozen_for f c.classes c.boxes) c.page
 
 -- the sums and the goal of the page so far of a builder that holds this
 abbrev pub page_sums_of : Contents → PageSums

@@ -1,12 +1,13 @@
 -- Contents of which a page can be made: each node is sized, and there are not too many.
 use Rattle.std.specs.Prelude.{◌≡◌, ◌+◌, ◌≤◌, ℤ, pos, neg_ℤ, ◌≤ℤ◌, map, All}
 use Rattle.tb_node.specs.Fit.{IsDimension, IsExtent, IsPenalty, IsSized, IsSizedLeaf}
+use Rattle.tb_node.specs.Shape.{glue}
 use Rattle.tb_node.specs.PlainNodes.{leaf_shape, Inserted, PlainKind, plain, ins, act, PlainNode, node_shape}
 use Rattle.tb_node.specs.Sums.{size_of}
 use Rattle.tb_insert.specs.declared.Class.{Class}
 use Rattle.tb_builder.specs.declared.Ask.{Ask}
 use Rattle.tb_builder.specs.FiredPages.{Boxed, content_of}
-use Rattle.tb_builder.specs.Contents.{Contents, frozen_of, node_count, box_count}
+use Rattle.tb_builder.specs.Contents.{Contents, frozen_with, frozen_of, node_count, box_count}
 use Rattle.tb_builder.specs.Ownership.{ClassesFit}
 
 -- an insertion with sized nodes, whose height is the size of its list
@@ -56,6 +57,7 @@ pub record IsPageable (c : Contents) (ask : Ask) : Type 0 where
   pub asked_goal : IsGoal ask.goal
   pub asked_depth : IsExtent ask.max_depth
   pub top_skip : IsExtent ask.top_skip
+  pub feet : IsSized (glue (frozen_with c.frozen ask).foot_skip)
   pub classes : All IsSizedClass c.classes
   pub classes_fit : ClassesFit c.classes
   pub boxes : All IsSizedBox c.boxes

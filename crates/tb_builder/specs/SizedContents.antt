@@ -1,6 +1,7 @@
 -- What stays sized from call to call of a page builder, and how many nodes there are.
-use Rattle.std.specs.Prelude.{◌≡◌, ℕ, ◌+◌, ℤ, pos, Bool, true, false, List, [], ◌∷◌, ◌++◌, Option, Some, None, All}
-use Rattle.tb_node.specs.Fit.{IsExtent}
+use Rattle.std.specs.Prelude.{◌≡◌, ℕ, ◌+◌, pos, Bool, true, false, List, [], ◌∷◌, ◌++◌, Option, Some, None, All}
+use Rattle.tb_node.specs.Fit.{IsExtent, IsSized}
+use Rattle.tb_node.specs.Shape.{glue}
 use Rattle.tb_node.specs.PlainNodes.{PlainNode}
 use Rattle.tb_insert.specs.declared.Class.{Class}
 use Rattle.tb_builder.specs.declared.Ask.{Ask}
@@ -12,16 +13,23 @@ use Rattle.tb_builder.specs.Pageable.{IsSizedOnPage, IsSizedClass, IsSizedBox, I
 
 -- ---- what is asked
 
--- a goal, a depth limit and a top skip that are not below 0
+-- a goal, a depth limit and a top skip that are not below 0, and a sized skip of footnotes
 pub record IsSizedAsk (ask : Ask) : Type 0 where
   pub goal : IsGoal ask.goal
   pub depth : IsExtent ask.max_depth
   pub top_skip : IsExtent ask.top_skip
+  pub foot_skip : IsSized (glue ask.foot_skip)
 
--- the same of the goal and the depth limit, if they are frozen
-abbrev pub IsSizedFreeze : Option (ℤ × ℤ) → Type 0
+-- what a page is made for, but for its top skip
+pub record IsSizedMake (f : Ask) : Type 0 where
+  pub goal : IsGoal f.goal
+  pub depth : IsExtent f.max_depth
+  pub foot_skip : IsSized (glue f.foot_skip)
+
+-- the same of what is frozen, if something is
+abbrev pub IsSizedFreeze : Option Ask → Type 0
 IsSizedFreeze None = Unit {0}
-IsSizedFreeze (Some f) = IsGoal f.0 × IsExtent f.1
+IsSizedFreeze (Some f) = IsSizedMake f
 
 -- ---- what a builder holds
 

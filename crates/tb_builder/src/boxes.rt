@@ -1,13 +1,14 @@
 //! The class boxes.
 
-ghost use Rattle.std.specs.Prelude.{◌≡◌, ◌==◌, ◌≢◌, true, map, position, is_none, ℕ};
+ghost use Rattle.std.specs.Prelude.{◌≡◌, ◌==◌, ◌≢◌, true, Some, map, position, is_none, ℕ};
 ghost use Rattle.std.specs.FinMap.{get};
 ghost use Rattle.tb_pool.specs.Lists.{IsLive, Lists as StoreOf};
 ghost use Rattle.tb_node.specs.declared.Node.{Node as NodeOf};
 ghost use Rattle.std.specs.List.{list_any};
 ghost use Rattle.tb_node.specs.Shape.{is_box};
 ghost use Rattle.tb_node.specs.PlainNodes.{leaf_shape};
-ghost use Rattle.tb_builder.specs.FiredPages.{box_content, content_of, box_size as size_of_box};
+ghost use Rattle.tb_builder.specs.FiredPages.{box_content, class_for, content_of, box_size as size_of_box};
+ghost use Rattle.tb_builder.specs.declared.Ask.{Ask as AskOf};
 ghost use Rattle.tb_builder.specs.Contents.{contents_of};
 ghost use Rattle.tb_builder.specs.Ownership.{has_class, classes_of, ids_of, owned, Lacks, IsClassList};
 ghost use Rattle.tb_builder.specs.Courses.{IsSound};
@@ -16,7 +17,8 @@ ghost use Rattle.tb_builder.specs.Contributions.{NoPage, with_void, Taken};
 
 use crate::sizes::{has_box, list_size};
 use crate::{Builder, ClassList};
-use tb_node::Node;
+use tb_insert::Class;
+use tb_node::{FOOTNOTES, Node};
 use tb_pool::{ListId, Lists};
 
 impl Builder {
@@ -36,6 +38,23 @@ impl Builder {
             unreachable!();
         };
         self.boxes.entry(k)
+    }
+
+    // The class as the page has it that is made: footnotes have the limit and the skip that are frozen.
+    pub(crate) fn class_made(&self, class: &Class) -> Class
+        ensures { (made : AskOf) → self.now.frozen ≡ Some made → result ≡ class_for made class.now }
+    {
+        let Some(made) = &self.frozen else {
+            return *class;
+        };
+        if class.number != FOOTNOTES {
+            return *class;
+        }
+        Class {
+            limit: made.foot_limit,
+            skip: made.foot_skip,
+            ..*class
+        }
     }
 
     /// Whether the box of this class, one of the builder's, was given nothing since the start or since its last

@@ -446,8 +446,9 @@ impl Builder {
             return;
         }
         let own = self.class_list(i.class);
+        let class = self.class_made(&own.class);
         let size = list_size(store, own.list);
-        self.course.join(store, &i, index, &own.class, size);
+        self.course.join(store, &i, index, &class, size);
         store.move_first(self.waiting, self.page);
     }
 

@@ -10,8 +10,8 @@ ghost use Rattle.tb_insert.specs.Account.{Frozen};
 ghost use Rattle.tb_insert.specs.AccountEntries.{Differ};
 ghost use Rattle.tb_builder.specs.Ownership.{ids_of, IsOwned};
 ghost use Rattle.tb_builder.specs.LegalPlaces.{page_shapes};
-ghost use Rattle.tb_builder.specs.Contents.{contents_of};
-ghost use Rattle.tb_builder.specs.Courses.{IsSound, IsCourseOf, AllLoose, kept_frozen, frozen_with};
+ghost use Rattle.tb_builder.specs.Contents.{contents_of, frozen_with};
+ghost use Rattle.tb_builder.specs.Courses.{IsSound, IsCourseOf, AllLoose, kept_frozen};
 ghost use Rattle.tb_builder.specs.PageEvents.{AskFits, NextFits};
 ghost use Rattle.tb_builder.specs.PageWalks.{seen_of, LeadsOn};
 ghost use Rattle.tb_builder.specs.declared.Seen.TheVariants.{Space};
@@ -129,7 +129,7 @@ impl Builder {
         store.push_back(self.page, glue);
     }
 
-    // Freezes the goal and the depth limit of the page, unless they are frozen already.
+    // Freezes what the page is made for, unless something is frozen already.
     pub(crate) fn freeze(&mut self, ask: &Ask)
         requires asked { AskFits ask.now }
         ensures first { self.old.frozen ≡ None → (z : Frozen) (page : List PlainNode) → z.goal ≡ ask.now.goal → z.limit ≡ ask.now.max_depth → Differ z.classes → AllLoose page
@@ -143,7 +143,7 @@ impl Builder {
         if self.frozen.is_some() {
             return;
         }
-        self.frozen = Some((ask.goal, ask.max_depth));
+        self.frozen = Some(*ask);
         self.course.restart(ask.goal, ask.max_depth);
     }
 

@@ -23,6 +23,7 @@ use Rattle.tb_builder.specs.PassedNodes.{ComesPast, EventPast}
 use Rattle.tb_builder.specs.PageEvents.{NextFits, Without, ActedIs, IsTheStop, GoesPast, EmptyIs, FirstIs, KeepsBoxes, PageIs, FiredIs, fired_page, after_fired, NextIs, stopped_with}
 use Rattle.tb_builder.specs.PageProgress.{after_all, HasCome}
 use Rattle.tb_builder.proofs.Handover.WaitLemmas.{places_glue}
+use Rattle.tb_builder.proofs.Turns.TurnLemmas.{keeps-frozen}
 use Rattle.tb_builder.proofs.Turns.PastLemmas.{holds-both, laid-more}
 use Rattle.tb_items.specs.ItemsLeft.{kern_last, with_more}
 use Rattle.tb_items.proofs.OpenLemmas.{kern-both, open-back, open-front, StartsPlain, some-plain, plain-front, plain-pruned, plain-spent, page-ends, glue-more, open-without, open-spent, open-pruned}
@@ -135,7 +136,7 @@ IsMet e = Unit {0}
 
 module _ (c d : Contents) (ask : Ask) (more : List PlainNode) (ends : kern_last false (laid c ask) ≡ false) where
   keeps-more : KeepsBoxes c d ask → KeepsBoxes (with_more more c) (with_more more d) ask
-  keeps-more k = record { classes = k.classes; boxes = k.boxes; held = k.held; frozen_so = k.frozen_so; keeps = k.keeps }
+  keeps-more k = record { classes = k.classes; boxes = k.boxes; held = k.held; made = k.made; keeps = k.keeps }
 
   module _ (k : KeepsBoxes c d ask) (after : kern_last false (laid d ask) ≡ false) (top : more_laid ask.top_skip (laid c ask) more ≡ more_laid ask.top_skip (laid d ask) more) where
     goes-more : (r : Reached) → reach_ahead c ask ≡ also_reached r (reach_ahead d ask) → reach_ahead (with_more more c) ask ≡ also_reached r (reach_ahead (with_more more d) ask)
@@ -144,7 +145,7 @@ module _ (c d : Contents) (ask : Ask) (more : List PlainNode) (ends : kern_last 
         ∙ ap (going_on (frozen_of c ask).limit (terms_after (frozen_of c ask)) (more_laid ask.top_skip (laid c ask) more)) reach
         ∙ going-also (frozen_of c ask).limit (terms_after (frozen_of c ask)) r (reach_ahead d ask) (more_laid ask.top_skip (laid c ask) more)
         ∙ ap (also_reached r) (
-        (λ i. going_on (sym k.frozen_so i).limit (terms_after (sym k.frozen_so i)) (top i) (reach_ahead d ask))
+        (λ i. going_on (sym (keeps-frozen k) i).limit (terms_after (sym (keeps-frozen k) i)) (top i) (reach_ahead d ask))
         ∙ sym (ahead-more d ask more after)
         )
 
@@ -307,6 +308,7 @@ fits-front c ask more h = record {
   laid_fits = record {
     pages = λ before rest e. h.laid_fits.pages before (rest ++ tail) (longer before rest e);
     nodes = λ before n rest e. h.laid_fits.nodes before n (rest ++ tail) (longer before (n ∷ rest) e);
+    classes = h.laid_fits.classes;
   };
 }
   where
@@ -378,7 +380,7 @@ module _ (c d : Contents) (ask : Ask) (more : List PlainNode) (ends : kern_last 
   ahead-supplied =
       ahead-more c ask more ends
       ∙ ap (going_on (frozen_of c ask).limit (terms_after (frozen_of c ask)) (more_laid ask.top_skip (laid c ask) more)) f.reach
-      ∙ (λ i. reach_from (sym k.frozen_so i).limit (terms_after (sym k.frozen_so i)) d.page (more_laid ask.top_skip (sym f.whole i) more))
+      ∙ (λ i. reach_from (sym (keeps-frozen k) i).limit (terms_after (sym (keeps-frozen k) i)) d.page (more_laid ask.top_skip (sym f.whole i) more))
 
   pub laid-supplied : laid supplied ask ≡ laid (with_more more c) ask
   laid-supplied = (λ i. f.whole i ++ more_laid ask.top_skip (f.whole i) more) ∙ sym (laid-with c ask more)
@@ -397,7 +399,7 @@ module _ (c d : Contents) (ask : Ask) (more : List PlainNode) (ends : kern_last 
   -- the builder is on the same page
   pub come-supplied : (s : Contents) (rs : List Reached) → c.stopped ≡ false → HasCome s rs (with_more more c) ask → HasCome s rs supplied ask
   come-supplied s rs going h = record {
-    stays = record { classes = k.classes ∙ h.stays.classes; boxes = k.boxes ∙ h.stays.boxes; held = k.held ∙ h.stays.held; frozen = k.frozen_so ∙ h.stays.frozen };
+    stays = record { classes = k.classes ∙ h.stays.classes; boxes = k.boxes ∙ h.stays.boxes; held = k.held ∙ h.stays.held; made = k.made ∙ h.stays.made };
     goes = λ on. record { reach = (h.goes going).reach ∙ ap (after_all rs) ahead-supplied; places = places-supplied ∙ (h.goes going).places };
     stops = λ off. absurd (true≢false (sym off ∙ f.stopped));
   }

@@ -49,6 +49,10 @@ leaf_kind (leaves.Skip g) = kinds.Skip g
 leaf_kind (leaves.Kern w) = kinds.Kern w
 leaf_kind (leaves.Penalty q) = kinds.Pen q
 
+-- the node of the store that a leaf is
+abbrev pub leaf_node : Leaf → Node
+leaf_node l = record { line = l.line; kind = leaf_kind l.kind }
+
 -- the nodes of a footnote in order
 abbrev pub leaf_list : List Leaf → List Node
 leaf_list ls = map (λ l. record { line = l.line; kind = leaf_kind l.kind }) ls

@@ -1,6 +1,6 @@
 //! The nodes of a footnote: its insertion, and the list of the insertion.
 
-ghost use Rattle.std.specs.Prelude.{◌≡◌, ◌≤◌, ◌∷◌, ◌++◌, [], true, map, length, All, OnOk};
+ghost use Rattle.std.specs.Prelude.{◌≡◌, ◌<◌, ◌≤◌, ◌+◌, ◌∷◌, ◌++◌, [], true, map, length, All, OnOk};
 ghost use Rattle.tb_pool.specs.Lists.{IsLive, list_at, with_list};
 ghost use Rattle.tb_node.specs.Fit.{shapes, IsSizedNode};
 ghost use Rattle.tb_node.specs.Sums.{size_of};
@@ -8,8 +8,9 @@ ghost use Rattle.tb_node.specs.PlainNodes.{on_line};
 ghost use Rattle.tb_builder.specs.Contents.{contents_of};
 ghost use Rattle.tb_builder.specs.Ownership.{has_class};
 ghost use Rattle.tb_galley.specs.GalleyNodes.{plain_leaf, foot_insertion};
-ghost use Rattle.tb_items.specs.WaitingNodes.{CanTake, Waits, leaf_kind, leaf_list};
+ghost use Rattle.tb_items.specs.WaitingNodes.{CanTake, Waits, leaf_kind, leaf_node, leaf_list};
 
+use crate::galley_nodes::by_fields;
 use std::alloc::AllocError;
 use tb_builder::Builder;
 use tb_galley::{Leaf, LeafKind};
@@ -46,6 +47,58 @@ fn leaf_kind(kind: &LeafKind) -> Kind
     }
 }
 
+// Puts a node of a footnote at the end of a list, in a spare place.
+#[inline(never)]
+fn put_any_leaf(store: &mut Lists<Node>, l: ListId, leaf: &Leaf)
+    requires live { IsLive store.old l }
+    requires room { 0 < store.old.spare }
+    ensures pushed { store.new.lists ≡ with_list store.old l (list_at store.old l ++ leaf_node leaf.now ∷ []) }
+    ensures spare { store.new.spare + 1 ≡ store.old.spare }
+{
+    store.push_back(
+        l,
+        Node {
+            line: leaf.line,
+            kind: leaf_kind(&leaf.kind),
+        },
+    );
+}
+
+// The same. Most leaves are boxes or glue: their nodes are made in place.
+#[inline(always)]
+fn put_leaf(store: &mut Lists<Node>, l: ListId, leaf: &Leaf)
+    requires live { IsLive store.old l }
+    requires room { 0 < store.old.spare }
+    ensures pushed { store.new.lists ≡ with_list store.old l (list_at store.old l ++ leaf_node leaf.now ∷ []) }
+    ensures spare { store.new.spare + 1 ≡ store.old.spare }
+{
+    match &leaf.kind {
+        LeafKind::Hbox {
+            name,
+            height,
+            depth,
+        } => store.push_back(
+            l,
+            Node {
+                line: leaf.line,
+                kind: Kind::Hbox {
+                    what: What::Text(*name),
+                    height: *height,
+                    depth: *depth,
+                },
+            },
+        ),
+        LeafKind::Skip(glue) => store.push_back(
+            l,
+            Node {
+                line: leaf.line,
+                kind: Kind::Skip(by_fields(glue)),
+            },
+        ),
+        _ => put_any_leaf(store, l, leaf),
+    }
+}
+
 // Puts the nodes of a footnote at the end of a list.
 fn put_leaves(store: &mut Lists<Node>, l: ListId, leaves: &[Leaf]) -> Result<(), AllocError>
     requires { IsLive store.old l }
@@ -53,13 +106,7 @@ fn put_leaves(store: &mut Lists<Node>, l: ListId, leaves: &[Leaf]) -> Result<(),
 {
     store.reserve(leaves.len())?;
     for leaf in leaves {
-        store.push_back(
-            l,
-            Node {
-                line: leaf.line,
-                kind: leaf_kind(&leaf.kind),
-            },
-        );
+        put_leaf(store, l, leaf);
     }
     Ok(())
 }

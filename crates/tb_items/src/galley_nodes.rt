@@ -186,7 +186,7 @@ fn put_glue(
 
 // The same glue, copied field by field: then the compiler need not keep it in memory while there is room to be made.
 #[inline(always)]
-fn by_fields(glue: &Glue) -> Glue
+pub(crate) fn by_fields(glue: &Glue) -> Glue
     ensures { result ≡ glue.now }
 {
     Glue {

@@ -115,6 +115,8 @@ fn makeup_ask(p: &Params) -> Ask
         goal: p.textheight,
         max_depth: p.maxdepth,
         top_skip: p.topskip,
+        foot_limit: p.footlimit,
+        foot_skip: p.skipfootins,
     }
 }
 

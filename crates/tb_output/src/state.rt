@@ -147,6 +147,8 @@ impl Machine {
                 self.params.maxdepth
             },
             top_skip: self.params.topskip,
+            foot_limit: self.params.footlimit,
+            foot_skip: self.params.skipfootins,
         }
     }
 

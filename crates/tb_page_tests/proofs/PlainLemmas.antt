@@ -5,7 +5,7 @@ use Rattle.std.specs.FinMap.{get}
 use Rattle.std.proofs.lemmas.Int.{ints}
 use Rattle.std.proofs.lemmas.Bool.{true≢false}
 use Rattle.std.proofs.lemmas.List.Elements.{All-nil, All-from_recursion}
-use Rattle.tb_builder.proofs.Ranges.PageableLemmas.{extent_goal}
+use Rattle.tb_builder.proofs.Ranges.PageableLemmas.{extent_goal, class-fits}
 use Rattle.tb_scaled.specs.declared.Glue.{Glue}
 use Rattle.tb_scaled.specs.Glue.{fixed_glue}
 use Rattle.tb_pool.specs.Lists.{Lists, IsLive, list_at, with_list}
@@ -35,11 +35,12 @@ use Rattle.tb_builder.specs.Ownership.{ClassesFit, has_class, ids_of}
 use Rattle.tb_builder.specs.Pageable.{IsSizedOnPage, IsSizedClass, IsSizedBox, IsPageable}
 use Rattle.tb_builder.specs.Courses.{IsSound}
 use Rattle.tb_builder.specs.WorkedPages.{IsReady}
-use Rattle.tb_builder.proofs.Handover.CallLemmas.{class-fits, list-sized, list-count}
+use Rattle.tb_builder.proofs.Handover.CallLemmas.{list-sized, list-count}
 use Rattle.tb_builder.proofs.Ranges.KeptLemmas.{kept-fits, event-sized, event-fewer, stopped-sized, stopped-fewer}
 use Rattle.tb_builder.proofs.Ranges.SizedLemmas.{FiredSized}
 use Rattle.tb_builder.proofs.Ownership.StoreSized.{list-back, list-length, matter-plain, boxes_of}
 use Rattle.tb_builder.proofs.Events.WholeLemmas.{AreMatter, fired-matter}
+use Rattle.tb_builder.proofs.WorkedPages.WorkedLemmas.{ready_asked}
 use Rattle.tb_column.specs.Ranges.{IsSizedGlue}
 use Rattle.tb_plain.specs.TakenFloats.{top_class}
 use Rattle.tb_plain.specs.Run.{makeup_ask, makeup_classes, void_boxes}
@@ -78,6 +79,7 @@ module _ (p : Params) (h : AreMakeupParams p) where
       asked_goal = extent_goal p.textheight h.textheight;
       asked_depth = h.maxdepth;
       top_skip = h.topskip;
+      feet = (h.skipfootins.width, h.skipfootins.stretch, h.skipfootins.shrink);
       classes = All-from_recursion IsSizedClass (makeup_classes p) (top_sized, (foot_sized, tt));
       classes_fit = classes_fit;
       boxes = All-from_recursion IsSizedBox void_boxes (All-nil IsSizedLeaf, (All-nil IsSizedLeaf, tt));
@@ -142,7 +144,7 @@ pub filling_begins : (b : Builder) (s : Lists Node) (ask : Ask) → IsReady b s 
 filling_begins b s ask r top =
     let c = contents_of b s in
     record {
-      asked = record { goal = r.pageable.asked_goal; depth = r.pageable.asked_depth; top_skip = r.pageable.top_skip };
+      asked = ready_asked b s ask r;
       sized = record {
         nodes = list-sized c.stopped c.page c.waiting r.pageable.page r.pageable.waiting;
         held = subst (All IsSizedOnPage) (sym r.none_held) (All-nil IsSizedOnPage);

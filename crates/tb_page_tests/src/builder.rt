@@ -46,6 +46,8 @@ fn open(alloc: Global, limit: i64, goal: i64) -> Result<Paged, AllocError>
         goal,
         max_depth: 0,
         top_skip: 10,
+        foot_limit: limit,
+        foot_skip: fixed(0),
     };
     Ok(Paged {
         store,

@@ -72,6 +72,8 @@ fn ask_of(p: &Params) -> Ask
         goal: p.textheight,
         max_depth: p.maxdepth,
         top_skip: p.topskip,
+        foot_limit: p.footlimit,
+        foot_skip: p.skipfootins,
     }
 }
 

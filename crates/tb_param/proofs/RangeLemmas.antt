@@ -295,13 +295,11 @@ own-in-range f p q e hp hq =
 
 whole-in-range : (p q : Params) → are_params p ≡ true → are_params q ≡ true → are_params (with_whole p q) ≡ true
 whole-in-range p q hp hq =
-    own-in-range fields.Footlimit p _ refl hp
-    (own-in-range fields.Skipfootins p _ refl hp
-    (own-in-range fields.Release p _ refl hp
+    own-in-range fields.Release p _ refl hp
     (own-in-range fields.Maxnodes p _ refl hp
     (own-in-range fields.Maxpages p _ refl hp
     (own-in-range fields.Maxdeadcycles p _ refl hp
-    (own-in-range fields.Pool p q refl hp hq))))))
+    (own-in-range fields.Pool p q refl hp hq))))
 
 -- setting one among the items keeps all in their ranges
 pub changed-in-range : (p : Params) (c : Change) → are_params p ≡ true → are_params (changed p c) ≡ true

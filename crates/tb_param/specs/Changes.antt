@@ -27,8 +27,6 @@ set_place fields.Maxdeadcycles = places.Nowhere
 set_place fields.Maxpages = places.Nowhere
 set_place fields.Maxnodes = places.Nowhere
 set_place fields.Release = places.Nowhere
-set_place fields.Skipfootins = places.Nowhere
-set_place fields.Footlimit = places.Nowhere
 set_place fields.Topskip = places.Anywhere
 set_place fields.Maxdepth = places.Anywhere
 set_place fields.Baselineskip = places.Anywhere
@@ -67,8 +65,6 @@ with_whole p q = record q {
   maxpages = p.maxpages;
   maxnodes = p.maxnodes;
   release = p.release;
-  skipfootins = p.skipfootins;
-  footlimit = p.footlimit;
 }
 
 -- the parameters once one of them is set among the items; a value out of its range changes nothing, nor does one of a parameter that holds for the whole galley

@@ -34,13 +34,8 @@ pub fn set_place(field: Field) -> SetPlace
     ensures { result ≡ set_place field }
 {
     match field {
-        Field::Pool
-        | Field::Maxdeadcycles
-        | Field::Maxpages
-        | Field::Maxnodes
-        | Field::Release
-        | Field::Skipfootins
-        | Field::Footlimit => SetPlace::Nowhere,
+        Field::Pool | Field::Maxdeadcycles | Field::Maxpages | Field::Maxnodes | Field::Release =>
+            SetPlace::Nowhere,
         Field::Topskip
         | Field::Maxdepth
         | Field::Baselineskip
@@ -105,8 +100,6 @@ impl Params {
         self.maxpages = before.maxpages;
         self.maxnodes = before.maxnodes;
         self.release = before.release;
-        self.skipfootins = before.skipfootins;
-        self.footlimit = before.footlimit;
     }
 
     /// Whether two sets of parameters are the same.

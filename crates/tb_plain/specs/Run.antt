@@ -63,7 +63,7 @@ void_boxes = record { number = 253; content = None } ∷ record { number = 254; 
 
 -- all pages have the same goal, depth limit and top skip
 abbrev pub makeup_ask : Params → Ask
-makeup_ask p = record { goal = p.textheight; max_depth = p.maxdepth; top_skip = p.topskip }
+makeup_ask p = record { goal = p.textheight; max_depth = p.maxdepth; top_skip = p.topskip; foot_limit = p.footlimit; foot_skip = p.skipfootins }
 
 -- what the builder holds; a box, rule or insertion on the page has frozen its goal
 abbrev pub builder_holds : Params → MakeupState → Contents
@@ -73,7 +73,7 @@ builder_holds p s = record {
   page = s.page;
   waiting = s.waiting;
   held = [];
-  frozen = if freezes s.page then Some (p.textheight, p.maxdepth) else None;
+  frozen = if freezes s.page then Some (makeup_ask p) else None;
   stopped = false;
 }
 

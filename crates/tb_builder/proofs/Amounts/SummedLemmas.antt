@@ -11,9 +11,11 @@ use Rattle.tb_insert.specs.AccountEntries.{IsAccountOf}
 use Rattle.tb_builder.specs.declared.Course.{Course}
 use Rattle.tb_builder.specs.LegalPlaces.{page_shapes}
 use Rattle.tb_builder.specs.Contents.{Contents}
-use Rattle.tb_builder.specs.Courses.{IsCourseOf, places_by, AllLoose, page_frozen, IsPageSoFar}
+use Rattle.tb_builder.specs.Courses.{IsCourseOf, places_by, AllLoose, IsPageSoFar}
 use Rattle.tb_builder.specs.PageSums.{made_sums, sums_by, no_goal}
 use Rattle.tb_builder.proofs.LegalPlaces.CourseLemmas.{loose_shape}
+use Rattle.tb_builder.specs.FiredPages.{frozen_for}
+use Rattle.tb_builder.specs.declared.Ask.{Ask}
 
 -- ---- marks, notes and whatsits take no room
 
@@ -31,19 +33,19 @@ loose_depth d (n ∷ ns) h = ap (λ x. depth_from (depth_after d x) (page_shapes
 
 -- ---- by whether the goal is frozen
 
-pub sums_none : (o : Option (ℤ × ℤ)) (st : Bool) (k : Course) (c : Contents) → is_some o ≡ false → IsPageSoFar o st k c → record { total = pos 0; shrink = pos 0; goal = no_goal } ≡ sums_by o c
+pub sums_none : (o : Option Ask) (st : Bool) (k : Course) (c : Contents) → is_some o ≡ false → IsPageSoFar o st k c → record { total = pos 0; shrink = pos 0; goal = no_goal } ≡ sums_by o c
 sums_none None false k c e h =
     sym (λ i. record { total = loose_size c.page h.loose i -ℤ min_ℤ (loose_depth (pos 0) c.page h.loose i) (pos 0); shrink = loose_shrink c.page h.loose i; goal = no_goal })
 sums_none None true k c e h = absurd h
 sums_none (Some f) st k c e h = absurd (true≢false e)
 
 -- the course's sums and goal are those of the page
-sums_stand : (g : ℤ) (f : ℤ × ℤ) (k : Course) (c : Contents) (bs : List Breakpoint) → ((z : Frozen) (page marked : List PlainNode) → IsAccountOf k.account z page marked → g ≡ (terms_after z page).goal) → IsCourseOf (page_frozen f c.classes c.boxes) k c.page bs
+sums_stand : (g : ℤ) (f : Ask) (k : Course) (c : Contents) (bs : List Breakpoint) → ((z : Frozen) (page marked : List PlainNode) → IsAccountOf k.account z page marked → g ≡ (terms_after z page).goal) → IsCourseOf (frozen_for f c.classes c.boxes) k c.page bs
     → made_sums k.scan.sums g ≡ sums_by (Some f) c
-sums_stand g f k c bs goal course = (λ i. made_sums (course.scan.sums i) (goal (page_frozen f c.classes c.boxes) c.page course.marked course.account i))
+sums_stand g f k c bs goal course = (λ i. made_sums (course.scan.sums i) (goal (frozen_for f c.classes c.boxes) c.page course.marked course.account i))
 
-pub sums_some : (g : ℤ) (o : Option (ℤ × ℤ)) (st : Bool) (k : Course) (c : Contents) → ((z : Frozen) (page marked : List PlainNode) → IsAccountOf k.account z page marked → g ≡ (terms_after z page).goal) → is_some o ≡ true → IsPageSoFar o st k c
+pub sums_some : (g : ℤ) (o : Option Ask) (st : Bool) (k : Course) (c : Contents) → ((z : Frozen) (page marked : List PlainNode) → IsAccountOf k.account z page marked → g ≡ (terms_after z page).goal) → is_some o ≡ true → IsPageSoFar o st k c
     → made_sums k.scan.sums g ≡ sums_by o c
 sums_some g None st k c goal e h = absurd (true≢false (sym e))
-sums_some g (Some f) false k c goal e h = sums_stand g f k c (places_by (page_frozen f c.classes c.boxes) c.page c.waiting) goal h.course
-sums_some g (Some f) true k c goal e h = sums_stand g f k c (places_by (page_frozen f c.classes c.boxes) c.page c.waiting ++ h.stop ∷ []) goal h.course
+sums_some g (Some f) false k c goal e h = sums_stand g f k c (places_by (frozen_for f c.classes c.boxes) c.page c.waiting) goal h.course
+sums_some g (Some f) true k c goal e h = sums_stand g f k c (places_by (frozen_for f c.classes c.boxes) c.page c.waiting ++ h.stop ∷ []) goal h.course

@@ -1,5 +1,5 @@
 -- Turn by turn up to an event.
-use Rattle.std.proofs.Common.{◌≡◌, inl, refl, sym, subst, ◌∙◌, ap, ℕ, ◌<◌, ◌≤◌, ℤ, Bool, true, false, List, [], ◌∷◌, ◌++◌, length, map, Option, None, Some, append-nil, arith}
+use Rattle.std.proofs.Common.{◌≡◌, inl, refl, sym, subst, ◌∙◌, ap, ℕ, ◌<◌, ◌≤◌, Bool, true, false, List, [], ◌∷◌, ◌++◌, length, map, Option, None, Some, append-nil, arith}
 use Rattle.std.specs.Prelude.{slice_get, if◌then◌else◌}
 use Rattle.std.proofs.lemmas.Bool.{true≢false}
 use Rattle.std.proofs.lemmas.List.{length-map}
@@ -20,16 +20,16 @@ use Rattle.tb_builder.specs.declared.Event.{Event}
 use Rattle.tb_builder.specs.declared.Event.TheVariants as events
 use Rattle.tb_builder.specs.Reach.{holds_box}
 use Rattle.tb_builder.specs.LegalPlaces.{page_shapes, glue_first, page_places, NoStop}
-use Rattle.tb_builder.specs.Contents.{Contents, contents_of, frozen_of, ahead_of, laid, reach_ahead, places_of}
+use Rattle.tb_builder.specs.Contents.{Contents, contents_of, frozen_of, ahead_of, laid, reach_ahead, places_of, frozen_with}
 use Rattle.tb_builder.specs.Ownership.{ids_of, inner_of}
-use Rattle.tb_builder.specs.Courses.{IsCourseOf, Underway, places_by, kept_frozen, page_frozen, frozen_with, AllLoose, AllLasting, IsPageSoFar, freezes, IsSound}
+use Rattle.tb_builder.specs.Courses.{IsCourseOf, Underway, places_by, kept_frozen, AllLoose, AllLasting, IsPageSoFar, freezes, IsSound}
 use Rattle.tb_builder.specs.PageEvents.{NextFits, BoxesFit, LaidFits, KeepsBoxes, FirstIs, NextIs}
 use Rattle.tb_builder.specs.PassedNodes.{ComesPast}
 use Rattle.tb_builder.specs.PageTurns.{AtAct, ChangesPage, StepIs, StepFits, ReachesNothing, TurnIs, Filled}
 use Rattle.tb_builder.proofs.Turns.MoveLemmas.{Written, written_drop}
 use Rattle.tb_builder.proofs.Ownership.FrameLemmas.{leaves_then}
 use Rattle.tb_builder.proofs.Turns.FillLemmas.{moves_from, page_from, waiting_from}
-use Rattle.tb_builder.proofs.Turns.TurnLemmas.{acts_turn, empty_turn, ahead_open, lays_open}
+use Rattle.tb_builder.proofs.Turns.TurnLemmas.{acts_turn, empty_turn, ahead_open, lays_open, keeps-frozen}
 use Rattle.tb_builder.proofs.Turns.MeetLemmas.{stays_from}
 use Rattle.tb_builder.proofs.Turns.SteppedLemmas.{turn_of_step}
 use Rattle.tb_builder.proofs.Turns.FirstBoxLemmas.{opened_frozen, kept_is_frozen, underway_of, step_fits}
@@ -37,6 +37,7 @@ use Rattle.tb_builder.proofs.Turns.BehindLemmas.{none_going, step_going}
 use Rattle.tb_builder.proofs.LegalPlaces.CourseLemmas.{no_act}
 use Rattle.tb_builder.proofs.Turns.PastLemmas.{past-none, event-after, past-open, past-stepped}
 use Rattle.tb_builder.proofs.LegalPlaces.WithoutLemmas.{without_fits}
+use Rattle.tb_builder.specs.FiredPages.{frozen_for}
 
 -- ---- an act
 
@@ -71,12 +72,12 @@ module _ (b : Builder) (s t : Lists Node) (ask : Ask) (n : Node) (ns : List Node
   glue_same : glue_first (contents_of b s).waiting ≡ glue_first (contents_of b t).waiting
   glue_same = ap glue_first waits
 
-  stands_by : (o : Option (ℤ × ℤ)) → IsPageSoFar o false b.course (contents_of b s) → IsPageSoFar o false b.course (contents_of b t)
+  stands_by : (o : Option Ask) → IsPageSoFar o false b.course (contents_of b s) → IsPageSoFar o false b.course (contents_of b t)
   stands_by None st = record { loose = subst AllLoose (sym page_is) st.loose; lasting_is = st.lasting_is ∙ sym (ap (λ p. ends_lasting (page_shapes p)) page_is) }
   stands_by (Some f) st =
-      let z : Frozen = page_frozen f (contents_of b s).classes (contents_of b s).boxes in
+      let z : Frozen = frozen_for f (contents_of b s).classes (contents_of b s).boxes in
       let same : places_by z (contents_of b t).page (contents_of b t).waiting ≡ places_by z (contents_of b s).page (contents_of b s).waiting = (λ i. page_places z.limit (terms_after z) [] (page_is i) (sym glue_same i)) in
-      subst (λ x. Underway x b.course (contents_of b t).page (contents_of b t).waiting) (λ i. page_frozen f (sym moves.classes i) (sym moves.boxes i)) (record {
+      subst (λ x. Underway x b.course (contents_of b t).page (contents_of b t).waiting) (λ i. frozen_for f (sym moves.classes i) (sym moves.boxes i)) (record {
         course = subst (IsCourseOf z b.course (contents_of b t).page) (sym same) (subst (λ p. IsCourseOf z b.course p (places_by z (contents_of b s).page (contents_of b s).waiting)) (sym page_is) st.course);
         quiet = subst NoStop (sym same) st.quiet;
       })
@@ -94,14 +95,14 @@ module _ (b : Builder) (s t : Lists Node) (ask : Ask) (n : Node) (ns : List Node
     room = λ e. cc;
     shorter = λ e. cc;
     stays = stays_from b b s t ask moves (inl refl);
-    turned = acts_turn (contents_of b s) (contents_of b t) ask n.line a waits page_is (stays_from b b s t ask moves (inl refl)).frozen_so on;
+    turned = acts_turn (contents_of b s) (contents_of b t) ask n.line a waits page_is (keeps-frozen (stays_from b b s t ask moves (inl refl))) on;
     past = record { line = n.line; comes = past-none (record { line = n.line; kind = act a } ∷ (contents_of b t).waiting) (contents_of b s) (contents_of b t) ask waits page_is };
   }
 
 -- ---- nothing waits
 
 pub stays_here : (c : Contents) (ask : Ask) → KeepsBoxes c c ask
-stays_here c ask = record { classes = refl; boxes = refl; held = refl; frozen_so = refl; keeps = λ f e. e }
+stays_here c ask = record { classes = refl; boxes = refl; held = refl; made = refl; keeps = λ f e. e }
 
 pub empty_turned : (b : Builder) (s : Lists Node) (ask : Ask) → IsSound b s → b.stopped ≡ false → list_at s b.waiting ≡ [] → TurnIs b s ask (Some events.Empty) b s
 empty_turned b s ask sound on none = record {
@@ -121,7 +122,7 @@ stays_after c d e ask a b = record {
   classes = b.classes ∙ a.classes;
   boxes = b.boxes ∙ a.boxes;
   held = b.held ∙ a.held;
-  frozen_so = b.frozen_so ∙ a.frozen_so;
+  made = b.made ∙ a.made;
   keeps = λ f h. b.keeps f (a.keeps f h);
 }
 
@@ -130,7 +131,7 @@ pub fits_after : (c d : Contents) (ask : Ask) → NextFits c ask → KeepsBoxes 
 fits_after c d ask fits stays turns = record {
   asked = fits.asked;
   boxes = subst BoxesFit (sym stays.boxes) fits.boxes;
-  laid_fits = subst (λ ns. LaidFits (frozen_of d ask) ns) (sym turns.whole) (subst (λ z. LaidFits z (laid c ask)) (sym stays.frozen_so) fits.laid_fits);
+  laid_fits = subst (λ ns. LaidFits (frozen_of d ask) ns) (sym turns.whole) (subst (λ z. LaidFits z (laid c ask)) (sym (keeps-frozen stays)) fits.laid_fits);
 }
 
 -- the first event past the page after a turn that reached nothing is that of the page before
@@ -243,7 +244,7 @@ none_first (n ∷ ns) e = cc
 -- what `next` requires holds again after an event
 pub fits_next : (b : Bool) (v : Event) (c d : Contents) (ask : Ask) (s : Lists Node) → b ≡ false → NextFits c ask → NextIs b v c ask d s → NextFits d ask
 fits_next true v c d ask s e fits h = absurd (true≢false e)
-fits_next false v c d ask s e fits h = record { asked = fits.asked; boxes = subst BoxesFit (sym h.1.boxes) fits.boxes; laid_fits = subst (λ z. LaidFits z (laid d ask)) (sym h.1.frozen_so) (by_event v h.0) }
+fits_next false v c d ask s e fits h = record { asked = fits.asked; boxes = subst BoxesFit (sym h.1.boxes) fits.boxes; laid_fits = subst (λ z. LaidFits z (laid d ask)) (sym (keeps-frozen h.1)) (by_event v h.0) }
   where
     by_event : (v : Event) → FirstIs v (laid c ask) (reach_ahead c ask) (places_of c ask) ask d → LaidFits (frozen_of c ask) (laid d ask)
     by_event (events.Try t) f = by_stop (is_stop f.place) refl

@@ -16,9 +16,10 @@ use Rattle.tb_builder.specs.declared.Event.{Event}
 use Rattle.tb_builder.specs.declared.Event.TheVariants as events
 use Rattle.tb_builder.specs.Reach.{Reached, acted, tried, Reach, also_reached, reach_from, holds_box, laid_out, breakpoints, try_of}
 use Rattle.tb_builder.specs.FiredPages.{Boxed, Fired, last_shrink, no_place, penalty_at, line_at, with_spent_break, box_after, held_insertions, frozen_for}
-use Rattle.tb_builder.specs.Contents.{Contents, frozen_of, frozen_or, laid, reach_ahead, reach_whole, places_of}
+use Rattle.tb_builder.specs.Contents.{Contents, frozen_of, frozen_or, laid, reach_ahead, reach_whole, places_of, frozen_with}
 use Rattle.tb_builder.specs.PageEvents.{IsTheStop, TriedIs, FirstIs, KeepsBoxes, PageIs, after_fired, FiresWith, NextIs}
 use Rattle.tb_builder.specs.PageProgress.{page_reach, after_all, KeepsStart, HasCome, ComesToTry, ComesTo, IsNextOfPage}
+use Rattle.tb_builder.proofs.Turns.TurnLemmas.{start-frozen}
 
 breakpoints-append : (rs qs : List Reached) → breakpoints (rs ++ qs) ≡ breakpoints rs ++ breakpoints qs
 breakpoints-append [] qs = refl
@@ -36,7 +37,7 @@ also_after rs r w = ap (λ qs. with_reached qs) (sym (append_assoc rs (r ∷ [])
 
 pub paging_begins : (c : Contents) (ask : Ask) → c.page ≡ [] → c.frozen ≡ None → c.stopped ≡ false → HasCome c [] c ask
 paging_begins c ask page frozen going = record {
-  stays = record { classes = refl; boxes = refl; held = refl; frozen = same };
+  stays = record { classes = refl; boxes = refl; held = refl; made = ap (λ o. frozen_with o ask) frozen };
   goes = λ on. record {
     reach = (λ i. reach_from ask.max_depth (terms_after (frozen_for ask c.classes c.boxes)) [] (laid_out ask.top_skip (page i) c.waiting))
         ∙ sym (λ i. reach_from (same i).limit (terms_after (same i)) (page i) (if holds_box (page i) then c.waiting else pruned_nodes ask.top_skip c.waiting));
@@ -72,7 +73,7 @@ module _ (s : Contents) (rs : List Reached) (c d : Contents) (ask : Ask) (h : Ha
   -- no stop was tried before
   module _ (on : c.stopped ≡ false) (k : KeepsBoxes c d ask) where
     stays_on : KeepsStart s d ask
-    stays_on = record { classes = k.classes ∙ h.stays.classes; boxes = k.boxes ∙ h.stays.boxes; held = k.held ∙ h.stays.held; frozen = k.frozen_so ∙ h.stays.frozen }
+    stays_on = record { classes = k.classes ∙ h.stays.classes; boxes = k.boxes ∙ h.stays.boxes; held = k.held ∙ h.stays.held; made = k.made ∙ h.stays.made }
 
     comes_on : (r : Reached) → reach_ahead c ask ≡ also_reached r (reach_ahead d ask) → places_of d ask ≡ breakpoints rs ++ breakpoints (r ∷ []) → d.stopped ≡ false → HasCome s (rs ++ r ∷ []) d ask
     comes_on r reach places going = record {
@@ -90,7 +91,7 @@ module _ (s : Contents) (rs : List Reached) (c d : Contents) (ask : Ask) (h : Ha
       goes = λ going. absurd (true≢false (sym g.stopped ∙ going));
       stops = λ off. record {
         reach = whole;
-        fired = (λ i. fired_with (stays_on.frozen i) (stays_on.boxes i) (same_places i) (g.passed i) (g.beyond i))
+        fired = (λ i. fired_with (start-frozen stays_on i) (stays_on.boxes i) (same_places i) (g.passed i) (g.beyond i))
             ∙ sym (λ i. fired_with (frozen_for ask s.classes s.boxes) s.boxes (breakpoints (whole i).reached) (whole i).passed (whole i).beyond);
         whole = g.still ∙ sym g.whole;
       };

@@ -17,7 +17,7 @@ use Rattle.tb_builder.specs.declared.Course.{Course}
 use Rattle.tb_builder.specs.Reach.{Reached, tried, acted, Reach, reach_from, reach_at, breakpoints, page_place, holds_box}
 use Rattle.tb_builder.specs.LegalPlaces.{page_shapes, glue_first, glue_or, node_penalty, page_places, NoStop, NoActs}
 use Rattle.tb_builder.specs.FiredPages.{frozen_for}
-use Rattle.tb_builder.specs.Contents.{Contents, contents_of, frozen_or, frozen_of, ahead_of, places_of}
+use Rattle.tb_builder.specs.Contents.{Contents, contents_of, frozen_or, frozen_of, ahead_of, places_of, frozen_with}
 use Rattle.tb_builder.specs.Courses.{AllLasting, IsPageSoFar, IsSound}
 use Rattle.tb_builder.specs.PageProgress.{after_all, HasCome}
 use Rattle.tb_builder.proofs.LegalPlaces.PageLemmas.{reach_next, at_place_goes}
@@ -88,10 +88,13 @@ pub record ComesSoFar (c : Contents) (ask : Ask) : Type 0 where
   pub come : HasCome c rs c ask
   pub tried : AllTried rs
 
-module _ (c : Contents) (ask : Ask) (going : c.stopped ≡ false) (frozen : frozen_of c ask ≡ frozen_for ask c.classes c.boxes) (acts : NoActs c.page) (closed : holds_box c.page ≡ false → AllLasting c.page)
+module _ (c : Contents) (ask : Ask) (going : c.stopped ≡ false) (made : frozen_with c.frozen ask ≡ ask) (acts : NoActs c.page) (closed : holds_box c.page ≡ false → AllLasting c.page)
     (quiet : NoStop (places_of c ask)) where
   abbrev z : Frozen
   z = frozen_of c ask
+
+  frozen : z ≡ frozen_for ask c.classes c.boxes
+  frozen = ap (λ a. frozen_for a c.classes c.boxes) made
 
   same-places : page_places z.limit (terms_after z) [] c.page (glue_first (ahead_of c ask)) ≡ places_of c ask
   same-places = by_box (holds_box c.page) refl
@@ -104,7 +107,7 @@ module _ (c : Contents) (ask : Ask) (going : c.stopped ≡ false) (frozen : froz
   comes-quiet = record {
     rs = tries z.limit (terms_after z) [] c.page (glue_first (ahead_of c ask));
     come = record {
-      stays = record { classes = refl; boxes = refl; held = refl; frozen = frozen };
+      stays = record { classes = refl; boxes = refl; held = refl; made = made };
       goes = λ on. record {
         reach = (λ i. reach_from (sym frozen i).limit (terms_after (sym frozen i)) [] (c.page ++ ahead_of c ask)) ∙ reach-past z.limit (terms_after z) [] c.page (ahead_of c ask) acts (subst NoStop (sym same-places) quiet);
         places = sym (tries-places z.limit (terms_after z) [] c.page (glue_first (ahead_of c ask)) ∙ same-places);
@@ -115,13 +118,13 @@ module _ (c : Contents) (ask : Ask) (going : c.stopped ≡ false) (frozen : froz
   }
 
 -- the places of a page that a builder keeps, by whether its goal is frozen
-stands-quiet : (o : Option (ℤ × ℤ)) (k : Course) (c : Contents) (ask : Ask) → c.frozen ≡ o → IsPageSoFar o false k c → NoActs c.page × NoStop (places_of c ask)
+stands-quiet : (o : Option Ask) (k : Course) (c : Contents) (ask : Ask) → c.frozen ≡ o → IsPageSoFar o false k c → NoActs c.page × NoStop (places_of c ask)
 stands-quiet None k c ask e st = (loose_acts c.page st.loose, subst NoStop (sym (lasting_places (frozen_of c ask).limit (terms_after (frozen_of c ask)) [] c.page (glue_first c.waiting) (all_lasting c.page st.loose))) tt)
 stands-quiet (Some f) k c ask e st =
-    (st.course.no_acts, subst (λ (o : Option (ℤ × ℤ)). NoStop (page_places (frozen_or o ask c.classes c.boxes).limit (terms_after (frozen_or o ask c.classes c.boxes)) [] c.page (glue_first c.waiting))) (sym e) st.quiet)
+    (st.course.no_acts, subst (λ (o : Option Ask). NoStop (page_places (frozen_or o ask c.classes c.boxes).limit (terms_after (frozen_or o ask c.classes c.boxes)) [] c.page (glue_first c.waiting))) (sym e) st.quiet)
 
 -- what is reached of the page so far and what waits
-pub comes-so-far : (b : Builder) (s : Lists Node) (ask : Ask) → IsSound b s → b.stopped ≡ false → frozen_of (contents_of b s) ask ≡ frozen_for ask (contents_of b s).classes (contents_of b s).boxes → ComesSoFar (contents_of b s) ask
-comes-so-far b s ask sound going frozen =
+pub comes-so-far : (b : Builder) (s : Lists Node) (ask : Ask) → IsSound b s → b.stopped ≡ false → frozen_with b.frozen ask ≡ ask → ComesSoFar (contents_of b s) ask
+comes-so-far b s ask sound going made =
     let quiet = stands-quiet b.frozen b.course (contents_of b s) ask refl (subst (λ x. IsPageSoFar b.frozen x b.course (contents_of b s)) going sound.page) in
-    comes-quiet (contents_of b s) ask going frozen quiet.0 (λ e. sound.closed (sound.opened ∙ e)) quiet.1
+    comes-quiet (contents_of b s) ask going made quiet.0 (λ e. sound.closed (sound.opened ∙ e)) quiet.1

@@ -18,10 +18,10 @@ use Rattle.tb_builder.specs.declared.Ask.{Ask}
 use Rattle.tb_builder.specs.declared.Page.{Page}
 use Rattle.tb_builder.specs.declared.Builder.{Builder}
 use Rattle.tb_builder.specs.Reach.{Reach, holds_box, reach_from, breakpoints}
-use Rattle.tb_builder.specs.FiredPages.{Fired, no_place, page_break, last_shrink, penalty_at, line_at, with_spent_break, box_after, held_insertions, fired_by}
+use Rattle.tb_builder.specs.FiredPages.{Fired, no_place, page_break, last_shrink, penalty_at, line_at, with_spent_break, box_after, held_insertions, fired_by, frozen_for}
 use Rattle.tb_builder.specs.Contents.{Contents, contents_of, frozen_or, frozen_of, reach_whole}
 use Rattle.tb_builder.specs.Ownership.{Lacks, inner_ids, Ids, ids_of, owned, IsOwned}
-use Rattle.tb_builder.specs.Courses.{ChampionIs, AtStop, places_by, page_frozen, AllLoose, AllLasting, IsPageSoFar, IsSound}
+use Rattle.tb_builder.specs.Courses.{ChampionIs, AtStop, places_by, AllLoose, AllLasting, IsPageSoFar, IsSound}
 use Rattle.tb_builder.specs.LegalPlaces.{page_shapes}
 use Rattle.tb_break.specs.Places.{last_or, ends_lasting}
 use Rattle.tb_builder.specs.PageEvents.{FiredIs, PageIs, fired_page, after_fired, best_room, fired_room}
@@ -35,14 +35,14 @@ use Rattle.tb_builder.proofs.Ownership.NewLemmas.{fresh_lacks}
 
 -- the break of the page that fires, as the builder keeps it
 pub record Breaks (b : Builder) (c : Contents) : Type 0 where
-  pub f : ℤ × ℤ
+  pub f : Ask
   pub frozen : b.frozen ≡ Some f
-  pub stop : AtStop (page_frozen f c.classes c.boxes) b.course c.page c.waiting
+  pub stop : AtStop (frozen_for f c.classes c.boxes) b.course c.page c.waiting
 
 pub breaks : (b : Builder) (s : Lists Node) → IsSound b s → b.stopped ≡ true → Breaks b (contents_of b s)
 breaks b s sound stopped = by_frozen b.frozen refl (subst (λ x. IsPageSoFar b.frozen x b.course (contents_of b s)) stopped sound.page)
   where
-    by_frozen : (o : Option (ℤ × ℤ)) → b.frozen ≡ o → IsPageSoFar o true b.course (contents_of b s) → Breaks b (contents_of b s)
+    by_frozen : (o : Option Ask) → b.frozen ≡ o → IsPageSoFar o true b.course (contents_of b s) → Breaks b (contents_of b s)
     by_frozen None e st = absurd st
     by_frozen (Some f) e st = record { f = f; frozen = e; stop = st }
 
@@ -60,7 +60,7 @@ shrink_at_end bs b = ends (pos 0) bs
 
 module _ (b : Builder) (c : Contents) (h : Breaks b c) where
   abbrev zee : Frozen
-  zee = page_frozen h.f c.classes c.boxes
+  zee = frozen_for h.f c.classes c.boxes
 
   abbrev places_all : List Breakpoint
   places_all = places_by zee c.page c.waiting ++ h.stop.stop ∷ []

@@ -1,32 +1,21 @@
 -- The contents of a new builder are sized, and stay so when nodes are contributed or put back and when a box is taken.
-use Rattle.std.proofs.Common.{◌≡◌, refl, subst, ◌∙◌, ap, ℕ, ℤ, ◌+◌, ◌≤◌, pos, Bool, true, false, List, [], ◌∷◌, ◌++◌, None, arith}
+use Rattle.std.proofs.Common.{◌≡◌, refl, subst, ◌∙◌, ap, ℕ, ◌+◌, ◌≤◌, pos, Bool, true, false, List, [], ◌∷◌, ◌++◌, None, arith}
 use Rattle.std.specs.Prelude.{All, if◌then◌else◌, ◌==◌}
 use Rattle.std.proofs.lemmas.List.Elements.{All-nil, All-cons, All-head, All-tail, All-append}
-use Rattle.std.proofs.lemmas.Int.{ints}
 use Rattle.tb_node.specs.Fit.{IsSizedLeaf}
-use Rattle.tb_node.specs.SmallAmounts.{IsAmount}
 use Rattle.tb_node.specs.PlainNodes.{PlainNode}
 use Rattle.tb_break.specs.PageTop.{pruned_nodes}
 use Rattle.tb_insert.specs.declared.Class.{Class}
-use Rattle.tb_insert.specs.Arrival.{ClassFits}
 use Rattle.tb_builder.specs.Reach.{holds_box}
 use Rattle.tb_builder.specs.FiredPages.{Boxed}
 use Rattle.tb_builder.specs.Contents.{Contents, node_count}
 use Rattle.tb_builder.specs.Contributions.{voided, with_void}
-use Rattle.tb_builder.specs.Pageable.{IsSizedOnPage, IsFactor, IsSizedClass, IsSizedBox}
+use Rattle.tb_builder.specs.Pageable.{IsSizedOnPage, IsSizedBox}
 use Rattle.tb_builder.specs.SizedContents.{laid_by, IsSizedContents, AreBoxesOf}
 use Rattle.tb_builder.proofs.Ranges.PageableLemmas.{count-append, pruned_sized, pruned_nodes_longer}
 use Rattle.tb_builder.proofs.Ranges.PrunedLemmas.{no_skip, pruned_more, pruned_more-sized, front-sized, back-sized, whole_by, whole_by-is}
-use Rattle.tb_node.proofs.FitLemmas.{dimension_small}
 
 -- ---- a builder is made
-
-factor_small : (z : ℤ) → IsFactor z → IsAmount z
-factor_small z h = record { low = omega (arith, ints); high = omega (arith, ints) }
-
--- a sized class fits
-pub class-fits : (c : Class) → IsSizedClass c → ClassFits c
-class-fits c h = record { factor = factor_small c.factor h.factor; stretch = dimension_small c.skip.stretch h.stretch; shrink = dimension_small c.skip.shrink h.shrink }
 
 -- ---- what waits is known
 

@@ -1,5 +1,5 @@
 -- A list comes before all that waits, while a page is filled.
-use Rattle.std.proofs.Common.{◌≡◌, ◌≢◌, refl, sym, subst, ◌∙◌, ap, ℕ, ℤ, Bool, true, false, List, [], ◌∷◌, ◌++◌, map, Option, None, Some, is_some, unwrap_or, append_assoc}
+use Rattle.std.proofs.Common.{◌≡◌, ◌≢◌, refl, sym, subst, ◌∙◌, ap, ℕ, Bool, true, false, List, [], ◌∷◌, ◌++◌, map, Option, None, Some, is_some, unwrap_or, append_assoc}
 use Rattle.std.specs.FinMap.{get, insert}
 use Rattle.std.proofs.lemmas.List.{map-append}
 use Rattle.std.proofs.lemmas.Bool.{true≢false}
@@ -12,12 +12,14 @@ use Rattle.tb_builder.specs.declared.Builder.{Builder}
 use Rattle.tb_builder.specs.LegalPlaces.{glue_first, page_places, NoStop}
 use Rattle.tb_builder.specs.Ownership.{Lacks, AllDiffer, AllLive, inner_ids, Ids, ids_of, nodes_of, box_ids, own_ids, owned, HoldPlain, AllKnown, classes_of, IsOwned}
 use Rattle.tb_builder.specs.Contents.{Contents, contents_of}
-use Rattle.tb_builder.specs.Courses.{IsCourseOf, page_frozen, IsPageSoFar, IsSound}
+use Rattle.tb_builder.specs.Courses.{IsCourseOf, IsPageSoFar, IsSound}
 use Rattle.tb_builder.specs.Contributions.{ListJoins, ends_in_kern}
 use Rattle.tb_builder.proofs.Ownership.OwnedLemmas.{AllSame, live-append, live-left, live-right, plain-append, plain-left, plain-right, known-append, known-left, known-right, same_from, lists_same, live_same, plain_same, boxes_same, view_same, inner-append, same-left, same-right}
 use Rattle.tb_builder.proofs.Turns.MoveLemmas.{Wrote, wrote_two}
 use Rattle.tb_builder.proofs.Handover.WaitLemmas.{places_glue}
 use Rattle.tb_builder.proofs.Handover.JoinLemmas.{apart_cons, apart_none, lacks_swap, differ_swap, Holds, nodes_are, holds_own, sound_from}
+use Rattle.tb_builder.specs.FiredPages.{frozen_for}
+use Rattle.tb_builder.specs.declared.Ask.{Ask}
 use Rattle.tb_pool.proofs.CallerLemmas.{some_list}
 
 -- ---- two lists
@@ -161,12 +163,12 @@ module _ (b : Ids) (s t : Lists Node) (l : ℕ) (own : IsOwned b s) (j : ListJoi
 -- ---- the page goes on
 
 -- the page does not end with a kern, so its places are the same whatever waits
-page_goes : (o : Option (ℤ × ℤ)) (st : Bool) (k : Course) (c : Contents) (ns : List PlainNode) → ends_in_kern c.page ≡ false → st ≡ false → IsPageSoFar o st k c → IsPageSoFar o st k (record c { waiting = ns })
+page_goes : (o : Option Ask) (st : Bool) (k : Course) (c : Contents) (ns : List PlainNode) → ends_in_kern c.page ≡ false → st ≡ false → IsPageSoFar o st k c → IsPageSoFar o st k (record c { waiting = ns })
 page_goes None false k c ns no_kern going h = h
 page_goes None true k c ns no_kern going h = h
 page_goes (Some f) true k c ns no_kern going h = absurd (true≢false going)
 page_goes (Some f) false k c ns no_kern going h =
-    let z = page_frozen f c.classes c.boxes in
+    let z = frozen_for f c.classes c.boxes in
     let same : page_places z.limit (terms_after z) [] c.page (glue_first ns) ≡ page_places z.limit (terms_after z) [] c.page (glue_first c.waiting)
     = places_glue z.limit (terms_after z) [] c.page (glue_first ns) (glue_first c.waiting) (λ e. absurd (true≢false (sym e ∙ no_kern))) in
     record { course = subst (IsCourseOf z k c.page) (sym same) h.course; quiet = subst NoStop (sym same) h.quiet }

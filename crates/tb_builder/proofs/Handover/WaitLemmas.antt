@@ -13,9 +13,11 @@ use Rattle.tb_builder.specs.declared.Course.{Course}
 use Rattle.tb_builder.specs.Reach.{acted, tried, Reach, also_reached, page_place, reach_at, reach_at_place, reach_from, breakpoints}
 use Rattle.tb_builder.specs.LegalPlaces.{page_shapes, glue_first, glue_or, kind_penalty_by, node_penalty, page_places, NoStop, NoActs}
 use Rattle.tb_builder.specs.Contents.{Contents}
-use Rattle.tb_builder.specs.Courses.{IsCourseOf, places_by, Underway, AtStop, AllLoose, page_frozen, IsPageSoFar}
+use Rattle.tb_builder.specs.Courses.{IsCourseOf, places_by, Underway, AtStop, AllLoose, IsPageSoFar}
 use Rattle.tb_builder.specs.Contributions.{is_kern, ends_in_kern, MayWait}
 use Rattle.tb_builder.proofs.LegalPlaces.PageLemmas.{first_of, reach_next, at_place_stops, at_place_goes}
+use Rattle.tb_builder.specs.FiredPages.{frozen_for}
+use Rattle.tb_builder.specs.declared.Ask.{Ask}
 
 -- ---- glue that comes first among the waiting nodes
 
@@ -241,14 +243,14 @@ module _ (z : Frozen) (k : Course) (page waiting : List PlainNode) (m : PlainNod
       grown = ap (reach_from z.limit (terms_after z) []) (sym (append_assoc page waiting (m ∷ []))) ∙ reach_grows z.limit (terms_after z) [] (page ++ waiting) m (stop_fires a)
 
 -- a node came after the waiting nodes
-pub page_grows : (o : Option (ℤ × ℤ)) (st : Bool) (k : Course) (c : Contents) (m : PlainNode) → MayWait c m → IsPageSoFar o st k c → IsPageSoFar o st k (record c { waiting = c.waiting ++ m ∷ [] })
+pub page_grows : (o : Option Ask) (st : Bool) (k : Course) (c : Contents) (m : PlainNode) → MayWait c m → IsPageSoFar o st k c → IsPageSoFar o st k (record c { waiting = c.waiting ++ m ∷ [] })
 page_grows None false k c m may h = h
 page_grows None true k c m may h = h
-page_grows (Some f) false k c m may h = underway_grows (page_frozen f c.classes c.boxes) k c.page c.waiting m may h
-page_grows (Some f) true k c m may h = stop_grows (page_frozen f c.classes c.boxes) k c.page c.waiting m may h
+page_grows (Some f) false k c m may h = underway_grows (frozen_for f c.classes c.boxes) k c.page c.waiting m may h
+page_grows (Some f) true k c m may h = stop_grows (frozen_for f c.classes c.boxes) k c.page c.waiting m may h
 
 -- if nothing is on the page and its goal is not frozen, anything may wait and be in the boxes
-pub page_free : (o : Option (ℤ × ℤ)) (st : Bool) (k : Course) (c d : Contents) → o ≡ None → d.page ≡ c.page → IsPageSoFar o st k c → IsPageSoFar o st k d
+pub page_free : (o : Option Ask) (st : Bool) (k : Course) (c d : Contents) → o ≡ None → d.page ≡ c.page → IsPageSoFar o st k c → IsPageSoFar o st k d
 page_free None false k c d e p h = record { loose = subst (λ ns. AllLoose ns) (sym p) h.loose; lasting_is = h.lasting_is ∙ ap (λ ns. ends_lasting (page_shapes ns)) (sym p) }
 page_free None true k c d e p h = h
 page_free (Some f) st k c d e p h = cc

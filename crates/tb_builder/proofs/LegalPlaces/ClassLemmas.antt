@@ -15,8 +15,9 @@ use Rattle.tb_insert.specs.Account.{ClassBox, class_box}
 use Rattle.tb_insert.specs.Arrival.{ClassFits}
 use Rattle.tb_insert.specs.AccountEntries.{numbered, Differ, boxed}
 use Rattle.tb_insert.proofs.AccountLemmas.{leaf_shapes}
+use Rattle.tb_builder.specs.declared.Ask.{Ask}
 use Rattle.tb_builder.specs.declared.ClassList.{ClassList}
-use Rattle.tb_builder.specs.FiredPages.{box_content, box_size, class_boxes, content_of}
+use Rattle.tb_builder.specs.FiredPages.{box_content, box_size, class_for, class_boxes, content_of}
 use Rattle.tb_builder.specs.Contents.{boxed_of, content_by, leaf_list}
 use Rattle.tb_builder.specs.Ownership.{VoidEmpty, box_ids, AllLive, has_class, ClassesFit, has_number, IsFirst, IsClassList}
 use Rattle.tb_builder.specs.PageEvents.{SizesFit, BoxesFit}
@@ -33,22 +34,22 @@ found_within (e ∷ es) number k h = (first_at (e ∷ es) number k e h).within
 pub behind_first : (e : ClassList) (es : List ClassList) (number k : ℕ) (d : ClassList) → IsFirst (e ∷ es) number (suc k) d → IsFirst es number k d
 behind_first e es number k d h = record { within = let w : suc k < length (e ∷ es) = h.within in omega arith; there = h.there; before = λ j lt. h.before (suc j) (omega arith) }
 
-module _ (f : Class → ClassBox) (same : (c : Class) → (f c).class ≡ c) where
+module _ (f : Class → ClassBox) (same : (c : Class) → (f c).class.number ≡ c.number) where
   pub class_found : (es : List ClassList) (number k : ℕ) (d : ClassList) → IsFirst es number k d → class_box (map f (map (λ e. e.class) es)) number ≡ f (get_or es k d).class
   class_found [] number k d h = let w : k < 0 = h.within in absurd (omega arith)
-  class_found (e ∷ es) number zero d h = ap (λ c. if c.number == number then f e.class else class_box (map f (map (λ x. x.class) es)) number) (same e.class) ∙ ap (λ b. if b then f e.class else class_box (map f (map (λ x. x.class) es)) number) h.there
+  class_found (e ∷ es) number zero d h = ap (λ n. if n == number then f e.class else class_box (map f (map (λ x. x.class) es)) number) (same e.class) ∙ ap (λ b. if b then f e.class else class_box (map f (map (λ x. x.class) es)) number) h.there
   class_found (e ∷ es) number (suc k) d h =
-      ap (λ c. if c.number == number then f e.class else class_box (map f (map (λ x. x.class) es)) number) (same e.class)
+      ap (λ n. if n == number then f e.class else class_box (map f (map (λ x. x.class) es)) number) (same e.class)
       ∙ ap (λ b. if b then f e.class else class_box (map f (map (λ x. x.class) es)) number) (h.before 0 (omega arith))
       ∙ class_found es number k d (behind_first e es number k d h)
 
   pub numbered_found : (cs : List Class) (number : ℕ) → numbered (map f cs) number ≡ has_class cs number
   numbered_found [] number = refl
-  numbered_found (c ∷ cs) number = (λ i. (same c i).number == number || numbered_found cs number i)
+  numbered_found (c ∷ cs) number = (λ i. same c i == number || numbered_found cs number i)
 
   pub differ_found : (cs : List Class) → ClassesFit cs → Differ (map f cs)
   differ_found [] h = tt
-  differ_found (c ∷ cs) h = (ap (λ x. numbered (map f cs) x.number) (same c) ∙ numbered_found cs c.number ∙ h.0, differ_found cs h.3)
+  differ_found (c ∷ cs) h = (ap (numbered (map f cs)) (same c) ∙ numbered_found cs c.number ∙ h.0, differ_found cs h.3)
 
 pub content_found : (s : Lists Node) (es : List ClassList) (number k : ℕ) (d : ClassList) → IsFirst es number k d → box_content (map (boxed_of s) es) number ≡ (boxed_of s (get_or es k d)).content
 content_found s [] number k d h = let w : k < 0 = h.within in absurd (omega arith)
@@ -134,11 +135,11 @@ module _ (s : Lists Node) (es : List ClassList) (number : ℕ) (e : ClassList) (
   number_is = eqb-true e.class.number number (ap (has_number number) (sym h.is) ∙ h.first.there)
 
   -- the class box of the page's classes
-  pub box_is : VoidEmpty s es → class_box (class_boxes (map (λ e. e.class) es) (map (boxed_of s) es)) number ≡ boxed e.class (size_of (shapes s e.list))
-  box_is v =
-      class_found (λ c. record { class = c; size = box_size (box_content (map (boxed_of s) es) c.number) }) (λ c. refl) es number h.place e h.first
-      ∙ ap (λ (x : ClassList). boxed x.class (box_size (box_content (map (boxed_of s) es) x.class.number))) h.is
-      ∙ ap (λ k. boxed e.class (box_size (box_content (map (boxed_of s) es) k))) number_is
-      ∙ ap (λ o. boxed e.class (box_size o)) (content_found s es number h.place e h.first)
-      ∙ ap (λ (x : ClassList). boxed e.class (box_size (boxed_of s x).content)) h.is
-      ∙ ap (boxed e.class) (size_found s e (subst (λ x. x.void ≡ true → list_at s x.list ≡ []) h.is (void_at s es h.place e h.first.within v)))
+  pub box_is : (made : Ask) → VoidEmpty s es → class_box (class_boxes made (map (λ e. e.class) es) (map (boxed_of s) es)) number ≡ boxed (class_for made e.class) (size_of (shapes s e.list))
+  box_is made v =
+      class_found (λ c. record { class = class_for made c; size = box_size (box_content (map (boxed_of s) es) c.number) }) (λ c. refl) es number h.place e h.first
+      ∙ ap (λ (x : ClassList). boxed (class_for made x.class) (box_size (box_content (map (boxed_of s) es) x.class.number))) h.is
+      ∙ ap (λ k. boxed (class_for made e.class) (box_size (box_content (map (boxed_of s) es) k))) number_is
+      ∙ ap (λ o. boxed (class_for made e.class) (box_size o)) (content_found s es number h.place e h.first)
+      ∙ ap (λ (x : ClassList). boxed (class_for made e.class) (box_size (boxed_of s x).content)) h.is
+      ∙ ap (boxed (class_for made e.class)) (size_found s e (subst (λ x. x.void ≡ true → list_at s x.list ≡ []) h.is (void_at s es h.place e h.first.within v)))

@@ -196,7 +196,7 @@ module _ (z : Frozen) (line : ℕ) (a : Act) (before after : List PlainNode) (f 
           subst NodeFits (sym same) (f.nodes p x (m ++ record { line = line; kind = act a } ∷ after) (sym (append_assoc p (x ∷ m) (record { line = line; kind = act a } ∷ after)) ∙ ap (λ ns. ns ++ record { line = line; kind = act a } ∷ after) (sym b)))
 
   pub laid_without : LaidFits z (before ++ after)
-  laid_without = record { pages = prefix_fits; nodes = node_fits }
+  laid_without = record { pages = prefix_fits; nodes = node_fits; classes = f.classes }
 
 pub without_fits : (z : Frozen) (a : Act) (ns ms : List PlainNode) → LaidFits z ns → Without a ns ms → LaidFits z ms
 without_fits z a ns ms f w = subst (LaidFits z) (sym w.left) (laid_without z w.line a w.before w.after (subst (LaidFits z) w.was f))

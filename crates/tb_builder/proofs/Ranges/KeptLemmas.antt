@@ -1,6 +1,6 @@
 -- The contents of a builder stay sized: `next` may be called, and each event that it returns, and a page that fires,
 -- leave sized contents with no more nodes than before.
-use Rattle.std.proofs.Common.{◌≡◌, refl, sym, subst, ◌∙◌, ap, ◌+◌, ◌≤◌, ℤ, pos, Bool, true, false, List, [], ◌∷◌, ◌++◌, length, map, Option, None, Some, append-nil, arith}
+use Rattle.std.proofs.Common.{◌≡◌, refl, sym, subst, ◌∙◌, ap, ◌+◌, ◌≤◌, ℤ, pos, Bool, true, false, List, [], ◌∷◌, ◌++◌, map, Option, None, Some, append-nil, arith}
 use Rattle.std.specs.Prelude.{All, if◌then◌else◌}
 use Rattle.std.proofs.lemmas.List.{length-map}
 use Rattle.std.proofs.lemmas.List.Elements.{All-append, All-tail}
@@ -9,20 +9,19 @@ use Rattle.tb_node.specs.Fit.{IsExtent}
 use Rattle.tb_node.specs.PlainNodes.{pen, PlainKind, plain, act, PlainNode, node_shape}
 use Rattle.tb_break.specs.Best.{Breakpoint, is_stop}
 use Rattle.tb_break.specs.PageTop.{pruned_nodes}
-use Rattle.tb_insert.specs.declared.Class.{Class}
 use Rattle.tb_insert.specs.Account.{ClassBox, terms_after}
 use Rattle.tb_builder.specs.declared.Ask.{Ask}
 use Rattle.tb_builder.specs.declared.Event.{Event}
 use Rattle.tb_builder.specs.declared.Event.TheVariants as events
 use Rattle.tb_builder.specs.Reach.{Reach, holds_box, laid_out, breakpoints}
-use Rattle.tb_builder.specs.FiredPages.{Boxed, class_boxes, spent_kind, with_spent_break, from_break}
-use Rattle.tb_builder.specs.Contents.{Contents, frozen_or, frozen_of, laid, reach_ahead, reach_whole, places_of, node_count, box_count}
+use Rattle.tb_builder.specs.FiredPages.{spent_kind, with_spent_break, from_break}
+use Rattle.tb_builder.specs.Contents.{Contents, frozen_with, frozen_of, laid, reach_ahead, reach_whole, places_of, node_count, box_count}
 use Rattle.tb_builder.specs.Ownership.{ClassesFit}
 use Rattle.tb_builder.specs.PageEvents.{AskFits, NextFits, KeepsBoxes, Without, FirstIs, fired_page, after_fired}
-use Rattle.tb_builder.specs.Pageable.{IsSizedOnPage, IsSizedClass, IsSizedBox, IsGoal}
-use Rattle.tb_builder.specs.SizedContents.{IsSizedAsk, IsSizedFreeze, laid_by, whole_list, IsSizedContents, whole_count, AreBoxesOf, fired_count}
+use Rattle.tb_builder.specs.Pageable.{IsSizedOnPage, IsSizedClass, IsSizedBox}
+use Rattle.tb_builder.specs.SizedContents.{IsSizedAsk, IsSizedMake, IsSizedFreeze, laid_by, whole_list, IsSizedContents, whole_count, AreBoxesOf, fired_count}
 use Rattle.tb_builder.proofs.LegalPlaces.ChargeLemmas.{few_classes}
-use Rattle.tb_builder.proofs.Ranges.PageableLemmas.{count-append, IsSizedClassBox, size_total, IsSizedFrozen, class_boxes_sized, class_boxes_total, boxes_fit, laid_fits, pruned_sized, pruned_nodes_longer, goal_amount}
+use Rattle.tb_builder.proofs.Ranges.PageableLemmas.{count-append, IsSizedFrozen, class_boxes_sized, class_boxes_total, boxes_fit, laid_fits, pruned_sized, pruned_nodes_longer, goal_amount}
 use Rattle.tb_builder.proofs.Cutting.VanishLemmas.{BeginsVanishing, break_vanishes}
 use Rattle.tb_builder.proofs.Ranges.PrunedLemmas.{no_skip, pruned_again, pruned_same, nodes_no_longer, front-sized, back-sized, laid_with, whole_by, whole_by-is}
 use Rattle.tb_builder.proofs.Ranges.SizedLemmas.{FiredSized, fired_sized}
@@ -49,13 +48,10 @@ laid_again false false top page waiting d h =
 asked_fits : (ask : Ask) → IsSizedAsk ask → AskFits ask
 asked_fits ask h = record { goal = goal_amount ask.goal h.goal; depth = extent_small ask.max_depth h.depth; depth_low = h.depth.low; top_skip = extent_small ask.top_skip h.top_skip }
 
-limits_by : (o : Option (ℤ × ℤ)) (ask : Ask) (cs : List Class) (bs : List Boxed) → IsSizedAsk ask → IsSizedFreeze o → IsGoal (frozen_or o ask cs bs).goal × IsExtent (frozen_or o ask cs bs).limit
-limits_by None ask cs bs a h = (a.goal, a.depth)
-limits_by (Some f) ask cs bs a h = (h.0, h.1)
-
-classes_by : (o : Option (ℤ × ℤ)) (ask : Ask) (cs : List Class) (bs : List Boxed) → (frozen_or o ask cs bs).classes ≡ class_boxes cs bs
-classes_by None ask cs bs = refl
-classes_by (Some f) ask cs bs = refl
+-- what the page is made for is sized
+made_sized : (o : Option Ask) (ask : Ask) → IsSizedAsk ask → IsSizedFreeze o → IsSizedMake (frozen_with o ask)
+made_sized None ask a h = record { goal = a.goal; depth = a.depth; foot_skip = a.foot_skip }
+made_sized (Some f) ask a h = h
 
 module _ (c : Contents) (ask : Ask) (sized : IsSizedContents c) (asked : IsSizedAsk ask) where
   laid_both : All IsSizedOnPage (laid c ask) × (node_count (laid c ask) ≤ node_count (whole_list c) + 1)
@@ -70,14 +66,14 @@ module _ (c : Contents) (ask : Ask) (sized : IsSizedContents c) (asked : IsSized
 
   frozen_sized : box_count c.boxes ≤ 4194304 → IsSizedFrozen (frozen_of c ask)
   frozen_sized few =
-      let e = classes_by c.frozen ask c.classes c.boxes in
-      let limits = limits_by c.frozen ask c.classes c.boxes asked sized.frozen in
+      let made = frozen_with c.frozen ask in
+      let fits = made_sized c.frozen ask asked sized.frozen in
       record {
-        goal = limits.0;
-        limit = limits.1;
-        classes = subst (All IsSizedClassBox) (sym e) (class_boxes_sized c.classes c.boxes sized.classes sized.boxes few);
-        few = let a = few_classes c.classes sized.classes_fit in omega (arith, a, ap length e, length-map {B = ClassBox} c.classes);
-        total = let a = class_boxes_total c.classes c.boxes sized.classes_fit sized.boxes few in omega (arith, a, ap size_total e);
+        goal = fits.goal;
+        limit = fits.depth;
+        classes = class_boxes_sized made c.classes c.boxes fits.foot_skip sized.classes sized.boxes few;
+        few = let a = few_classes c.classes sized.classes_fit in omega (arith, a, length-map {B = ClassBox} c.classes);
+        total = class_boxes_total made c.classes c.boxes sized.classes_fit sized.boxes few;
       }
 
   -- what `next` requires, for at most 2^22 nodes and the glue at the top
@@ -101,9 +97,9 @@ other_count false u v page waiting = count-append page (pruned_nodes v waiting) 
 
 -- ---- what stays
 
-frozen_by : (o : Option (ℤ × ℤ)) (ask : Ask) (cs : List Class) (bs : List Boxed) → IsGoal (frozen_or o ask cs bs).goal × IsExtent (frozen_or o ask cs bs).limit → IsSizedFreeze o
-frozen_by None ask cs bs h = tt
-frozen_by (Some f) ask cs bs h = (h.0, h.1)
+frozen_by : (o : Option Ask) (ask : Ask) → IsSizedMake (frozen_with o ask) → IsSizedFreeze o
+frozen_by None ask h = tt
+frozen_by (Some f) ask h = h
 
 stays_sized : (c d : Contents) (ask : Ask) → IsSizedAsk ask → IsSizedContents c → KeepsBoxes c d ask → All IsSizedOnPage (whole_list d) → IsSizedContents d
 stays_sized c d ask a r s h = record {
@@ -112,7 +108,7 @@ stays_sized c d ask a r s h = record {
   boxes = subst (All IsSizedBox) (sym s.boxes) r.boxes;
   classes = subst (All IsSizedClass) (sym s.classes) r.classes;
   classes_fit = subst ClassesFit (sym s.classes) r.classes_fit;
-  frozen = frozen_by d.frozen ask d.classes d.boxes (subst (λ z. IsGoal z.goal × IsExtent z.limit) (sym s.frozen_so) (limits_by c.frozen ask c.classes c.boxes a r.frozen));
+  frozen = frozen_by d.frozen ask (subst IsSizedMake (sym s.made) (made_sized c.frozen ask a r.frozen));
 }
 
 stays_fewer : (c d : Contents) (ask : Ask) → KeepsBoxes c d ask → node_count (whole_list d) ≤ node_count (whole_list c) → whole_count d ≤ whole_count c

@@ -1,5 +1,5 @@
 -- What `next` requires holds of contents whose nodes are sized and not too many.
-use Rattle.std.proofs.Common.{◌≡◌, refl, sym, subst, ◌∙◌, ap, ℕ, ◌+◌, ◌*◌, ◌≤◌, ℤ, pos, ◌+ℤ◌, ◌-ℤ◌, Bool, true, false, List, [], ◌∷◌, ◌++◌, length, take, drop, Option, None, Some, length-append, arith}
+use Rattle.std.proofs.Common.{◌≡◌, sym, subst, ◌∙◌, ap, ℕ, ◌+◌, ◌*◌, ◌≤◌, ℤ, pos, ◌+ℤ◌, ◌-ℤ◌, Bool, true, false, List, [], ◌∷◌, ◌++◌, length, take, drop, None, Some, length-append, arith}
 use Rattle.std.specs.Prelude.{map, All, ◌==◌, ◌||◌, ◌&&◌, int_le, nat_le, int_lt, unsigned_abs, if◌then◌else◌}
 use Rattle.std.proofs.lemmas.Int.{ints}
 use Rattle.std.proofs.lemmas.List.{length-map, take-append-drop}
@@ -13,18 +13,18 @@ use Rattle.tb_node.specs.SmallAmounts.{IsAmount}
 use Rattle.tb_node.specs.Shape.{Shape, box, glue, kern, penalty, other}
 use Rattle.tb_node.specs.PlainNodes.{Leaf, leaf_shape, Inserted, PlainKind, plain, ins, act, PlainNode, node_shape, skip}
 use Rattle.tb_node.specs.Sums.{sums_of, size_of, limited_depth, list_stretch, list_shrink}
-use Rattle.tb_node.proofs.FitLemmas.{IsWithin, sized-fits, nodes_fit, size_within, list_stretch_within, list_shrink_within, summed-fits, sums_fit, extent_small}
+use Rattle.tb_node.proofs.FitLemmas.{IsWithin, sized-fits, nodes_fit, size_within, list_stretch_within, list_shrink_within, summed-fits, sums_fit, extent_small, dimension_small}
 use Rattle.tb_break.specs.Places.{ends_lasting, begins_with_glue, split_penalty}
 use Rattle.tb_break.specs.Split.{split_of}
 use Rattle.tb_break.specs.PageTop.{pruned_nodes, pruned_at, top_glue}
 use Rattle.tb_break.proofs.LastLemmas.{split-last_least}
 use Rattle.tb_insert.specs.declared.Class.{Class}
 use Rattle.tb_insert.specs.Account.{ClassBox, Frozen, Label, whole, split, late, Labelled, class_box, taken, taken_by, scaled_by, insertions, is_met, met_classes, class_charge, insertion_charge, skip_shapes, class_height, has_split, label_where, label_of, labelled_with, labelled_from, labelled, goal_after, clamped, unscaled_room, penalty_of, penalties_of}
-use Rattle.tb_insert.specs.Arrival.{PageFits}
+use Rattle.tb_insert.specs.Arrival.{ClassFits, PageFits}
 use Rattle.tb_builder.specs.declared.Ask.{Ask}
 use Rattle.tb_builder.specs.Reach.{holds_box}
-use Rattle.tb_builder.specs.FiredPages.{Boxed, content_of, box_content, box_size, class_boxes}
-use Rattle.tb_builder.specs.Contents.{Contents, frozen_or, frozen_of, ahead_of, laid, kind_count, node_count, box_count}
+use Rattle.tb_builder.specs.FiredPages.{Boxed, content_of, box_content, box_size, class_for, class_boxes}
+use Rattle.tb_builder.specs.Contents.{Contents, frozen_with, frozen_of, ahead_of, laid, kind_count, node_count, box_count}
 use Rattle.tb_builder.specs.Ownership.{ClassesFit}
 use Rattle.tb_builder.specs.PageEvents.{SizesFit, InsertedFits, KindFits, NodeFits, LaidFits, BoxesFit, NextFits}
 use Rattle.tb_builder.specs.Pageable.{IsSizedInserted, IsSizedKind, IsSizedOnPage, IsFactor, IsSizedClass, IsSizedBox, IsGoal, IsPageable}
@@ -367,10 +367,18 @@ page_fits z ns f s few =
 node_fits : (n : PlainNode) → IsSizedOnPage n → kind_count n.kind ≤ 8388608 → NodeFits n
 node_fits n s few = record { small = sized-fits (node_shape n) s.shape; kind_fits = kind_fits n.kind s.kind few }
 
+factor_small : (z : ℤ) → IsFactor z → IsAmount z
+factor_small z h = record { low = omega (arith, ints); high = omega (arith, ints) }
+
+-- a sized class fits
+pub class-fits : (c : Class) → IsSizedClass c → ClassFits c
+class-fits c h = record { factor = factor_small c.factor h.factor; stretch = dimension_small c.skip.stretch h.stretch; shrink = dimension_small c.skip.shrink h.shrink }
+
 pub laid_fits : (z : Frozen) (ns : List PlainNode) → IsSizedFrozen z → All IsSizedOnPage ns → node_count ns ≤ 8388608 → LaidFits z ns
 laid_fits z ns f s few = record {
   pages = λ before rest e. page_fits z before f (front IsSizedOnPage before rest (subst (All IsSizedOnPage) (sym e) s)) (omega (arith, few, count-append before rest, ap node_count e));
   nodes = λ before n rest e. node_fits n (inside IsSizedOnPage before n rest (subst (All IsSizedOnPage) (sym e) s)) (omega (arith, few, count-append before (n ∷ rest), ap node_count e));
+  classes = All-weaker IsSizedClassBox (λ (c : ClassBox). ClassFits c.class) (λ c h. class-fits c.class h.class) z.classes f.classes;
 }
 
 pub glue_sized : (t h : ℤ) → IsExtent t → IsExtent h → IsSized (glue (top_glue t h))
@@ -424,25 +432,41 @@ boxes_fit (b ∷ bs) h few = (
 content_within : (ls : List Leaf) → All IsSizedLeaf ls → length ls ≤ 4194304 → IsWithin 9007199254740992 (size_of (map leaf_shape ls))
 content_within ls h few = wider (2147483646 * length (map leaf_shape ls)) 9007199254740992 (size_of (map leaf_shape ls)) (omega (arith, few, length-map {B = Shape} ls)) (size_within (map leaf_shape ls) (leaves_sized ls h))
 
-pub class_boxes_sized : (cs : List Class) (bs : List Boxed) → All IsSizedClass cs → All IsSizedBox bs → box_count bs ≤ 4194304 → All IsSizedClassBox (class_boxes cs bs)
-class_boxes_sized cs bs h b few =
-    let boxed : Class → ClassBox = λ c. record { class = c; size = box_size (box_content bs c.number) } in
+-- a class is sized as a page has it
+sized_for : (ask : Ask) (c : Class) → IsSized (glue ask.foot_skip) → IsSizedClass c → IsSizedClass (class_for ask c)
+sized_for ask c feet h = record { factor = h.factor; width = by_test (c.number == 254); stretch = stretch_by (c.number == 254); shrink = shrink_by (c.number == 254) }
+  where
+    by_test : (t : Bool) → IsDimension (if t then ask.foot_skip else c.skip).width
+    by_test true = feet.0
+    by_test false = h.width
+
+    stretch_by : (t : Bool) → IsDimension (if t then ask.foot_skip else c.skip).stretch
+    stretch_by true = feet.1
+    stretch_by false = h.stretch
+
+    shrink_by : (t : Bool) → IsDimension (if t then ask.foot_skip else c.skip).shrink
+    shrink_by true = feet.2
+    shrink_by false = h.shrink
+
+pub class_boxes_sized : (ask : Ask) (cs : List Class) (bs : List Boxed) → IsSized (glue ask.foot_skip) → All IsSizedClass cs → All IsSizedBox bs → box_count bs ≤ 4194304 → All IsSizedClassBox (class_boxes ask cs bs)
+class_boxes_sized ask cs bs feet h b few =
+    let boxed : Class → ClassBox = λ c. record { class = class_for ask c; size = box_size (box_content bs c.number) } in
     All-map IsSizedClassBox boxed cs (All-weaker IsSizedClass (λ c. IsSizedClassBox (boxed c))
-    (λ c s. record { class = s; size = content_within (content_of (box_content bs c.number)) (content_sized bs c.number b) (let r = content_few bs c.number in omega (arith, r, few)) }) cs h)
+    (λ c s. record { class = sized_for ask c feet s; size = content_within (content_of (box_content bs c.number)) (content_sized bs c.number b) (let r = content_few bs c.number in omega (arith, r, few)) }) cs h)
 
 content_abs : (ls : List Leaf) → All IsSizedLeaf ls → unsigned_abs (size_of (map leaf_shape ls)) ≤ 2147483646 * length ls
 content_abs ls h = let a = abs_of (2147483646 * length (map leaf_shape ls)) (size_of (map leaf_shape ls)) (size_within (map leaf_shape ls) (leaves_sized ls h)) in omega (arith, a, length-map {B = Shape} ls leaf_shape)
 
-boxes_total : (cs : List Class) (bs : List Boxed) → All IsSizedBox bs → size_total (class_boxes cs bs) ≤ 2147483646 * in_boxes bs cs
-boxes_total [] bs b = omega arith
-boxes_total (c ∷ cs) bs b =
+boxes_total : (ask : Ask) (cs : List Class) (bs : List Boxed) → All IsSizedBox bs → size_total (class_boxes ask cs bs) ≤ 2147483646 * in_boxes bs cs
+boxes_total ask [] bs b = omega arith
+boxes_total ask (c ∷ cs) bs b =
     let here = content_abs (content_of (box_content bs c.number)) (content_sized bs c.number b) in
-    let later = boxes_total cs bs b in
+    let later = boxes_total ask cs bs b in
     omega (arith, here, later)
 
 -- what the boxes of classes hold, each counted once
-pub class_boxes_total : (cs : List Class) (bs : List Boxed) → ClassesFit cs → All IsSizedBox bs → box_count bs ≤ 4194304 → size_total (class_boxes cs bs) ≤ 9007199254740992
-class_boxes_total cs bs c b few = let a = boxes_total cs bs b in let once = boxes_once bs cs c in omega (arith, a, once, few)
+pub class_boxes_total : (ask : Ask) (cs : List Class) (bs : List Boxed) → ClassesFit cs → All IsSizedBox bs → box_count bs ≤ 4194304 → size_total (class_boxes ask cs bs) ≤ 9007199254740992
+class_boxes_total ask cs bs c b few = let a = boxes_total ask cs bs b in let once = boxes_once bs cs c in omega (arith, a, once, few)
 
 -- ---- the contents
 
@@ -467,18 +491,15 @@ contents_fit c ask p = record {
         by_box true = omega arith
         by_box false = pruned_nodes_longer ask.top_skip c.waiting
 
-    classes : (frozen_of c ask).classes ≡ class_boxes c.classes c.boxes
-    classes = by_frozen c.frozen
-      where
-        by_frozen : (o : Option (ℤ × ℤ)) → (frozen_or o ask c.classes c.boxes).classes ≡ class_boxes c.classes c.boxes
-        by_frozen None = refl
-        by_frozen (Some f) = refl
+    -- what the page is made for
+    made : Ask
+    made = frozen_with c.frozen ask
 
     frozen : IsSizedFrozen (frozen_of c ask)
     frozen = record {
       goal = p.goal;
       limit = p.limit;
-      classes = subst (All IsSizedClassBox) (sym classes) (class_boxes_sized c.classes c.boxes p.classes p.boxes (let a = p.few in omega arith));
-      few = let a = few_classes c.classes p.classes_fit in omega (arith, a, ap length classes, length-map {B = ClassBox} c.classes);
-      total = let a = class_boxes_total c.classes c.boxes p.classes_fit p.boxes (let f = p.few in omega arith) in omega (arith, a, ap size_total classes);
+      classes = class_boxes_sized made c.classes c.boxes p.feet p.classes p.boxes (let a = p.few in omega arith);
+      few = let a = few_classes c.classes p.classes_fit in omega (arith, a, length-map {B = ClassBox} c.classes);
+      total = class_boxes_total made c.classes c.boxes p.classes_fit p.boxes (let f = p.few in omega arith);
     }

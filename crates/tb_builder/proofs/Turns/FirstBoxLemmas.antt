@@ -17,9 +17,9 @@ use Rattle.tb_builder.specs.declared.Builder.{Builder}
 use Rattle.tb_builder.specs.declared.Course.{Course}
 use Rattle.tb_builder.specs.Reach.{holds_box}
 use Rattle.tb_builder.specs.LegalPlaces.{NoStop}
-use Rattle.tb_builder.specs.Contents.{Contents, contents_of, frozen_or, frozen_of, ahead_of, laid}
+use Rattle.tb_builder.specs.Contents.{Contents, contents_of, frozen_or, frozen_of, ahead_of, laid, frozen_with}
 use Rattle.tb_builder.specs.Ownership.{Ids, ids_of, inner_of, is_known, classes_of}
-use Rattle.tb_builder.specs.Courses.{IsCourseOf, Underway, places_by, kept_frozen, frozen_with, frozen_at, AllLoose, AllLasting, IsPageSoFar, IsSound}
+use Rattle.tb_builder.specs.Courses.{IsCourseOf, Underway, places_by, kept_frozen, frozen_at, AllLoose, AllLasting, IsPageSoFar, IsSound}
 use Rattle.tb_builder.specs.PageEvents.{NextFits, LaidFits}
 use Rattle.tb_builder.specs.PageTurns.{ChangesPage, StepFits}
 use Rattle.tb_builder.proofs.Turns.MoveLemmas.{Written, written_front}
@@ -63,14 +63,14 @@ loose_closed (n ∷ ns) h = ap (λ s. is_box_or s ns) (loose_shape n.line n.kind
     is_box_or s ns = is_box s || holds_box ns
 
 -- a page with a box has a frozen goal
-pub opened_frozen : (o : Option (ℤ × ℤ)) (k : Course) (c : Contents) (ask : Ask) → IsPageSoFar o false k c → holds_box c.page ≡ true → o ≡ Some (frozen_with o ask)
+pub opened_frozen : (o : Option Ask) (k : Course) (c : Contents) (ask : Ask) → IsPageSoFar o false k c → holds_box c.page ≡ true → o ≡ Some (frozen_with o ask)
 opened_frozen None k c ask st e = absurd (true≢false (sym e ∙ loose_closed c.page st.loose))
 opened_frozen (Some f) k c ask st e = refl
 
-pub kept_is_frozen : (c : Contents) (o : Option (ℤ × ℤ)) (ask : Ask) → c.frozen ≡ Some (frozen_with o ask) → kept_frozen c ≡ frozen_or o ask c.classes c.boxes
+pub kept_is_frozen : (c : Contents) (o : Option Ask) (ask : Ask) → c.frozen ≡ Some (frozen_with o ask) → kept_frozen c ≡ frozen_or o ask c.classes c.boxes
 kept_is_frozen c o ask e = ap (λ x. frozen_at x c.classes c.boxes) e ∙ frozen_as o ask c.classes c.boxes
 
-pub underway_of : (o : Option (ℤ × ℤ)) (f : ℤ × ℤ) (k : Course) (c : Contents) → o ≡ Some f → c.frozen ≡ o → IsPageSoFar o false k c → Underway (kept_frozen c) k c.page c.waiting
+pub underway_of : (o : Option Ask) (f : Ask) (k : Course) (c : Contents) → o ≡ Some f → c.frozen ≡ o → IsPageSoFar o false k c → Underway (kept_frozen c) k c.page c.waiting
 underway_of o f k c e g st =
     subst (λ x. Underway (frozen_at x c.classes c.boxes) k c.page c.waiting) (sym (g ∙ e)) (subst (λ x. IsPageSoFar x false k c) e st)
 

@@ -1,7 +1,8 @@
 -- The goal of a page is frozen, and nodes come to a page without a box.
 use Rattle.std.proofs.Common.{◌≡◌, refl, sym, subst, ◌∙◌, ap, ℕ, ◌<◌, ℤ, Bool, true, false, List, [], ◌∷◌, ◌++◌, length, map, Option, None, Some, IsSome, append_assoc}
-use Rattle.std.specs.Prelude.{not, option_to_list}
+use Rattle.std.specs.Prelude.{All, ◌==◌, ◌||◌, not, option_to_list, if◌then◌else◌}
 use Rattle.std.proofs.lemmas.List.{map-append, length-map}
+use Rattle.std.proofs.lemmas.List.Elements.{All-head, All-tail}
 use Rattle.std.proofs.lemmas.Bool.{true≢false}
 use Rattle.tb_pool.specs.Lists.{Lists, IsLive, list_at}
 use Rattle.tb_node.specs.declared.Node.{Node}
@@ -19,7 +20,7 @@ use Rattle.tb_break.specs.Scan.{Scanned, Offered}
 use Rattle.tb_break.specs.PageTop.{pruned_nodes, pruned_at}
 use Rattle.tb_break.proofs.FindLemmas.{ends_with}
 use Rattle.tb_insert.specs.declared.Class.{Class}
-use Rattle.tb_insert.specs.Account.{Frozen, class_box, terms_after}
+use Rattle.tb_insert.specs.Account.{ClassBox, Frozen, class_box, terms_after}
 use Rattle.tb_insert.specs.AccountEntries.{Differ, numbered, IsAccountOf, IsScanOfPage, ComesTo}
 use Rattle.tb_insert.specs.Arrival.{InnerFits, ClassFits, ArriveFits, PageFits}
 use Rattle.tb_insert.proofs.AccountLemmas.{leaf_shapes}
@@ -30,11 +31,11 @@ use Rattle.tb_builder.specs.declared.Ask.{Ask}
 use Rattle.tb_builder.specs.declared.Course.{Course}
 use Rattle.tb_builder.specs.declared.ClassList.{ClassList}
 use Rattle.tb_builder.specs.Reach.{holds_box}
-use Rattle.tb_builder.specs.FiredPages.{box_size, box_content, class_boxes}
+use Rattle.tb_builder.specs.FiredPages.{box_size, box_content, class_for, class_boxes, frozen_for}
 use Rattle.tb_builder.specs.LegalPlaces.{page_shapes, glue_first, page_places, NoStop}
-use Rattle.tb_builder.specs.Contents.{boxed_of, Contents, frozen_or, frozen_of, ahead_of}
+use Rattle.tb_builder.specs.Contents.{boxed_of, Contents, frozen_with, frozen_or, frozen_of, ahead_of}
 use Rattle.tb_builder.specs.Ownership.{AllLive, inner_of, inner_ids, Ids, nodes_of, box_ids, has_class, is_known, AllKnown, ClassesFit, IsClassList, IsOwned}
-use Rattle.tb_builder.specs.Courses.{ChampionIs, IsCourseOf, Underway, places_by, page_frozen, is_loose, AllLoose, IsPageSoFar}
+use Rattle.tb_builder.specs.Courses.{ChampionIs, IsCourseOf, Underway, places_by, is_loose, AllLoose, IsPageSoFar}
 use Rattle.tb_builder.specs.PageEvents.{NextFits, InsertedFits}
 use Rattle.tb_builder.proofs.Ownership.OwnedLemmas.{live-right, known-right, inner-append}
 use Rattle.tb_builder.proofs.LegalPlaces.ClassLemmas.{class_known, number_is, box_is, differ_found, numbered_found}
@@ -43,7 +44,7 @@ use Rattle.tb_builder.proofs.LegalPlaces.PageLemmas.{places_pass}
 use Rattle.tb_builder.proofs.Turns.TurnLemmas.{ahead_open, ahead_closed, lasting_penalty, lasting_places, all_lasting}
 
 -- the course of the page, once its goal is frozen
-pub frozen_course : (c : Contents) (k l : Course) (ask : Ask) (o : Option (ℤ × ℤ)) → c.frozen ≡ o → IsPageSoFar o false k c → ClassesFit c.classes
+pub frozen_course : (c : Contents) (k l : Course) (ask : Ask) (o : Option Ask) → c.frozen ≡ o → IsPageSoFar o false k c → ClassesFit c.classes
     → (o ≡ None → (z : Frozen) (page : List PlainNode) → z.goal ≡ ask.goal → z.limit ≡ ask.max_depth → Differ z.classes → AllLoose page → k.lasting ≡ ends_lasting (page_shapes page) → IsCourseOf z l page [])
     → (IsSome o → l ≡ k) → Underway (frozen_of c ask) l c.page c.waiting
 frozen_course c k l ask None e st fit first again = record {
@@ -55,9 +56,9 @@ frozen_course c k l ask None e st fit first again = record {
     none = lasting_places (frozen_of c ask).limit (terms_after (frozen_of c ask)) [] c.page (glue_first c.waiting) (all_lasting c.page st.loose)
 
     differ : Differ (frozen_of c ask).classes
-    differ = subst (λ f. Differ (frozen_or f ask c.classes c.boxes).classes) (sym e) (differ_found (λ x. record { class = x; size = box_size (box_content c.boxes x.number) }) (λ x. refl) c.classes fit)
+    differ = subst (λ f. Differ (frozen_or f ask c.classes c.boxes).classes) (sym e) (differ_found (λ x. record { class = class_for ask x; size = box_size (box_content c.boxes x.number) }) (λ x. refl) c.classes fit)
 frozen_course c k l ask (Some f) e st fit first again =
-    subst (λ o. Underway (frozen_or o ask c.classes c.boxes) l c.page c.waiting) (sym e) (subst (λ x. Underway (page_frozen f c.classes c.boxes) x c.page c.waiting) (sym (again refl)) st)
+    subst (λ o. Underway (frozen_or o ask c.classes c.boxes) l c.page c.waiting) (sym e) (subst (λ x. Underway (frozen_for f c.classes c.boxes) x c.page c.waiting) (sym (again refl)) st)
 
 -- ---- waiting nodes
 
@@ -124,6 +125,15 @@ inner_fits s i live f = record {
 
 -- ---- an insertion comes
 
+-- the class that has a number fits, if all do
+numbered_fits : (cs : List ClassBox) (k : ℕ) → numbered cs k ≡ true → All (λ (c : ClassBox). ClassFits c.class) cs → ClassFits (class_box cs k).class
+numbered_fits [] k known fits = absurd (true≢false (sym known))
+numbered_fits (c ∷ cs) k known fits = by_test (c.class.number == k) known (λ later. numbered_fits cs k later (All-tail (λ (b : ClassBox). ClassFits b.class) c cs fits))
+  where
+    by_test : (t : Bool) → (t || numbered cs k) ≡ true → (numbered cs k ≡ true → ClassFits (class_box cs k).class) → ClassFits (if t then c else class_box cs k).class
+    by_test true here later = All-head (λ (b : ClassBox). ClassFits b.class) c cs fits
+    by_test false here later = later here
+
 module _ (b : Ids) (s : Lists Node) (c : Contents) (ask : Ask) (k : Course) (n : Node) (ns : List Node) (i : Insertion) (e : ClassList)
     (own : IsOwned b s) (classes : c.classes ≡ map (λ x. x.class) b.boxes) (boxes : c.boxes ≡ map (boxed_of s) b.boxes) (waiting : c.waiting ≡ plain_list s b.waiting)
     (page : c.page ≡ plain_list s b.page) (fits : NextFits c ask) (first : list_at s b.waiting ≡ n ∷ ns) (is : insertion_of_kind n.kind ≡ Some i) (h : IsClassList b.boxes i.class e)
@@ -131,29 +141,29 @@ module _ (b : Ids) (s : Lists Node) (c : Contents) (ask : Ask) (k : Course) (n :
   pub waiting_first : c.waiting ≡ record { line = n.line; kind = ins (inserted_of (list_at s) i) } ∷ map (plain_of (list_at s)) ns
   waiting_first = waiting ∙ ap (map (plain_of (list_at s))) first ∙ ap (λ m. m ∷ map (plain_of (list_at s)) ns) (plain_insertion (list_at s) n i is)
 
-  classes_are : (frozen_of c ask).classes ≡ class_boxes c.classes c.boxes
-  classes_are = by_frozen c.frozen
-    where
-      by_frozen : (o : Option (ℤ × ℤ)) → (frozen_or o ask c.classes c.boxes).classes ≡ class_boxes c.classes c.boxes
-      by_frozen None = refl
-      by_frozen (Some f) = refl
+  -- what the page is made for
+  abbrev made : Ask
+  made = frozen_with c.frozen ask
 
-  pub comes_to : ComesTo (frozen_of c ask) c.page k.scan e.class (size_of (shapes s e.list)) (length (list_at s b.page))
+  pub comes_to : ComesTo (frozen_of c ask) c.page k.scan (class_for made e.class) (size_of (shapes s e.list)) (length (list_at s b.page))
   comes_to = record {
-    numbered_so = ap (λ cs. numbered cs e.class.number) classes_are ∙ numbered_found (λ x. record { class = x; size = box_size (box_content c.boxes x.number) }) (λ x. refl) c.classes e.class.number
+    numbered_so = numbered_found (λ x. record { class = class_for made x; size = box_size (box_content c.boxes x.number) }) (λ x. refl) c.classes e.class.number
         ∙ (λ j. has_class (classes j) (number_is s b.boxes i.class e h j)) ∙ first_known b s (map (λ x. x.class) b.boxes) n ns i own.known first is;
-    own = ap (λ cs. class_box cs e.class.number) (classes_are ∙ (λ j. class_boxes (classes j) (boxes j))) ∙ ap (class_box (class_boxes (map (λ x. x.class) b.boxes) (map (boxed_of s) b.boxes))) (number_is s b.boxes i.class e h) ∙ box_is s b.boxes i.class e h own.void_empty;
+    own = (λ j. class_box (class_boxes made (classes j) (boxes j)) e.class.number) ∙ ap (class_box (class_boxes made (map (λ x. x.class) b.boxes) (map (boxed_of s) b.boxes))) (number_is s b.boxes i.class e h) ∙ box_is s b.boxes i.class e h made own.void_empty;
     place = sym (ap length page ∙ length-map (list_at s b.page) (plain_of (list_at s)));
     scan = u.course.scan;
   }
 
-  pub class_is : (e.class.number < 256) × ClassFits e.class
-  class_is = class_known s b.boxes i.class e h own.classes
+  pub class_is : e.class.number < 256
+  class_is = (class_known s b.boxes i.class e h own.classes).0
 
-  pub meets_fits : ArriveFits s k.account k.scan i e.class (size_of (shapes s e.list))
-  meets_fits = arrive_fits s k.account k.scan i n.line e.class (size_of (shapes s e.list)) (length (list_at s b.page)) (frozen_of c ask) c.page u.course.marked (number_is s b.boxes i.class e h)
-      (subst (λ m. m < 256) (number_is s b.boxes i.class e h) class_is.0) u.course.account comes_to
-      (inner_fits s i (first_inner b s n ns i own first is) (inserted_fits c ask fits (inserted_of (list_at s) i) n.line (map (plain_of (list_at s)) ns) waiting_first)) class_is.1
+  class_fits : ClassFits (class_for made e.class)
+  class_fits = subst (λ (x : ClassBox). ClassFits x.class) comes_to.own (numbered_fits (frozen_of c ask).classes e.class.number comes_to.numbered_so fits.laid_fits.classes)
+
+  pub meets_fits : ArriveFits s k.account k.scan i (class_for made e.class) (size_of (shapes s e.list))
+  meets_fits = arrive_fits s k.account k.scan i n.line (class_for made e.class) (size_of (shapes s e.list)) (length (list_at s b.page)) (frozen_of c ask) c.page u.course.marked (number_is s b.boxes i.class e h)
+      (subst (λ m. m < 256) (number_is s b.boxes i.class e h) class_is) u.course.account comes_to
+      (inner_fits s i (first_inner b s n ns i own first is) (inserted_fits c ask fits (inserted_of (list_at s) i) n.line (map (plain_of (list_at s)) ns) waiting_first)) class_fits
       (page_with_fits c ask fits (inserted_of (list_at s) i) n.line (map (plain_of (list_at s)) ns) waiting_first)
 
 -- ---- the course, when a node without room goes on the page

@@ -1,5 +1,5 @@
 -- A turn on a page: an insertion comes, or a node passes before the first box.
-use Rattle.std.proofs.Common.{◌≡◌, ◌⊎◌, inl, inr, refl, sym, subst, ◌∙◌, ap, ◌<◌, ◌≤◌, ℤ, Bool, true, false, List, [], ◌∷◌, ◌++◌, length, map, Option, None, Some, IsSome, arith}
+use Rattle.std.proofs.Common.{◌≡◌, ◌⊎◌, inl, inr, refl, sym, subst, ◌∙◌, ap, ◌<◌, ◌≤◌, Bool, true, false, List, [], ◌∷◌, ◌++◌, length, map, Option, None, Some, IsSome, arith}
 use Rattle.std.specs.Prelude.{not}
 use Rattle.std.proofs.lemmas.List.{map-append}
 use Rattle.tb_pool.specs.Lists.{Lists, list_at}
@@ -14,21 +14,22 @@ use Rattle.tb_builder.specs.declared.Course.{Course}
 use Rattle.tb_builder.specs.declared.Builder.{Builder}
 use Rattle.tb_builder.specs.Reach.{holds_box}
 use Rattle.tb_builder.specs.LegalPlaces.{page_shapes, NoStop}
-use Rattle.tb_builder.specs.Contents.{Contents, contents_of, frozen_or, frozen_of}
+use Rattle.tb_builder.specs.Contents.{Contents, contents_of, frozen_or, frozen_of, frozen_with}
 use Rattle.tb_builder.specs.Ownership.{ids_of}
-use Rattle.tb_builder.specs.Courses.{IsCourseOf, Underway, places_by, frozen_with, page_frozen, is_loose, AllLoose, AllLasting, IsPageSoFar, freezes, IsSound}
+use Rattle.tb_builder.specs.Courses.{IsCourseOf, Underway, places_by, is_loose, AllLoose, AllLasting, IsPageSoFar, freezes, IsSound}
 use Rattle.tb_builder.specs.PageEvents.{KeepsBoxes}
 use Rattle.tb_builder.specs.PageTurns.{ChangesPage, TurnIs}
 use Rattle.tb_builder.proofs.Turns.MoveLemmas.{Written}
 use Rattle.tb_builder.proofs.Turns.FillLemmas.{moves_from, page_from, waiting_from}
 use Rattle.tb_builder.proofs.LegalPlaces.CourseLemmas.{shape_is, no_act}
-use Rattle.tb_builder.proofs.Turns.TurnLemmas.{Same, same_frozen, same_keeps, lasts_turn, drops_turn, lasting-append, loose-append, holds_same, lasting_places}
+use Rattle.tb_builder.proofs.Turns.TurnLemmas.{Same, same_made, same_keeps, keeps-frozen, lasts_turn, drops_turn, lasting-append, loose-append, holds_same, lasting_places}
 use Rattle.tb_builder.proofs.Turns.FreezingNodes.{freezes-more, insertion-freezes}
 use Rattle.tb_builder.proofs.Turns.PastLemmas.{past-lasting, past-vanished, gone_act}
 use Rattle.tb_builder.proofs.Turns.FreezeLemmas.{underway_stays, course_loose, lasts_loose, gone_at}
+use Rattle.tb_builder.specs.FiredPages.{frozen_for}
 
 -- a page that is underway, with the goal that is frozen
-pub stands_some : (o : Option (ℤ × ℤ)) (f : ℤ × ℤ) (st : Bool) (k : Course) (c : Contents) (ask : Ask) → o ≡ Some f → c.frozen ≡ Some f → st ≡ false → Underway (frozen_of c ask) k c.page c.waiting → IsPageSoFar o st k c
+pub stands_some : (o : Option Ask) (f : Ask) (st : Bool) (k : Course) (c : Contents) (ask : Ask) → o ≡ Some f → c.frozen ≡ Some f → st ≡ false → Underway (frozen_of c ask) k c.page c.waiting → IsPageSoFar o st k c
 stands_some o f st k c ask e g on u =
     subst (λ x. IsPageSoFar x st k c) (sym e) (subst (λ b. IsPageSoFar (Some f) b k c) (sym on) (subst (λ x. Underway (frozen_or x ask c.classes c.boxes) k c.page c.waiting) g u))
 
@@ -36,7 +37,7 @@ stands_some o f st k c ask e g on u =
 pub stays_from : (b d : Builder) (s t : Lists Node) (ask : Ask) → ChangesPage b s d t → (d.frozen ≡ b.frozen ⊎ (d.frozen ≡ Some (frozen_with b.frozen ask))) → KeepsBoxes (contents_of b s) (contents_of d t) ask
 stays_from b d s t ask m f =
     let same : Same (contents_of b s) (contents_of d t) ask = record { classes = m.classes; boxes = m.boxes; frozen = f } in
-    record { classes = m.classes; boxes = m.boxes; held = m.held; frozen_so = same_frozen (contents_of b s) (contents_of d t) ask same; keeps = same_keeps (contents_of b s) (contents_of d t) ask same }
+    record { classes = m.classes; boxes = m.boxes; held = m.held; made = same_made (contents_of b s) (contents_of d t) ask same; keeps = same_keeps (contents_of b s) (contents_of d t) ask same }
 
 -- the list after the first node is shorter
 pub shorter_by : {n : PlainNode} {xs ys : List PlainNode} → xs ≡ n ∷ ys → length ys < length xs
@@ -76,23 +77,23 @@ module _ (b d : Builder) (s t : Lists Node) (ask : Ask) (n : Node) (ns : List No
     room = λ e o. (sym opened ∙ o, room);
     shorter = λ e. shorter_by waits;
     stays = stays_from b d s t ask moves f;
-    turned = lasts_turn (contents_of b s) (contents_of d t) ask (plain_of (list_at s) n) waits paged (stays_from b d s t ask moves f).frozen_so on plain_shape plain_act;
+    turned = lasts_turn (contents_of b s) (contents_of d t) ask (plain_of (list_at s) n) waits paged (keeps-frozen (stays_from b d s t ask moves f)) on plain_shape plain_act;
     past = past-lasting (plain_of (list_at s) n) (contents_of b s) (contents_of d t) ask waits paged plain_shape plain_act;
   }
 
   -- an insertion came
-  pub met : (k : Course) (f : ℤ × ℤ) → is_insertion_kind (plain_of (list_at s) n).kind ≡ true → d.frozen ≡ Some f → f ≡ frozen_with b.frozen ask → Underway (frozen_of (contents_of b s) ask) k (contents_of b s).page (contents_of b s).waiting
+  pub met : (k : Course) (f : Ask) → is_insertion_kind (plain_of (list_at s) n).kind ≡ true → d.frozen ≡ Some f → f ≡ frozen_with b.frozen ask → Underway (frozen_of (contents_of b s) ask) k (contents_of b s).page (contents_of b s).waiting
       → IsCourseOf (frozen_of (contents_of b s) ask) d.course ((contents_of b s).page ++ plain_of (list_at s) n ∷ []) (places_by (frozen_of (contents_of b s) ask) (contents_of b s).page (contents_of b s).waiting)
       → TurnIs b s ask None d t
   met k f ins is e u h =
       let frozen = is ∙ ap Some e in
       let st = stays_from b d s t ask moves (inr frozen) in
       lasts_in (inr frozen) (λ some. insertion-freezes (contents_of b s).page (plain_of (list_at s) n) ins) (stands_some d.frozen f d.stopped d.course (contents_of d t) ask is is on
-      (subst (λ z. Underway z d.course (contents_of d t).page (contents_of d t).waiting) (sym st.frozen_so)
+      (subst (λ z. Underway z d.course (contents_of d t).page (contents_of d t).waiting) (sym (keeps-frozen st))
       (underway_stays (frozen_of (contents_of b s) ask) k d.course (contents_of b s) (contents_of d t) (plain_of (list_at s) n) waits paged plain_shape plain_act u h)))
 
   -- a mark, a note or a whatsit went on the page
-  loose_by : (o : Option (ℤ × ℤ)) → b.frozen ≡ o → d.frozen ≡ o → b.stopped ≡ false → is_loose (plain_of (list_at s) n).kind ≡ true → d.course.scan ≡ b.course.scan → d.course.account ≡ b.course.account → d.course.best_goal ≡ b.course.best_goal → d.course.lasting ≡ true
+  loose_by : (o : Option Ask) → b.frozen ≡ o → d.frozen ≡ o → b.stopped ≡ false → is_loose (plain_of (list_at s) n).kind ≡ true → d.course.scan ≡ b.course.scan → d.course.account ≡ b.course.account → d.course.best_goal ≡ b.course.best_goal → d.course.lasting ≡ true
       → IsPageSoFar o false b.course (contents_of b s) → IsPageSoFar d.frozen d.stopped d.course (contents_of d t)
   loose_by None e g on' loose scan account goal lasting st =
       subst (λ x. IsPageSoFar x d.stopped d.course (contents_of d t)) (sym g) (subst (λ x. IsPageSoFar None x d.course (contents_of d t)) (sym on) (record {
@@ -101,9 +102,9 @@ module _ (b d : Builder) (s t : Lists Node) (ask : Ask) (n : Node) (ns : List No
       }))
   loose_by (Some f) e g on' loose scan account goal lasting st =
       stands_some d.frozen f d.stopped d.course (contents_of d t) ask g g on
-      (subst (λ z. Underway z d.course (contents_of d t).page (contents_of d t).waiting) (sym ((stays_from b d s t ask moves (inl (g ∙ sym e))).frozen_so ∙ ap (λ x. frozen_or x ask (contents_of b s).classes (contents_of b s).boxes) e))
-      (underway_stays (page_frozen f (contents_of b s).classes (contents_of b s).boxes) b.course d.course (contents_of b s) (contents_of d t) (plain_of (list_at s) n) waits paged plain_shape plain_act st
-      (course_loose (page_frozen f (contents_of b s).classes (contents_of b s).boxes) b.course d.course (contents_of b s).page _ (plain_of (list_at s) n) st.course loose scan account goal lasting)))
+      (subst (λ z. Underway z d.course (contents_of d t).page (contents_of d t).waiting) (sym (keeps-frozen (stays_from b d s t ask moves (inl (g ∙ sym e))) ∙ ap (λ x. frozen_or x ask (contents_of b s).classes (contents_of b s).boxes) e))
+      (underway_stays (frozen_for f (contents_of b s).classes (contents_of b s).boxes) b.course d.course (contents_of b s) (contents_of d t) (plain_of (list_at s) n) waits paged plain_shape plain_act st
+      (course_loose (frozen_for f (contents_of b s).classes (contents_of b s).boxes) b.course d.course (contents_of b s).page _ (plain_of (list_at s) n) st.course loose scan account goal lasting)))
 
   pub passed_loose : d.frozen ≡ b.frozen → b.stopped ≡ false → is_loose (plain_of (list_at s) n).kind ≡ true → d.course.scan ≡ b.course.scan → d.course.account ≡ b.course.account → d.course.best_goal ≡ b.course.best_goal → d.course.lasting ≡ true → TurnIs b s ask None d t
   passed_loose same_frozen on' loose scan account goal lasting =
@@ -126,13 +127,13 @@ module _ (b d : Builder) (s t : Lists Node) (ask : Ask) (n : Node) (ns : List No
   still_lasting : AllLasting (contents_of d t).page
   still_lasting = subst AllLasting (sym dropped_page) (sound.closed closed)
 
-  stands_by : (o : Option (ℤ × ℤ)) → b.frozen ≡ o → IsPageSoFar o false b.course (contents_of b s) → IsPageSoFar o false b.course (contents_of d t)
+  stands_by : (o : Option Ask) → b.frozen ≡ o → IsPageSoFar o false b.course (contents_of b s) → IsPageSoFar o false b.course (contents_of d t)
   stands_by None e st = record { loose = subst AllLoose (sym dropped_page) st.loose; lasting_is = st.lasting_is ∙ sym (ap (λ p. ends_lasting (page_shapes p)) dropped_page) }
   stands_by (Some f) e st =
-      let z : Frozen = page_frozen f (contents_of b s).classes (contents_of b s).boxes in
+      let z : Frozen = frozen_for f (contents_of b s).classes (contents_of b s).boxes in
       let none : places_by z (contents_of b s).page (contents_of b s).waiting ≡ [] = lasting_places z.limit (terms_after z) [] (contents_of b s).page _ (sound.closed closed) in
       let none' : places_by z (contents_of d t).page (contents_of d t).waiting ≡ [] = lasting_places z.limit (terms_after z) [] (contents_of d t).page _ still_lasting in
-      subst (λ x. Underway x b.course (contents_of d t).page (contents_of d t).waiting) (λ i. page_frozen f (sym dropped_moves.classes i) (sym dropped_moves.boxes i)) (record {
+      subst (λ x. Underway x b.course (contents_of d t).page (contents_of d t).waiting) (λ i. frozen_for f (sym dropped_moves.classes i) (sym dropped_moves.boxes i)) (record {
         course = subst (IsCourseOf z b.course (contents_of d t).page) (sym none') (subst (λ p. IsCourseOf z b.course p []) (sym dropped_page) (subst (IsCourseOf z b.course (contents_of b s).page) none st.course));
         quiet = subst NoStop (sym none') tt;
       })
@@ -151,7 +152,7 @@ module _ (b d : Builder) (s t : Lists Node) (ask : Ask) (n : Node) (ns : List No
     room = λ e o. (sym opened ∙ o, room);
     shorter = λ e. shorter_by dropped_waits;
     stays = stays_from b d s t ask dropped_moves (inl frozen);
-    turned = drops_turn (contents_of b s) (contents_of d t) ask (plain_of (list_at s) n) dropped_waits dropped_page (stays_from b d s t ask dropped_moves (inl frozen)).frozen_so (stopped ∙ on) (sym sound.opened ∙ closed) (sound.closed closed)
+    turned = drops_turn (contents_of b s) (contents_of d t) ask (plain_of (list_at s) n) dropped_waits dropped_page (keeps-frozen (stays_from b d s t ask dropped_moves (inl frozen))) (stopped ∙ on) (sym sound.opened ∙ closed) (sound.closed closed)
         (gone_at (list_at s) ask.top_skip n.line n.kind (contents_of d t).waiting gone);
     past = past-vanished (plain_of (list_at s) n) (contents_of b s) (contents_of d t) ask dropped_waits dropped_page (sym sound.opened ∙ closed) (gone_at (list_at s) ask.top_skip n.line n.kind [] gone) (gone_act (list_at s) n.line n.kind gone);
   }

@@ -1,5 +1,5 @@
 -- A turn of the builder from a step of a page that is laid out.
-use Rattle.std.proofs.Common.{◌≡◌, inr, refl, sym, subst, ◌∙◌, ap, ℕ, ◌<◌, ◌≤◌, ℤ, Bool, true, false, [], ◌∷◌, ◌++◌, length, Option, None, Some}
+use Rattle.std.proofs.Common.{◌≡◌, inr, refl, sym, subst, ◌∙◌, ap, ℕ, ◌<◌, ◌≤◌, Bool, true, false, [], ◌∷◌, ◌++◌, length, Option, None, Some}
 use Rattle.std.proofs.lemmas.Bool.{true≢false}
 use Rattle.tb_pool.specs.Lists.{Lists}
 use Rattle.tb_node.specs.declared.Node.{Node}
@@ -11,13 +11,14 @@ use Rattle.tb_builder.specs.declared.Builder.{Builder}
 use Rattle.tb_builder.specs.declared.Event.{Event}
 use Rattle.tb_builder.specs.declared.Event.TheVariants as events
 use Rattle.tb_builder.specs.Reach.{holds_box}
-use Rattle.tb_builder.specs.Contents.{Contents, contents_of, frozen_of, laid}
-use Rattle.tb_builder.specs.Courses.{IsCourseOf, Underway, AtStop, places_by, page_frozen, frozen_with, AllLasting, IsPageSoFar}
+use Rattle.tb_builder.specs.Contents.{Contents, contents_of, frozen_of, laid, frozen_with}
+use Rattle.tb_builder.specs.Courses.{IsCourseOf, Underway, AtStop, places_by, AllLasting, IsPageSoFar}
 use Rattle.tb_builder.specs.PassedNodes.{TurnPast}
 use Rattle.tb_builder.specs.PageTurns.{ChangesPage, StopsThere, StepIs, TurnBy, TurnIs, places_on}
-use Rattle.tb_builder.proofs.Turns.TurnLemmas.{Lays, lays_open, turns_on, goes_on, stops_there, made_on, frozen_as}
+use Rattle.tb_builder.proofs.Turns.TurnLemmas.{Lays, lays_open, turns_on, goes_on, stops_there, made_on, frozen_as, keeps-frozen}
 use Rattle.tb_builder.proofs.Turns.FreezingNodes.{box-freezes}
 use Rattle.tb_builder.proofs.Turns.MeetLemmas.{stays_from}
+use Rattle.tb_builder.specs.FiredPages.{frozen_for}
 
 -- what is returned
 pub stepped_turn : (o : Option Event) (z : Frozen) (k : Course) (ask : Ask) (c m d : Contents) → Lays z ask c m → m.stopped ≡ false → frozen_of d ask ≡ z → (d.stopped ≡ false → Lays z ask d d) → (d.stopped ≡ true → laid d ask ≡ d.page ++ d.waiting) → StepIs o z k m d → TurnBy o c d ask
@@ -32,7 +33,7 @@ stepped_turn (Some (events.Try t)) z k ask c m d lays on f later still st = reco
 stepped_turn (Some (events.Act a)) z k ask c m d lays on f later still st = absurd st
 stepped_turn o z k ask c m d lays on f later still st = absurd st
 
-module _ (z : Frozen) (k : Course) (m d : Contents) (f : ℤ × ℤ) (same : page_frozen f d.classes d.boxes ≡ z) where
+module _ (z : Frozen) (k : Course) (m d : Contents) (f : Ask) (same : frozen_for f d.classes d.boxes ≡ z) where
   going_page : (s : Bool) → d.stopped ≡ s → d.stopped ≡ false → Underway z k d.page d.waiting → IsPageSoFar (Some f) s k d
   going_page true e on u = absurd (true≢false (sym e ∙ on))
   going_page false e on u = subst (λ x. Underway x k d.page d.waiting) (sym same) u
@@ -66,10 +67,10 @@ module _ (b d : Builder) (s t : Lists Node) (ask : Ask) (o : Option Event) (m : 
     (closed : d.opened ≡ false → AllLasting (contents_of d t).page) (lays : Lays (frozen_of (contents_of b s) ask) ask (contents_of b s) m) (on : m.stopped ≡ false) (later : d.stopped ≡ false → d.opened ≡ true) (still : d.stopped ≡ true → laid (contents_of d t) ask ≡ (contents_of d t).page ++ (contents_of d t).waiting)
     (st : StepIs o (frozen_of (contents_of b s) ask) d.course m (contents_of d t)) where
   same : frozen_of (contents_of d t) ask ≡ frozen_of (contents_of b s) ask
-  same = (stays_from b d s t ask moves (inr frozen)).frozen_so
+  same = keeps-frozen (stays_from b d s t ask moves (inr frozen))
 
-  page_same : page_frozen (frozen_with b.frozen ask) (contents_of d t).classes (contents_of d t).boxes ≡ frozen_of (contents_of b s) ask
-  page_same = (λ i. page_frozen (frozen_with b.frozen ask) (moves.classes i) (moves.boxes i)) ∙ frozen_as b.frozen ask (contents_of b s).classes (contents_of b s).boxes
+  page_same : frozen_for (frozen_with b.frozen ask) (contents_of d t).classes (contents_of d t).boxes ≡ frozen_of (contents_of b s) ask
+  page_same = (λ i. frozen_for (frozen_with b.frozen ask) (moves.classes i) (moves.boxes i)) ∙ frozen_as b.frozen ask (contents_of b s).classes (contents_of b s).boxes
 
   pub turn_of_step : (o ≡ None → d.opened ≡ false → (b.opened ≡ false) × (s.spare ≤ t.spare)) → (o ≡ None → length (contents_of d t).waiting < length (contents_of b s).waiting) → TurnPast o (contents_of b s) (contents_of d t) ask → TurnIs b s ask o d t
   turn_of_step room shorter past = record {

@@ -17,11 +17,12 @@ use Rattle.tb_builder.specs.declared.Ask.{Ask}
 use Rattle.tb_builder.specs.declared.Try.{Try}
 use Rattle.tb_builder.specs.declared.Course.{Course}
 use Rattle.tb_builder.specs.Reach.{acted, tried, also_reached, reach_from, holds_box, page_place, breakpoints, try_of}
-use Rattle.tb_builder.specs.FiredPages.{Boxed}
+use Rattle.tb_builder.specs.FiredPages.{Boxed, frozen_for}
 use Rattle.tb_builder.specs.LegalPlaces.{page_shapes, glue_first, glue_or, node_penalty, page_places}
-use Rattle.tb_builder.specs.Contents.{Contents, frozen_or, frozen_of, ahead_of, laid, reach_ahead, places_of}
-use Rattle.tb_builder.specs.Courses.{places_by, frozen_at, frozen_with, is_loose, AllLoose, AllLasting}
-use Rattle.tb_builder.specs.PageEvents.{GoesPast, IsTheStop, ActedIs, EmptyIs}
+use Rattle.tb_builder.specs.Contents.{Contents, frozen_or, frozen_of, ahead_of, laid, reach_ahead, places_of, frozen_with}
+use Rattle.tb_builder.specs.Courses.{places_by, frozen_at, is_loose, AllLoose, AllLasting}
+use Rattle.tb_builder.specs.PageProgress.{KeepsStart}
+use Rattle.tb_builder.specs.PageEvents.{KeepsBoxes, GoesPast, IsTheStop, ActedIs, EmptyIs}
 use Rattle.tb_builder.specs.PageTurns.{reach_on, places_on, GoesUntried, GoesOn, StopsThere, ReachesNothing}
 use Rattle.tb_builder.proofs.LegalPlaces.CourseLemmas.{loose_shape}
 use Rattle.tb_builder.proofs.LegalPlaces.PageLemmas.{places_pass, reach_pass, reach_acts, glue_acts}
@@ -73,9 +74,8 @@ loose-append (m ∷ ms) n h e = (h.0, loose-append ms n h.1 e)
 
 -- ---- the goal and the depth limit that are frozen
 
-pub frozen_as : (o : Option (ℤ × ℤ)) (ask : Ask) (cs : List Class) (boxes : List Boxed) → frozen_at (Some (frozen_with o ask)) cs boxes ≡ frozen_or o ask cs boxes
-frozen_as None ask cs boxes = refl
-frozen_as (Some f) ask cs boxes = refl
+pub frozen_as : (o : Option Ask) (ask : Ask) (cs : List Class) (boxes : List Boxed) → frozen_at (Some (frozen_with o ask)) cs boxes ≡ frozen_or o ask cs boxes
+frozen_as o ask cs boxes = refl
 
 -- the contents after the goal was frozen, with the same classes and boxes
 pub record Same (c d : Contents) (ask : Ask) : Type 0 where
@@ -83,18 +83,22 @@ pub record Same (c d : Contents) (ask : Ask) : Type 0 where
   pub boxes : d.boxes ≡ c.boxes
   pub frozen : d.frozen ≡ c.frozen ⊎ (d.frozen ≡ Some (frozen_with c.frozen ask))
 
-pub same_frozen : (c d : Contents) (ask : Ask) → Same c d ask → frozen_of d ask ≡ frozen_of c ask
-same_frozen c d ask s = (λ i. frozen_or d.frozen ask (s.classes i) (s.boxes i)) ∙ by_frozen s.frozen
+pub same_made : (c d : Contents) (ask : Ask) → Same c d ask → frozen_with d.frozen ask ≡ frozen_with c.frozen ask
+same_made c d ask s = by_frozen s.frozen
   where
-    twice : (o : Option (ℤ × ℤ)) → frozen_or (Some (frozen_with o ask)) ask c.classes c.boxes ≡ frozen_or o ask c.classes c.boxes
-    twice None = refl
-    twice (Some f) = refl
+    by_frozen : (d.frozen ≡ c.frozen ⊎ (d.frozen ≡ Some (frozen_with c.frozen ask))) → frozen_with d.frozen ask ≡ frozen_with c.frozen ask
+    by_frozen (inl e) = ap (λ o. frozen_with o ask) e
+    by_frozen (inr e) = ap (λ o. frozen_with o ask) e
 
-    by_frozen : (d.frozen ≡ c.frozen ⊎ (d.frozen ≡ Some (frozen_with c.frozen ask))) → frozen_or d.frozen ask c.classes c.boxes ≡ frozen_or c.frozen ask c.classes c.boxes
-    by_frozen (inl e) = ap (λ o. frozen_or o ask c.classes c.boxes) e
-    by_frozen (inr e) = ap (λ o. frozen_or o ask c.classes c.boxes) e ∙ twice c.frozen
+-- what is frozen stays, and what would be frozen
+pub keeps-frozen : {c d : Contents} {ask : Ask} → KeepsBoxes c d ask → frozen_of d ask ≡ frozen_of c ask
+keeps-frozen k = λ i. frozen_for (k.made i) (k.classes i) (k.boxes i)
 
-pub same_keeps : (c d : Contents) (ask : Ask) → Same c d ask → (f : ℤ × ℤ) → c.frozen ≡ Some f → d.frozen ≡ Some f
+-- the page is made for what is asked, with the classes and boxes of its start
+pub start-frozen : {s c : Contents} {ask : Ask} → KeepsStart s c ask → frozen_of c ask ≡ frozen_for ask s.classes s.boxes
+start-frozen k = λ i. frozen_for (k.made i) (k.classes i) (k.boxes i)
+
+pub same_keeps : (c d : Contents) (ask : Ask) → Same c d ask → (f : Ask) → c.frozen ≡ Some f → d.frozen ≡ Some f
 same_keeps c d ask s f e = by_frozen s.frozen
   where
     by_frozen : (d.frozen ≡ c.frozen ⊎ (d.frozen ≡ Some (frozen_with c.frozen ask))) → d.frozen ≡ Some f

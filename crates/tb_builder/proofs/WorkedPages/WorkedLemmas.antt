@@ -1,5 +1,5 @@
 -- Nodes come to the builder of a worked page, and its page fires.
-use Rattle.std.proofs.Common.{◌≡◌, refl, sym, subst, ◌∙◌, ap, ℕ, ◌+◌, ◌<◌, ◌≤◌, ℤ, pos, Bool, true, false, List, [], ◌∷◌, ◌++◌, append-nil, length, map, Option, None, Some, is_some, unwrap_or, add_assoc, arith}
+use Rattle.std.proofs.Common.{◌≡◌, refl, sym, subst, ◌∙◌, ap, ℕ, ◌+◌, ◌<◌, ◌≤◌, pos, Bool, true, false, List, [], ◌∷◌, ◌++◌, append-nil, length, map, Option, None, Some, is_some, unwrap_or, add_assoc, arith}
 use Rattle.std.specs.Prelude.{All, option_to_list, ◌==◌, if◌then◌else◌}
 use Rattle.std.specs.FinMap.{get}
 use Rattle.std.proofs.lemmas.Bool.{true≢false}
@@ -14,7 +14,7 @@ use Rattle.tb_node.specs.declared.Kind.{Kind}
 use Rattle.tb_node.specs.declared.Kind.TheVariants as kinds
 use Rattle.tb_node.specs.declared.Insertion.{Insertion}
 use Rattle.tb_node.specs.Fit.{shapes, IsSized, IsSizedNode, IsSizedLeaf, IsDimension, IsExtent, IsPenalty}
-use Rattle.tb_node.specs.Shape.{Shape}
+use Rattle.tb_node.specs.Shape.{Shape, glue}
 use Rattle.tb_node.specs.Sums.{size_of}
 use Rattle.tb_node.specs.PlainNodes.{leaf_of, leaf_shape, PlainNode, plain_of, shape_of, plain_kind}
 use Rattle.tb_insert.specs.declared.Class.{Class}
@@ -26,12 +26,12 @@ use Rattle.tb_builder.specs.declared.Page.{Page}
 use Rattle.tb_builder.specs.declared.Builder.{Builder}
 use Rattle.tb_builder.specs.declared.Course.{Course}
 use Rattle.tb_builder.specs.FiredPages.{Boxed, box_content, content_of}
-use Rattle.tb_builder.specs.Contents.{Contents, contents_of, nothing_yet, kind_count, node_count, box_count}
+use Rattle.tb_builder.specs.Contents.{Contents, frozen_with, contents_of, nothing_yet, kind_count, node_count, box_count}
 use Rattle.tb_builder.specs.Ownership.{Lacks, AllDiffer, AllLive, ClassesFit, inner_of, inner_ids, Ids, IsOwned, ids_of, owned, is_plain, AllPlain, HoldPlain, is_known, AllKnown, has_class, classes_of}
 use Rattle.tb_builder.specs.Courses.{IsSound, IsPageSoFar}
 use Rattle.tb_builder.specs.PageEvents.{SizesFit, NextFits, NextIs, fired_page}
 use Rattle.tb_builder.specs.Contributions.{NodesJoin, ListJoins, NoPage, ends_in_kern}
-use Rattle.tb_builder.specs.Pageable.{IsSizedOnPage, IsFactor, IsSizedClass, IsSizedBox, IsGoal, IsPageable}
+use Rattle.tb_builder.specs.Pageable.{IsSizedOnPage, IsFactor, IsSizedClass, IsSizedBox, IsPageable}
 use Rattle.tb_builder.specs.SizedContents.{IsSizedAsk, IsSizedFreeze, IsSizedContents, whole_count, AreBoxesOf}
 use Rattle.tb_builder.specs.WorkedPages.{IsMatter, BoxFits, AtRest, IsReady, waits}
 use Rattle.tb_builder.proofs.Ownership.OwnedLemmas.{AllSame}
@@ -113,8 +113,8 @@ matter_leaves ns h = All-map IsSizedLeaf leaf_of ns (All-weaker IsMatter (λ n. 
 -- ---- a builder to which nodes come
 
 -- a new one
-pub open_ready : (b : Builder) (s : Lists Node) (class : Class) (ask : Ask) → IsSound b s → contents_of b s ≡ nothing_yet (class ∷ []) → IsSizedClass class → class.number ≡ 254 → IsGoal ask.goal → IsExtent ask.max_depth → IsExtent ask.top_skip → IsReady b s ask
-open_ready b s class ask sound e sized number goal depth top = record {
+pub open_ready : (b : Builder) (s : Lists Node) (class : Class) (ask : Ask) → IsSound b s → contents_of b s ≡ nothing_yet (class ∷ []) → IsSizedClass class → class.number ≡ 254 → IsSizedAsk ask → IsReady b s ask
+open_ready b s class ask sound e sized number asked = record {
   rest = record {
     sound = sound;
     no_page = subst NoPage (sym e) (record { page = refl; frozen = refl });
@@ -122,11 +122,12 @@ open_ready b s class ask sound e sized number goal depth top = record {
   };
   none_held = ap (λ (c : Contents). c.held) e;
   pageable = subst (λ c. IsPageable c ask) (sym e) (record {
-    goal = goal;
-    limit = depth;
-    asked_goal = goal;
-    asked_depth = depth;
-    top_skip = top;
+    goal = asked.goal;
+    limit = asked.depth;
+    asked_goal = asked.goal;
+    asked_depth = asked.depth;
+    top_skip = asked.top_skip;
+    feet = asked.foot_skip;
     classes = All-cons IsSizedClass class [] sized (All-nil IsSizedClass);
     classes_fit = subst ClassesFit (ap (λ (c : Contents). c.classes) e) sound.own.classes;
     boxes = All-cons IsSizedBox (record { number = class.number; content = None }) [] (All-nil IsSizedLeaf) (All-nil IsSizedBox);
@@ -165,6 +166,7 @@ module _ (b d : Builder) (s t : Lists Node) (n : PlainNode) (e : contents_of d t
       asked_goal = r.pageable.asked_goal;
       asked_depth = r.pageable.asked_depth;
       top_skip = r.pageable.top_skip;
+      feet = r.pageable.feet;
       classes = r.pageable.classes;
       classes_fit = r.pageable.classes_fit;
       boxes = r.pageable.boxes;
@@ -253,7 +255,12 @@ sized_again false v c d ask s on asked e r h = (event-sized c d ask v asked r e 
 
 module _ (b : Builder) (s : Lists Node) (ask : Ask) (r : IsReady b s ask) where
   pub ready_asked : IsSizedAsk ask
-  ready_asked = record { goal = r.pageable.asked_goal; depth = r.pageable.asked_depth; top_skip = r.pageable.top_skip }
+  ready_asked = record {
+    goal = r.pageable.asked_goal;
+    depth = r.pageable.asked_depth;
+    top_skip = r.pageable.top_skip;
+    foot_skip = subst (λ o. IsSized (glue (frozen_with o ask).foot_skip)) r.rest.no_page.frozen r.pageable.feet;
+  }
 
   pub ready_sized : IsSizedContents (contents_of b s)
   ready_sized = record {
@@ -290,6 +297,9 @@ sized_class c factor skip = record {
   shrink = subst (λ (g : Glue). IsDimension g.shrink) (sym skip) nothing;
 }
 
+pub no_skip : (g : Glue) → g ≡ fixed_glue (pos 0) → IsSized (glue g)
+no_skip g e = subst (λ x. IsSized (glue x)) (sym e) (nothing, nothing, nothing)
+
 -- ---- how much waits
 
 pub few_waits : (now before first k len : ℕ) → now ≡ before → before ≤ first + k → k ≤ len → now ≤ first + len
@@ -315,7 +325,7 @@ rest_from b d s t r sound page frozen classes = record {
 pub rest_going : (b : Builder) (s : Lists Node) → AtRest b s → b.stopped ≡ false
 rest_going b s r = by_frozen b.frozen b.stopped b.course (contents_of b s) r.no_page.frozen r.sound.page
   where
-    by_frozen : (o : Option (ℤ × ℤ)) (st : Bool) (k : Course) (c : Contents) → o ≡ None → IsPageSoFar o st k c → st ≡ false
+    by_frozen : (o : Option Ask) (st : Bool) (k : Course) (c : Contents) → o ≡ None → IsPageSoFar o st k c → st ≡ false
     by_frozen None false k c e p = refl
     by_frozen None true k c e p = absurd p
     by_frozen (Some f) st k c e p = absurd (true≢false (ap is_some e))

@@ -13,8 +13,8 @@ use Rattle.tb_builder.specs.declared.Builder.{Builder}
 use Rattle.tb_builder.specs.declared.Event.TheVariants as events
 use Rattle.tb_builder.specs.declared.Try.{Try}
 use Rattle.tb_builder.specs.Reach.{Reached, acted, tried, Reach, breakpoints, laid_out}
-use Rattle.tb_builder.specs.FiredPages.{frozen_for, fired_of}
-use Rattle.tb_builder.specs.Contents.{Contents, contents_of, frozen_of, laid, reach_ahead}
+use Rattle.tb_builder.specs.FiredPages.{fired_of}
+use Rattle.tb_builder.specs.Contents.{Contents, contents_of, laid, reach_ahead, frozen_with}
 use Rattle.tb_builder.specs.PageProgress.{page_reach, page_fired, KeepsStart, GoesFrom, StopsAt, HasCome, ComesToTry, ComesToAct, ComesToEnd}
 use Rattle.tb_builder.specs.PassedNodes.{ComesPast, ActsPast, EventPast}
 use Rattle.tb_builder.specs.LegalPlaces.{NoActs}
@@ -27,7 +27,7 @@ use Rattle.tb_plain.specs.TakenFloats.{act_nodes}
 use Rattle.tb_plain.specs.Run.{MakeupState, goes_on, makeup_ask, makeup_classes, void_boxes, builder_holds, makeup_reach, at_act, after_node, first_act_by, first_act, meets_act, act_step, firing_step, last_step, step_of, makeup_step, tries_first, step_tries}
 use Rattle.tb_makeup.specs.declared.makeup_left.MakeupLeft.{MakeupLeft}
 use Rattle.tb_makeup.specs.MakeupLeft.{nodes_left}
-use Rattle.tb_makeup.proofs.Filled.HoldLemmas.{holds-more, state-frozen}
+use Rattle.tb_makeup.proofs.Filled.HoldLemmas.{holds-more, state-made}
 use Rattle.tb_makeup.proofs.Filled.MoreLemmas.{IsOpenFor, so-far-left}
 use Rattle.tb_makeup.proofs.Filled.TriedLemmas.{tries-more, tries-cut, tried-both, same-rest}
 
@@ -80,10 +80,8 @@ pub coming-start : (p : Params) (s : MakeupState) (b : Builder) (t : Lists Node)
 coming-start p s b t o sound e ends =
     let c = with_more (nodes_left o) (contents_of b t) in
     let going = ap (λ (c : Contents). c.stopped) e in
-    let frozen : frozen_of (contents_of b t) (makeup_ask p) ≡ frozen_for (makeup_ask p) (contents_of b t).classes (contents_of b t).boxes =
-    ((λ i. frozen_of (e i) (makeup_ask p)) ∙ state-frozen p s ∙ (λ i. frozen_for (makeup_ask p) (sym e i).classes (sym e i).boxes))
-    in
-    let so-far : ComesSoFar c (makeup_ask p) = so-far-left o (contents_of b t) (makeup_ask p) going ends (comes-so-far b t (makeup_ask p) sound going frozen) in
+    let made : frozen_with b.frozen (makeup_ask p) ≡ makeup_ask p = ap (λ (c : Contents). frozen_with c.frozen (makeup_ask p)) e ∙ state-made p s in
+    let so-far : ComesSoFar c (makeup_ask p) = so-far-left o (contents_of b t) (makeup_ask p) going ends (comes-so-far b t (makeup_ask p) sound going made) in
     record {
       first = so-far.rs;
       new = [];

@@ -19,9 +19,9 @@ use Rattle.tb_builder.specs.PageEvents.{NextFits}
 use Rattle.tb_builder.specs.Ownership.{ClassesFit}
 use Rattle.tb_builder.specs.Pageable.{IsSizedOnPage, IsSizedClass, IsSizedBox}
 use Rattle.tb_builder.specs.LegalPlaces.{NoActs}
-use Rattle.tb_builder.proofs.Ranges.PageableLemmas.{count-append, IsSizedFrozen, boxes_fit, class_boxes_sized, class_boxes_total, laid_fits, pruned_sized, extent_goal, pruned_nodes_longer}
-use Rattle.tb_builder.proofs.Handover.CallLemmas.{class-fits}
+use Rattle.tb_builder.proofs.Ranges.PageableLemmas.{count-append, IsSizedFrozen, boxes_fit, class_boxes_sized, class_boxes_total, laid_fits, pruned_sized, extent_goal, pruned_nodes_longer, class-fits}
 use Rattle.tb_builder.proofs.Ranges.PrunedLemmas.{front-sized, back-sized}
+use Rattle.tb_builder.proofs.Turns.TurnLemmas.{start-frozen}
 use Rattle.tb_builder.specs.declared.PageSums.{PageSums}
 use Rattle.tb_items.specs.ItemsLeft.{kern_last}
 use Rattle.tb_plain.specs.TakenFloats.{top_class, with_float, taken_nodes, act_nodes, here_nodes, top_leaves, page_leaves, top_insertion}
@@ -98,9 +98,9 @@ module _ (p : Params) (h : AreMakeupParams p) where
   frozen-sized = record {
     goal = extent_goal p.textheight h.textheight;
     limit = h.maxdepth;
-    classes = class_boxes_sized (makeup_classes p) void_boxes classes-sized boxes-sized (omega arith);
+    classes = class_boxes_sized (makeup_ask p) (makeup_classes p) void_boxes (h.skipfootins.width, h.skipfootins.stretch, h.skipfootins.shrink) classes-sized boxes-sized (omega arith);
     few = omega arith;
-    total = class_boxes_total (makeup_classes p) void_boxes classes-fit boxes-sized (omega arith);
+    total = class_boxes_total (makeup_ask p) (makeup_classes p) void_boxes classes-fit boxes-sized (omega arith);
   }
 
   pub run-fits : (s : MakeupState) (c : Contents) → AreRunNodes s → KeepsStart (builder_holds p s) c (makeup_ask p) → laid c (makeup_ask p) ≡ laid_out p.topskip s.page s.waiting → NextFits c (makeup_ask p)
@@ -108,7 +108,7 @@ module _ (p : Params) (h : AreMakeupParams p) where
     asked = record { goal = extent_small p.textheight h.textheight; depth = extent_small p.maxdepth h.maxdepth; depth_low = h.maxdepth.low; top_skip = extent_small p.topskip h.topskip };
     boxes = boxes_fit c.boxes (subst (All IsSizedBox) (sym holds.boxes) boxes-sized) (let e = ap box_count holds.boxes in omega (arith, e));
     laid_fits =
-        laid_fits (frozen_of c (makeup_ask p)) (laid c (makeup_ask p)) (subst IsSizedFrozen (sym holds.frozen) frozen-sized)
+        laid_fits (frozen_of c (makeup_ask p)) (laid c (makeup_ask p)) (subst IsSizedFrozen (sym (start-frozen holds)) frozen-sized)
         (subst (All IsSizedOnPage) (sym all) (laid-sized p.topskip s.page s.waiting h.topskip nodes.page nodes.waiting))
         (let a = ap node_count all in let b = laid-count p.topskip s.page s.waiting in let few = nodes.few in omega (arith, a, b, few));
   }

@@ -20,6 +20,7 @@ use Rattle.tb_builder.specs.PageEvents.{FirstIs, NextIs, FiresWith}
 use Rattle.tb_builder.specs.PageProgress.{GoesFrom, after_all, IsNextOfPage}
 use Rattle.tb_builder.proofs.Events.PagingLemmas.{paging_next}
 use Rattle.tb_builder.proofs.Events.SoFarLemmas.{ComesSoFar}
+use Rattle.tb_builder.proofs.Turns.TurnLemmas.{start-frozen}
 use Rattle.tb_items.specs.ItemsLeft.{kern_last, with_more}
 use Rattle.tb_items.proofs.OpenLemmas.{open-back}
 use Rattle.tb_items.proofs.MoreReached.{with_beyond, going_on, reach-more}
@@ -73,14 +74,14 @@ so-far-more : (c : Contents) (ask : Ask) (more : List PlainNode) → c.stopped �
 so-far-more c ask more going ends h = record {
   rs = h.rs;
   come = record {
-    stays = record { classes = refl; boxes = refl; held = refl; frozen = h.come.stays.frozen };
+    stays = record { classes = refl; boxes = refl; held = refl; made = h.come.stays.made };
     goes = λ on. record {
       reach =
           ap (reach_from z.limit (terms_after z) []) (laid-with c ask more)
           ∙ reach-more z.limit (terms_after z) [] (laid c ask) tail ends
           ∙ ap (going_on z.limit (terms_after z) tail) begun.reach
           ∙ going-all z.limit (terms_after z) h.rs (reach_ahead c ask) tail
-          ∙ ap (after_all h.rs) ((λ i. going_on (sym h.come.stays.frozen i).limit (terms_after (sym h.come.stays.frozen i)) tail (reach_ahead c ask)) ∙ sym (ahead-more c ask more ends));
+          ∙ ap (after_all h.rs) ((λ i. going_on (sym (start-frozen h.come.stays) i).limit (terms_after (sym (start-frozen h.come.stays) i)) tail (reach_ahead c ask)) ∙ sym (ahead-more c ask more ends));
       places = places-more c ask more ends ∙ begun.places;
     };
     stops = λ off. absurd (true≢false (sym off ∙ going));

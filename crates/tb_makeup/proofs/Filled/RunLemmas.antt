@@ -1,5 +1,5 @@
 -- The run from a state by its first step.
-use Rattle.std.proofs.Common.{◌≡◌, refl, sym, ◌∙◌, ap, ℕ, suc, ◌+◌, ◌≤◌, List, ◌++◌, append_assoc, arith}
+use Rattle.std.proofs.Common.{◌≡◌, refl, ◌∙◌, ap, ℕ, suc, ◌+◌, ◌≤◌, List, ◌++◌, append_assoc, arith}
 use Rattle.tb_param.specs.declared.Params.{Params}
 use Rattle.tb_sheet.specs.Sheet.{PlainSent}
 use Rattle.tb_plain.specs.Run.{MakeupEvent, MakeupRun, MakeupState, MakeupEnd, ends, goes_on, makeup_step, step_tries, step_events, makeup_from, steps_left, run_after, run_by}

@@ -1,5 +1,5 @@
 -- The page makeup while a page is filled.
-use Rattle.std.proofs.Common.{◌≡◌, inl, inr, refl, sym, ◌∙◌, ap, subst, ℕ, ◌+◌, ◌*◌, ◌<◌, ◌≤◌, ℤ, Bool, true, false, List, [], ◌∷◌, ◌++◌, length, map, Option, None, Some, append_assoc, arith}
+use Rattle.std.proofs.Common.{◌≡◌, inl, inr, refl, sym, ◌∙◌, ap, subst, ℕ, ◌+◌, ◌*◌, ◌<◌, ◌≤◌, Bool, true, false, List, [], ◌∷◌, ◌++◌, length, map, Option, None, Some, append_assoc, arith}
 use Rattle.std.specs.Prelude.{All, ◌⊎◌}
 use Rattle.std.proofs.lemmas.Int.{ints}
 use Rattle.std.proofs.lemmas.Bool.{true≢false}
@@ -131,7 +131,7 @@ ejecting-sized = All-from_recursion IsSizedOnPage ejecting_nodes (
 )
 
 -- what waits is of no account to the sums of a page
-sums-behind : (o : Option (ℤ × ℤ)) (c : Contents) (more : List PlainNode) → sums_by o (with_more more c) ≡ sums_by o c
+sums-behind : (o : Option Ask) (c : Contents) (more : List PlainNode) → sums_by o (with_more more c) ≡ sums_by o c
 sums-behind None c more = refl
 sums-behind (Some f) c more = refl
 

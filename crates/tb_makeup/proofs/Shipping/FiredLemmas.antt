@@ -136,7 +136,7 @@ module _ (p : Params) (m : AreMakeupParams p) (s : MakeupState) (nodes : AreRunN
   ns = laid_out p.topskip s.page s.waiting
 
   pub asked-sized : IsSizedAsk (makeup_ask p)
-  asked-sized = record { goal = extent_goal p.textheight m.textheight; depth = m.maxdepth; top_skip = m.topskip }
+  asked-sized = record { goal = extent_goal p.textheight m.textheight; depth = m.maxdepth; top_skip = m.topskip; foot_skip = (m.skipfootins.width, m.skipfootins.stretch, m.skipfootins.shrink) }
 
   pub fired-sized : FiredSized fired
   fired-sized = fired_of-sized (makeup_ask p) (makeup_classes p) void_boxes s.page s.waiting asked-sized nodes.page nodes.waiting (boxes-sized p m)

@@ -14,6 +14,7 @@ use Rattle.tb_builder.specs.Contents.{Contents, node_count}
 use Rattle.tb_builder.specs.Contributions.{with_void}
 use Rattle.tb_builder.specs.Pageable.{IsSizedOnPage}
 use Rattle.tb_builder.specs.Courses.{IsSound, freezes}
+use Rattle.tb_builder.specs.declared.Ask.{Ask}
 use Rattle.tb_sheet.specs.Sheet.{PlainSent, shipped, one}
 use Rattle.tb_plain.specs.Firing.{holds_any, makeup_column}
 use Rattle.tb_plain.specs.Run.{MakeupRun, MakeupEnd, MakeupState, try_events, step_tries, step_events, ends, goes_on, done, page_limit, node_limit, shipping_step, firing_step, builder_holds, makeup_ask, makeup_classes, void_boxes, run_after, ejecting_nodes, waiting_after}
@@ -173,14 +174,14 @@ module _ (wanted : Bool) (r d q : Makeup) (page : Page) (before : List Happening
           page-now : (held_in q).page ≡ []
           page-now = ap (λ (x : MakeupState). x.page) state-now
 
-          holding : List Class → List Boxed → List PlainNode → List PlainNode → Option (ℤ × ℤ) → Bool → Contents
+          holding : List Class → List Boxed → List PlainNode → List PlainNode → Option Ask → Bool → Contents
           holding classes boxes page waiting frozen stopped = record { classes = classes; boxes = boxes; page = page; waiting = waiting; held = []; frozen = frozen; stopped = stopped }
 
           holds-now : held_in q ≡ builder_holds q.plain.params (state_of q)
           holds-now =
               contents
               ∙ (λ i. holding (h.classes i) (h.void i) (h.can.awaits.page i) (waiting_after d.plain.params f) (h.can.awaits.frozen i) (h.stopped i))
-              ∙ (λ i. holding (makeup_classes p) void_boxes (sym page-now i) (sym (ap (λ (c : Contents). c.waiting) contents) i) (ap (λ ns. if freezes ns then Some (p.textheight, p.maxdepth) else None) (sym page-now) i) false)
+              ∙ (λ i. holding (makeup_classes p) void_boxes (sym page-now i) (sym (ap (λ (c : Contents). c.waiting) contents) i) (ap (λ ns. if freezes ns then Some (makeup_ask p) else None) (sym page-now) i) false)
               ∙ ap (λ x. builder_holds x (state_of q)) (sym plain-now)
 
     pub shipped-limit : (k : ℕ) → over_limit d.limit (node_count (waiting_after d.plain.params f)) ≡ Some (endings.NodeLimit k) → GoesTo q (Some (endings.NodeLimit k)) p (turn_events h.ts (step_tries p h.s) (es p h.s.number f)) (state_of r)

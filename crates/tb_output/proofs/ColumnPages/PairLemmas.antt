@@ -1,6 +1,6 @@
 -- Two columns are shipped as a page under its wide floats: the work, and the machine.
 use Rattle.std.proofs.Common.{◌≡◌, ◌≢◌, refl, sym, subst, ◌∙◌, ap, ℕ, pos, List, [], ◌∷◌, ◌++◌, false, Some, arith}
-use Rattle.std.specs.Prelude.{ℤ, ◌-ℤ◌, int_lt}
+use Rattle.std.specs.Prelude.{ℤ, int_lt}
 use Rattle.std.specs.FinMap.{get}
 use Rattle.tb_builder.proofs.Events.NextLemmas.{fresh_apart}
 use Rattle.tb_break.proofs.EachLemmas.{all-join}
@@ -9,7 +9,6 @@ use Rattle.tb_pool.specs.Frame.{IsNoneOf}
 use Rattle.tb_pool.proofs.FrameLemmas.{none-join}
 use Rattle.tb_node.specs.declared.Node.{Node}
 use Rattle.tb_node.specs.PlainNodes.{plain_list}
-use Rattle.tb_float.specs.Rooms.{column_height_of}
 use Rattle.tb_column.specs.declared.Column.{Column}
 use Rattle.tb_sheet.specs.declared.Sheet.{Sheet}
 use Rattle.tb_sheet.specs.declared.Sheet.TheVariants as sheets

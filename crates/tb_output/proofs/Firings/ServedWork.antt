@@ -1,5 +1,5 @@
 -- The work of a firing, once the insertions were taken out of the builder's boxes.
-use Rattle.std.proofs.Common.{◌≡◌, sym, subst, ◌∙◌, ap, ℕ, List, []}
+use Rattle.std.proofs.Common.{◌≡◌, sym, subst, ◌∙◌, ap, ℕ, List}
 use Rattle.std.specs.Prelude.{◌<ℤ◌, true, false, int_le, if◌then◌else◌}
 use Rattle.tb_pool.specs.Lists.{Lists}
 use Rattle.tb_node.specs.declared.Node.{Node}
@@ -7,12 +7,10 @@ use Rattle.tb_param.specs.declared.Params.{Params}
 use Rattle.tb_builder.specs.declared.Builder.{Builder}
 use Rattle.tb_builder.specs.FiredPages.{Fired}
 use Rattle.tb_builder.specs.Contents.{Contents, contents_of}
-use Rattle.tb_builder.specs.SizedContents.{AreBoxesOf}
-use Rattle.tb_builder.proofs.Ownership.StoreSized.{boxes_of}
 use Rattle.tb_column.specs.declared.NoteBox.{NoteBox}
 use Rattle.tb_sheet.specs.Sheet.{PlainSent}
 use Rattle.tb_output.specs.declared.RunFault.{RunFault}
-use Rattle.tb_output.specs.State.{State, Work, footnotes, notes_in}
+use Rattle.tb_output.specs.State.{State, Work, notes_in}
 use Rattle.tb_output.specs.Columns.{emptied_boxes, ordinary}
 use Rattle.tb_scaled.specs.Scaled.{eject_penalty}
 use Rattle.tb_node.specs.PlainNodes.{plain_list}

@@ -13,7 +13,7 @@ use Rattle.tb_float.specs.declared.Entry.TheVariants as entries
 use Rattle.tb_float.specs.Lists.{with_floats_of, floats_of, wide_part, wide_waiting}
 use Rattle.tb_float.specs.Rooms.{column_height_of}
 use Rattle.tb_fpage.specs.Company.{Choice, company, chosen_floats, left_floats}
-use Rattle.tb_area.specs.Area.{AreaPlace, deferred, where_of, current_place, next_area_place, goes_double}
+use Rattle.tb_area.specs.Area.{AreaPlace, where_of, current_place, next_area_place, goes_double}
 use Rattle.tb_margin.specs.declared.Placed.{Placed}
 use Rattle.tb_margin.specs.Margin.{placed_note}
 use Rattle.tb_column.specs.Column.{PlainColumn, standing_notes, single_floats_column}

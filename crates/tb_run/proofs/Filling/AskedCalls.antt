@@ -17,7 +17,7 @@ use Rattle.tb_builder.specs.declared.Event.TheVariants as events
 use Rattle.tb_builder.specs.declared.Try.{Try}
 use Rattle.tb_builder.specs.Reach.{acted, Reach, also_reached, reach_from, laid_out}
 use Rattle.tb_builder.specs.LegalPlaces.{NoActs, glue_first}
-use Rattle.tb_builder.specs.Contents.{Contents, contents_of, frozen_of, frozen_or, laid, reach_ahead, places_of}
+use Rattle.tb_builder.specs.Contents.{Contents, contents_of, frozen_of, frozen_or, laid, reach_ahead, places_of, frozen_with}
 use Rattle.tb_builder.specs.Courses.{freezes, IsSound}
 use Rattle.tb_builder.specs.PageEvents.{KeepsBoxes, NextIs}
 use Rattle.tb_builder.specs.SizedContents.{IsSizedAsk}
@@ -128,7 +128,7 @@ module _ (asked : Ask) (b d : Builder) (s r : Lists Node) (e : Event) (n : IsNex
     pub quiet-none : d.frozen ≡ None
     quiet-none = by_frozen d.frozen (λ k. n.sound.met k going)
       where
-        by_frozen : (o : Option (ℤ × ℤ)) → (IsSome o → freezes after.page ≡ true) → o ≡ None
+        by_frozen : (o : Option Ask) → (IsSome o → freezes after.page ≡ true) → o ≡ None
         by_frozen None k = refl
         by_frozen (Some f) k = absurd (true≢false (sym (k refl) ∙ behind-begins q.before q.page ∙ q.begins))
 
@@ -149,7 +149,7 @@ module _ (asked : Ask) (b d : Builder) (s r : Lists Node) (e : Event) (n : IsNex
       same-frozen = λ i. frozen_or ((quiet-none ∙ sym none) i) made (k.classes i) (k.boxes i)
 
       keeps-so : KeepsBoxes c after made
-      keeps-so = record { classes = k.classes; boxes = k.boxes; held = k.held; frozen_so = same-frozen; keeps = k.keeps }
+      keeps-so = record { classes = k.classes; boxes = k.boxes; held = k.held; made = (λ i. frozen_with ((quiet-none ∙ sym none) i) made); keeps = k.keeps }
 
       -- the rest of the page
       rest-ahead : reach_from z.limit (terms_after z) passed (pruned_nodes made.top_skip after.waiting) ≡ reach_ahead after made
@@ -260,7 +260,7 @@ module _ (t : State) (now made : Ask) (more : List PlainNode) where
   -- Once a page is begun, what is asked is what it is made for. Before, it is asked in the state now, and the page is made
   -- for what is asked once the acts before its first box are done.
   pub record Agrees (b : Builder) (s : Lists Node) : Type 0 where
-    pub begun : (f : ℤ × ℤ) → b.frozen ≡ Some f → now ≡ made
+    pub begun : (f : Ask) → b.frozen ≡ Some f → now ≡ made
     pub asked : b.frozen ≡ None → now ≡ asks t
     pub later : b.frozen ≡ None → made ≡ asks (led_through ((contents_of b s).waiting ++ more) t)
 
@@ -280,7 +280,7 @@ module _ (t : State) (now made : Ask) (more : List PlainNode) where
           by_ahead none (inl h) = subst (λ a. IsNext b s a e d r) (one-ask d none h) n
           by_ahead none (inr h) = next-unbegun now b d s r e n sound none made h
 
-          by_frozen : (o : Option (ℤ × ℤ)) → b.frozen ≡ o → IsNext b s made e d r
+          by_frozen : (o : Option Ask) → b.frozen ≡ o → IsNext b s made e d r
           by_frozen None none = by_ahead none (ahead-by now b d s r e n sound none)
           by_frozen (Some f) k = subst (λ a. IsNext b s a e d r) (agrees.begun f k) n
 
@@ -293,7 +293,7 @@ module _ (t : State) (now made : Ask) (more : List PlainNode) where
           by_ahead none (inl k) = subst (λ a. ComesBy (x ∷ xs) b s a e d r) (one-ask x.builder none k) h
           by_ahead none (inr k) = absurd k
 
-          by_frozen : (o : Option (ℤ × ℤ)) → b.frozen ≡ o → ComesBy (x ∷ xs) b s made e d r
+          by_frozen : (o : Option Ask) → b.frozen ≡ o → ComesBy (x ∷ xs) b s made e d r
           by_frozen None none = by_ahead none (ahead-by now b x.builder s x.store (events.Try x.place) h.0 sound none)
           by_frozen (Some f) k = subst (λ a. ComesBy (x ∷ xs) b s a e d r) (agrees.begun f k) h
 
@@ -301,26 +301,26 @@ module _ (t : State) (now made : Ask) (more : List PlainNode) where
 
       module _ (n : IsNext b s made e d r) where
         -- a page that is begun behind it is made for what is asked
-        pub begun-behind : (f : ℤ × ℤ) → d.frozen ≡ Some f → now ≡ made
+        pub begun-behind : (f : Ask) → d.frozen ≡ Some f → now ≡ made
         begun-behind f k = by_frozen b.frozen refl
           where
             by_ahead : (none : b.frozen ≡ None) → IsBegun (contents_of b s) d ⊎ QuietBy made.top_skip e (contents_of b s) (contents_of d r) → now ≡ made
             by_ahead none (inl h) = one-ask d none h
             by_ahead none (inr h) = let bad : Some f ≡ None = sym k ∙ quiet-unbegun made b d s r e n sound none h in cc
 
-            by_frozen : (o : Option (ℤ × ℤ)) → b.frozen ≡ o → now ≡ made
+            by_frozen : (o : Option Ask) → b.frozen ≡ o → now ≡ made
             by_frozen None none = by_ahead none (ahead-by made b d s r e n sound none)
             by_frozen (Some g) h = agrees.begun g h
 
         -- its amounts are in their ranges, if those of what is asked now are
-        pub sized-behind : IsSizedAsk (asks t) → ((f : ℤ × ℤ) → b.frozen ≡ Some f → IsSizedAsk made) → (f : ℤ × ℤ) → d.frozen ≡ Some f → IsSizedAsk made
+        pub sized-behind : IsSizedAsk (asks t) → ((f : Ask) → b.frozen ≡ Some f → IsSizedAsk made) → (f : Ask) → d.frozen ≡ Some f → IsSizedAsk made
         sized-behind sized before f k = by_frozen b.frozen refl
           where
             by_ahead : (none : b.frozen ≡ None) → IsBegun (contents_of b s) d ⊎ QuietBy made.top_skip e (contents_of b s) (contents_of d r) → IsSizedAsk made
             by_ahead none (inl h) = subst IsSizedAsk (sym (as-asked d none h)) sized
             by_ahead none (inr h) = let bad : Some f ≡ None = sym k ∙ quiet-unbegun made b d s r e n sound none h in cc
 
-            by_frozen : (o : Option (ℤ × ℤ)) → b.frozen ≡ o → IsSizedAsk made
+            by_frozen : (o : Option Ask) → b.frozen ≡ o → IsSizedAsk made
             by_frozen None none = by_ahead none (ahead-by made b d s r e n sound none)
             by_frozen (Some g) h = before g h
 
@@ -328,7 +328,7 @@ module _ (t : State) (now made : Ask) (more : List PlainNode) where
         unbegun-before : b.stopped ≡ false → d.frozen ≡ None → b.frozen ≡ None
         unbegun-before on bare = by_frozen b.frozen refl
           where
-            by_frozen : (o : Option (ℤ × ℤ)) → b.frozen ≡ o → o ≡ None
+            by_frozen : (o : Option Ask) → b.frozen ≡ o → o ≡ None
             by_frozen None k = refl
             by_frozen (Some f) k =
                 let still : d.frozen ≡ Some f = (subst (λ x. NextIs x e (contents_of b s) made (contents_of d r) r) on n.event).1.keeps f k in

@@ -24,6 +24,7 @@ use Rattle.tb_builder.proofs.LegalPlaces.ChargeLemmas.{few_classes}
 use Rattle.tb_builder.proofs.Ranges.PageableLemmas.{IsSizedFrozen, laid_fits, class_boxes_sized, class_boxes_total, glue_sized, count-append}
 use Rattle.tb_builder.proofs.Ranges.SizedLemmas.{FiredSized}
 use Rattle.tb_builder.proofs.Events.WholeLemmas.{between-fits, fired_of-sized, fired_of-fewer}
+use Rattle.tb_builder.proofs.Turns.TurnLemmas.{start-frozen}
 use Rattle.tb_output.specs.State.{State, ask_of, has_floats}
 use Rattle.tb_sheet.specs.Asked.{hold_penalty}
 use Rattle.tb_items.specs.GalleyNodes.{IsServable, IsGalleyNode}
@@ -51,7 +52,9 @@ boxes-after ls (c ∷ cs) (b ∷ bs) h = (by_test (is_given b.number ls), boxes-
 
 -- what is asked in a state whose parameters and goal are in their ranges
 pub sized-asked : (t : State) → AreRunnable t.params → IsGoal t.goal → IsSizedAsk (ask_of t.params t)
-sized-asked t runs goal = record { goal = goal; depth = by_test (has_floats t.floats.bottom); top_skip = runs.topskip }
+sized-asked t runs goal =
+    let skip = runs.output.columns.skipfootins in
+    record { goal = goal; depth = by_test (has_floats t.floats.bottom); top_skip = runs.topskip; foot_skip = (skip.width, skip.stretch, skip.shrink) }
   where
     by_test : (b : Bool) → IsExtent (if b then pos 0 else t.params.maxdepth)
     by_test true = extent-zero
@@ -101,9 +104,9 @@ module _ (s : State) (classes : AreRunClasses s.classes) (served : IsServed s.wa
     frozen-sized = record {
       goal = sized.goal;
       limit = sized.depth;
-      classes = class_boxes_sized s.classes s.boxes classes.sized served.boxes (omega (arith, few));
+      classes = class_boxes_sized ask s.classes s.boxes sized.foot_skip classes.sized served.boxes (omega (arith, few));
       few = let a = few_classes s.classes classes.fit in let b = length-map {B = ClassBox} s.classes in omega (arith, a, b);
-      total = class_boxes_total s.classes s.boxes classes.fit served.boxes (omega (arith, few));
+      total = class_boxes_total ask s.classes s.boxes classes.fit served.boxes (omega (arith, few));
     }
 
   module _ (rs : List Reached) (c : Contents) (t : State) (h : IsComing s rs c t) where
@@ -119,7 +122,7 @@ module _ (s : State) (classes : AreRunClasses s.classes) (served : IsServed s.wa
 
     -- if what is asked is what the page is made for
     pub made-fits : IsSizedAsk (ask_for s) → NextFits c (ask_for s)
-    made-fits sized = fits-with (ask_for s) sized (subst IsSizedFrozen (sym h.come.stays.frozen) (frozen-sized (ask_for s) sized)) nodes-made h.few
+    made-fits sized = fits-with (ask_for s) sized (subst IsSizedFrozen (sym (start-frozen h.come.stays)) (frozen-sized (ask_for s) sized)) nodes-made h.few
 
     -- whatever is asked, if the page is not begun
     module _ (ask : Ask) (sized : IsSizedAsk ask) (none : c.frozen ≡ None) (bare : holds_box c.page ≡ false) where

@@ -1,6 +1,6 @@
 -- The routine while a page is filled.
 use Rattle.std.proofs.Common.{◌≡◌, refl, sym, subst, ◌∙◌, ap, ℕ, ◌<◌, ◌≤◌, Bool, List, [], ◌∷◌, ◌++◌, length, map, None, Some, is_some, append-nil, arith}
-use Rattle.std.specs.Prelude.{◌+◌, ℤ, Option, true, false, if◌then◌else◌}
+use Rattle.std.specs.Prelude.{◌+◌, Option, true, false, if◌then◌else◌}
 use Rattle.std.specs.List.{AllByRecursion}
 use Rattle.tb_break.proofs.EachLemmas.{all-front}
 use Rattle.tb_pool.specs.Lists.{Lists}
@@ -74,7 +74,7 @@ state_now r q = with_page (state_of r) q
 -- what is asked now agrees with what the page is made for, whose amounts are in their ranges once the page is begun
 pub record IsAskedFor (r q : Routine) (now : Ask) : Type 0 where
   pub agrees : Agrees (state_now r q) now (ask_for (state_of r)) (nodes_left q.left) q.builder q.store
-  pub sized : (f : ℤ × ℤ) → q.builder.frozen ≡ Some f → IsSizedAsk (ask_for (state_of r))
+  pub sized : (f : Ask) → q.builder.frozen ≡ Some f → IsSizedAsk (ask_for (state_of r))
 
 -- this much of the page was reached, these are its happenings, and this is asked now
 pub record IsUnderway (wanted : Bool) (r q : Routine) (now : Ask) (hs : List Happening) : Type 0 where
@@ -90,9 +90,9 @@ pub record IsUnderway (wanted : Bool) (r q : Routine) (now : Ask) (hs : List Hap
 
 -- the same before this act, which is still to be done
 pub record IsAskedAct (r q : Routine) (now : Ask) (a : Act) : Type 0 where
-  pub begun : (f : ℤ × ℤ) → q.builder.frozen ≡ Some f → now ≡ ask_for (state_of r)
+  pub begun : (f : Ask) → q.builder.frozen ≡ Some f → now ≡ ask_for (state_of r)
   pub later : q.builder.frozen ≡ None → ask_for (state_of r) ≡ asks (led_by (λ v. led_through (held_in q).waiting v) (state_now r q) (act_on q.machine.params (state_now r q) a))
-  pub sized : (f : ℤ × ℤ) → q.builder.frozen ≡ Some f → IsSizedAsk (ask_for (state_of r))
+  pub sized : (f : Ask) → q.builder.frozen ≡ Some f → IsSizedAsk (ask_for (state_of r))
 
 -- what is asked after an act: the same once the page is begun, and else what is asked in the state then
 abbrev pub IsAskedAgain : Routine → Ask → Ask → Type 0
@@ -127,7 +127,7 @@ underway-start wanted r now hs is h e = record {
   asked = record { agrees = record { begun = λ f k. absurd (unbegun f k); asked = λ none. is; later = λ none. refl }; sized = λ f k. absurd (unbegun f k) };
 }
   where
-    unbegun : (f : ℤ × ℤ) → r.builder.frozen ≡ Some f → ⊥
+    unbegun : (f : Ask) → r.builder.frozen ≡ Some f → ⊥
     unbegun f k = let none : r.builder.frozen ≡ None = ap (λ (c : Contents). c.frozen) h.settled.between in let bad : Some f ≡ None = sym k ∙ none in cc
 
     start-open : (o : Option ItemsLeft) → IsOpen o (built_in r).waiting → IsOpenFor o (built_in r) (ask_for (state_of r))
@@ -167,7 +167,7 @@ module _ (wanted : Bool) (r q : Routine) (now : Ask) (hs : List Happening) (h : 
       few : held_count (state_of r) ≤ 4194304
       few = let a = ready.settled.bounded.held in let b = ready.settled.bounded.few in omega (arith, a, b)
 
-      by_frozen : (o : Option (ℤ × ℤ)) → q.builder.frozen ≡ o → NextFits (held_in q) now
+      by_frozen : (o : Option Ask) → q.builder.frozen ≡ o → NextFits (held_in q) now
       by_frozen (Some f) k =
           subst (NextFits (held_in q)) (sym (h.asked.agrees.begun f k))
           (made-fits (state_of r) ready.settled.classes ready.settled.served few h.rs (held_in q) (state_now r q) h.coming (h.asked.sized f k))
@@ -252,10 +252,10 @@ module _ (wanted : Bool) (r q d : Routine) (now : Ask) (hs : List Happening) (re
             subst (λ (c : Contents). calls_left c.stopped (length (reach_ahead c (ask_for s)).reached) < left_of_page r q) (sym hold) (one_fewer (start s) h.rs (acted a) (held_in q) (held_in d) (ask_for s) h.coming.come acts.going acts.come)
 
         module _ (ends : IsOpenFor d.left (built_in d) ask) (made_for : IsAskedAct r d now a) (next : Ask) (again : IsAskedAgain behind now next) where
-          frozen-before : (o : Option (ℤ × ℤ)) → behind.builder.frozen ≡ o → d.builder.frozen ≡ o
+          frozen-before : (o : Option Ask) → behind.builder.frozen ≡ o → d.builder.frozen ≡ o
           frozen-before o k = sym (ap (λ (b : Builder). b.frozen) acted_so.builder) ∙ k
 
-          begun-again : (f : ℤ × ℤ) → behind.builder.frozen ≡ Some f → next ≡ now
+          begun-again : (f : Ask) → behind.builder.frozen ≡ Some f → next ≡ now
           begun-again f k = again s.boxes s.waiting ∙ then-ask (is_some behind.builder.frozen) now _ (ap is_some k)
 
           unbegun-again : behind.builder.frozen ≡ None → next ≡ asks (state_now r behind)

@@ -71,7 +71,7 @@ text-leaves held (n ∷ ns) h = (text-leaf held n.kind h.0, text-leaves held ns 
 page-quiet : (b : Builder) (s : Lists Node) → IsSound b s → b.stopped ≡ true → NoActs (contents_of b s).page
 page-quiet b s h on = by_frozen b.frozen b.stopped on h.page
   where
-    by_frozen : (o : Option (ℤ × ℤ)) (t : Bool) → t ≡ true → IsPageSoFar o t b.course (contents_of b s) → NoActs (contents_of b s).page
+    by_frozen : (o : Option Ask) (t : Bool) → t ≡ true → IsPageSoFar o t b.course (contents_of b s) → NoActs (contents_of b s).page
     by_frozen None true e p = absurd p
     by_frozen (Some f) true e p = p.course.no_acts
     by_frozen o false e p = absurd (true≢false (sym e))
@@ -137,7 +137,7 @@ module _ (wanted : Bool) (r q d : Routine) (now : Ask) (hs : List Happening) (re
   asked-sized : IsSizedAsk (ask_for s)
   asked-sized = by_frozen q.builder.frozen refl
     where
-      by_frozen : (o : Option (ℤ × ℤ)) → q.builder.frozen ≡ o → IsSizedAsk (ask_for s)
+      by_frozen : (o : Option Ask) → q.builder.frozen ≡ o → IsSizedAsk (ask_for s)
       by_frozen None none = absurd (stopped-begun q.builder q.store h.whole.builder fires.stopped none)
       by_frozen (Some x) k = h.asked.sized x k
 

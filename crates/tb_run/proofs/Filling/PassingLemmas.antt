@@ -1,5 +1,5 @@
 -- Places are passed over while a page is filled.
-use Rattle.std.proofs.Common.{◌≡◌, refl, sym, subst, ◌∙◌, ap, ℕ, ◌<◌, ◌≤◌, Bool, true, false, ℤ, List, [], ◌∷◌, ◌++◌, None, Some, append-nil, arith}
+use Rattle.std.proofs.Common.{◌≡◌, refl, sym, subst, ◌∙◌, ap, ℕ, ◌<◌, ◌≤◌, Bool, true, false, List, [], ◌∷◌, ◌++◌, None, Some, append-nil, arith}
 use Rattle.std.proofs.lemmas.Bool.{true≢false}
 use Rattle.tb_node.specs.declared.Act.{Act}
 use Rattle.tb_builder.specs.declared.Ask.{Ask}
@@ -58,10 +58,10 @@ module _ (wanted : Bool) (r d : Routine) (now : Ask) (hs : List Happening) (read
     abbrev t : State
     t = state_now r q
 
-    begun-for : (f : ℤ × ℤ) → x.builder.frozen ≡ Some f → now ≡ ask_for (state_of r)
+    begun-for : (f : Ask) → x.builder.frozen ≡ Some f → now ≡ ask_for (state_of r)
     begun-for = begun-behind t now (ask_for (state_of r)) (nodes_left q.left) q.builder q.store h.asked.agrees x.builder x.store v h.whole.builder made
 
-    sized-for : (f : ℤ × ℤ) → x.builder.frozen ≡ Some f → IsSizedAsk (ask_for (state_of r))
+    sized-for : (f : Ask) → x.builder.frozen ≡ Some f → IsSizedAsk (ask_for (state_of r))
     sized-for = sized-behind t now (ask_for (state_of r)) (nodes_left q.left) q.builder q.store h.asked.agrees x.builder x.store v h.whole.builder made (sized-asked t h.coming.runs h.whole.machine.goal) h.asked.sized
 
     asked-tried : (y : Try) → v ≡ events.Try y → q.builder.stopped ≡ false → IsAskedFor r x now

@@ -1,5 +1,5 @@
 -- Nothing waits any more while items are left: some are handed over, and the page goes on.
-use Rattle.std.proofs.Common.{◌≡◌, refl, sym, subst, ◌∙◌, ap, ◌<◌, ℤ, Bool, true, false, List, ◌++◌, length, Option, None, Some, append_assoc, arith}
+use Rattle.std.proofs.Common.{◌≡◌, refl, sym, subst, ◌∙◌, ap, ◌<◌, Bool, true, false, List, ◌++◌, length, Option, None, Some, append_assoc, arith}
 use Rattle.tb_node.specs.PlainNodes.{PlainNode}
 use Rattle.tb_builder.specs.declared.Ask.{Ask}
 use Rattle.tb_builder.specs.declared.Event.{Event}
@@ -96,7 +96,7 @@ module _ (wanted : Bool) (r b d : Routine) (due : Ask) (hs : List Happening) (u 
     abbrev t : State
     t = state_now r b
 
-    frozen-before : (o : Option (ℤ × ℤ)) → now.builder.frozen ≡ o → d.builder.frozen ≡ o
+    frozen-before : (o : Option Ask) → now.builder.frozen ≡ o → d.builder.frozen ≡ o
     frozen-before o k = sym (ap (λ (c : Contents). c.frozen) sup.contents) ∙ k
 
     asked-now : IsAskedFor r now due

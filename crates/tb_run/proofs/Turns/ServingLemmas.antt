@@ -1,5 +1,5 @@
 -- The routine after the machine served a page.
-use Rattle.std.proofs.Common.{◌≡◌, ◌≢◌, refl, sym, subst, ◌∙◌, ap, ℕ, ◌+◌, ◌≤◌, ℤ, pos, ◌≤ℤ◌, Bool, true, false, List, [], ◌++◌, Option, Some, None, append_assoc, arith}
+use Rattle.std.proofs.Common.{◌≡◌, ◌≢◌, refl, sym, subst, ◌∙◌, ap, ℕ, ◌+◌, ◌≤◌, pos, ◌≤ℤ◌, Bool, true, false, List, [], ◌++◌, Option, Some, None, append_assoc, arith}
 use Rattle.std.specs.Prelude.{int_lt, IfNone, if◌then◌else◌}
 use Rattle.std.specs.List.{AllByRecursion}
 use Rattle.tb_pool.specs.Lists.{Lists, list_at}
@@ -12,6 +12,7 @@ use Rattle.tb_builder.specs.declared.Page.{Page}
 use Rattle.tb_builder.specs.FiredPages.{Boxed, Fired}
 use Rattle.tb_builder.specs.Contents.{Contents, contents_of, node_count}
 use Rattle.tb_builder.specs.Courses.{IsSound, IsPageSoFar}
+use Rattle.tb_builder.specs.declared.Ask.{Ask}
 use Rattle.tb_output.specs.declared.Turn.{Turn}
 use Rattle.tb_output.specs.declared.RunFault.{RunFault}
 use Rattle.tb_output.specs.declared.RunFault.TheVariants as faults
@@ -36,7 +37,7 @@ use Rattle.tb_run.proofs.ServedAgain.ServedOut.{out-count, out-served}
 pub no-stop : (b : Builder) (s : Lists Node) → IsSound b s → (contents_of b s).frozen ≡ None → b.stopped ≡ false
 no-stop b s h e = by_frozen b.frozen b.stopped e h.page
   where
-    by_frozen : (o : Option (ℤ × ℤ)) (t : Bool) → o ≡ None → IsPageSoFar o t b.course (contents_of b s) → t ≡ false
+    by_frozen : (o : Option Ask) (t : Bool) → o ≡ None → IsPageSoFar o t b.course (contents_of b s) → t ≡ false
     by_frozen None true n p = absurd p
     by_frozen None false n p = refl
     by_frozen (Some f) t n p = cc

@@ -62,3 +62,33 @@ fn each_view_of_a_page_makeup(rt: HostRuntime) -> Result<(), Fail> {
     }
     Ok(())
 }
+
+// After a clear the footnotes have another skip and another limit: 40 less the skip of 6 leave 34 on page 2. Within a limit of
+// 20 the whole footnote stands below b, and only one more line of text would leave 14 for 20; within a limit of 10 it is split,
+// and c stands above its first line.
+const SET_FEET: [(&[u8], &[u8]); 2] = [
+    (
+        b"galley 3\nset textheight 40\nset topskip 10\nset maxdepth 0\nset baselineskip 0\nset bottom flush\nset skipfootins 0\nset footsplittop 10\nset footrule none\nbox a 10 0\nglue 0 plus 10\nclearpage\nset skipfootins 6 plus 1\nset footlimit 20\nbox b 10 0\nfoot\nbox f1 10 0\nglue 0\nbox f2 10 0\nendfoot\nglue 0 plus 10\nbox c 10 0\nglue 0 plus 10\nend\n",
+        b"report 1\npage 1 one\ncolumn 1 text height 40 natural 10 set stretch fil 30/65536\nbox a 0 10 0\npage 2 one\ncolumn 1 text height 40 natural 36 set stretch normal 4/1\nbox b 0 10 0\nbox f1 20 10 0\nbox f2 30 10 0\npage 3 one\ncolumn 1 text height 40 natural 10 set stretch fil 30/65536\nbox c 0 10 0\nend pages 3 boxes 5 floats 0 warnings 0\n",
+    ),
+    (
+        b"galley 3\nset textheight 40\nset topskip 10\nset maxdepth 0\nset baselineskip 0\nset bottom flush\nset skipfootins 0\nset footsplittop 10\nset footrule none\nbox a 10 0\nglue 0 plus 10\nclearpage\nset skipfootins 6 plus 1\nset footlimit 10\nbox b 10 0\nfoot\nbox f1 10 0\nglue 0\nbox f2 10 0\nendfoot\nglue 0 plus 10\nbox c 10 0\nglue 0 plus 10\nend\n",
+        b"report 1\npage 1 one\ncolumn 1 text height 40 natural 10 set stretch fil 30/65536\nbox a 0 10 0\npage 2 one\ncolumn 1 text height 40 natural 36 set stretch fil 4/65536\nbox b 0 10 0\nbox c 10 10 0\nbox f1 30 10 0\npage 3 one\ncolumn 1 text height 40 natural 26 set stretch fil 14/65536\nbox f2 30 10 0\nend pages 3 boxes 5 floats 0 warnings 0\n",
+    ),
+];
+
+#[test]
+fn footnotes_have_what_is_set_after_a_clear(rt: HostRuntime) -> Result<(), Fail> {
+    let alloc = rt.alloc();
+    for (input, report) in SET_FEET {
+        let Ok(galley) = parse(alloc, input) else {
+            panic!(rt; "the galley is not read");
+        };
+        let mut out = SureSink::new(alloc);
+        let Ok(_) = paginate(alloc, &galley, View::Report, &mut out) else {
+            panic!(rt; "the run is refused");
+        };
+        assert_eq!(rt; out.held(), report);
+    }
+    Ok(())
+}

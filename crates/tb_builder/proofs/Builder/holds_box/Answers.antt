@@ -1,6 +1,4 @@
-use Rattle.std.proofs.Common.{◌∙◌, ap, sym, map}
-use Rattle.std.specs.List.{list_any}
-use Rattle.tb_node.specs.Shape.{Shape, is_box}
+use Rattle.std.proofs.Common.{◌∙◌, sym}
 use Rattle.tb_builder.specs.Ownership.{ids_of, box_ids, inner_ids, nodes_of}
 use Rattle.tb_builder.proofs.Ownership.OwnedLemmas.{live-left}
 use Rattle.tb_builder.proofs.LegalPlaces.ClassLemmas.{list_live}

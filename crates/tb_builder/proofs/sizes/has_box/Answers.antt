@@ -1,4 +1,4 @@
-use Rattle.std.proofs.Common.{◌≡◌, ◌∙◌, sym, ap, map, List, Bool, true, false}
+use Rattle.std.proofs.Common.{◌∙◌, sym, ap, map, List, Bool}
 use Rattle.std.specs.Prelude.{◌||◌}
 use Rattle.std.specs.List.{list_any}
 use Rattle.tb_node.specs.declared.Node.{Node}

@@ -1,4 +1,4 @@
-use Rattle.std.proofs.Common.{◌≡◌, refl, ap, sym, ◌∙◌}
+use Rattle.std.proofs.Common.{refl, ap, sym, ◌∙◌}
 use Rattle.tb_pool.specs.Lists.{list_at}
 use Rattle.tb_output.specs.Machine.{MachineView}
 use Rattle.tb_output.proofs.SameLemmas.{same_pages, told_pages}

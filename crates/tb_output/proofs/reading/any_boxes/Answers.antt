@@ -1,4 +1,4 @@
-use Rattle.std.proofs.Common.{◌≡◌, refl, ◌+◌, ◌<◌, sym, ap, ◌∙◌, Bool, true, false, List, [], ◌∷◌, length, drop, drop-cons, get_or, add-one, arith}
+use Rattle.std.proofs.Common.{◌≡◌, refl, ◌+◌, ◌<◌, sym, ap, ◌∙◌, List, [], ◌∷◌, length, drop, drop-cons, get_or, add-one, arith}
 use Rattle.std.specs.Prelude.{◌||◌}
 use Rattle.std.proofs.lemmas.List.{at_drop_all}
 use Rattle.tb_insert.specs.declared.Class.{Class}

@@ -1,5 +1,4 @@
-use Rattle.std.proofs.Common.{◌≡◌, sym, ap, ◌∙◌, rules, true, false}
-use Rattle.std.specs.Prelude.{◌==◌}
+use Rattle.std.proofs.Common.{sym, ◌∙◌, rules}
 use Rattle.std.proofs.lemmas.Int.{ints}
 use Rattle.tb_builder.specs.Contents.{contents_of}
 use Rattle.tb_output.proofs.ColumnPages.SizeLemmas.{amount-cast, alike, unlike}

@@ -1,4 +1,4 @@
-use Rattle.std.proofs.Common.{◌≡◌, ap, ◌∙◌, not}
+use Rattle.std.proofs.Common.{ap, ◌∙◌, not}
 use Rattle.tb_builder.specs.Contents.{contents_of}
 use Rattle.tb_output.proofs.ColumnPages.SizeLemmas.{alike, unlike}
 use Rattle.tb_output.proofs.Firings.ReadingLemmas.{none-stands, one-stands}

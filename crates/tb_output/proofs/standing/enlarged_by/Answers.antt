@@ -1,4 +1,4 @@
-use Rattle.std.proofs.Common.{◌≡◌, sym, ap, ◌∙◌, ℤ, neg_ℤ, map, true, false, FitsSigned, w64, rules}
+use Rattle.std.proofs.Common.{◌≡◌, sym, ap, ◌∙◌, neg_ℤ, map, true, false, FitsSigned, w64, rules}
 use Rattle.std.specs.Prelude.{if◌then◌else◌}
 use Rattle.std.proofs.lemmas.Int.{to_z-of_z}
 use Rattle.tb_pool.specs.Lists.{list_at}

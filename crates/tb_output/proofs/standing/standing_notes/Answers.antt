@@ -1,4 +1,4 @@
-use Rattle.std.proofs.Common.{◌≡◌, ◌≢◌, sym, ap, subst, ◌∙◌, ◌<◌, ◌≤◌, ◌+◌, ◌-◌, length, get_or, arith}
+use Rattle.std.proofs.Common.{◌≡◌, sym, ap, subst, ◌<◌, ◌+◌, ◌-◌, length, get_or, arith}
 use Rattle.tb_column.specs.declared.NoteBox.{NoteBox}
 use Rattle.tb_output.proofs.ColumnPages.StandingBoxes.{all-standing, front-standing}
 use Rattle.tb_output.proofs.standing.standing_notes.Goals as goal

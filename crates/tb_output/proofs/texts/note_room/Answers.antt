@@ -1,4 +1,4 @@
-use Rattle.std.proofs.Common.{◌≡◌, sym, ◌∙◌, true, false}
+use Rattle.std.proofs.Common.{◌≡◌, sym, ◌∙◌, false}
 use Rattle.std.specs.Prelude.{◌==◌}
 use Rattle.tb_pool.specs.Lists.{list_at}
 use Rattle.tb_output.proofs.ColumnPages.SizeLemmas.{amount-cast, alike, unlike, has_box-is, standing-room, enlarging-none, enlarging-size, list-room, room-amount}

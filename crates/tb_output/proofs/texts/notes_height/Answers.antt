@@ -1,7 +1,6 @@
-use Rattle.std.proofs.Common.{◌≡◌, ◌+◌, ◌*◌, ◌<◌, ◌≤◌, sym, subst, ◌∙◌, List, [], ◌∷◌, length, drop, drop-cons, add-one, w64, to_z, arith}
+use Rattle.std.proofs.Common.{◌≡◌, ◌+◌, ◌<◌, ◌≤◌, sym, subst, ◌∙◌, List, [], ◌∷◌, length, drop, drop-cons, add-one, w64, to_z, arith}
 use Rattle.std.proofs.lemmas.List.{at_drop_all}
 use Rattle.std.proofs.lemmas.List.Elements.{All-from_recursion}
-use Rattle.tb_pool.specs.Lists.{list_at}
 use Rattle.tb_column.specs.declared.NoteBox.{NoteBox}
 use Rattle.tb_column.specs.Notes.{IsNote}
 use Rattle.tb_column.proofs.NoteLemmas.{rising-at}
