@@ -55,7 +55,23 @@ impl Kept {
 /// The deferred floats that have a place at the top or the bottom of the next column go there, one after another (after
 /// LaTeX's `\@startcolumn`, ltoutput.dtx); the others stay in order. None is lost, and floats of one class ship in the same
 /// order as without this call.
+#[inline(always)]
 pub fn fill_column(pool: &mut Pool, p: &Params, s: &Suppress)
+    requires { AreFloatParams p.now }
+    ensures lists { pool.new.lists ≡ filled p.now s.now [] pool.old.lists.deferred pool.old.lists }
+    ensures order { (class : ℕ) → column_order class pool.new.lists ≡ column_order class pool.old.lists }
+    ensures size { pool.new.size ≡ pool.old.size }
+    ensures unmarked { HasNoMarks pool.old → HasNoMarks pool.new }
+{
+    // Mostly no float waits; then no set of classes is made.
+    if pool.len(Part::Deferred) == 0 {
+        return;
+    }
+    fill_waiting(pool, p, s);
+}
+
+// The same if floats wait.
+fn fill_waiting(pool: &mut Pool, p: &Params, s: &Suppress)
     requires { AreFloatParams p.now }
     ensures lists { pool.new.lists ≡ filled p.now s.now [] pool.old.lists.deferred pool.old.lists }
     ensures order { (class : ℕ) → column_order class pool.new.lists ≡ column_order class pool.old.lists }

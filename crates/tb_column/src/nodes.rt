@@ -1,5 +1,5 @@
 //! Nodes that come from no galley item.
-ghost use Rattle.std.specs.Prelude.{◌≡◌, ◌+◌, ◌<◌, ◌≤◌, ◌++◌, ◌∷◌, []};
+ghost use Rattle.std.specs.Prelude.{◌≡◌, ◌+◌, ◌<◌, ◌≤◌, ◌++◌, ◌∷◌, [], Some};
 ghost use Rattle.tb_pool.specs.Lists.{IsLive, list_at, with_list};
 ghost use Rattle.tb_column.specs.Column.{is_no_glue, float_depth};
 ghost use Rattle.tb_column.specs.FloatColumns.{made_node, float_box, glue_list, rule_list};
@@ -48,7 +48,8 @@ pub(crate) fn push_glue(store: &mut Lists<Node>, l: ListId, glue: Glue)
     }
 }
 
-/// Puts a rule between its kerns at the end of a list, in three spare places; no rule puts nothing.
+/// Puts a rule between its kerns at the end of a list, in three spare places; no rule puts nothing, which is most frequent.
+#[inline(always)]
 pub(crate) fn push_rule(store: &mut Lists<Node>, l: ListId, of: RuleOf, rule: Option<Rule>)
     requires live { IsLive store.old l }
     requires room { 3 ≤ store.old.spare }
@@ -58,20 +59,30 @@ pub(crate) fn push_rule(store: &mut Lists<Node>, l: ListId, of: RuleOf, rule: Op
 {
     match rule {
         None => {}
-        Some(rule) => {
-            push_made(store, l, Kind::Kern(rule.above));
-            push_made(
-                store,
-                l,
-                Kind::Rule {
-                    of,
-                    height: rule.height,
-                    depth: 0,
-                },
-            );
-            push_made(store, l, Kind::Kern(rule.below));
-        }
+        Some(rule) => push_some_rule(store, l, of, rule),
     }
+}
+
+// The same of a rule that is there.
+#[inline(never)]
+fn push_some_rule(store: &mut Lists<Node>, l: ListId, of: RuleOf, rule: Rule)
+    requires live { IsLive store.old l }
+    requires room { 3 ≤ store.old.spare }
+    ensures lists { store.new.lists ≡ with_list store.old l (list_at store.old l ++ rule_list of (Some rule)) }
+    ensures live { IsLive store.new l }
+    ensures spare { store.old.spare ≤ store.new.spare + 3 }
+{
+    push_made(store, l, Kind::Kern(rule.above));
+    push_made(
+        store,
+        l,
+        Kind::Rule {
+            of,
+            height: rule.height,
+            depth: 0,
+        },
+    );
+    push_made(store, l, Kind::Kern(rule.below));
 }
 
 /// The depth of a float's box, in sp: 1 of a deep one, else 0 (ltfloat.dtx, \@endfloatbox).

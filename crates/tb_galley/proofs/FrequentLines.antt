@@ -13,6 +13,7 @@ use Rattle.tb_galley.specs.declared.Fault.{Fault}
 use Rattle.tb_galley.specs.declared.fields.At.{At}
 use Rattle.tb_node.specs.declared.Area.TheVariants as areas
 use Rattle.tb_node.specs.declared.Float.{Float}
+use Rattle.tb_node.specs.declared.Margin.{Margin}
 use Rattle.tb_param.specs.declared.fields.Field.{Field}
 use Rattle.tb_param.specs.declared.Value.{Value}
 use Rattle.tb_galley.specs.declared.ItemKind.{ItemKind}
@@ -21,9 +22,9 @@ use Rattle.tb_galley.specs.declared.LeafKind.{LeafKind}
 use Rattle.tb_galley.specs.declared.LeafKind.TheVariants as leaves
 use Rattle.tb_galley.specs.declared.contents.Content.{Content}
 use Rattle.tb_galley.specs.declared.contents.Content.TheVariants as contents
-use Rattle.tb_galley.specs.Words.{LineWord, hbox, skip, kern, penalty, setting, foot, endfoot, float, newpage, clearpage, onecolumn, twocolumn, suppressfloats, Phase, at_start, among_sets, among_items, after_clear, after_two, in_foot, ended, word_of, is_leaf_word, Known}
+use Rattle.tb_galley.specs.Words.{LineWord, hbox, skip, kern, penalty, setting, foot, endfoot, float, margin, newpage, clearpage, onecolumn, twocolumn, suppressfloats, Phase, at_start, among_sets, among_items, after_clear, after_two, in_foot, ended, word_of, is_leaf_word, Known}
 use Rattle.tb_galley.specs.Faults.{asked_place, place_causes, cause_if}
-use Rattle.tb_galley.specs.FieldReader.{Left, ◌>>=◌, mapped, finished, end_left, settled, at_fault, dimension_left, range_left, sized_left, glue_left, float_left, set_left, area_left, foot_left, named_class, content_left}
+use Rattle.tb_galley.specs.FieldReader.{Left, ◌>>=◌, mapped, finished, end_left, settled, at_fault, dimension_left, range_left, sized_left, glue_left, float_left, margin_left, set_left, area_left, foot_left, named_class, content_left}
 use Rattle.tb_galley.specs.Line.{Said, said, first_of, content_line, line_left}
 use Rattle.tb_galley.specs.GalleyReader.{State, known_in, phase_past, item_phase, clear_phase, two_phase, foot_phase, endfoot_phase, takes_leaf, takes_item, takes_setting, past_word, IsBoxLine, IsLineOf, IsBareItem, with_leaf, with_item_line, with_setting, with_foot_begun, with_foot_ended, past_said, said_first, said_unless, take_said}
 
@@ -247,6 +248,64 @@ float_step s first free line few f h =
     ∙ sym (ap (take_said s) l.begins ∙ ap (said_first s (102 ∷ 108 ∷ 111 ∷ 97 ∷ 116 ∷ 32 ∷ l.rest)) first
     ∙ ap (said_unless s) (float_line_left s.phase (known_in s.draft) s.count (s.lines + 1) l.rest free l.few f l.read))
 
+-- ---- a marginal note
+
+margin_placed : (p : Phase) (a : Option SetPlace) (count : ℕ) → takes_item p count ≡ true → first_of (place_causes p a (Some margin)) ≡ None
+margin_placed among_items a count h = refl
+margin_placed after_clear a count h = refl
+margin_placed after_two a count h = refl
+margin_placed p a count h = cc
+
+margin_line_left : (p : Phase) (k : Known) (count n : ℕ) (rest : List ℕ) → takes_item p count ≡ true → length (109 ∷ 97 ∷ 114 ∷ 103 ∷ 105 ∷ 110 ∷ 32 ∷ rest) ≤ 255 → (f : Margin × Bool)
+    → finished (margin_left k.version n (past_word rest)) ≡ Ok f → line_left p k count n (109 ∷ 97 ∷ 114 ∷ 103 ∷ 105 ∷ 110 ∷ 32 ∷ rest) ≡ Ok (Some (margin, contents.Item (items.Margin f.0 f.1)))
+unfolding line_left content_line content_left word_of
+margin_line_left p k count n rest free few f read =
+    let asked : Option SetPlace = asked_place k.version (fields_of rest) in
+    ap (λ t. if t then at_fault 0 causes.LineLength else placed (first_of (place_causes p asked (Some margin))) (first_of (cause_if (nat_le 100000 count) causes.Items)) (said margin (finished (content_left k n margin (past_word rest))))) (short (109 ∷ 97 ∷ 114 ∷ 103 ∷ 105 ∷ 110 ∷ 32 ∷ rest) few)
+    ∙ ap (λ o. placed o (first_of (cause_if (nat_le 100000 count) causes.Items)) (said margin (finished (content_left k n margin (past_word rest))))) (margin_placed p asked count free)
+    ∙ ap (λ o. placed None o (said margin (finished (content_left k n margin (past_word rest))))) (one_more p count free)
+    ∙ ap (said margin) (finished_as (λ f. contents.Item (items.Margin f.0 f.1)) (margin_left k.version n (past_word rest)) f read)
+
+pub margin_step : (s : State) → s.first ≡ None → takes_item s.phase s.count ≡ true → (line : List ℕ) → length line ≤ 255 → (f : Margin × Bool)
+    → IsLineOf (codes "margin") (margin_left s.draft.version (s.lines + 1)) line f → with_item_line s (items.Margin f.0 f.1) ≡ take_said s line
+margin_step s first free line few f h =
+    let l = spaced (codes "margin") (margin_left s.draft.version (s.lines + 1)) line few f h in
+    ap (λ p. record (with_item_line s (items.Margin f.0 f.1)) { phase = p }) (sym (phase_behind_item s.phase s.count free))
+    ∙ sym (ap (take_said s) l.begins ∙ ap (said_first s (109 ∷ 97 ∷ 114 ∷ 103 ∷ 105 ∷ 110 ∷ 32 ∷ l.rest)) first
+    ∙ ap (said_unless s) (margin_line_left s.phase (known_in s.draft) s.count (s.lines + 1) l.rest free l.few f l.read))
+
+-- ---- a footnote of a class
+
+foot_placed : (p : Phase) (a : Option SetPlace) (count : ℕ) → takes_item p count ≡ true → first_of (place_causes p a (Some foot)) ≡ None
+foot_placed among_items a count h = refl
+foot_placed after_clear a count h = refl
+foot_placed after_two a count h = refl
+foot_placed p a count h = cc
+
+phase_in_foot : (p : Phase) (count : ℕ) → takes_item p count ≡ true → foot_phase p ≡ in_foot
+phase_in_foot among_items count h = refl
+phase_in_foot after_clear count h = refl
+phase_in_foot after_two count h = refl
+phase_in_foot p count h = cc
+
+foot_line_left : (p : Phase) (k : Known) (count n : ℕ) (rest : List ℕ) → takes_item p count ≡ true → length (102 ∷ 111 ∷ 111 ∷ 116 ∷ 32 ∷ rest) ≤ 255 → (c : ℕ)
+    → finished (foot_left k (past_word rest)) ≡ Ok c → line_left p k count n (102 ∷ 111 ∷ 111 ∷ 116 ∷ 32 ∷ rest) ≡ Ok (Some (foot, contents.Foot c))
+unfolding line_left content_line content_left word_of
+foot_line_left p k count n rest free few c read =
+    let asked : Option SetPlace = asked_place k.version (fields_of rest) in
+    ap (λ t. if t then at_fault 0 causes.LineLength else placed (first_of (place_causes p asked (Some foot))) (first_of (cause_if (nat_le 100000 count) causes.Items)) (said foot (finished (content_left k n foot (past_word rest))))) (short (102 ∷ 111 ∷ 111 ∷ 116 ∷ 32 ∷ rest) few)
+    ∙ ap (λ o. placed o (first_of (cause_if (nat_le 100000 count) causes.Items)) (said foot (finished (content_left k n foot (past_word rest))))) (foot_placed p asked count free)
+    ∙ ap (λ o. placed None o (said foot (finished (content_left k n foot (past_word rest))))) (one_more p count free)
+    ∙ ap (said foot) (finished_as (λ q. contents.Foot q) (foot_left k (past_word rest)) c read)
+
+pub class_foot_step : (s : State) → s.first ≡ None → takes_item s.phase s.count ≡ true → (line : List ℕ) → length line ≤ 255 → (c : ℕ)
+    → IsLineOf (codes "foot") (foot_left (known_in s.draft)) line c → with_foot_begun s c ≡ take_said s line
+class_foot_step s first free line few c h =
+    let l = spaced (codes "foot") (foot_left (known_in s.draft)) line few c h in
+    ap (λ p. record (with_foot_begun s c) { phase = p }) (sym (phase_in_foot s.phase s.count free))
+    ∙ sym (ap (take_said s) l.begins ∙ ap (said_first s (102 ∷ 111 ∷ 111 ∷ 116 ∷ 32 ∷ l.rest)) first
+    ∙ ap (said_unless s) (foot_line_left s.phase (known_in s.draft) s.count (s.lines + 1) l.rest free l.few c l.read))
+
 -- ---- one word alone
 
 foot_left_alone : (k : Known) (n count : ℕ) → takes_leaf among_items count ≡ true → line_left among_items k count n (codes "foot") ≡ Ok (Some (foot, contents.Foot 254))
@@ -292,9 +351,9 @@ module _ (s : State) (first : s.first ≡ None) (free : takes_leaf s.phase s.cou
       sym (ap (take_said s) e ∙ ap (said_first s bytes) first
       ∙ ap (λ q. said_unless s (line_left q (known_in s.draft) s.count (s.lines + 1) bytes)) phase ∙ ap (said_unless s) read)
 
-  pub foot_step : (line : List ℕ) → s.phase ≡ among_items → line ≡ codes "foot" → with_foot_begun s ≡ take_said s line
+  pub foot_step : (line : List ℕ) → s.phase ≡ among_items → line ≡ codes "foot" → with_foot_begun s 254 ≡ take_said s line
   foot_step line phase e =
-      ap (λ p. record (with_foot_begun s) { phase = foot_phase p }) (sym phase)
+      ap (λ p. record (with_foot_begun s 254) { phase = foot_phase p }) (sym phase)
       ∙ said_by (codes "foot") line among_items foot (contents.Foot 254) phase e
       (foot_left_alone (known_in s.draft) (s.lines + 1) s.count (subst (λ p. takes_leaf p s.count ≡ true) phase free))
 

@@ -11,6 +11,7 @@ use Rattle.tb_node.specs.declared.Area.{Area}
 use Rattle.tb_node.specs.declared.Area.TheVariants as areas
 use Rattle.tb_node.specs.declared.Float.{Float}
 use Rattle.tb_node.specs.declared.Margin.{Margin}
+use Rattle.tb_param.specs.declared.fields.Field.{Field}
 use Rattle.tb_param.specs.declared.table.Form.{Form}
 use Rattle.tb_param.specs.declared.table.Form.TheVariants as forms
 use Rattle.tb_param.specs.declared.Value.{Value}
@@ -344,6 +345,17 @@ named_class ks l false = field_read (class_slot ks) number_in l
 -- the class of a footnote: 254 if none is named
 unfoldable pub foot_left : Known → Left → Result (ℕ × Left) At
 foot_left k l = named_class k.classes l ((k.version == 1) || is_end l.fields)
+
+-- which parameter a row has, and its form
+abbrev pub parameter_by : ℕ → Left → Option Row → Result ((Field × Form) × Left) At
+parameter_by n l None = at_fault n causes.UnknownParameter
+parameter_by n l (Some r) = Ok ((r.field, r.form), l)
+
+-- a parameter of this version by its name
+unfoldable pub parameter_left : ℕ → Left → Result ((Field × Form) × Left) At
+parameter_left version l = do
+  x ← next_left l
+  parameter_by l.number x.1 (row_for version x.0)
 
 -- the value of the parameter of a row
 abbrev pub set_by : ℕ → Left → Option Row → Result (Content × Left) At

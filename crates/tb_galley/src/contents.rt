@@ -1,12 +1,14 @@
 //! What a content line says.
 ghost use Rattle.tb_galley.specs.GalleyReader.{known_in};
-ghost use Rattle.tb_galley.specs.FieldReader.{left_of, Gives, nobreak_left, float_left, margin_left, head_left, star_left, enlarge_left, area_left, value_left, set_left, class_left, foot_left, content_left};
+ghost use Rattle.tb_galley.specs.FieldReader.{left_of, Gives, nobreak_left, sized_left, glue_left, float_left, margin_left, head_left, star_left, enlarge_left, area_left, class_left, foot_left, content_left};
 
 use crate::draft::Draft;
 use crate::fields::{At, Fields};
+use crate::settings::setting;
 use crate::{Cause, ClassLine, ItemKind, LeafKind, Word};
-use tb_node::{Area, FOOTNOTES, Float, Margin, Places};
-use tb_param::{Choice, Field, Form, Value, row_for};
+use tb_node::{Area, FOOTNOTES, Float, Margin, Name, Places};
+use tb_param::{Field, Value};
+use tb_scaled::Glue;
 
 /// What a content line says.
 #[derive(Drop)]
@@ -70,8 +72,10 @@ pub(crate) fn float(version: u8, line: u32, fields: &mut Fields<'_>) -> Result<(
     ))
 }
 
+/// A marginal note in a galley of this version, and whether it is between paragraphs.
+#[inline(always)]
 #[tactic(auto, unfolding(crate::specs::FieldReader::margin_left))]
-fn margin(version: u8, line: u32, fields: &mut Fields<'_>) -> Result<(Margin, bool), At>
+pub(crate) fn margin(version: u8, line: u32, fields: &mut Fields<'_>) -> Result<(Margin, bool), At>
     ensures { Gives result (left_of fields.new) (margin_left version line (left_of fields.old)) }
 {
     let (name, left_height, left_depth) = fields.sized()?;
@@ -94,6 +98,7 @@ fn margin(version: u8, line: u32, fields: &mut Fields<'_>) -> Result<(Margin, bo
 }
 
 // A title over both columns.
+#[inline(never)]
 #[tactic(auto, unfolding(crate::specs::FieldReader::head_left))]
 fn head(line: u32, fields: &mut Fields<'_>) -> Result<Float, At>
     ensures { Gives result (left_of fields.new) (head_left line (left_of fields.old)) }
@@ -130,6 +135,7 @@ fn star(fields: &mut Fields<'_>) -> Result<bool, At>
 }
 
 // By how much a page is made higher, and whether its contents are to be shrunk.
+#[inline(never)]
 #[tactic(auto, unfolding(crate::specs::FieldReader::enlarge_left))]
 fn enlarge(fields: &mut Fields<'_>) -> Result<(i64, bool), At>
     ensures { Gives result (left_of fields.new) (enlarge_left (left_of fields.old)) }
@@ -150,59 +156,7 @@ fn area(fields: &mut Fields<'_>) -> Result<Area, At>
     Ok(if bottom { Area::Bottom } else { Area::Top })
 }
 
-#[tactic(auto, unfolding(crate::specs::FieldReader::value_left))]
-fn value(form: Form, fields: &mut Fields<'_>) -> Result<Value, At>
-    ensures { Gives result (left_of fields.new) (value_left form (left_of fields.old)) }
-{
-    match form {
-        Form::Int { low, high } => Ok(Value::Int(fields.integer_within(
-            low,
-            high,
-            Cause::Parameter,
-        )?)),
-        Form::Dim { low } => Ok(Value::Dim(fields.dimension_from(low, Cause::Parameter)?)),
-        Form::Frac => Ok(Value::Frac(fields.fraction()?)),
-        Form::Skip => Ok(Value::Skip(fields.glue(Cause::WrongForm)?)),
-        Form::Bottom => {
-            let flush = fields.choice(b"ragged", b"flush", Cause::WrongForm)?;
-            Ok(Value::Word(if flush { Choice::Flush } else { Choice::Ragged }))
-        }
-        Form::Switch => {
-            let on = fields.choice(b"off", b"on", Cause::WrongForm)?;
-            Ok(Value::Word(if on { Choice::On } else { Choice::Off }))
-        }
-        Form::Release => {
-            let last = fields.choice(b"2014", b"2015", Cause::WrongForm)?;
-            Ok(Value::Word(if last { Choice::R2015 } else { Choice::R2014 }))
-        }
-        Form::Rule => Ok(Value::Rule(fields.rule()?)),
-        Form::FootDepth => {
-            let drop = fields.choice(b"keep", b"drop", Cause::WrongForm)?;
-            Ok(Value::Word(if drop { Choice::Drop } else { Choice::Keep }))
-        }
-        Form::FootPlace => {
-            let below = fields.choice(b"above", b"below", Cause::WrongForm)?;
-            Ok(Value::Word(if below { Choice::Below } else { Choice::Above }))
-        }
-    }
-}
-
-/// A parameter of a galley of this version, and its value.
-#[tactic(auto, unfolding(crate::specs::FieldReader::set_left))]
-pub(crate) fn set(version: u8, fields: &mut Fields<'_>) -> Result<Content, At>
-    ensures { Gives result (left_of fields.new) (set_left version (left_of fields.old)) }
-{
-    let number = fields.number;
-    let Some((_, field, form)) = row_for(version, fields.next()?) else {
-        return Err(At {
-            field: number,
-            cause: Cause::UnknownParameter,
-        });
-    };
-    let value = value(form, fields)?;
-    Ok(Content::Set { field, value })
-}
-
+#[inline(never)]
 #[tactic(auto, unfolding(crate::specs::FieldReader::class_left))]
 fn class(version: u8, line: u32, fields: &mut Fields<'_>) -> Result<ClassLine, At>
     ensures { Gives result (left_of fields.new) (class_left version line (left_of fields.old)) }
@@ -222,14 +176,54 @@ fn class(version: u8, line: u32, fields: &mut Fields<'_>) -> Result<ClassLine, A
     })
 }
 
+/// The class of a footnote.
+#[inline(always)]
 #[tactic(auto, unfolding(crate::specs::FieldReader::foot_left))]
-fn foot(draft: &Draft, fields: &mut Fields<'_>) -> Result<u8, At>
+pub(crate) fn foot(draft: &Draft, fields: &mut Fields<'_>) -> Result<u8, At>
     ensures { Gives result (left_of fields.new) (foot_left (known_in draft.now) (left_of fields.old)) }
 {
     if draft.version == 1 || fields.is_at_end() {
         return Ok(FOOTNOTES);
     }
     fields.class_among(draft.classes.as_slice())
+}
+
+// A function pays at entry for its locals, and most lines that come to `read_content` have few fields. So what has many, or is
+// read before by the bytes of its line, is read in a function of its own.
+
+#[inline(never)]
+fn rare_float(version: u8, line: u32, fields: &mut Fields<'_>) -> Result<(Float, bool), At>
+    ensures { Gives result (left_of fields.new) (float_left version line (left_of fields.old)) }
+{
+    float(version, line, fields)
+}
+
+#[inline(never)]
+fn rare_margin(version: u8, line: u32, fields: &mut Fields<'_>) -> Result<(Margin, bool), At>
+    ensures { Gives result (left_of fields.new) (margin_left version line (left_of fields.old)) }
+{
+    margin(version, line, fields)
+}
+
+#[inline(never)]
+fn rare_foot(draft: &Draft, fields: &mut Fields<'_>) -> Result<u8, At>
+    ensures { Gives result (left_of fields.new) (foot_left (known_in draft.now) (left_of fields.old)) }
+{
+    foot(draft, fields)
+}
+
+#[inline(never)]
+fn rare_sized(fields: &mut Fields<'_>) -> Result<(Name, i64, i64), At>
+    ensures { Gives result (left_of fields.new) (sized_left (left_of fields.old)) }
+{
+    fields.sized()
+}
+
+#[inline(never)]
+fn rare_glue(fields: &mut Fields<'_>) -> Result<Glue, At>
+    ensures { Gives result (left_of fields.new) (glue_left Cause.UnknownWord (left_of fields.old)) }
+{
+    fields.glue(Cause::UnknownWord)
 }
 
 /// What the fields after a line's word say, by what the lines before gave.
@@ -246,10 +240,13 @@ pub(crate) fn read_content(
         Word::Header => Ok(Content::Header {
             version: fields.version()?,
         }),
-        Word::Setting => set(draft.version, fields),
+        Word::Setting => {
+            let (field, value) = setting(draft.version, fields)?;
+            Ok(Content::Set { field, value })
+        }
         Word::Class => Ok(Content::Class(class(draft.version, line, fields)?)),
         Word::Hbox => {
-            let (name, height, depth) = fields.sized()?;
+            let (name, height, depth) = rare_sized(fields)?;
             Ok(Content::Plain(LeafKind::Hbox {
                 name,
                 height,
@@ -257,14 +254,14 @@ pub(crate) fn read_content(
             }))
         }
         Word::Rule => {
-            let (name, height, depth) = fields.sized()?;
+            let (name, height, depth) = rare_sized(fields)?;
             Ok(Content::Plain(LeafKind::Rule {
                 name,
                 height,
                 depth,
             }))
         }
-        Word::Skip => Ok(Content::Plain(LeafKind::Skip(fields.glue(Cause::UnknownWord)?))),
+        Word::Skip => Ok(Content::Plain(LeafKind::Skip(rare_glue(fields)?))),
         Word::Kern => Ok(Content::Plain(LeafKind::Kern(fields.dimension()?))),
         Word::Penalty => {
             let penalty = fields.integer_within(-10_000, 10_000, Cause::Penalty)?;
@@ -273,15 +270,15 @@ pub(crate) fn read_content(
         Word::Mark => Ok(Content::Item(ItemKind::Mark(fields.name()?))),
         Word::Note => Ok(Content::Item(ItemKind::Note(fields.name()?))),
         Word::Foot => Ok(Content::Foot {
-            class: foot(draft, fields)?,
+            class: rare_foot(draft, fields)?,
         }),
         Word::Endfoot => Ok(Content::Endfoot),
         Word::Float => {
-            let (float, vert) = float(draft.version, line, fields)?;
+            let (float, vert) = rare_float(draft.version, line, fields)?;
             Ok(Content::Item(ItemKind::Float { float, vert }))
         }
         Word::Margin => {
-            let (margin, vert) = margin(draft.version, line, fields)?;
+            let (margin, vert) = rare_margin(draft.version, line, fields)?;
             Ok(Content::Item(ItemKind::Margin { margin, vert }))
         }
         Word::Newpage => Ok(Content::Item(ItemKind::NewPage)),

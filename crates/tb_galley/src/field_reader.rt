@@ -52,8 +52,8 @@ fn text_cause(fault: TextFault) -> Cause
 }
 
 impl<'a> Fields<'a> {
-    // The fault if no field is left.
-    fn no_field(&self) -> At
+    /// The fault if no field is left.
+    pub fn no_field(&self) -> At
         ensures { result ≡ record { field = self.now.number; cause = self.now.missing } }
     {
         At {
@@ -449,8 +449,8 @@ impl<'a> Fields<'a> {
     }
 }
 
-// Why a field is refused: its bytes, or else this cause.
-fn cause_in(field: &[u8], cause: Cause) -> Cause
+/// Why a field is refused: its bytes, or else this cause.
+pub(crate) fn cause_in(field: &[u8], cause: Cause) -> Cause
     ensures { result ≡ if list_all is_printable field.now then cause else Cause.NotAscii }
 {
     if is_printable(field) {

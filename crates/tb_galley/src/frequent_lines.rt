@@ -2,16 +2,18 @@
 //! its word.
 ghost use Rattle.std.specs.Prelude.{◌≡◌, ◌≤◌, ◌∷◌, negsuc, pos, true, codes, length, IfSome, Ok};
 ghost use Rattle.tb_text.specs.Lines.{begins_with, fields_of, is_skipped};
-ghost use Rattle.tb_galley.specs.FieldReader.{left_of, finished, dimension_left, range_left, glue_left, sized_left, float_left, set_left};
+ghost use Rattle.tb_galley.specs.FieldReader.{left_of, finished, dimension_left, range_left, glue_left, sized_left, float_left, margin_left, foot_left, set_left};
 ghost use Rattle.tb_galley.specs.declared.contents.Content.TheVariants.{Set};
-ghost use Rattle.tb_galley.specs.GalleyReader.{takes_leaf, takes_item, takes_setting, past_word, bare_item, phase_behind, IsBoxLine, IsLineOf, IsBareItem};
+ghost use Rattle.tb_galley.specs.GalleyReader.{known_in, takes_leaf, takes_item, takes_setting, past_word, bare_item, phase_behind, IsBoxLine, IsLineOf, IsBareItem};
 
-use crate::contents::{Content, float, set};
+use crate::contents::{float, foot, margin};
+use crate::draft::Draft;
 use crate::fields::Fields;
 use crate::glue_words::begins_with_space;
+use crate::settings::setting;
 use crate::words::{MAX_ITEMS, Phase};
 use crate::{Cause, ItemKind, Word};
-use tb_node::{Float, Name};
+use tb_node::{Float, Margin, Name};
 use tb_param::{Field, Value};
 use tb_scaled::Glue;
 
@@ -106,6 +108,26 @@ fn after_float(line: &[u8]) -> Option<&[u8]>
 {
     match line {
         [b'f', b'l', b'o', b'a', b't', rest @ ..] if begins_with_space(rest) => Some(rest),
+        _ => None,
+    }
+}
+
+// What follows `margin`, which is a space and more.
+fn after_margin(line: &[u8]) -> Option<&[u8]>
+    ensures { IfSome result (λ r. (line.now ≡ 109 ∷ 97 ∷ 114 ∷ 103 ∷ 105 ∷ 110 ∷ r.now) × (begins_with 32 r.now ≡ true)) }
+{
+    match line {
+        [b'm', b'a', b'r', b'g', b'i', b'n', rest @ ..] if begins_with_space(rest) => Some(rest),
+        _ => None,
+    }
+}
+
+// What follows `foot`, which is a space and more.
+fn after_foot(line: &[u8]) -> Option<&[u8]>
+    ensures { IfSome result (λ r. (line.now ≡ 102 ∷ 111 ∷ 111 ∷ 116 ∷ r.now) × (begins_with 32 r.now ≡ true)) }
+{
+    match line {
+        [b'f', b'o', b'o', b't', rest @ ..] if begins_with_space(rest) => Some(rest),
         _ => None,
     }
 }
@@ -210,6 +232,48 @@ fn lone_float(version: u8, number: u32, rest: &[u8]) -> Option<(Float, bool)>
     }
 }
 
+/// A marginal note and whether it is between paragraphs, if that is what the line of this number says.
+#[inline(always)]
+pub(crate) fn read_margin(version: u8, number: u32, line: &[u8]) -> Option<(Margin, bool)>
+    requires { length line.now ≤ 255 }
+    ensures { IfSome result (λ m. IsLineOf (codes "margin") (margin_left version number) line.now m) }
+{
+    lone_margin(version, number, after_margin(line)?)
+}
+
+#[inline(never)]
+fn lone_margin(version: u8, number: u32, rest: &[u8]) -> Option<(Margin, bool)>
+    requires { length rest.now ≤ 255 }
+    ensures { IfSome result (λ m. finished (margin_left version number (past_word rest.now)) ≡ Ok m) }
+{
+    let mut fields = fields_after(rest);
+    match margin(version, number, &mut fields) {
+        Ok(read) if fields.is_at_end() => Some(read),
+        _ => None,
+    }
+}
+
+/// The class of a footnote, if that is what the line says.
+#[inline(always)]
+pub(crate) fn read_foot(draft: &Draft, line: &[u8]) -> Option<u8>
+    requires { length line.now ≤ 255 }
+    ensures { IfSome result (λ c. IsLineOf (codes "foot") (foot_left (known_in draft.now)) line.now c) }
+{
+    lone_foot(draft, after_foot(line)?)
+}
+
+#[inline(never)]
+fn lone_foot(draft: &Draft, rest: &[u8]) -> Option<u8>
+    requires { length rest.now ≤ 255 }
+    ensures { IfSome result (λ c. finished (foot_left (known_in draft.now) (past_word rest.now)) ≡ Ok c) }
+{
+    let mut fields = fields_after(rest);
+    match foot(draft, &mut fields) {
+        Ok(class) if fields.is_at_end() => Some(class),
+        _ => None,
+    }
+}
+
 /// A parameter and its value, if that is what the line says.
 #[inline(always)]
 pub(crate) fn read_setting(version: u8, line: &[u8]) -> Option<(Field, Value)>
@@ -225,8 +289,8 @@ fn lone_setting(version: u8, rest: &[u8]) -> Option<(Field, Value)>
     ensures { IfSome result (λ r. finished (set_left version (past_word rest.now)) ≡ Ok (Set r.0 r.1)) }
 {
     let mut fields = fields_after(rest);
-    match set(version, &mut fields) {
-        Ok(Content::Set { field, value }) if fields.is_at_end() => Some((field, value)),
+    match setting(version, &mut fields) {
+        Ok(read) if fields.is_at_end() => Some(read),
         _ => None,
     }
 }

@@ -3,7 +3,7 @@ use Rattle.std.proofs.lemmas.Int.{to_z-of_z}
 use Rattle.tb_galley.specs.declared.LeafKind.TheVariants as leaves
 use Rattle.tb_galley.specs.GalleyReader.{takes_leaf, takes_item, takes_setting, bare_item, with_leaf}
 use Rattle.tb_galley.proofs.BareLines.{skipped_step}
-use Rattle.tb_galley.proofs.FrequentLines.{kern_step, penalty_step, bare_step, float_step, set_step}
+use Rattle.tb_galley.proofs.FrequentLines.{kern_step, penalty_step, bare_step, float_step, margin_step, class_foot_step, set_step}
 use Rattle.tb_galley.proofs.galley_reader.LineReader.take_less_frequent.Goals as goal
 
 pub returns-then-says_nothing-clause-step : goal.returns-then-says_nothing-clause-step
@@ -47,6 +47,22 @@ returns-in-Some-read_float-clause-step c =
     let taken = c.take_item in
     subst (λ t. OnOk taken.result (taken.new.self ≡ t))
     (float_step s c.requires.first free c.args.line.now few (c.in-Some-read_float.float, c.in-Some-read_float.vert) c.in-Some-read_float.ensures) taken.ensures.step
+
+pub returns-in-Some-read_margin-clause-step : goal.returns-in-Some-read_margin-clause-step
+returns-in-Some-read_margin-clause-step c =
+    let s = c.args.self.now in
+    let free : takes_item s.phase s.count ≡ true = sym c.takes_item.ensures ∙ c.if-takes_item.true in
+    let few : length c.args.line.now ≤ 255 = omega arith in
+    let taken = c.take_item-in-Some-read_margin in
+    subst (λ t. OnOk taken.result (taken.new.self ≡ t))
+    (margin_step s c.requires.first free c.args.line.now few (c.in-Some-read_margin.margin, c.in-Some-read_margin.vert) c.in-Some-read_margin.ensures) taken.ensures.step
+
+pub returns-in-Some-read_foot-clause-step : goal.returns-in-Some-read_foot-clause-step
+returns-in-Some-read_foot-clause-step c =
+    let s = c.args.self.now in
+    let free : takes_item s.phase s.count ≡ true = sym c.takes_item.ensures ∙ c.if-takes_item.true in
+    let few : length c.args.line.now ≤ 255 = omega arith in
+    c.take_foot.ensures.step ∙ class_foot_step s c.requires.first free c.args.line.now few c.in-Some-read_foot.class c.in-Some-read_foot.ensures
 
 pub returns-in-Some-read_setting-clause-step : goal.returns-in-Some-read_setting-clause-step
 returns-in-Some-read_setting-clause-step c =

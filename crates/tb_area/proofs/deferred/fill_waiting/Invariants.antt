@@ -3,7 +3,7 @@ use Rattle.tb_float.specs.declared.Part.TheVariants as parts
 use Rattle.tb_float.specs.Pool.{HasNoMarks}
 use Rattle.tb_area.specs.Deferred.{filled}
 use Rattle.tb_area.specs.DeferredWalk.{IsOnWay}
-use Rattle.tb_area.proofs.deferred.fill_column.Given as goal
+use Rattle.tb_area.proofs.deferred.fill_waiting.Given as goal
 
 abbrev pub invariant-loop-turn : goal.invariant-loop-turn
 invariant-loop-turn l = record {
