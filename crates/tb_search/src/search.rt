@@ -22,6 +22,11 @@ use std::alloc::{AllocError, Global};
 use tb_galley::Galley;
 use tb_items::Happening;
 
+// The widths of the beams: a narrow one finds good pages soon, and from their demerits a wide one finds better ones.
+const NARROW: usize = 4;
+
+const WIDE: usize = 16;
+
 /// The best plan of a galley.
 #[derive(Drop)]
 pub struct BestPlan {
@@ -86,8 +91,32 @@ fn low_bound<'a>(
     ensures low { IfOk result (λ d. pos 0 ≤ℤ d) }
     ensures fewer { IfOk result (λ d. d ≤ℤ greedy) }
 {
-    let bound = beam_bound(alloc, galley, greedy, greedy, 4, trials)?;
-    beam_bound(alloc, galley, greedy, bound, 16, trials)
+    let bound = beam_or(alloc, galley, greedy, greedy, NARROW, trials)?;
+    beam_or(alloc, galley, greedy, bound, WIDE, trials)
+}
+
+// The demerits that a beam of this width finds; the bound if the beam has too many states, since the search may have fewer.
+fn beam_or<'a>(
+    alloc: Global,
+    galley: &'a Galley,
+    greedy: i128,
+    bound: i128,
+    width: usize,
+    trials: &mut Trials<'a>,
+) -> Result<i128, BestFault>
+    requires valid { IsValid galley.now }
+    requires sum { plan_demerits galley.now [] ≡ Some greedy }
+    requires from { pos 0 ≤ℤ bound }
+    requires bound { bound ≤ℤ greedy }
+    requires high { greedy ≤ℤ pos 1000000000000000000000000000 }
+
+    ensures low { IfOk result (λ d. pos 0 ≤ℤ d) }
+    ensures fewer { IfOk result (λ d. d ≤ℤ bound) }
+{
+    match beam_bound(alloc, galley, greedy, bound, width, trials) {
+        Err(BestFault::Choices) => Ok(bound),
+        found => found,
+    }
 }
 
 // The best of the plans within a bound, or one past the bound if there is none: no more than the greedy pages have.
