@@ -6,7 +6,7 @@ _galley_pages() {
     -o) compopt -o filenames; mapfile -t COMPREPLY < <(compgen -f -- "$word"); return ;;
   esac
   case $word in
-    -*) mapfile -t COMPREPLY < <(compgen -W '-o --json --points --raw --count --quiet --help --version' -- "$word"); return ;;
+    -*) mapfile -t COMPREPLY < <(compgen -W '-o --json --points --raw --spreads --count --quiet --help --version' -- "$word"); return ;;
   esac
   if [ "${COMP_WORDS[1]}" = why ] && [ "$COMP_CWORD" -eq 3 ] && [ -f "${COMP_WORDS[2]}" ]; then     # the floats and notes of the galley
     mapfile -t COMPREPLY < <(compgen -W "$(awk '$1 == "float" || $1 == "margin" {print $2}' "${COMP_WORDS[2]}")" -- "$word")

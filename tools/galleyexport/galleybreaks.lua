@@ -1,10 +1,12 @@
 -- Puts the page breaks that `galley_pages --mode best` chose into the document: NAME.best has them by lines of the galley,
 -- and NAME.galleymap, which galleyexport wrote in the run before, the record that each line begins with. When the node of
--- that record is contributed, the penalty -10000 goes right before it.
+-- that record is contributed, the penalty -10000 goes right before it. Where there is NAME.spreads, it is read in place of
+-- NAME.best; galleybreaks-spreads puts in what it has besides breaks.
 --
 -- If the text has changed since NAME.best was made, a line may be another one now. So a break is put in only where the
 -- last box before it has the name that NAME.best says: a box's name is its number and its first words.
 local nodes = galleyexport.nodes
+local spreads = require("galleybreaks-spreads")
 local FORCED = -10000
 
 local M = {}
@@ -22,22 +24,25 @@ local function each_line(path, see)
   return true
 end
 
--- Reads the breaks of a part of the document, and the records before which they go. Returns whether it has any file of them.
-local function read_part(name)
-  local by_line = {}
-  local found = each_line(name .. ".best", function(line)
+-- Reads the breaks, and the records before which they go. A name with spaces has quotes round it in TeX, and none in a folder.
+function M.begin()
+  local job, by_line, higher = tex.jobname:gsub('"', ""), {}, {}
+  local function take(line)
+    local place, enlargement = spreads.read(line)
+    if place then higher[place] = enlargement end
     local at, page, after = line:match("^break (%d+) page (%d+) after (%S+)$")
     if not at then return end
     chosen = chosen + 1
     by_line[tonumber(at)] = { order = chosen, page = tonumber(page), after = after }
     left[chosen] = by_line[tonumber(at)]
-  end)
-  if not found then return false end
-  each_line(name .. ".galleymap", function(line)
+  end
+  if not each_line(job .. ".spreads", take) then each_line(job .. ".best", take) end
+  each_line(job .. ".galleymap", function(line)
     local at, number = line:match("^(%d+) (%d+)$")
-    if at and by_line[tonumber(at)] then wanted[tonumber(number)] = by_line[tonumber(at)] end
+    if not at then return end
+    wanted[tonumber(number)] = by_line[tonumber(at)]
+    spreads.want(tonumber(number), higher[tonumber(at)])
   end)
-  return true
 end
 
 -- The name that a box or rule has in the galley; nil for other records.
@@ -57,8 +62,9 @@ local function is_after(name)
   return false
 end
 
--- A node is contributed: a break goes before it, if one is chosen there.
+-- A node is contributed: a break goes before it, if one is chosen there, or what makes its page longer or shorter.
 function nodes.contributed(n, record)
+  spreads.put(n, record.id, name_of(record))
   local it = wanted[record.id]
   if not it then return end
   wanted[record.id] = nil
@@ -70,15 +76,9 @@ function nodes.contributed(n, record)
   put = put + 1
 end
 
--- Reads the breaks of all parts. A name with spaces has quotes round it in TeX, and none in a folder.
-function M.begin()
-  local job = tex.jobname:gsub('"', "")
-  local part = 1
-  while read_part(job .. (part > 1 and "." .. part or "")) do part = part + 1 end
-end
-
 -- The document has ended: how many breaks were put in, and which were not.
 function M.finish()
+  spreads.finish()
   if chosen == 0 then return end
   texio.write_nl("term and log", string.format("galleybreaks: %d of %d page breaks were put in", put, chosen))
   for order = 1, chosen do
@@ -90,5 +90,7 @@ function M.finish()
   end
   texio.write_nl("term and log", "")
 end
+
+M.spreads = spreads
 
 return M

@@ -1,11 +1,10 @@
--- Records as the lines of galleys. LaTeX's macros say a float, a clear and a new page by sequences of nodes with
+-- Records as the lines of a galley. LaTeX's macros say a float, a clear and a new page by sequences of nodes with
 -- penalties that name them; a galley has a word for each.
 local log = require("galleyexport-log")
 local nodes = require("galleyexport-nodes")
 local floats = require("galleyexport-floats")
 local parameters = require("galleyexport-parameters")
 local insertions = require("galleyexport-insertions")
-local numbers = require("galleyexport-numbers")
 local sides = require("galleyexport-sides")
 
 local M = {}
@@ -19,9 +18,12 @@ local BREAK_PENALTIES = { [0] = 0, 51, 151, 301, 10000 }   -- of \pagebreak[n], 
 
 local records = nodes.records
 local counts = { boxes = 0, footnotes = 0, floats = 0, margins = 0 }
-local two_columns = false
+-- The lines of the items, by their numbers the records that they begin with, and the classes of insertions that came.
+local galley = { lines = {}, begins = {}, classes = {} }
+local two_columns = false  -- whether the galley begins in two columns
 local start_notes = 0      -- whatsits and marks that the class left on the page, by \onecolumn or \twocolumn
 local queued = 0           -- how many floats and marginal notes of the queue were written
+local within_clear = {}    -- what LaTeX changed within the last clear: lines that set parameters, and the page's number
 
 -- The document begins, in one column or in two.
 function M.begin(two)
@@ -123,7 +125,7 @@ local function page_break(record)
   return (set < 0 and "pagebreak " or "nopagebreak ") .. number
 end
 
--- ---- Lines of a part
+-- ---- Lines of the items
 
 -- Puts the lines that change parameters.
 local function put_sets(put, lines)
@@ -167,11 +169,11 @@ local function put_enlargement(put, record)
   put("enlarge " .. by .. star)
 end
 
-local function put_insertion(part, put, record)
+local function put_insertion(put, record)
   if insertions.is_enlargement(record) then return put_enlargement(put, record) end
   local class = insertions.class_of(record)
   if class then
-    part.classes[class] = true
+    galley.classes[class] = true
     put("foot " .. class.number)
   else
     parameters.footnote(record)
@@ -206,21 +208,19 @@ local function head_line(stretch)
   return line
 end
 
--- A galley begins with a stretch: with its values, and perhaps with a box over both columns.
-local function begin_part(part, stretch)
-  parameters.changes(stretch.clears, nil, stretch.values)
-  part.values = parameters.begin_galley(part.values)
-  local head = head_line(stretch)
-  if not head then return end
+-- The galley may begin with a box over both columns.
+local function begin_galley(stretch)
+  galley.head = head_line(stretch)
+  if not galley.head then return end
   parameters.use_new()
-  part.two_columns, part.head = true, head
+  two_columns = true
 end
 
 -- Behind the word of a clear stand the parameters that it changes, and then the box over both columns.
-local function go_on(part, stretch, put)
+local function go_on(stretch, put)
   local head = head_line(stretch)
-  if head then part.lines[#part.lines] = "twocolumn" end
-  put_sets(put, part.changes)
+  if head then galley.lines[#galley.lines] = "twocolumn" end
+  put_sets(put, within_clear.sets)
   if stretch.values then put_sets(put, parameters.changes(stretch.clears, stretch.before, stretch.values)) end
   if not head then return end
   parameters.use_new()
@@ -229,13 +229,13 @@ end
 
 -- What a clear or float was made of has no line in a galley, and so no name on a page. Gives what LaTeX changed meanwhile,
 -- which holds behind it: the lines that set parameters, and the page's number.
-local function changes_within(part, first, last)
+local function changes_within(first, last, clears)
   local lines, number = {}, nil
   for k = first, last do
     local record = records[k]
     record.name = nil
     if record.kind == "page" then number = record.number end
-    if record.kind == "set" then lines[#lines + 1] = parameters.change(record, part.clears) end
+    if record.kind == "set" then lines[#lines + 1] = parameters.change(record, clears) end
   end
   return lines, number
 end
@@ -246,33 +246,32 @@ local function put_number(put, number)
   put("page " .. number)
 end
 
--- Puts the line or lines that begin with the record at k, and gives the next place. With `last_clear` at k or after,
--- the clear is left out: it ends the galley.
-local function put_record(part, put, k, last_clear)
+-- Puts the line or lines that begin with the record at k, which stands after so many clears, and gives the next place.
+local function put_record(put, k, clears)
   local record = records[k]
   local float_last, clear_last = float_end(k), clear_end(k)
   if float_last then
     put_float(put, records[float_last])
-    local lines, number = changes_within(part, k, float_last)
+    local lines, number = changes_within(k, float_last, clears)
     put_sets(put, lines)
     put_number(put, number)
     return float_last + 1
   elseif clear_last then
-    if clear_last < last_clear then put(records[clear_last].columns or "clearpage") end
-    part.changes, part.number = changes_within(part, k, clear_last)
+    put(records[clear_last].columns or "clearpage")
+    within_clear.sets, within_clear.number = changes_within(k, clear_last, clears)
     return clear_last + 1
   elseif is_filling(record) and is_penalty(records[k + 1], NEW_PAGE) then
     put("newpage")
     return k + 2
   elseif is_penalty(record, CLEAR) then
     log.lost("penalty -10001 outside a clear (clearpage is written)", record.place)
-    if k < last_clear then put(record.columns or "clearpage") end
+    put(record.columns or "clearpage")
   elseif record.kind == "insertion" then
-    put_insertion(part, put, record)
+    put_insertion(put, record)
   elseif record.kind == "page" then
     put_number(put, record.number)
   elseif record.kind == "set" then
-    put_sets(put, { parameters.change(record, part.clears) })
+    put_sets(put, { parameters.change(record, clears) })
   elseif record.kind == "penalty" and page_break(record) then
     put(page_break(record))
   else
@@ -283,33 +282,31 @@ local function put_record(part, put, k, last_clear)
   return k + 1
 end
 
--- Puts what stands between two clears. `ends_part`: the clear that ends it ends the galley too.
-local function put_stretch(part, stretch, ends_part)
+-- Puts what stands between two clears.
+local function put_stretch(stretch)
   local begins                                 -- the number of the record that the next line begins with
   local function put(line)
-    part.lines[#part.lines + 1] = line
-    part.begins[#part.lines], begins = begins, nil
+    galley.lines[#galley.lines + 1] = line
+    galley.begins[#galley.lines], begins = begins, nil
   end
-  part.clears = stretch.clears
-  if stretch == part.stretches[1] then begin_part(part, stretch) else go_on(part, stretch, put) end
-  put_number(put, part.number)
-  part.changes, part.number = {}, nil
-  local last_clear = ends_part and stretch.last or math.huge
+  if stretch.clears == 0 then begin_galley(stretch) else go_on(stretch, put) end
+  put_number(put, within_clear.number)
+  within_clear = { sets = {} }
   local k = stretch.first
   while k <= stretch.last do
     begins = records[k].id
-    k = put_record(part, put, k, last_clear)
+    k = put_record(put, k, stretch.clears)
   end
 end
 
--- ---- Parts
+-- ---- The galley
 
--- What stands between two clears, in order: first and last place, the change of columns within, and the clears before it.
+-- What stands between two clears, in order: first and last place, and the clears before it.
 local function stretches()
   local out, first = {}, 1
   for k, record in ipairs(records) do
     if is_penalty(record, CLEAR) then
-      out[#out + 1] = { first = first, last = k, columns = record.columns, clears = #out }
+      out[#out + 1] = { first = first, last = k, clears = #out }
       first = k + 1
     end
   end
@@ -317,89 +314,56 @@ local function stretches()
   return out
 end
 
--- The galleys: stretches whose parameters one galley can set.
-local function parts(pages)
-  local out, values, two = {}, nil, two_columns
-  for _, stretch in ipairs(stretches()) do
+-- Gives each stretch the parameters of its columns, nil without any, and those of the columns before it. Returns the first.
+local function take_values(list, pages)
+  local first, before
+  for _, stretch in ipairs(list) do
     local own = parameters.of_part(stretch.clears)
-    if own then sides.choose(own, values, stretch.clears, pages) end
-    local part = out[#out]
-    if not part or (own and values and parameters.differ(own, values)) then
-      part = { lines = {}, begins = {}, classes = {}, stretches = {}, changes = {}, two_columns = two,
-        first_clear = stretch.clears }
-      out[#out + 1] = part
-    end
-    part.values = part.values or own
-    stretch.values, stretch.before = own, values
-    values = own or values
-    part.stretches[#part.stretches + 1] = stretch
-    if stretch.columns then two = stretch.columns == "twocolumn" end
+    if own then sides.choose(own, before, stretch.clears, pages) end
+    stretch.values, stretch.before = own, before
+    first, before = first or own, own or before
   end
-  return out
+  return first
 end
 
 -- A galley that is longer than the program takes is written all the same, and told.
-local function check_length(part, path)
-  local comments = 0
-  for _, line in ipairs(part.lines) do
-    if line:sub(1, 1) == "#" then comments = comments + 1 end
-  end
-  if #part.lines - comments > MOST_ITEMS then
+local function check_length(path)
+  if #galley.lines > MOST_ITEMS then
     log.lost(string.format("a galley of more than %d items (galley_pages refuses %s)", MOST_ITEMS, path), path)
   end
 end
 
 -- Writes the galley, and its map for galleybreaks: a line of the galley, and the record that it begins with.
-local function write_part(part, path, title)
-  check_length(part, path)
+local function write_galley(path, title)
+  check_length(path)
   local out, map = assert(io.open(path, "w")), assert(io.open(path .. "map", "w"))
   local written = 0
   local function put(line)
     out:write(line, "\n")
     written = written + 1
   end
-  put("galley " .. parameters.version(next(part.classes) ~= nil))
+  put("galley " .. parameters.version(next(galley.classes) ~= nil))
   put("# " .. title)
-  for _, line in ipairs(parameters.lines(part.values)) do put(line) end
-  for _, line in ipairs(insertions.class_lines(part.classes)) do put(line) end
-  if part.begins_with then put("page " .. part.begins_with) end
-  if part.two_columns then put("twocolumn") end
-  if part.head then put(part.head) end
-  for k = 1, part.start_notes do put("note start." .. k) end
-  if part.first_page_higher then put("enlarge " .. part.first_page_higher) end
-  for k, line in ipairs(part.lines) do
+  for _, line in ipairs(parameters.lines()) do put(line) end
+  for _, line in ipairs(insertions.class_lines(galley.classes)) do put(line) end
+  if two_columns then put("twocolumn") end
+  if galley.head then put(galley.head) end
+  for k = 1, start_notes do put("note start." .. k) end
+  if galley.first_page_higher then put("enlarge " .. galley.first_page_higher) end
+  for k, line in ipairs(galley.lines) do
     put(line)
-    if part.begins[k] then map:write(written, " ", part.begins[k], "\n") end
+    if galley.begins[k] then map:write(written, " ", galley.begins[k], "\n") end
   end
   put("end")
   out:close()
   map:close()
 end
 
--- Whether a part begins with the number of its page, perhaps behind parameters.
-local function is_numbered(part)
-  for _, line in ipairs(part.lines) do
-    if not line:find("^set ") then return line:find("^page ") ~= nil end
-  end
-  return false
-end
-
--- The number of a part's first page, where it begins with another than 1 and no word of the document tells it.
-local function first_number(part, pages)
-  local number
-  for _, page in ipairs(pages) do
-    if page.clears >= part.first_clear then number = number or page.number end
-  end
-  if not number or number == 1 or number < 0 or number > numbers.MOST or is_numbered(part) then return nil end
-  parameters.use_new()
-  return number
-end
-
 -- In one column the first page of all may be higher than those behind it.
-local function tell_first_page(part, by)
+local function tell_first_page(by)
   if by == 0 then return end
   parameters.use_new()
-  part.first_page_higher = by
+  galley.first_page_higher = by
   log.chosen(string.format("the first page is higher by %d (enlarge)", by))
 end
 
@@ -410,27 +374,16 @@ local function has_footnotes()
   return false
 end
 
--- Writes all galleys of the document. Gives their number, and the counts of what stands in them.
+-- Writes the galley of the document. Gives the counts of what stands in it.
 function M.write(job, pages)
   parameters.settle(has_footnotes())
-  local higher = two_columns and 0 or parameters.first_page_higher()
-  local list = parts(pages)
-  tell_first_page(list[1], higher)
-  for _, part in ipairs(list) do
-    for k, stretch in ipairs(part.stretches) do put_stretch(part, stretch, k == #part.stretches) end
-  end
+  if not two_columns then tell_first_page(parameters.first_page_higher()) end
+  local list = stretches()
+  parameters.begin_galley(take_values(list, pages))
+  for _, stretch in ipairs(list) do put_stretch(stretch) end
   for k = queued + 1, #floats.queue do log.lost("a float that never reached the page builder", floats.queue[k].place) end
-  for k, part in ipairs(list) do
-    -- The first page begins with the whatsits that the class left, that of a later part with the one of the clear before.
-    part.start_notes = k == 1 and start_notes or 1
-    part.begins_with = k > 1 and first_number(part, pages)
-  end
-  for k, part in ipairs(list) do
-    local title = string.format("%s%s, written by galleyexport from %s", job,
-      #list > 1 and string.format(", part %d of %d", k, #list) or "", status.banner:sub(1, 60))
-    write_part(part, job .. (k > 1 and "." .. k or "") .. ".galley", title)
-  end
-  return #list, counts
+  write_galley(job .. ".galley", string.format("%s, written by galleyexport from %s", job, status.banner:sub(1, 60)))
+  return counts
 end
 
 return M

@@ -7,7 +7,7 @@ local nodes = require("galleyexport-nodes")
 
 local M = {}
 
-M.MOST = 1000000       -- the greatest number that a galley can set
+local MOST = 1000000   -- the greatest number that a galley can set
 local now = 1          -- the number of the page that is being made, as the records tell it
 local unsaid           -- the document's number of this page, if no record can tell it
 
@@ -20,7 +20,7 @@ end
 function M.watch()
   local number = tex.count["c@page"]
   if number == now or number == unsaid then return end
-  if number >= 0 and number <= M.MOST then
+  if number >= 0 and number <= MOST then
     now, unsaid = number, nil
     nodes.add { kind = "page", number = number }
   else

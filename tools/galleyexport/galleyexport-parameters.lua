@@ -11,9 +11,8 @@ local MAX_DIMEN = 1073741823
 local NO_GLUE = "0 plus 0 minus 0"
 local ORDERS = { [0] = "", "sfil", "sfil", "sfill", "sfilll" }
 
--- In the order of the galley: name, form, least and greatest value. `part`: it is set at a clear where it changes; `once`:
--- a galley can set it once, so that a change begins a new one; `command`: what the column's maker puts by it, whose meaning
--- is looked at.
+-- In the order of the galley: name, form, least and greatest value. `part`: it is set at a clear where it changes;
+-- `command`: what the column's maker puts by it, whose meaning is looked at.
 local ROWS = {
   { "textheight", "number", 1, MAX_DIMEN, part = true }, { "topskip", "number", 1, MAX_DIMEN },
   { "maxdepth", "number", 0, MAX_DIMEN, part = true }, { "baselineskip", "number", 0, MAX_DIMEN },
@@ -27,7 +26,7 @@ local ROWS = {
   { "dblfloatsep", "text", part = true }, { "dbltextfloatsep", "text", part = true },
   { "fptop", "text", part = true }, { "fpsep", "text", part = true }, { "fpbot", "text", part = true },
   { "dblfptop", "text", part = true }, { "dblfpsep", "text", part = true }, { "dblfpbot", "text", part = true },
-  { "skipfootins", "text", part = true, once = true }, { "footlimit", "number", 0, MAX_DIMEN, part = true, once = true },
+  { "skipfootins", "text", part = true }, { "footlimit", "number", 0, MAX_DIMEN, part = true },
   { "footsplittop", "number", 0, MAX_DIMEN, part = true }, { "footsplitdepth", "number", 0, MAX_DIMEN },
   { "footfloating", "number", -100000, 100000 },
   { "splittopskip", "number", 0, MAX_DIMEN, part = true }, { "splitmaxdepth", "number", 0, MAX_DIMEN, part = true },
@@ -356,14 +355,6 @@ function M.of_part(clears)
   return values
 end
 
--- Whether the values of two parts can't be those of one galley.
-function M.differ(a, b)
-  for _, row in ipairs(ROWS) do
-    if row.once and a[row[1]] ~= b[row[1]] then return true end
-  end
-  return false
-end
-
 -- ---- Lines of a galley
 
 local function clipped(name, value, least, greatest)
@@ -387,7 +378,7 @@ local FORMS = {
   end,
 }
 
--- The version of the galleys: 3 if it is needed, else that of the words that a galley has.
+-- The version of the galley: 3 if it is needed, else that of the words that it has.
 function M.version(has_classes)
   return is_new and 3 or has_classes and 2 or 1
 end
@@ -397,11 +388,11 @@ local function line_of(row, value)
   return text and string.format("set %s %s", row[1], text)
 end
 
--- The `set` lines of a galley that begins with these values.
-function M.lines(values)
+-- The `set` lines that the galley begins with.
+function M.lines()
   local out = {}
   for _, row in ipairs(ROWS) do
-    local value = values[row[1]] or own[row[1]]
+    local value = own[row[1]]
     if value and (is_new or not row.kernel) then out[#out + 1] = line_of(row, value) end
   end
   return out
@@ -443,21 +434,19 @@ function M.changes(clears, before, values)
   return out
 end
 
--- The values of a galley that begins here; `values` are those of its first columns, nil without any.
+-- The galley begins with these values, those of its first columns; nil without any.
 function M.begin_galley(values)
-  local out = {}
   for _, row in ipairs(ROWS) do
     local name = row[1]
-    out[name] = said[name] or (values and values[name])
-    if row.kernel and (out[name] or own[name]) ~= row.kernel then is_new = true end
+    own[name] = values and values[name] or own[name]
+    if row.kernel and own[name] ~= row.kernel then is_new = true end
   end
-  return out
 end
 
 local is_parskip_known = false
 
 -- The line before a float that uses this parskip: one with place h that was called between paragraphs. They alone use it, so
--- a galley begins with that of the first.
+-- the galley begins with that of the first.
 function M.float_parskip(glue)
   if is_parskip_known then return set_line(ROW.parskip, glue) end
   own.parskip, is_parskip_known = glue, true

@@ -7,7 +7,7 @@
 --   galleyexport-numbers      the numbers of pages
 --   galleyexport-pages        the columns and pages that LaTeX made
 --   galleyexport-sides        the sides of marginal notes, by LaTeX's pages
---   galleyexport-galley       records as the lines of galleys
+--   galleyexport-galley       records as the lines of the galley
 -- The galley is written when the document ends, since a float's place and most parameters are known late.
 
 -- Modules stand where TEXINPUTS found the package.
@@ -82,11 +82,11 @@ end
 -- The document has ended: all files are written. A name with spaces has quotes round it in TeX, and none in a folder.
 function M.finish()
   local job = tex.jobname:gsub('"', "")
-  local parts, counts = M.galley.write(job, M.pages.list)
+  local counts = M.galley.write(job, M.pages.list)
   M.pages.write(job .. ".pages")
   M.log.write(job .. ".galleylog", string.format(
-    "%d records, %d boxes, %d footnotes, %d floats, %d marginal notes, %d pages, %d parts",
-    #M.nodes.records, counts.boxes, counts.footnotes, counts.floats, counts.margins, #M.pages.list, parts))
+    "%d records, %d boxes, %d footnotes, %d floats, %d marginal notes, %d pages",
+    #M.nodes.records, counts.boxes, counts.footnotes, counts.floats, counts.margins, #M.pages.list))
 end
 
 return M

@@ -18,7 +18,7 @@ SPLITS = {'widow': 'a widow (the last line of a paragraph alone on the next page
 
 @dataclass
 class Labels:
-    """What pages are called, by their places in the report."""
+    """The numbers of pages, by their places in the report; a page without one is called by its place."""
     before: dict
     after: dict
 
@@ -30,8 +30,11 @@ class Labels:
         return 'page %d (page %d before)' % (new, old)
 
 
+PLACES = Labels({}, {})        # each page is called by its place
+
+
 def own_labels(before, after):
-    """The labels of a galley alone: its own numbers."""
+    """The labels by the numbers that are printed on the pages."""
     return Labels({page.place: page.number for page in before.report.pages},
                   {page.place: page.number for page in after.report.pages})
 
@@ -171,29 +174,37 @@ class Story:
         numbers = ends | {page + 1 for page in ends if page + 1 in known}      # where a page begins elsewhere
         return ranges([self.labels.after.get(page) or self.labels.before.get(page) or page for page in numbers])
 
-    def lines(self):
-        """The whole, as lines."""
+    def chosen_lines(self):
+        """What is said of all that was chosen."""
         breaks = len(self.choice.breaks)
         if breaks:
             yield '%s put in:' % ('1 page break is' if breaks == 1 else '%d page breaks are' % breaks)
             yield from ('  ' + it for it in self.break_lines())
         else:
             yield 'no page break is put in: no choice of breaks has fewer demerits'
-        yield from sums([(self.choice, self.before, self.after)], [self.labels])
+
+    def sums(self):
+        """The sums before and after."""
+        sides = (self.before, self.after)
+        yield 'demerits: %d before, %d now' % (self.choice.greedy, self.choice.least)
+        bad = [sum(end.demerits >= BAD for end in side.endings) for side in sides]
+        yield 'columns of %d demerits or more: %d before, %d now' % (BAD, *bad)
+        yield 'pages: %d before, %d now' % tuple(len(side.report.pages) for side in sides)
+
+    def is_changed(self):
+        """Whether the pages may be others than before."""
+        return bool(self.choice.breaks)
+
+    def lines(self):
+        """The whole, as lines."""
+        yield from self.chosen_lines()
+        yield from self.sums()
         told = self.page_lines()
         if told:
             yield 'page by page:'
             yield from ('  ' + it for it in told)
-        if breaks and self.other_pages():
+        if self.is_changed() and self.other_pages():
             yield 'other lines than before: ' + self.other_pages()
-
-
-def sums(parts, labels):
-    """The sums before and after, over all parts of a document: of each its choice and its two sides."""
-    yield 'demerits: %d before, %d now' % tuple(sum(getattr(it[0], word) for it in parts) for word in ('greedy', 'least'))
-    bad = [sum(end.demerits >= BAD for it in parts for end in it[side].endings) for side in (1, 2)]
-    yield 'columns of %d demerits or more: %d before, %d now' % (BAD, *bad)
-    yield 'pages: %d before, %d now' % tuple(sum(len(getattr(it, side)) for it in labels) for side in ('before', 'after'))
 
 
 def ranges(numbers):

@@ -8,14 +8,14 @@ import subprocess
 import sys
 import tempfile
 
-from . import check_best, check_rows, tries
+from . import check_best, check_rows, check_spreads, tries
 
 USAGE = """Runs tools/paginate on the paper in examples/document and on the documents of tools/documents that are
 installed, and prints how many of their pages are the same as LaTeX's: a table for tools/README.md. The exit status is 0
 if every page of the paper is the same, its stored report is what the program writes, and every document was
 paginated, without a change to what LaTeX weighs (one more run, without the exporter, shows that). With --best it runs
 tools/paginate --best, and the table tells the sums of demerits before and with the best page breaks, how many breaks and
-bad columns these are, and how many of the chosen pages LaTeX made."""
+bad columns these are, and how many of the chosen pages LaTeX made; with --best --spreads the same with spreads."""
 
 TOOLS = os.path.dirname(os.path.dirname(os.path.abspath(__file__)))
 EXAMPLE = os.path.join(TOOLS, os.pardir, 'examples', 'document')
@@ -72,7 +72,8 @@ def output(command, seconds, **options):
 
 def paginate(source, out, code, options):
     """What tools/paginate says of the document."""
-    command = [os.path.join(TOOLS, 'paginate'), source, '--out', out, '--no-pictures'] + ['--best'] * options.best
+    command = [os.path.join(TOOLS, 'paginate'), source, '--out', out, '--no-pictures']
+    command += ['--best'] * options.best + ['--spreads'] * options.spreads
     return output(command + (['--before', code] if code else []), options.seconds)
 
 
@@ -122,7 +123,7 @@ class Table:
     def __init__(self, options, scratch):
         self.options, self.scratch = options, scratch
         self.out = options.out or os.path.join(scratch, 'out')
-        self.form = check_best if options.best else check_rows
+        self.form = check_spreads if options.spreads else check_best if options.best else check_rows
         self.rows, self.missing, self.failed = [], [], []
         show(self.form.HEADER)
         show(['---'] * len(self.form.HEADER))
@@ -162,10 +163,13 @@ def main(arguments):
     parser = argparse.ArgumentParser(prog='check', description=USAGE)
     parser.add_argument('names', nargs='*', help='these documents alone')
     parser.add_argument('--best', action='store_true', help='with tools/paginate --best: what the best page breaks change')
+    parser.add_argument('--spreads', action='store_true', help='with --best: with spreads that are longer or shorter too')
     parser.add_argument('--documents', default=os.path.join(TOOLS, 'documents'), help='another list of documents')
     parser.add_argument('--out', help='keep all files in this folder')
     parser.add_argument('--seconds', type=int, default=900, help='how long one document may take (900)')
     options = parser.parse_args(arguments)
+    if options.spreads and not options.best:
+        parser.error('--spreads needs --best')
     if not shutil.which('lualatex'):
         print('check: lualatex is not installed (Debian: texlive-luatex, texlive-latex-recommended)', file=sys.stderr)
         return 3

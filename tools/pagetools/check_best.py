@@ -3,9 +3,9 @@ import re
 
 from .check_rows import PAGES
 
-HEADER = ('Document', 'Pages', 'Demerits before', 'now', 'Breaks put in', 'Columns of 20000 or more before', 'now',
-          'Pages that LaTeX made as chosen', 'Seconds to choose')
-PAGES_COLUMN, SAME_COLUMN, SECONDS_COLUMN = 1, 7, 8
+PAGES_TITLE, SAME_TITLE, SECONDS_TITLE = 'Pages', 'Pages that LaTeX made as chosen', 'Seconds to choose'
+HEADER = ('Document', PAGES_TITLE, 'Demerits before', 'now', 'Breaks put in', 'Columns of 20000 or more before', 'now',
+          SAME_TITLE, SECONDS_TITLE)
 
 DEMERITS = re.compile(r'^demerits: (\d+) before, (\d+) now$', re.M)
 COLUMNS = re.compile(r'^columns of \d+ demerits or more: (\d+) before, (\d+) now$', re.M)
@@ -20,28 +20,33 @@ def pair(found):
 
 
 def row(name, said):
-    """The cells of a document's row, None if no breaks were chosen. The sums of the whole come after those of its parts."""
-    compared, seconds = PAGES.search(said), SECONDS.search(said)
-    demerits, columns, pages = ((form.findall(said) or [None])[-1] for form in (DEMERITS, COLUMNS, COUNT))
-    if not (compared and seconds and demerits and columns and pages):
+    """The cells of a document's row, None if no breaks were chosen."""
+    found = [form.search(said) for form in (PAGES, SECONDS, DEMERITS, COLUMNS, COUNT)]
+    if not all(found):
         return None
-    breaks = sum(int(it) for it in BREAKS.findall(said))
-    return (name, pair(pages), *demerits, str(breaks), *columns,
+    compared, seconds, demerits, columns, pages = found
+    breaks = BREAKS.search(said)
+    return (name, pair(pages.groups()), *demerits.groups(), breaks[1] if breaks else '0', *columns.groups(),
             '%s of %s' % (compared['places'], compared['pages']), seconds[1])
 
 
 def total(rows):
     """The sums over all rows."""
+    return sums(rows, HEADER)
+
+
+def sums(rows, header):
+    """The sums of rows whose columns these are."""
     cells = ['all']
-    for column in range(1, len(HEADER)):
-        parts = [[float(n) for n in re.split(' of | to ', it[column])] for it in rows]
-        sums = [sum(part[0] for part in parts)] + [sum(part[-1] for part in parts)] * (column in (PAGES_COLUMN, SAME_COLUMN))
-        words = ['%.*f' % (column == SECONDS_COLUMN, it) for it in sums]
-        cells.append(pair(tuple(words)) if column == PAGES_COLUMN else ' of '.join(words))
+    for at, title in list(enumerate(header))[1:]:
+        parts = [[float(n) for n in re.split(' of | to ', it[at])] for it in rows]
+        both = [sum(part[0] for part in parts)] + [sum(part[-1] for part in parts)] * (title in (PAGES_TITLE, SAME_TITLE))
+        words = ['%.*f' % (title == SECONDS_TITLE, it) for it in both]
+        cells.append(pair(tuple(words)) if title == PAGES_TITLE else ' of '.join(words))
     return tuple(cells)
 
 
 def is_whole(cells):
     """Whether LaTeX made the chosen pages, each in every place."""
-    same, whole = cells[7].split(' of ')
+    same, whole = cells[-2].split(' of ')
     return same == whole

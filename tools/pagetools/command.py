@@ -7,7 +7,8 @@ import subprocess
 import sys
 import tempfile
 
-from . import about, best, best_words, messages, points, program, report, settings, story, why, why_data, why_tries
+from . import (about, best, best_words, messages, points, program, report, settings, spread_words, spreads, story, why,
+               why_data, why_tries)
 
 MODES = ('report', 'trace', 'rate', 'best', 'why', 'plain', 'print', 'lines', 'dvi', 'dvilist', 'gen')
 REPORTS = ('report', 'trace', 'plain')      # the modes whose output is a page report
@@ -16,7 +17,7 @@ MOST = 8388608                              # bytes of an input
 WHO = 'galley-pages'
 
 USAGE = """usage: galley-pages [MODE] [FILE ..] [-o OUT] [--json | --points] [--count N] [--quiet]
-       galley-pages best [FILE] [-o OUT] [--json | --raw] [--quiet]
+       galley-pages best [FILE] [--spreads] [-o OUT] [--json | --raw] [--quiet]
        galley-pages why [FILE [NAME [LINE]]] [-o OUT] [--json | --raw] [--quiet]
        galley-pages --help | --version
 
@@ -44,6 +45,8 @@ NAME     of the mode why: a float or a marginal note; LINE is the line of its ga
 --json     a report as JSON (docs/JSON.md); of the modes report, trace and plain; and what the modes best and why tell
 --raw      of the modes best and why: the lines of the program (docs/FORMATS.md), as it writes them
 --points   a report with all sizes in points, as TeX prints them; of the same modes
+--spreads  of the mode best: facing pages one line longer or shorter too, where that makes the pages better; with --raw
+           what the package galleybreaks reads as NAME.spreads
 --count N  of the mode gen: how many items, 1 to 40000; 1000 without it
 --quiet    no line that the program is not proved, and none if the reader of a pipe has stopped
 
@@ -78,6 +81,7 @@ def options_of(arguments):
     parser.add_argument('--json', action='store_true')
     parser.add_argument('--points', action='store_true')
     parser.add_argument('--raw', action='store_true')
+    parser.add_argument('--spreads', action='store_true')
     parser.add_argument('--count')
     parser.add_argument('--quiet', action='store_true')
     options = parser.parse_intermixed_args(arguments)
@@ -117,6 +121,8 @@ def check_told(options):
     """Raises a usage error where the options of the modes best and why are wrong."""
     if options.raw and (options.mode not in TOLD or options.json or options.name):
         raise Usage('--raw is for the modes best and why, without --json and without a name')
+    if options.spreads and options.mode != 'best':
+        raise Usage('--spreads is for the mode best')
     if options.mode == 'best' and len(options.files) > 1:
         raise Usage('the mode best takes one file')
     if len(options.name) > 2 or not all(line.isdigit() for line in options.name[1:]):
@@ -185,7 +191,7 @@ class Run:
         self.name = 'standard input' if file == '-' else file
         self.out = b''
         words = [path, '--mode', options.mode] + (['--count', options.count] if options.count is not None else [])
-        tells = options.mode in TOLD and not options.raw
+        tells = options.mode in TOLD and not options.raw or options.spreads
         keeps = options.json or options.points or options.out or tells
         with input_of(file, options.mode) as given:
             start = given.tell() if given.seekable() else 0
@@ -280,10 +286,24 @@ def told_best(options, out, text, path):
     if not out:
         return b''
     choice = best.read(out, options.files[0])
+    if options.spreads:
+        return told_spreads(options, choice, text, path)
     before, after = best.compared(path, text, choice)
     if options.json:
         return (json.dumps(best_words.data(choice, before, after), indent=1) + '\n').encode()
     lines = best_words.Story(text, choice, before, after).lines()
+    return ''.join(line + '\n' for line in lines).encode('latin-1')
+
+
+def told_spreads(options, choice, text, path):
+    """The same with spreads; or the plan, as NAME.spreads has it."""
+    plan = spreads.search(path, text, choice)
+    if options.raw:
+        return spreads.written(plan).encode('latin-1')
+    before = best.side(path, text, [])
+    if options.json:
+        return (json.dumps(spread_words.data(plan, before), indent=1) + '\n').encode()
+    lines = spread_words.SpreadStory(text, plan, before).lines()
     return ''.join(line + '\n' for line in lines).encode('latin-1')
 
 

@@ -7,10 +7,10 @@ from collections import Counter
 from dataclasses import dataclass
 from itertools import zip_longest
 
-from . import document, report
+from . import report
 
-USAGE = """Compares the pages that LaTeX made of a document (NAME.pages, by galleyexport) with the reports on its
-galleys. A line for each page that differs tells whether it agrees in its contents (the same boxes, rules, footnotes,
+USAGE = """Compares the pages that LaTeX made of a document (NAME.pages, by galleyexport) with the report on its
+galley. A line for each page that differs tells whether it agrees in its contents (the same boxes, rules, footnotes,
 heads, floats and notes in the same order and column, floats in the same area), in the natural height and glue set of each
 column, in every place, in the rules above footnotes and beside floats, and in its printed number; then come the totals and
 the first difference. Pages are counted from 1, whatever number is printed on them.
@@ -231,7 +231,7 @@ def latex_warnings(log):
 
 
 def report_warnings(pages):
-    """The same of the pages of reports."""
+    """The same of the pages of a report."""
     found = {kind: [] for kind in LATEX_WARNINGS}
     for page in pages:
         for warning in page.warnings:
@@ -241,7 +241,7 @@ def report_warnings(pages):
 
 
 def warnings_line(log, pages):
-    """The kinds of warnings of which LaTeX's log and the reports have not as many; '' if all agree."""
+    """The kinds of warnings of which LaTeX's log and the report have not as many; '' if all agree."""
     latex, ours = latex_warnings(log), report_warnings(pages)
     told = []
     for kind, places in latex.items():
@@ -255,19 +255,19 @@ def warnings_line(log, pages):
 def main(arguments):
     parser = argparse.ArgumentParser(prog='compare', description=USAGE)
     parser.add_argument('pages', help='NAME.pages')
-    parser.add_argument('reports', nargs='+', help='NAME.report, NAME.2.report ..: of all parts, in order')
+    parser.add_argument('report', help='NAME.report')
     parser.add_argument('--log', help="LaTeX's log, whose warnings are compared too")
     parser.add_argument('--all', action='store_true', help='tell every difference, not the first alone')
     parser.add_argument('--every-page', action='store_true', help='a line for each page, not for those alone that differ')
     parser.add_argument('--quiet', action='store_true', help='no line for any page')
     options = parser.parse_args(arguments)
     try:
-        latex, others = report.read(options.pages), document.pages(options.reports)
+        latex, others = report.read(options.pages).pages, report.read(options.report).pages
         warnings = warnings_line(options.log, others) if options.log else ''
     except (OSError, report.ReportFault) as fault:
         print('compare: %s' % fault, file=sys.stderr)
         return 2
-    comparison = Comparison(latex.pages, others)
+    comparison = Comparison(latex, others)
     if not options.quiet:
         for line in table(comparison, options.every_page):
             print(line)

@@ -17,7 +17,6 @@ class Entry:
     line: int
     before: list         # the lines of glue, kerns, penalties and words since the last box or rule, as text
     foot: bool           # whether it stands in a foot
-    part: int = 0        # which of a document's galleys it stands in
 
 
 @dataclass
@@ -91,27 +90,32 @@ def text_line(number, words):
 
 def read(path):
     """The galley in a file."""
+    with open(path, encoding='latin-1') as lines:
+        return read_lines(lines)
+
+
+def read_lines(lines):
+    """The galley in some lines."""
     galley, foot = Galley(), False
     before = {False: [], True: []}                  # in the text, in a foot
-    with open(path, encoding='latin-1') as lines:
-        for number, line in enumerate(lines, 1):
-            words = line.split()
-            if not words or words[0].startswith('#'):
-                continue
-            if words[0] == 'set' and len(words) > 2:
-                galley.set(number, words[1], words[2:])
-            if not foot:
-                galley.add(text_line(number, words))
-            if words[0] in ('foot', 'endfoot'):
-                foot = words[0] == 'foot'
-                before[True] = []
-            elif words[0] in BETWEEN:
-                before[foot].append(line.strip())
-            elif words[0] in NAMED and len(words) > 1:
-                entry = Entry(number, before[foot], foot)
-                galley.entries.setdefault((words[0], words[1]), []).append(entry)
-                if words[0] in ('box', 'rule'):
-                    before[foot] = []
+    for number, line in enumerate(lines, 1):
+        words = line.split()
+        if not words or words[0].startswith('#'):
+            continue
+        if words[0] == 'set' and len(words) > 2:
+            galley.set(number, words[1], words[2:])
+        if not foot:
+            galley.add(text_line(number, words))
+        if words[0] in ('foot', 'endfoot'):
+            foot = words[0] == 'foot'
+            before[True] = []
+        elif words[0] in BETWEEN:
+            before[foot].append(line.strip())
+        elif words[0] in NAMED and len(words) > 1:
+            entry = Entry(number, before[foot], foot)
+            galley.entries.setdefault((words[0], words[1]), []).append(entry)
+            if words[0] in ('box', 'rule'):
+                before[foot] = []
     return galley
 
 

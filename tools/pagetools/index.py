@@ -101,14 +101,14 @@ class FloatRow:
 
 
 def text_lines(pages, entries):
-    """By galley the lines of the text's boxes, rising, each with its page."""
-    lines = {}
+    """The lines of the text's boxes, rising, each with its page."""
+    lines = []
     for page in pages:
         for _, item in page.items():
             entry = entries.get(id(item))
             if entry and item.kind == 'box' and not entry.foot:
-                lines.setdefault(entry.part, []).append((entry.line, page.place))
-    return {part: sorted(rows) for part, rows in lines.items()}
+                lines.append((entry.line, page.place))
+    return sorted(lines)
 
 
 def float_rows(pages, entries, told):
@@ -119,8 +119,7 @@ def float_rows(pages, entries, told):
         for _, item in page.items():
             if item.kind == 'float':
                 entry = entries.get(id(item))
-                text = lines.get(entry.part, []) if entry else []
-                called = text[max(bisect_right(text, (entry.line, 0)) - 1, 0)][1] if text else 0
+                called = lines[max(bisect_right(lines, (entry.line, 0)) - 1, 0)][1] if entry and lines else 0
                 rows.append(FloatRow(item, page.place, called, known.get(id(item))))
     return rows
 

@@ -28,7 +28,7 @@ installed, and the folders that were made for it. The status is 1 if it can't be
 
 # The modules that the command needs.
 MODULES = ('__init__', 'about', 'best', 'best_words', 'command', 'galley', 'messages', 'points', 'program', 'report',
-           'settings', 'story', 'tries', 'why', 'why_data', 'why_tries', 'why_words')
+           'settings', 'spread_words', 'spreads', 'story', 'tries', 'why', 'why_data', 'why_tries', 'why_words')
 SHARED = 'share/galley_pages'
 MANUAL = 'share/man/man1'
 

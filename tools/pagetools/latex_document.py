@@ -2,7 +2,6 @@
 import filecmp
 import glob
 import os
-import re
 import shutil
 import subprocess
 import sys
@@ -15,8 +14,8 @@ MOST_RUNS = 3
 SHOWN_ERRORS = 3
 
 # What an earlier call made, but for LaTeX's own files.
-MADE = ('.galley', '.galleymap', '.report', '.trace', '.why', '.best', '.chosen.galley', '.chosen.report', '.chosen.trace',
-        '.chosen.why')
+MADE = ('.galley', '.galleymap', '.galleylog', '.pages', '.report', '.trace', '.why', '.best', '.spreads', '.chosen.galley',
+        '.chosen.report', '.chosen.trace', '.chosen.why')
 
 
 class Refusal(Exception):
@@ -39,7 +38,7 @@ def document_name(path):
 
 
 class Document:
-    """A document and the folder of its files. With `breaks` the page breaks of its files NAME.best are put in."""
+    """A document and the folder of its files. With `breaks` the page breaks of its file NAME.best are put in."""
 
     def __init__(self, source, out, before):
         self.source, self.before, self.breaks = os.path.realpath(source), before, False
@@ -52,16 +51,9 @@ class Document:
     def path(self, ending):
         return os.path.join(self.out, self.name + ending)
 
-    def parts(self, ending):
-        """The files of all parts: NAME.galley, NAME.2.galley .., in order."""
-        found = [path for path in glob.glob(os.path.join(glob.escape(self.out), glob.escape(self.name) + '*' + ending))
-                 if re.fullmatch(r'(\.\d+)?' + re.escape(ending), path[len(self.path('')):])]
-        return sorted(found, key=lambda path: (len(path), path))
-
     def clean(self):
         """Takes away what an earlier call made, but for LaTeX's auxiliary files."""
-        made = [path for ending in MADE for path in self.parts(ending)]
-        made += [self.path('.pages'), self.path('.galleylog')]
+        made = [self.path(ending) for ending in MADE]
         made += glob.glob(os.path.join(glob.escape(self.out), 'pictures', 'page*.svg'))
         for path in made:
             if os.path.exists(path):
@@ -96,6 +88,7 @@ class Document:
             say('LaTeX: the auxiliary file has changed again, so the next call may give other pages')
         if os.path.exists(last):
             os.remove(last)
+        self._check()
 
     def log_lines(self, start):
         """The lines of LaTeX's log that begin with these letters."""
@@ -104,15 +97,14 @@ class Document:
         with open(self.path('.log'), encoding='utf-8', errors='replace') as log:
             return [line.rstrip() for line in log if line.startswith(start)]
 
-    def galleys(self):
-        """The galleys that LaTeX's last run wrote."""
-        errors, found = self.log_lines('!'), self.parts('.galley')
-        if not found or not report.read(self.path('.pages')).pages:
-            what = 'LaTeX made no page' if found else 'no galley was written'
+    def _check(self):
+        """Raises why LaTeX's last run wrote no galley or made no page. Else tells how many errors TeX reported."""
+        errors, is_written = self.log_lines('!'), os.path.exists(self.path('.galley'))
+        if not is_written or not report.read(self.path('.pages')).pages:
+            what = 'LaTeX made no page' if is_written else 'no galley was written'
             shown = errors[-SHOWN_ERRORS:] + self.log_lines('Package galleyexport Warning')
             told = ''.join('\n  ' + line for line in shown) or ' none'
             raise Refusal('%s; the last errors in %s:%s' % (what, self.path('.log'), told))
         if errors:
             print('TeX reported %d error%s, the first: %s (see %s)' % (
                 len(errors), 's' if len(errors) > 1 else '', errors[0], self.path('.log')))
-        return found

@@ -12,9 +12,9 @@ from . import report
 
 USAGE = """Prints for each page its top mark, its first mark and its bottom mark, from which running heads are made: LaTeX's
 \\rightmark is of the first mark, its \\leftmark of the bottom mark. Each is the name of a `mark' of the galley, or - before
-the first one. Lines `left NAME' at the end name marks that are on no page. Of several reports, as of the parts of one
-document, the marks go on from one to the next, and pages are counted through. The exit status is 0, or 2 if a file is no
-page report."""
+the first one. Lines `left NAME' at the end name marks that are on no page. Of several reports, as of the parts of a
+galley that is too long for one run, the marks go on from one to the next, and pages are counted through. The exit status
+is 0, or 2 if a file is no page report."""
 
 
 @dataclass

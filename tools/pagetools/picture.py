@@ -4,7 +4,7 @@ import os
 import sys
 from dataclasses import dataclass
 
-from . import calls, compare, document, index, marks, places, report, stories, tries, why
+from . import calls, compare, index, marks, places, report, stories, tries, why
 from . import galley as galleys
 from .calls import page_file
 from .column import LANE, PT, Around, ColumnDrawing, cut, draw_float, draw_float_rule, draw_head, mark_first, words
@@ -18,9 +18,8 @@ told by what the galley says of them, with --trace the places that were weighed 
 column ends. With --why a mark stands where a float is called, with a line to the float, or a tag that names its page; a
 click on mark, tag or float shows the tests that were made of it, the first that failed in words, and what would have
 passed that test. With --latex a page that differs from LaTeX's stands beside LaTeX's own, with the first
-difference marked; with --before beside the page of the reports before. At the head of a page stand its top mark and its
-first mark, at its foot its bottom mark, if there are any. Several reports, as of the parts of one document, are drawn one
-after another."""
+difference marked; with --before beside the page of the report before. At the head of a page stand its top mark and its
+first mark, at its foot its bottom mark, if there are any."""
 
 COLUMN_GAP = 22.0
 MARGIN_ROOM = 96.0
@@ -64,7 +63,7 @@ class PageDrawing:
         self.around.room = room.room(page, self._last_line()) if room else 0
         drawing = Drawing(self.width + left + self.right, self.height + TOP + FOOT + 6)
         drawing.rect(6, 4, drawing.width - 12, drawing.height - 8, 'sheet', radius=3)
-        drawing.text(left, 23, title or document.title(page), 10, 'title')
+        drawing.text(left, 23, title or page.title(), 10, 'title')
         told = page.kind + (', %s over both columns %.1fpt' % (over_both(page), self.at) if page.at else '')
         drawing.text(left + self.width, 23, told, 7, 'quiet', 'end')
         if page.warnings:
@@ -113,36 +112,30 @@ class Sheet:
 
 
 class Book:
-    """All pages of a document: those of its reports."""
+    """All pages of a report."""
 
     def __init__(self, options):
-        self.sheets, self.entries, self.stories, self.notes = [], {}, [], {}
+        self.stories, self.notes = [], {}
         self.traced = bool(options.trace or options.why)
-        read = []
-        for k, path in enumerate(options.reports):
-            own = report.read(path)
-            read += own.pages
-            galley = galleys.read(options.galley[k]) if k < len(options.galley) else None
-            if galley:
-                self.entries.update(entries_of(own.pages, galley, k))
-            self._tell(own, k, options)
-            for page in own.pages:
-                self.sheets.append(Sheet(page, galley))
-        document.counted([sheet.page for sheet in self.sheets])
-        stories.find_calls(self.stories, self.pages(), self.entries)
-        self.marks = {id(page): own for page, own in zip(self.pages(), marks.of_pages(read))}
+        own = report.read(options.report)
+        galley = galleys.read(options.galley) if options.galley else None
+        self.entries = entries_of(own.pages, galley) if galley else {}
+        self._tell(own, options)
+        self.sheets = [Sheet(page, galley) for page in own.pages]
+        stories.find_calls(self.stories, own.pages, self.entries)
+        self.marks = {id(page): found for page, found in zip(own.pages, marks.of_pages(own.pages))}
         self.drawn = {sheet.place() for sheet in chosen(self.sheets, options.pages)}
-        self.own = set(map(id, self.pages()))
+        self.own = set(map(id, own.pages))
         self.beside = index.BEFORE if options.before else index.LATEX
         self.comparison = self._compare(options) if options.latex or options.before else None
 
-    def _tell(self, own, part, options):
-        """Adds what was told of a part: the places that were weighed, and why floats went where they went."""
-        told = stories.Told(options.why[part], options.galley[part]) if part < len(options.why) else None
+    def _tell(self, own, options):
+        """Adds what was told: the places that were weighed, and why floats went where they went."""
+        told = stories.Told(options.why, options.galley) if options.why else None
         if told:
-            self.stories += stories.of_part(part, own, told, (len(self.sheets), len(self.stories)))
-            self.notes.update(stories.note_tips(own.pages, told.run.notes, self.entries))
-        traced = report.read(options.trace[part]) if part < len(options.trace) else told.trace if told else None
+            self.stories = stories.of_report(own, told)
+            self.notes = stories.note_tips(own.pages, told.run.notes, self.entries)
+        traced = report.read(options.trace) if options.trace else told.trace if told else None
         for page, other in zip(own.pages, traced.pages if traced else []):
             page.tries = other.tries
 
@@ -152,9 +145,9 @@ class Book:
 
     def _compare(self, options):
         """Puts LaTeX's pages, or those before, beside those that differ."""
-        others = document.pages(options.before) if options.before else report.read(options.latex).pages
-        for k, path in enumerate(options.galley):
-            self.entries.update(entries_of(others, galleys.read(path), k))
+        others = report.read(options.before or options.latex).pages
+        if options.galley:
+            self.entries.update(entries_of(others, galleys.read(options.galley)))
         own = {id(sheet.page): sheet for sheet in self.sheets}
         comparison = compare.Comparison(others, self.pages())
         self.sheets = []
@@ -178,14 +171,13 @@ class Book:
         return any(item.kind == 'margin' for page in self.drawn_pages() for _, item in page.items())
 
 
-def entries_of(pages, galley, part):
+def entries_of(pages, galley):
     """The entry in the galley of each item, by the item's id."""
     entries = {}
     for page in pages:
         for _, item in page.items():
             entry = galley.take(item.kind, item.name) if item.kind in galleys.NAMED else None
             if entry:
-                entry.part = part
                 entries[id(item)] = entry
     return entries
 
@@ -264,14 +256,14 @@ def facts(book, options):
 
 def parsed(arguments):
     parser = argparse.ArgumentParser(prog='picture', description=USAGE)
-    parser.add_argument('reports', nargs='+', help='NAME.report, NAME.2.report ..: or NAME.pages of galleyexport')
-    parser.add_argument('--galley', nargs='+', default=[], help='the galleys of these reports, in the same order')
-    parser.add_argument('--trace', nargs='+', default=[], help='the traces of these galleys, which need --galley too')
-    parser.add_argument('--why', nargs='+', default=[], metavar='NAME.why',
-                        help='what the mode why writes of these galleys, with --galley; its places too, without --trace')
+    parser.add_argument('report', help='NAME.report, or NAME.pages of galleyexport')
+    parser.add_argument('--galley', help='the galley of this report')
+    parser.add_argument('--trace', help='the trace of this galley, which needs --galley too')
+    parser.add_argument('--why', metavar='NAME.why',
+                        help='what the mode why writes of this galley, with --galley; its places too, without --trace')
     parser.add_argument('--latex', metavar='NAME.pages', help="LaTeX's own pages, to stand beside those that differ")
-    parser.add_argument('--before', nargs='+', default=[], metavar='REPORT',
-                        help='the reports before a change, to stand beside the pages that differ, in place of --latex')
+    parser.add_argument('--before', metavar='REPORT',
+                        help='the report before a change, to stand beside the pages that differ, in place of --latex')
     parser.add_argument('--told', metavar='FILE', help='lines of text for the head of the index')
     parser.add_argument('--log', help="LaTeX's log, with the places that TeX weighed, for the index")
     parser.add_argument('--galleylog', help="what the galley can't say, for the index")
@@ -281,14 +273,14 @@ def parsed(arguments):
     if options.latex and options.before:
         parser.error('--latex and --before do not go together')
     for name in ('trace', 'why'):
-        if len(getattr(options, name)) > len(options.galley):
+        if getattr(options, name) and not options.galley:
             parser.error('--%s needs --galley: what it tells is told by the lines of the galley' % name)
     return options
 
 
 def main(arguments):
     options = parsed(arguments)
-    name = os.path.splitext(options.reports[0])[0]
+    name = os.path.splitext(options.report)[0]
     folder = options.out or name + '.pictures'
     try:
         book = Book(options)

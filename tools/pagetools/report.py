@@ -76,7 +76,11 @@ class Page:
     columns: list = field(default_factory=list)
     warnings: list = field(default_factory=list)    # lines without `warn`, that stand before the page
     tries: list = field(default_factory=list)       # those that stand before the page
-    place: int = 0       # counted from 1 through the report, or through the reports of a document
+    place: int = 0       # counted from 1 through the report
+
+    def title(self):
+        """What it is called: its place, and the number that is printed on it, where that is another."""
+        return 'page %d' % self.place + (', with the number %d' % self.number if self.number != self.place else '')
 
     def items(self):
         """Each item with the number of its column, 0 for those over both."""

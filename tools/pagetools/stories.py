@@ -11,7 +11,7 @@ PLACES = {'here': 'in the text', 'top': 'at the top', 'bottom': 'at the bottom',
 
 
 class Told:
-    """What the mode why told of a part of a document: the places that were weighed, and its floats and notes."""
+    """What the mode why told of a galley: the places that were weighed, and its floats and notes."""
 
     def __init__(self, path, galley):
         self.path = path
@@ -26,21 +26,15 @@ class Told:
 @dataclass
 class Story:
     """A float of the document."""
-    number: int          # counted through the document, from 1
+    number: int          # counted from 1
     told: why.Float
-    part: int            # which of the document's galleys it stands in
-    source: Told         # what is told of that part
-    pages_before: int    # how many pages of the document come before that part
+    source: Told
     item: object = None  # of the report, None if it was not shipped
     page: int = 0        # where it stands, 0 for nowhere
     column: int = 0      # 0 above both columns
     call_page: int = 0   # where the words before its call stand, 0 where that is unknown
     call_column: int = 0
     call_y: int = 0      # sp below the top of that column
-
-    def shown(self, place):
-        """The place in the document of a page of that part."""
-        return self.pages_before + place
 
     def late(self):
         """How many columns and wide pages were put out while it waited."""
@@ -60,19 +54,18 @@ class Story:
         return self.page != self.call_page
 
 
-def of_part(part, own, told, known):
-    """The stories of the floats of a part, by its report, whose pages count from 1 still. So many pages and stories are
-    `known` before it."""
+def of_report(own, told):
+    """The stories of the floats of a report."""
     items = [(page, column, item) for page in own.pages for column, item in page.items() if item.kind == 'float']
     found = []
-    for it in told.run.floats:
-        story = Story(known[1] + len(found) + 1, it, part, told, known[0])
+    for number, it in enumerate(told.run.floats, 1):
+        story = Story(number, it, told)
         at = next((k for k, (page, column, item) in enumerate(items)
                    if (item.name, page.place, item.place) == (it.name, it.place, it.where)
                    and it.column == (0 if page.kind == 'wide' else column)), None)
         if at is not None:
             page, story.column, story.item = items.pop(at)
-            story.page = story.shown(page.place)
+            story.page = page.place
         elif it.landed:
             raise report.ReportFault('%s tells of other pages than %s' % (told.path, own.path))
         found.append(story)
@@ -82,20 +75,19 @@ def of_part(part, own, told, known):
 def find_calls(stories, pages, entries):
     """Finds where the words before each call stand: below the last box of the text before it, or at the head of the first
     column with text if there is none before it."""
-    lines = {}
+    lines = []
     for page in pages:
         for column, item in page.items():
             entry = entries.get(id(item))
             if entry and item.kind in ('box', 'rule') and not entry.foot:
-                lines.setdefault(entry.part, []).append((entry.line, page.place, column, item.bottom()))
-    for part in lines.values():
-        part.sort()
+                lines.append((entry.line, page.place, column, item.bottom()))
+    lines.sort()
+    if not lines:
+        return
     for story in stories:
-        text = lines.get(story.part)
-        if text:
-            at = bisect_left(text, (story.told.line,))
-            _, story.call_page, story.call_column, story.call_y = text[max(at - 1, 0)]
-            story.call_y *= at > 0
+        at = bisect_left(lines, (story.told.line,))
+        _, story.call_page, story.call_column, story.call_y = lines[max(at - 1, 0)]
+        story.call_y *= at > 0
 
 
 # ---- In words
@@ -113,7 +105,7 @@ def title(it):
 def journey(story):
     """Where it was called and where it stands, in a sentence."""
     it = story.told
-    made = story.shown(it.spot.place)
+    made = it.spot.place
     told = 'called while page %d was made' % made + (', column %d' % it.spot.column if story.two() else '')
     if story.call_page and story.call_page != made:
         told += '; the words before it stand on page %d' % story.call_page
@@ -130,7 +122,7 @@ def place_of(story, decision):
     spot = decision.spot
     column = ', column %d' % spot.column if spot.column else ', over both columns'
     when = {'call': ', at its call', 'start': '', 'clear': ', at a clear'}[decision.kind]
-    return 'page %d' % story.shown(spot.place) + (column if story.two() else '') + when
+    return 'page %d' % spot.place + (column if story.two() else '') + when
 
 
 def verdict(test):
@@ -232,7 +224,7 @@ def note_tip(note):
 
 
 def note_tips(pages, notes, entries):
-    """Why each marginal note was moved, by the ids of the items of a part."""
+    """Why each marginal note was moved, by the ids of the items."""
     lines = {(note.name, note.line): note for note in notes}
     found = {}
     for page in pages:

@@ -69,7 +69,7 @@ def tex_pages(path):
 
 
 def without_first_clear(places):
-    """The places without those of the clear that a class, a title or a part begins with: it ships nothing."""
+    """The places of the first page without those of the clear that a class or a title begins with: it ships nothing."""
     clears = [k for k, place in enumerate(places[:6]) if place[5] == CLEAR_PENALTY]
     return places[clears[-1] + 1:] if clears else places
 
@@ -110,14 +110,11 @@ def first_difference(number, places, others):
         number, k, text(a), text(b), len(places), len(others))
 
 
-def of_files(log, traces):
-    """The comparison of a log with the traces of all parts."""
-    latex, program = tex_pages(log), []
-    for trace in traces:
-        first = len(program)
-        program += program_pages(trace)
-        for side in (latex, program):
-            side[first:first + 1] = [without_first_clear(places) for places in side[first:first + 1]]
+def of_files(log, trace):
+    """The comparison of a log with a trace."""
+    latex, program = tex_pages(log), program_pages(trace)
+    for side in (latex, program):
+        side[:1] = [without_first_clear(places) for places in side[:1]]
     return Comparison(latex, program)
 
 
@@ -129,11 +126,11 @@ def summary(comparison):
 def main(arguments):
     parser = argparse.ArgumentParser(prog='tries', description=USAGE)
     parser.add_argument('log', help="LaTeX's log")
-    parser.add_argument('traces', nargs='+', help='NAME.trace, NAME.2.trace ..: of all parts, in order')
+    parser.add_argument('trace', help='NAME.trace')
     parser.add_argument('--quiet', action='store_true', help='no line for each page')
     options = parser.parse_args(arguments)
     try:
-        comparison = of_files(options.log, options.traces)
+        comparison = of_files(options.log, options.trace)
     except (OSError, ValueError, report.ReportFault) as fault:
         print('tries: %s' % fault, file=sys.stderr)
         return 2

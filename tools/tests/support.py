@@ -120,16 +120,13 @@ class Latex(Scratch):
         """The lines of a galley but `set` lines and comments."""
         return [line for line in self.read(name).splitlines() if not line.startswith(('set ', '#'))]
 
-    def assert_pages(self, *names):
-        """The program makes LaTeX's pages of the galleys (test.galley alone without names), in every place."""
+    def assert_pages(self):
+        """The program makes LaTeX's pages of test.galley, in every place."""
         if not PROGRAM:
             return
-        reports = []
-        for name in names or ['test.galley']:
-            reports.append(self.path(name.replace('.galley', '.report')))
-            with open(self.path(name), 'rb') as galley, open(reports[-1], 'wb') as out:
-                subprocess.run([PROGRAM], stdin=galley, stdout=out, check=True)
-        status, said = run(compare.main, self.path('test.pages'), *reports)
+        with open(self.path('test.galley'), 'rb') as galley, open(self.path('test.report'), 'wb') as out:
+            subprocess.run([PROGRAM], stdin=galley, stdout=out, check=True)
+        status, said = run(compare.main, self.path('test.pages'), self.path('test.report'))
         self.assertEqual(status, 0, said)
 
     def assert_places(self):

@@ -100,10 +100,12 @@ class Words(unittest.TestCase):
         none = story(self.TEXT, [ending(3)], [ending(3)])
         self.assertEqual(list(none.lines())[0], 'no page break is put in: no choice of breaks has fewer demerits')
 
-    def test_numbers_of_pages_in_a_document_of_parts(self):
+    def test_numbers_that_change(self):
         own = story(self.TEXT, [ending(3, held=1)], [ending(3)])
         own.labels = best_words.Labels({1: 4}, {1: 5})
         self.assertEqual(own.page_lines(), ['page 5 (page 4 before) split one footnote; now no footnote is split'])
+        own.labels = best_words.PLACES
+        self.assertEqual(own.page_lines(), ['page 1 split one footnote; now no footnote is split'])
         self.assertEqual(best_words.ranges([7, 2, 3, 4]), 'pages 2 to 4, page 7')
 
 

@@ -75,6 +75,42 @@ class Breaks(Scratch):
         self.assertIn('galleybreaks: 1 of 1 page breaks were put in', self.latex(text))
         self.assertEqual(self.pages(), ['ABCD', 'EFGH'])
 
+    def spread(self, *places):
+        """Writes NAME.spreads: each page is so much higher that has the box whose name ends with the word."""
+        lines, out = self.read('test.galley').splitlines(), ['spreads 1', 'greedy 3', 'breaks 2', 'least 1']
+        for word, size in places:
+            at = next(k for k, line in enumerate(lines) if line.startswith('box ') and word in line)
+            out.append('enlarge %d page 1 by %d before %s' % (at + 1, size, lines[at].split()[1]))
+        with open(self.path('test.spreads'), 'w', encoding='utf-8') as file:
+            file.write('\n'.join(out + ['']))
+
+    def heights(self):
+        """The heights of all columns, less that of the first one."""
+        found = [int(it) for it in re.findall(r'^column \d text height (\d+)', self.read('test.pages'), re.M)]
+        return [it - found[0] for it in found]
+
+    def test_the_pages_of_a_spread_are_higher_and_the_galley_stays(self):
+        text = TEXT.replace('Paragraph C', r'\newpage Paragraph C').replace('Paragraph F', r'\newpage Paragraph F')
+        self.latex(text)
+        galley = self.read('test.galley')
+        self.choose('Paragraph-A')              # is not read where there are spreads
+        self.spread(('Paragraph-D', 786432), ('Paragraph-G', -786432))
+        for _ in range(2):
+            log = self.latex(text)
+            self.assertIn('galleybreaks: 2 of 2 columns were made longer or shorter', log)
+            self.assertNotIn('page breaks were put in', log)
+            self.assertEqual((self.pages(), self.heights()), (['AB', 'CDE', 'FGH'], [0, 786432, -786432]))
+            self.assertEqual(self.read('test.galley'), galley)
+
+    def test_a_spread_after_changed_text_is_left_out(self):
+        text = TEXT.replace('Paragraph C', r'\newpage Paragraph C')
+        self.latex(text)
+        self.spread(('Paragraph-D', 786432))
+        log = self.latex(text.replace('Paragraph A', 'One more.\\par Paragraph A'))
+        self.assertIn('galleybreaks: 0 of 1 columns were made longer or shorter', log)
+        self.assertRegex(log, r'Package galleybreaks Warning: no other height at b\d+\.Paragraph-D-with-words\.: the text')
+        self.assertEqual(self.heights(), [0, 0])
+
     def test_every_line_of_the_map_is_a_line_of_the_galley(self):
         self.latex(r'\section{A}Words.\footnote{A note.}\clearpage ' + TEXT)
         lines = self.read('test.galley').splitlines()

@@ -11,8 +11,6 @@ NOTE = r'Words.\footnote{A note.} '
 HEAD = r'\twocolumn[\begin{center}\Large A head over both columns\par\end{center}\vskip 20pt]'
 WIDE = r'\begin{figure*}[t]\vbox to 2cm{}\caption{A}\end{figure*} '
 FIGURE = r'\begin{figure}[%s]\vbox to 3cm{}\caption{A}\end{figure} '
-# Another room above footnotes from here on, which a galley can't change.
-OTHER_NOTES = r'\clearpage\skip\footins30pt '
 PT = 65536
 
 
@@ -40,11 +38,14 @@ class Heads(Latex):
         self.assert_pages()
         self.assert_places()
 
-    def test_a_head_that_begins_a_galley(self):
-        self.export(LINES * 3 + OTHER_NOTES + HEAD + LINES * 60)
-        self.assertEqual(self.lines('test.2.galley')[:3], ['galley 3', 'page 2', 'twocolumn'])
-        self.assertTrue(self.lines('test.2.galley')[3].startswith('head '))
-        self.assert_pages('test.galley', 'test.2.galley')
+    def test_a_head_behind_another_room_above_footnotes(self):
+        self.export(NOTE + LINES * 3 + r'\clearpage\skip\footins30pt ' + HEAD + NOTE + LINES * 60)
+        lines = self.read('test.galley').splitlines()
+        at = lines.index('set skipfootins 30.0pt')
+        self.assertEqual(lines[at - 2:at], ['clearpage', 'twocolumn'])
+        self.assertTrue(lines[at + 1].startswith('head title.1 '))
+        self.assert_pages()
+        self.assert_places()
 
     def test_a_head_that_leaves_no_room(self):
         # LaTeX ships two empty columns below it, which the galley has as boxes
@@ -180,12 +181,6 @@ class Numbers(Latex):
         self.export(LINES * 40, preamble=r'\AddToHook{shipout/after}{\ifnum\c@page=2 \global\c@page=5 \fi}')
         self.assertEqual((self.words(), self.numbers()[:4]), (['page 6'], [1, 2, 6, 7]))
         self.assert_pages()
-
-    def test_numbers_of_two_galleys(self):
-        self.export(LINES * 20 + OTHER_NOTES + LINES * 20)
-        self.assertEqual(self.words(), [])
-        self.assertEqual(self.lines('test.2.galley')[:2], ['galley 3', 'page 4'])
-        self.assert_pages('test.galley', 'test.2.galley')
 
     def test_numbers_below_0(self):
         self.export(LINES + r'\clearpage\setcounter{page}{-2}' + LINES + r'\clearpage ' + LINES + r'\clearpage ' + LINES)

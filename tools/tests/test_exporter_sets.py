@@ -1,5 +1,6 @@
 """Tests of the exporter on documents whose parameters change: on a page, at a clear, at a float. With a program, its pages
 are to be LaTeX's in every place. Left out where no LuaLaTeX is installed."""
+import glob
 import re
 import shutil
 import unittest
@@ -16,15 +17,15 @@ PT = 65536
 
 
 class Sets(Latex):
-    def sets(self, name='test.galley'):
-        """The `set` lines among the items of a galley, without their word."""
-        lines = [line for line in self.read(name).splitlines() if not line.startswith(('#', 'class '))][1:]
+    def sets(self):
+        """The `set` lines among the items of the galley, without their word."""
+        lines = [line for line in self.read('test.galley').splitlines() if not line.startswith(('#', 'class '))][1:]
         first = next(k for k, line in enumerate(lines) if not line.startswith('set '))
         return [line[4:] for line in lines[first:] if line.startswith('set ')]
 
-    def first(self, name, galley='test.galley'):
-        """The value with which a galley begins."""
-        return re.search('^set %s (.*)$' % name, self.read(galley), re.M)[1]
+    def first(self, name):
+        """The value with which the galley begins."""
+        return re.search('^set %s (.*)$' % name, self.read('test.galley'), re.M)[1]
 
     def assert_sets(self, *sets):
         """The items set these, nothing is lost, and the program makes LaTeX's pages."""
@@ -163,13 +164,25 @@ class AtAClear(Sets):
         self.assertEqual(self.first('reversemargin'), 'off')
         self.assert_all('reversemargin on')
 
-    def test_footnotes_begin_a_galley(self):
+    def test_the_room_above_footnotes_and_other_changes(self):
         page = NOTE + LINES * 3
         self.export(page + r'\topskip20pt\clearpage\skip\footins 30pt\raggedbottom\setcounter{page}{7}' + page +
                     r'\clearpage\topskip10pt ' + page, preamble=r'\flushbottom')
-        self.assertEqual([self.first('topskip', name) for name in ('test.galley', 'test.2.galley')], [str(10 * PT), str(20 * PT)])
-        self.assertEqual(self.sets('test.2.galley'), ['bottom ragged', 'topskip %d' % (10 * PT)])
-        self.assert_pages('test.galley', 'test.2.galley')
+        self.assertEqual(self.first('topskip'), str(10 * PT))
+        self.assert_all('topskip %d' % (20 * PT), 'skipfootins 30.0pt', 'bottom ragged', 'topskip %d' % (10 * PT))
+        self.assertIn('page 7', self.lines())
+
+    def test_the_room_above_footnotes_and_their_limit(self):
+        # behind the first clear the limit splits the note, and its rest stands on the next page
+        page = r'Words.\footnote{%s} ' % ('A note of many lines. ' * 40) + LINES * 12
+        self.export(page + r'\clearpage\skip\footins 30pt plus 2pt\dimen\footins 60pt ' + page +
+                    r'\clearpage\dimen\footins 300pt ' + page, preamble=r'\skip\footins 12pt\dimen\footins 400pt ')
+        self.assertEqual((self.first('skipfootins'), self.first('footlimit')), ('12.0pt', str(400 * PT)))
+        self.assert_all('skipfootins 30.0pt plus 2.0pt', 'footlimit %d' % (60 * PT), 'footlimit %d' % (300 * PT))
+        lines = self.read('test.galley').splitlines()
+        self.assertEqual(lines[lines.index('set skipfootins 30.0pt plus 2.0pt') - 1], 'clearpage')
+        self.assertEqual(self.read('test.pages').count('\nfootrule '), 4)
+        self.assertEqual(glob.glob(self.path('*.galley')), [self.path('test.galley')])
 
 
 @unittest.skipUnless(shutil.which('lualatex'), 'no lualatex')

@@ -6,7 +6,7 @@ import xml.etree.ElementTree as xml
 
 from support import PROGRAM, Scratch, run
 
-from pagetools import best, compare, document, galley, marks, picture, report, tries, why
+from pagetools import best, compare, galley, marks, picture, report, tries, why
 
 # A head of 30 above columns of 70, of which the first is enlarged by 10; then a page with a double float (its depth of 1 and
 # a rule of 2, 1 and 2 are in the 26) that the document gives the number 1 again.
@@ -76,7 +76,7 @@ class Reading(unittest.TestCase):
     def test_numbers_and_places_of_pages(self):
         pages = read(REPORT).pages
         self.assertEqual([(page.number, page.place) for page in pages], [(1, 1), (1, 2), (2, 3)])
-        self.assertEqual([document.title(page) for page in pages],
+        self.assertEqual([page.title() for page in pages],
                          ['page 1', 'page 2, with the number 1', 'page 3, with the number 2'])
 
     def test_marks_are_those_of_each_page(self):

@@ -13,7 +13,7 @@ HERE = os.path.dirname(os.path.abspath(__file__))
 TOP = os.path.normpath(os.path.join(HERE, os.pardir, os.pardir))
 sys.path.insert(0, os.path.join(HERE, os.pardir))
 
-from pagetools import best, best_words, points, report  # noqa: E402
+from pagetools import best, best_words, points, report, spread_words, spreads  # noqa: E402
 
 # A report with what the examples lack: a page of double floats, an overfull column, all warnings, what is left.
 RARE = """report 1
@@ -140,10 +140,23 @@ class Data(unittest.TestCase):
         self.assertEqual(data['breaks'], [{'line': 3, 'page': None, 'after': None}, {'line': 9, 'page': 1, 'after': 'b'}])
         self.assertEqual([(it['line'], it['badness']) for it in data['after']], [(9, 0), (None, None)])
 
+    def test_what_was_chosen_with_spreads(self):
+        read = report.read_lines(RARE.splitlines(), 'a test')
+        side, places = best.Side([], read), (spreads.Place(1, 9, 'b'), spreads.Place(4, 17, 'c'))
+        homes = [[spreads.Column(place, place + 10, True, 5, 5, 0, 1) for place in (2, 3)]]
+        plan = spreads.Plan([spreads.Spread(places, -1, -12)], homes, best.Choice(9, 5, [], '', read), side, '',
+                            best.Choice(9, 7), side, 4)
+        data = spread_words.data(plan, side)
+        own = ('breaks_alone', 'spreads')
+        Shape().check({name: it for name, it in data.items() if name not in own}, 'Best')
+        Shape().check({name: it for name, it in data.items() if name in own}, 'BestSpreads')
+        self.assertEqual((data['breaks_alone'], data['spreads'][0]['pages']), (7, [12, 13]))
+
     def test_each_table_has_rows(self):
         self.assertEqual(set(tables()), {'Report', 'Page', 'Before', 'Column', 'Set', 'Item', 'Warning', 'Try', 'Left',
                                          'Totals', 'Why', 'Float', 'Spot', 'Landing', 'Reason', 'Decision', 'Test', 'Tried',
-                                         'Margin', 'Marks', 'PageMarks', 'Best', 'Break', 'Ending'})
+                                         'Margin', 'Marks', 'PageMarks', 'Best', 'BestSpreads', 'Spread', 'Place', 'Break',
+                                         'Ending'})
         self.assertTrue(all(tables().values()))
 
 

@@ -100,12 +100,13 @@ class Documents(Stand):
         for path, name in (('a/b.tex', 'b'), ('b.ltx', 'b'), ('b.dtx', 'b.dtx'), ('a.b.tex', 'a.b')):
             self.assertEqual(latex_document.document_name(path), name)
 
-    def test_parts_in_order(self):
+    def test_what_an_earlier_call_made_is_taken_away(self):
         notes = latex_document.Document('a [b].tex', self.folder, '')
-        for name in ('a [b].galley', 'a [b].10.galley', 'a [b].2.galley', 'a [b] c.galley', 'a b.galley'):
+        for name in ('a [b].galley', 'a [b].chosen.why', 'a [b].aux', 'a b.galley', 'a [b] c.galley'):
             open(self.path(name), 'w', encoding='utf-8').close()
-        self.assertEqual([os.path.basename(path) for path in notes.parts('.galley')],
-                         ['a [b].galley', 'a [b].2.galley', 'a [b].10.galley'])
+        notes.clean()
+        self.assertEqual(sorted(name for name in os.listdir(self.folder) if name.startswith('a ')),
+                         ['a [b] c.galley', 'a [b].aux', 'a b.galley'])
 
 
 class Best(Stand):

@@ -77,9 +77,8 @@ class Base(Scratch):
             with open(self.path(name), 'w', encoding='latin-1') as out:
                 out.write(text)
 
-    def book(self, *names):
-        files = {ending: [name + ending for name in names] for ending in ('.report', '.galley', '.why')}
-        return picture.Book(picture.parsed(files['.report'] + ['--galley'] + files['.galley'] + ['--why'] + files['.why']))
+    def book(self, name):
+        return picture.Book(picture.parsed([name + '.report', '--galley', name + '.galley', '--why', name + '.why']))
 
     def draw(self, name):
         status, said = run(picture.main, name + '.report', '--galley', name + '.galley', '--why', name + '.why', '--out',
@@ -100,11 +99,6 @@ class Stories(Base):
         found = {story.told.name: (story.call_page, story.call_column, story.call_y, story.page, story.late())
                  for story in self.book(self.path('a')).stories}
         self.assertEqual(found, {'low': (1, 1, 10, 1, 0), 'late': (1, 1, 20, 2, 1)})
-
-    def test_parts_are_counted_through(self):
-        book = self.book(self.path('a'), example('waiting'))
-        found = [(story.number, story.told.name, story.call_page, story.page) for story in book.stories]
-        self.assertEqual(found, [(1, 'low', 1, 1), (2, 'late', 1, 2), (3, 'F', 4, 7), (4, 'G', 4, 7)])
 
     def test_a_float_before_all_text_is_called_at_the_head(self):
         with open(self.path('a.galley'), 'w', encoding='latin-1') as out:
