@@ -46,7 +46,7 @@ abbrev pub box_spot : What → ℤ → ℤ → Option Spot
 box_spot (what.Text name) height depth = ruled (height +ℤ depth) (codes "box " ++ name) (height +ℤ depth)
 box_spot what.Blank height depth = None
 box_spot (what.Float name class place item) height depth = ruled height (float_label name class place) height
-box_spot (what.Margin name side shift rise fall item) height depth = ruled (shift +ℤ fall) (codes "margin " ++ name ++ and_text (side_text side)) (rise +ℤ fall)
+box_spot (what.Margin name side item shift rise fall) height depth = ruled (shift +ℤ fall) (codes "margin " ++ name ++ and_text (side_text side)) (rise +ℤ fall)
 
 -- the label of a rule: that above footnotes has no name
 abbrev pub rule_label : RuleOf → List ℕ

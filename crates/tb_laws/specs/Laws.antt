@@ -113,7 +113,7 @@ float_lines_of n _ = []
 
 -- the line of the marginal note whose box a node is, if it is one
 abbrev pub note_lines_of : ℕ → PlainKind → List ℕ
-note_lines_of n (plain (hbox (what.Margin name side shift height depth item) h d)) = item ∷ []
+note_lines_of n (plain (hbox (what.Margin name side item shift height depth) h d)) = item ∷ []
 note_lines_of n _ = []
 
 -- the lines that a function of a node gives, for all nodes in their order

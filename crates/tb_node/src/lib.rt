@@ -79,7 +79,7 @@ pub enum Where {
     Deferred,
 }
 
-/// What a box holds.
+/// What a box holds. What is small comes first in `Margin`, so that a node is small too.
 #[derive(Clone, Copy)]
 pub enum What {
     /// A line of text, or another box of the galley.
@@ -103,14 +103,14 @@ pub enum What {
         name: Name,
         /// The side that it is on.
         side: Side,
+        /// The line of the note in the galley.
+        item: u32,
         /// By how much it was moved down.
         shift: i64,
         /// The height of the note's own box.
         height: i64,
         /// The depth of the note's own box.
         depth: i64,
-        /// The line of the note in the galley.
-        item: u32,
     },
 }
 
@@ -190,13 +190,15 @@ pub struct Float {
     pub nobreak: bool,
 }
 
-/// A marginal note as the galley gives it: one box for each side.
+/// A marginal note as the galley gives it: one box for each side. What is small comes first, so that a node is small too.
 #[derive(Clone, Copy)]
 pub struct Margin {
     /// Its line in the galley.
     pub line: u32,
     /// Its name.
     pub name: Name,
+    /// Whether no page may end at the place where it came, as below a heading (ltoutput.dtx, \@specialoutput).
+    pub nobreak: bool,
     /// The height of the left box.
     pub left_height: i64,
     /// The depth of the left box.
@@ -205,8 +207,6 @@ pub struct Margin {
     pub right_height: i64,
     /// The depth of the right box.
     pub right_depth: i64,
-    /// Whether no page may end at the place where it came, as below a heading (ltoutput.dtx, \@specialoutput).
-    pub nobreak: bool,
 }
 
 /// What the output routine does when the page builder reaches it.

@@ -63,7 +63,7 @@ here_list p vert f =
 
 -- the box of a marginal note; in the text it has no size
 abbrev pub note_kind : Margin → Placed → Kind
-note_kind m at = kinds.Hbox (what.Margin m.name at.side at.shift (note_height at.side m) (note_depth at.side m) m.line) (pos 0) (pos 0)
+note_kind m at = kinds.Hbox (what.Margin m.name at.side m.line at.shift (note_height at.side m) (note_depth at.side m)) (pos 0) (pos 0)
 
 -- a marginal note, below text of this depth
 abbrev pub note_list : ℤ → Margin → Placed → List Node

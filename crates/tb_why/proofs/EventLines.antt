@@ -52,7 +52,7 @@ box-kept (what.Float name class place item) top h d p = by_title (class == 0)
     by_title : (b : Bool) → Kept (line ((if b then codes "head " ++ name else codes "float " ++ name ++ and_count class ++ and_text (where_text place)) ++ and_number top ++ and_number h))
     by_title true = line-kept ((codes "head " ++ name) ++ and_number top ++ and_number h) (simp (list_all-append, p, number-plain) refl) refl
     by_title false = line-kept ((codes "float " ++ name ++ and_count class ++ and_text (where_text place)) ++ and_number top ++ and_number h) (simp (list_all-append, p, number-plain, count-plain, where-plain) refl) refl
-box-kept (what.Margin name side shift height depth item) top h d p = line-kept (codes "margin " ++ name ++ and_text (side_text side) ++ and_number shift ++ and_number top ++ and_number height ++ and_number depth) (simp (list_all-append, p, number-plain, side-plain) refl) refl
+box-kept (what.Margin name side item shift height depth) top h d p = line-kept (codes "margin " ++ name ++ and_text (side_text side) ++ and_number shift ++ and_number top ++ and_number height ++ and_number depth) (simp (list_all-append, p, number-plain, side-plain) refl) refl
 
 rule-kept : (of : RuleOf) (top h d : ℤ) → IsPlainRule of → Kept (rule_line of top h d)
 rule-kept Footnotes top h d p = line-kept (codes "footrule" ++ and_number top ++ and_number h ++ and_number d) (simp (list_all-append, number-plain) refl) refl

@@ -28,7 +28,7 @@ abbrev pub HasPlainName : What → Type 0
 HasPlainName (what.Text name) = IsUnended name
 HasPlainName what.Blank = Unit {0}
 HasPlainName (what.Float name class place item) = IsUnended name
-HasPlainName (what.Margin name side shift height depth item) = IsUnended name
+HasPlainName (what.Margin name side item shift height depth) = IsUnended name
 
 -- the name of a rule that has one
 abbrev pub IsPlainRule : RuleOf → Type 0

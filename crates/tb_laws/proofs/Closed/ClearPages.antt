@@ -47,7 +47,7 @@ one-kind : (l : ℕ) (k : PlainKind) (ns : List PlainNode) → AllCalm ns → Al
 one-kind l (plain (hbox (what.Text name) h d)) ns c f a g e z r = absurd (never-one (sorts ns) (sorts-calm ns c) e)
 one-kind l (plain (hbox what.Blank h d)) ns c f a g e z r = flat-node l h d ns (behind-one ns c f e) z
 one-kind l (plain (hbox (what.Float name class place item) h d)) ns c f a g e z r = absurd (never-one (sorts ns) (sorts-calm ns c) e)
-one-kind l (plain (hbox (what.Margin name side shift height depth item) h d)) ns c f a g e z r = absurd (never-one (sorts ns) (sorts-calm ns c) e)
+one-kind l (plain (hbox (what.Margin name side item shift height depth) h d)) ns c f a g e z r = absurd (never-one (sorts ns) (sorts-calm ns c) e)
 one-kind l (plain (rule name h d)) ns c f a g e z r = absurd (never-one (sorts ns) (sorts-calm ns c) e)
 one-kind l (plain (skip w)) ns c f a g e z r = one-more (record { line = l; kind = plain (skip w) }) (without_insertions ns) tt tt (r e z)
 one-kind l (plain (kerned w)) ns c f a g e z r = one-more (record { line = l; kind = plain (kerned w) }) (without_insertions ns) tt tt (r e z)

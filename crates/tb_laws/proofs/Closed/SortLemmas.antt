@@ -97,7 +97,7 @@ one-more : (v : Weight) (ns : List PlainNode) → AllCalm ns → AllFree ns → 
 one-more v ns c f h l (plain (hbox (what.Text name) x d)) a g e = absurd (never-one (sorts ns) (sorts-calm ns c) e)
 one-more v ns c f h l (plain (hbox what.Blank x d)) a g e = let k : nodes_weight v (without_insertions ns) ≡ 0 = one-rest v ns c f e in omega arith
 one-more v ns c f h l (plain (hbox (what.Float name class place item) x d)) a g e = absurd (never-one (sorts ns) (sorts-calm ns c) e)
-one-more v ns c f h l (plain (hbox (what.Margin name side shift height depth item) x d)) a g e = absurd (never-one (sorts ns) (sorts-calm ns c) e)
+one-more v ns c f h l (plain (hbox (what.Margin name side item shift height depth) x d)) a g e = absurd (never-one (sorts ns) (sorts-calm ns c) e)
 one-more v ns c f h l (plain (rule name x d)) a g e = absurd (never-one (sorts ns) (sorts-calm ns c) e)
 one-more v ns c f h l (plain (pen p)) a g e = let k : nodes_weight v (without_insertions ns) ≡ 0 = h (rw a at e) in omega arith
 one-more v ns c f h l (ins i) a g e = h e

@@ -37,7 +37,7 @@ abbrev pub box_sort : What → Sort
 box_sort (what.Text name) = real
 box_sort what.Blank = blank
 box_sort (what.Float name class place item) = real
-box_sort (what.Margin name side shift height depth item) = real
+box_sort (what.Margin name side item shift height depth) = real
 
 abbrev pub kind_sort : PlainKind → Sort
 kind_sort (plain (hbox w h d)) = box_sort w

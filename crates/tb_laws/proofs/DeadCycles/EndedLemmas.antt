@@ -17,7 +17,7 @@ abbrev pub is_flat : PlainKind → Bool
 is_flat (plain (hbox (what.Text name) h d)) = false
 is_flat (plain (hbox what.Blank h d)) = is_zero h && is_zero d
 is_flat (plain (hbox (what.Float name class place item) h d)) = false
-is_flat (plain (hbox (what.Margin name side shift height depth item) h d)) = false
+is_flat (plain (hbox (what.Margin name side item shift height depth) h d)) = false
 is_flat (plain (rule name h d)) = false
 is_flat (plain (skip g)) = false
 is_flat (plain (kerned w)) = false

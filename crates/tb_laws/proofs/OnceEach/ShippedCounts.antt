@@ -113,7 +113,7 @@ module _ (m : Measure) where
   float-measure l k q = sym m.nothing
 
   note-measure : (l : ℕ) (k : PlainKind) → IsPlain k → kind_weight of_notes l k ≡ m.of (note_lines_of l k)
-  note-measure l (plain (hbox (what.Margin name side shift height depth item) h d)) q = refl
+  note-measure l (plain (hbox (what.Margin name side item shift height depth) h d)) q = refl
   note-measure l (plain (rule rules.Footnotes h d)) q = sym m.nothing
   note-measure l (ins i) q = absurd q
   note-measure l (act a) q = absurd q
