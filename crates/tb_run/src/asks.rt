@@ -28,13 +28,12 @@ impl Routine<'_> {
         self.builder.next_without_tries(&mut self.store, ask)
     }
 
-    // What is asked after an act: this, if the goal of the page is frozen.
-    pub(crate) fn asked_again(&self, ask: Ask) -> Ask
-        ensures { (boxes : List Boxed) (waiting : List PlainNode) → result ≡ (if is_some self.now.builder.frozen then ask else ask_of self.now.machine.params (state_shown self.now.store boxes waiting self.now.machine)) }
+    // Asks what the page is made for, after an act. If the goal of the page is frozen, it stays.
+    pub(crate) fn ask_again(&self, ask: &mut Ask)
+        ensures { (boxes : List Boxed) (waiting : List PlainNode) → ask.new ≡ (if is_some self.now.builder.frozen then ask.old else ask_of self.now.machine.params (state_shown self.now.store boxes waiting self.now.machine)) }
     {
-        if self.builder.is_frozen() {
-            return ask;
+        if !self.builder.is_frozen() {
+            *ask = self.machine.ask();
         }
-        self.machine.ask()
     }
 }

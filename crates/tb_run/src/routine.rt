@@ -378,7 +378,7 @@ impl<'a> Routine<'a> {
                         }));
                     }
                     self.hand_over(happened)?;
-                    ask = self.asked_again(ask);
+                    self.ask_again(&mut ask);
                 }
                 Event::Fired(page) => return Ok(Filled::Fires(page)),
                 Event::Empty => {

@@ -47,9 +47,9 @@ next-smaller-in-Act c =
 
 pub next-preserved-in-Act : goal.next-preserved-in-Act
 next-preserved-in-Act c =
-    subst (λ (x : Routine). IsUnderway c.args.wanted c.args.self.now x c.asked_again-ask.result c.hand_over.new.happened.items) (sym c.in_ok-hand_over-in-Act.ensures.machine)
+    subst (λ (x : Routine). IsUnderway c.args.wanted c.args.self.now x c.ask_again.new.ask c.hand_over.new.happened.items) (sym c.in_ok-hand_over-in-Act.ensures.machine)
     (come-acted c.args.wanted c.args.self.now c.next_event.new.self c.next.ask c.next.happened.items c.requires.ready (ask_for (state_of c.args.self.now)) refl c.in_ok-tried.field-0 c.next.self c.next.invariant (comes-so c.args.wanted c.args.self.now c.next.self c.next.ask c.next.happened.items c.next.invariant c.next_event.new.self c.in_ok-tried.field-0 c.in_ok-tried.ensures) c.in-Act.act c.in-Act.is c.act.new.self c.in_default.ensures.ok
-    c.asked_again-ask.result (subst (λ (x : Routine). IsAskedAgain x c.next.ask c.asked_again-ask.result) c.in_ok-hand_over-in-Act.ensures.machine c.asked_again-ask.ensures) c.hand_over.new.happened.items c.in_ok-hand_over-in-Act.ensures.events)
+    c.ask_again.new.ask (subst (λ (x : Routine). IsAskedAgain x c.next.ask c.ask_again.new.ask) c.in_ok-hand_over-in-Act.ensures.machine c.ask_again.ensures) c.hand_over.new.happened.items c.in_ok-hand_over-in-Act.ensures.events)
 
 pub returns-in-Fired : goal.returns-in-Fired
 returns-in-Fired c =
