@@ -10,7 +10,7 @@ ghost use Rattle.tb_builder.specs.Ownership.{has_class};
 ghost use Rattle.tb_galley.specs.GalleyNodes.{plain_leaf, foot_insertion};
 ghost use Rattle.tb_items.specs.WaitingNodes.{CanTake, Waits, leaf_kind, leaf_node, leaf_list};
 
-use crate::galley_nodes::by_fields;
+use crate::lone_nodes::by_fields;
 use std::alloc::AllocError;
 use tb_builder::Builder;
 use tb_galley::{Leaf, LeafKind};

@@ -1,24 +1,27 @@
 //! The nodes of a galley's items, as they wait at the page builder.
 
-ghost use Rattle.std.specs.Prelude.{◌≡◌, ◌∷◌, ◌++◌, [], true, false, Some, None, OnOk, IfOk};
+ghost use Rattle.std.specs.Prelude.{◌≡◌, ◌∷◌, ◌++◌, [], true, false, OnOk, IfOk};
 ghost use Rattle.tb_node.specs.PlainNodes.{act, on_line, newpage_kinds, clearpage_kinds};
 ghost use Rattle.tb_builder.specs.Contents.{contents_of};
-ghost use Rattle.tb_builder.specs.Ownership.{inner_of};
 ghost use Rattle.tb_galley.specs.GalleyNodes.{break_strength, with_firings, float_kinds, item_kinds, two_after, two_past, params_after, params_past, item_nodes};
 ghost use Rattle.tb_items.specs.WaitingNodes.{CanTake, Waits, lone, IsItem, AreItems};
 
 use crate::enlarging_nodes::put_enlarging;
 use crate::foot_nodes::put_foot;
+use crate::lone_nodes::{
+    put, put_act, put_box, put_glue, put_kern, put_lone_glue, put_lone_text, put_mark, put_note,
+    put_penalty, put_rule, put_text,
+};
 use std::alloc::AllocError;
 use tb_builder::Builder;
 use tb_galley::{Item, ItemKind};
 use tb_node::{
-    Act, Area, CLEAR_PENALTY, Float, HOLD_PENALTY, Kind, Margin, Name, Node, PAR_PENALTY, RuleOf,
-    VERT_PENALTY, What,
+    Act, Area, CLEAR_PENALTY, Float, HOLD_PENALTY, Kind, Margin, Node, PAR_PENALTY, VERT_PENALTY,
+    What,
 };
 use tb_param::{Change, Params};
 use tb_pool::Lists;
-use tb_scaled::{EJECT_PENALTY, Glue, INF_PENALTY, filling_glue};
+use tb_scaled::{EJECT_PENALTY, INF_PENALTY, filling_glue};
 
 // Hands over the nodes of items, and returns whether there are two columns after them; `two` says whether there are two
 // before. The parameters become those that hold after them.
@@ -121,13 +124,13 @@ pub fn put_item(
             name,
             height,
             depth,
-        } => put_text(store, builder, line, name, *height, *depth),
+        } => put_lone_text(store, builder, line, name, *height, *depth),
         ItemKind::Rule {
             name,
             height,
             depth,
         } => put_rule(store, builder, line, name, *height, *depth),
-        ItemKind::Skip(glue) => put_glue(store, builder, line, glue),
+        ItemKind::Skip(glue) => put_lone_glue(store, builder, line, glue),
         ItemKind::Kern(width) => put_kern(store, builder, line, *width),
         ItemKind::Penalty(penalty) => put_penalty(store, builder, line, *penalty),
         ItemKind::Mark(name) => put_mark(store, builder, line, name),
@@ -153,176 +156,6 @@ pub fn put_item(
         ItemKind::Enlarge { by, star } => put_enlarging(store, builder, p, line, *by, *star),
         ItemKind::Set(change) => put_change(store, builder, line, *change),
     }
-}
-
-// A box of the galley. Most items are boxes or glue: their nodes are made in place.
-#[inline(always)]
-fn put_text(
-    store: &mut Lists<Node>,
-    builder: &mut Builder,
-    line: u32,
-    name: &Name,
-    height: i64,
-    depth: i64,
-) -> Result<(), AllocError>
-    requires can { CanTake builder.old store.old }
-    ensures { OnOk result (Waits (lone line (Kind.Hbox (What.Text name.now) height depth) ∷ []) builder.old store.old builder.new store.new) }
-{
-    put_box(store, builder, line, What::Text(*name), height, depth)
-}
-
-#[inline(always)]
-fn put_glue(
-    store: &mut Lists<Node>,
-    builder: &mut Builder,
-    line: u32,
-    glue: &Glue,
-) -> Result<(), AllocError>
-    requires can { CanTake builder.old store.old }
-    ensures { OnOk result (Waits (lone line (Kind.Skip glue.now) ∷ []) builder.old store.old builder.new store.new) }
-{
-    put(store, builder, line, Kind::Skip(by_fields(glue)))
-}
-
-// The same glue, copied field by field: then the compiler need not keep it in memory while there is room to be made.
-#[inline(always)]
-pub(crate) fn by_fields(glue: &Glue) -> Glue
-    ensures { result ≡ glue.now }
-{
-    Glue {
-        width: glue.width,
-        stretch: glue.stretch,
-        order: glue.order,
-        shrink: glue.shrink,
-    }
-}
-
-#[inline(never)]
-fn put_rule(
-    store: &mut Lists<Node>,
-    builder: &mut Builder,
-    line: u32,
-    name: &Name,
-    height: i64,
-    depth: i64,
-) -> Result<(), AllocError>
-    requires can { CanTake builder.old store.old }
-    ensures { OnOk result (Waits (lone line (Kind.Rule (RuleOf.Item name.now) height depth) ∷ []) builder.old store.old builder.new store.new) }
-{
-    put(
-        store,
-        builder,
-        line,
-        Kind::Rule {
-            of: RuleOf::Item(*name),
-            height,
-            depth,
-        },
-    )
-}
-
-#[inline(never)]
-fn put_kern(
-    store: &mut Lists<Node>,
-    builder: &mut Builder,
-    line: u32,
-    width: i64,
-) -> Result<(), AllocError>
-    requires can { CanTake builder.old store.old }
-    ensures { OnOk result (Waits (lone line (Kind.Kern width) ∷ []) builder.old store.old builder.new store.new) }
-{
-    put(store, builder, line, Kind::Kern(width))
-}
-
-#[inline(never)]
-fn put_penalty(
-    store: &mut Lists<Node>,
-    builder: &mut Builder,
-    line: u32,
-    penalty: i64,
-) -> Result<(), AllocError>
-    requires can { CanTake builder.old store.old }
-    ensures { OnOk result (Waits (lone line (Kind.Pen penalty) ∷ []) builder.old store.old builder.new store.new) }
-{
-    put(store, builder, line, Kind::Pen(penalty))
-}
-
-#[inline(never)]
-fn put_mark(
-    store: &mut Lists<Node>,
-    builder: &mut Builder,
-    line: u32,
-    name: &Name,
-) -> Result<(), AllocError>
-    requires can { CanTake builder.old store.old }
-    ensures { OnOk result (Waits (lone line (Kind.Mark name.now) ∷ []) builder.old store.old builder.new store.new) }
-{
-    put(store, builder, line, Kind::Mark(*name))
-}
-
-#[inline(never)]
-fn put_note(
-    store: &mut Lists<Node>,
-    builder: &mut Builder,
-    line: u32,
-    name: &Name,
-) -> Result<(), AllocError>
-    requires can { CanTake builder.old store.old }
-    ensures { OnOk result (Waits (lone line (Kind.Note name.now) ∷ []) builder.old store.old builder.new store.new) }
-{
-    put(store, builder, line, Kind::Note(*name))
-}
-
-/// Hands over one node that is no insertion.
-#[inline(always)]
-pub fn put(
-    store: &mut Lists<Node>,
-    builder: &mut Builder,
-    line: u32,
-    kind: Kind,
-) -> Result<(), AllocError>
-    requires can { CanTake builder.old store.old }
-    requires lone { inner_of kind ≡ None }
-    ensures { OnOk result (Waits (lone line kind ∷ []) builder.old store.old builder.new store.new) }
-{
-    builder.contribute(store, Node { line, kind })
-}
-
-#[inline(always)]
-fn put_act(
-    store: &mut Lists<Node>,
-    builder: &mut Builder,
-    line: u32,
-    act: Act,
-) -> Result<(), AllocError>
-    requires can { CanTake builder.old store.old }
-    ensures { OnOk result (Waits (lone line (Kind.Act act) ∷ []) builder.old store.old builder.new store.new) }
-{
-    put(store, builder, line, Kind::Act(act))
-}
-
-#[inline(always)]
-fn put_box(
-    store: &mut Lists<Node>,
-    builder: &mut Builder,
-    line: u32,
-    what: What,
-    height: i64,
-    depth: i64,
-) -> Result<(), AllocError>
-    requires can { CanTake builder.old store.old }
-    ensures { OnOk result (Waits (lone line (Kind.Hbox what height depth) ∷ []) builder.old store.old builder.new store.new) }
-{
-    put(
-        store,
-        builder,
-        line,
-        Kind::Hbox {
-            what,
-            height,
-            depth,
-        },
-    )
 }
 
 // The end of a page: glue that fills it, and a forced break (LaTeX, \newpage).

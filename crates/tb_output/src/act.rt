@@ -130,7 +130,11 @@ impl Machine {
     fn suppress_in(&mut self, area: Area)
         ensures { self.new ≡ with_suppressed area self.old }
     {
-        self.suppress = suppressed(self.suppress, area);
+        match area {
+            Area::All => self.suppress.all = true,
+            Area::Top => self.suppress.top = true,
+            Area::Bottom => self.suppress.bottom = true,
+        }
     }
 
     // The next page has this number.

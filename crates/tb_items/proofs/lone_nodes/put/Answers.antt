@@ -1,5 +1,5 @@
 use Rattle.tb_items.proofs.WaitsLemmas.{lone-joins, lone-may, lone-waits, on-ok}
-use Rattle.tb_items.proofs.galley_nodes.put.Goals as goal
+use Rattle.tb_items.proofs.lone_nodes.put.Goals as goal
 
 pub contribute-requires-clause-joins : goal.contribute-requires-clause-joins
 contribute-requires-clause-joins c = lone-joins c.args.builder.now c.args.store.now c.args.line c.args.kind c.requires.can c.requires.lone
