@@ -62,9 +62,6 @@ const MOST_NODES: u64 = 600_005;
 // nodes of floats, notes, blank columns and clears.
 pub(crate) const ADDED_NODES: u64 = 300;
 
-// With fewer spare places the lists of a page that was written are closed: the next firing may need them.
-const FEW_PLACES: usize = 600;
-
 /// How a run ends.
 #[derive(Clone, Copy)]
 pub enum Ending {
@@ -285,24 +282,8 @@ impl<'a> Routine<'a> {
         self.go_on(&mut part, false, happened)
     }
 
-    /// Closes the lists of `written`, which the last turn sent and which was written, if fewer than 600 places are spare. Else
-    /// nothing changes, which saves time: they would leave the store node by node.
-    pub fn make_room(&mut self, written: &[Happening])
-        requires ready { IsReady self.old }
-        requires lists { AreHappened self.old written.now }
-
-        ensures ready { IsReady self.new }
-        ensures state { state_of self.new ≡ state_of self.old }
-        ensures machine { self.new.machine ≡ self.old.machine }
-        ensures closed { self.old.store.spare < 600 → AllByRecursion (λ l. get self.new.store.lists l ≡ None) (happened_lists written.now) }
-        ensures kept { 600 ≤ self.old.store.spare → self.new ≡ self.old }
-    {
-        if self.store.spare() < FEW_PLACES {
-            self.done_with(written);
-        }
-    }
-
-    /// Closes the lists of what a turn sent, once it was written: their places in the store are free then.
+    /// Closes the lists of what a turn sent, once it was written: the next nodes take their places in the store, and no more
+    /// memory.
     pub fn done_with(&mut self, happened: &[Happening])
         requires ready { IsReady self.old }
         requires lists { AreHappened self.old happened.now }

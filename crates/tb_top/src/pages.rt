@@ -127,7 +127,7 @@ fn run_on<K: Sink>(
         if let Some(ending) = ending {
             return finish(alloc, routine, view, &totals, ending, &mut kept, out);
         }
-        routine.make_room(&happened);
+        routine.done_with(&happened);
     }
 }
 

@@ -145,7 +145,7 @@ fn run_on<K: Sink>(
         }
         note_column(columns, &happened, rating)?;
         demerits = demerits_with(demerits, rating);
-        routine.make_room(&happened);
+        routine.done_with(&happened);
     }
 }
 

@@ -94,7 +94,7 @@ fn run_on<K: Sink>(
         if let Some(ending) = ending {
             return sum_up(alloc, routine, &totals, &summary, ending, &mut kept, out);
         }
-        routine.make_room(&happened);
+        routine.done_with(&happened);
     }
 }
 

@@ -144,17 +144,17 @@ returns-in-Some-ending-clause-refused g c =
     let closing = ends-here g w.In_ok-send (turn g w.In_ok-ending) c.in-Some-ending.ending c.in-Some-ending.is in
     IfErr-weaker c.finish-in-Some-ending.result _ _ (λ f h. stops-with c.args.view c.turn.new.self c.send.new.totals (run_on c.args.routine.now) _ _ _ c.send.new.kept.items c.in-Some-ending.ending closing.end _ _ f closing.is (grown g w.In_ok-send) closing.closing h) c.finish-in-Some-ending.ensures.refused
 
-pub make_room-requires-clause-ready : goal.make_room-requires-clause-ready
-make_room-requires-clause-ready g c = MatchOption-at_none _ _ c.in_default-ending.is c.in_ok-ending.ensures.ready
+pub done_with-requires-clause-ready : goal.done_with-requires-clause-ready
+done_with-requires-clause-ready g c = MatchOption-at_none _ _ c.in_default-ending.is c.in_ok-ending.ensures.ready
 
-pub make_room-requires-clause-lists : goal.make_room-requires-clause-lists
-make_room-requires-clause-lists g c = subst (AreHappened c.turn.new.self) (sym c.deref-in-firing.ensures.value) (MatchOption-at_none _ _ c.in_default-ending.is c.in_ok-ending.ensures.lists)
+pub done_with-requires-clause-lists : goal.done_with-requires-clause-lists
+done_with-requires-clause-lists g c = subst (AreHappened c.turn.new.self) (sym c.deref-in-firing.ensures.value) (MatchOption-at_none _ _ c.in_default-ending.is c.in_ok-ending.ensures.lists)
 
 pub firing-smaller : goal.firing-smaller
 firing-smaller g c =
     let shows = turn g (goal.at.firing-smaller g c).In_ok-ending in
     let fewer = turn-fewer (state_of c.firing.routine) c.turn.new.self c.firing.invariant.going.page (is_traced c.args.view) c.turn.new.happened.items c.in_ok-ending.ending shows c.in_default-ending.is in
-    subst (λ s. firings_left s < firings_left (state_of c.firing.routine)) (sym c.make_room.ensures.state) fewer
+    subst (λ s. firings_left s < firings_left (state_of c.firing.routine)) (sym c.done_with.ensures.state) fewer
 
 pub firing-preserved : goal.firing-preserved
 firing-preserved g c =
@@ -163,10 +163,10 @@ firing-preserved g c =
     let start = c.firing.invariant.later in
     let later = c.in_ok-send.ensures.shown.later in
     record {
-      ready = c.make_room.ensures.ready;
-      going = turn-going c.args.view (state_of c.firing.routine) _ _ c.firing.totals (run_on c.args.routine.now) c.firing.invariant.going c.turn.new.self c.turn.new.happened.items c.in_ok-ending.ending shows _ c.send.new.totals (state_of c.make_room.new.self) c.make_room.ensures.state c.in_default-ending.is (shown g w.In_ok-send) (counted g w.In_ok-send);
+      ready = c.done_with.ensures.ready;
+      going = turn-going c.args.view (state_of c.firing.routine) _ _ c.firing.totals (run_on c.args.routine.now) c.firing.invariant.going c.turn.new.self c.turn.new.happened.items c.in_ok-ending.ending shows _ c.send.new.totals (state_of c.done_with.new.self) c.done_with.ensures.state c.in_default-ending.is (shown g w.In_ok-send) (counted g w.In_ok-send);
       grown = grown g w.In_ok-send;
-      tally = turn-tally c.args.view (state_of c.firing.routine) _ _ c.firing.totals (run_on c.args.routine.now) c.firing.invariant.going c.turn.new.self c.turn.new.happened.items c.in_ok-ending.ending shows c.firing.invariant.tally (few-wait c.firing.routine c.firing.invariant.ready) c.in_ok-ending.ensures.pages c.send.new.totals (state_of c.make_room.new.self) c.make_room.ensures.state c.in_default-ending.is (counted g w.In_ok-send);
+      tally = turn-tally c.args.view (state_of c.firing.routine) _ _ c.firing.totals (run_on c.args.routine.now) c.firing.invariant.going c.turn.new.self c.turn.new.happened.items c.in_ok-ending.ending shows c.firing.invariant.tally (few-wait c.firing.routine c.firing.invariant.ready) c.in_ok-ending.ensures.pages c.send.new.totals (state_of c.done_with.new.self) c.done_with.ensures.state c.in_default-ending.is (counted g w.In_ok-send);
       later = omega (arith, start, later);
     }
 

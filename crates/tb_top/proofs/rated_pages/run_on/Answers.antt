@@ -194,7 +194,7 @@ pub firing-smaller : goal.firing-smaller
 firing-smaller g c =
     let shows = turn g (goal.at.firing-smaller g c).In_ok-ending in
     let fewer = turn-fewer (state_of c.firing.routine) c.turn.new.self c.firing.invariant.going.page true c.turn.new.happened.items c.in_ok-ending.ending shows c.in_default-ending.is in
-    subst (λ s. firings_left s < firings_left (state_of c.firing.routine)) (sym c.make_room.ensures.state) fewer
+    subst (λ s. firings_left s < firings_left (state_of c.firing.routine)) (sym c.done_with.ensures.state) fewer
 
 pub firing-preserved : goal.firing-preserved
 firing-preserved g c =
@@ -202,24 +202,24 @@ firing-preserved g c =
     let q = c.turn.new.self in
     let hs = c.turn.new.happened.items in
     let o = c.in_ok-ending.ending in
-    let after = state_of c.make_room.new.self in
+    let after = state_of c.done_with.new.self in
     let run = run_of_state (state_of c.args.routine.now) in
     let shows = turn g (goal.at.firing-preserved g c).In_ok-ending in
     let value = c.rating_of-rating.ensures.value ∙ ap (λ hs. rating_now c.args.places.now s q c.in_ok-ending.ending (events_of q.store hs)) c.deref.ensures.value in
     let shown = subst (λ hs. Appends (g.K.Sink.held c.firing.out) (g.K.Sink.held c.send.new.out) (turn_lines (events_of q.store hs) c.rating_of-rating.result)) c.deref-in-firing.ensures.value c.in_ok-send.ensures.shown.whole in
     let counted = c.in_ok-send.ensures.counted ∙ ap (λ hs. with_events (events_of q.store hs) c.firing.totals) c.deref-in-firing.ensures.value in
-    let fewer = subst (λ x. firings_left x < firings_left s) (sym c.make_room.ensures.state) (turn-fewer s q c.firing.invariant.going.page true hs o shows c.in_default-ending.is) in
+    let fewer = subst (λ x. firings_left x < firings_left s) (sym c.done_with.ensures.state) (turn-fewer s q c.firing.invariant.going.page true hs o shows c.in_default-ending.is) in
     let start = c.firing.invariant.later in
     let later = c.in_ok-send.ensures.shown.later in
     let fits : FitsSigned w128 c.demerits_with-demerits.result = search rules in
     let same = c.demerits_with-demerits.ensures in
     simp to_z-of_z (record {
-      ready = c.make_room.ensures.ready;
-      going = turn-going views.Trace s None None c.firing.totals run c.firing.invariant.going q hs o shows None c.send.new.totals after c.make_room.ensures.state c.in_default-ending.is tt counted;
-      tally = turn-tally views.Trace s None None c.firing.totals run c.firing.invariant.going q hs o shows c.firing.invariant.tally (few-wait c.firing.routine c.firing.invariant.ready) c.in_ok-ending.ensures.pages c.send.new.totals after c.make_room.ensures.state c.in_default-ending.is counted;
+      ready = c.done_with.ensures.ready;
+      going = turn-going views.Trace s None None c.firing.totals run c.firing.invariant.going q hs o shows None c.send.new.totals after c.done_with.ensures.state c.in_default-ending.is tt counted;
+      tally = turn-tally views.Trace s None None c.firing.totals run c.firing.invariant.going q hs o shows c.firing.invariant.tally (few-wait c.firing.routine c.firing.invariant.ready) c.in_ok-ending.ensures.pages c.send.new.totals after c.done_with.ensures.state c.in_default-ending.is counted;
       rated = subst (λ d. RatedGoing c.args.places.now after (g.K.Sink.held c.args.out.now) (g.K.Sink.held c.send.new.out) d run.events (demerits_of_state c.args.places.now (state_of c.args.routine.now)) (rated_text c.args.places.now (state_of c.args.routine.now))) (sym same)
-          (turn-goes c.args.places.now s _ _ _ _ _ _ _ c.firing.invariant.rated c.firing.invariant.going.page q hs o shows c.rating_of-rating.result value after c.make_room.ensures.state c.in_default-ending.is shown);
-      columns = columns-go c.args.places.now s q hs o shows _ _ c.firing.invariant.columns c.rating_of-rating.result value after c.make_room.ensures.state c.in_default-ending.is (shown_columns c.note_column.new.columns.items) c.firing.invariant.going.page
+          (turn-goes c.args.places.now s _ _ _ _ _ _ _ c.firing.invariant.rated c.firing.invariant.going.page q hs o shows c.rating_of-rating.result value after c.done_with.ensures.state c.in_default-ending.is shown);
+      columns = columns-go c.args.places.now s q hs o shows _ _ c.firing.invariant.columns c.rating_of-rating.result value after c.done_with.ensures.state c.in_default-ending.is (shown_columns c.note_column.new.columns.items) c.firing.invariant.going.page
           (c.in_ok-note_column.ensures q.store ∙ ap (λ hs. shown_columns c.firing.columns.items ++ turn_columns (events_of q.store hs) c.rating_of-rating.result) c.deref-in-firing-2.ensures.value);
       sum = subst (λ d. IsSum d after) (sym same) (sum-next _ s after c.firing.invariant.sum fewer c.rating_of-rating.result c.rating_of-rating.ensures.range);
       later = omega (arith, start, later);

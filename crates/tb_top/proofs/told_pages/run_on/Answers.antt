@@ -197,17 +197,17 @@ returns-in-Some-ending-clause-cause g c = λ is.
 
 -- ---- the turn was not the last
 
-pub make_room-requires-clause-ready : goal.make_room-requires-clause-ready
-make_room-requires-clause-ready g c = MatchOption-at_none _ _ c.in_default-ending.is c.in_ok-ending.ensures.ready
+pub done_with-requires-clause-ready : goal.done_with-requires-clause-ready
+done_with-requires-clause-ready g c = MatchOption-at_none _ _ c.in_default-ending.is c.in_ok-ending.ensures.ready
 
-pub make_room-requires-clause-lists : goal.make_room-requires-clause-lists
-make_room-requires-clause-lists g c = subst (AreHappened c.told_turn.new.routine) (sym c.deref-in-firing-2.ensures.value) (MatchOption-at_none _ _ c.in_default-ending.is c.in_ok-ending.ensures.lists)
+pub done_with-requires-clause-lists : goal.done_with-requires-clause-lists
+done_with-requires-clause-lists g c = subst (AreHappened c.told_turn.new.routine) (sym c.deref-in-firing-2.ensures.value) (MatchOption-at_none _ _ c.in_default-ending.is c.in_ok-ending.ensures.lists)
 
 pub firing-smaller : goal.firing-smaller
 firing-smaller g c =
     let shows = turn g (goal.at.firing-smaller g c).In_ok-ending in
     let fewer = turn-fewer (state_of c.firing.routine) c.told_turn.new.routine c.firing.invariant.going.page true c.told_turn.new.happened.items c.in_ok-ending.ending shows c.in_default-ending.is in
-    subst (λ s. firings_left s < firings_left (state_of c.firing.routine)) (sym c.make_room.ensures.state) fewer
+    subst (λ s. firings_left s < firings_left (state_of c.firing.routine)) (sym c.done_with.ensures.state) fewer
 
 pub firing-preserved : goal.firing-preserved
 firing-preserved g c =
@@ -216,17 +216,17 @@ firing-preserved g c =
     let q = c.told_turn.new.routine in
     let hs = c.told_turn.new.happened.items in
     let o = c.in_ok-ending.ending in
-    let after = state_of c.make_room.new.self in
+    let after = state_of c.done_with.new.self in
     let shows = turn g w.In_ok-ending in
-    let fewer = subst (λ u. firings_left u < firings_left s) (sym c.make_room.ensures.state) (turn-fewer s q c.firing.invariant.going.page true hs o shows c.in_default-ending.is) in
+    let fewer = subst (λ u. firings_left u < firings_left s) (sym c.done_with.ensures.state) (turn-fewer s q c.firing.invariant.going.page true hs o shows c.in_default-ending.is) in
     let start = c.firing.invariant.later in
     let later = c.in_ok-send.ensures.shown.later in
     record {
-      ready = c.make_room.ensures.ready;
-      going = turn-going views.Trace s None None c.firing.totals (run_on c.args.routine.now) c.firing.invariant.going q hs o shows None c.count_happened.new.totals after c.make_room.ensures.state c.in_default-ending.is tt (counted g w.In_ok-send);
-      told = turn-goes s _ _ _ _ _ _ c.firing.invariant.told c.firing.invariant.going.page q hs o shows _ (told g w.In_ok-ending) c.send.new.summary after c.make_room.ensures.state (sum g w.In_ok-send) c.in_default-ending.is (written g w.In_ok-send);
+      ready = c.done_with.ensures.ready;
+      going = turn-going views.Trace s None None c.firing.totals (run_on c.args.routine.now) c.firing.invariant.going q hs o shows None c.count_happened.new.totals after c.done_with.ensures.state c.in_default-ending.is tt (counted g w.In_ok-send);
+      told = turn-goes s _ _ _ _ _ _ c.firing.invariant.told c.firing.invariant.going.page q hs o shows _ (told g w.In_ok-ending) c.send.new.summary after c.done_with.ensures.state (sum g w.In_ok-send) c.in_default-ending.is (written g w.In_ok-send);
       grown = grown g w.In_ok-send;
-      tally = turn-tally views.Trace s None None c.firing.totals (run_on c.args.routine.now) c.firing.invariant.going q hs o shows c.firing.invariant.tally (few-wait c.firing.routine c.firing.invariant.ready) c.in_ok-ending.ensures.pages c.count_happened.new.totals after c.make_room.ensures.state c.in_default-ending.is (counted g w.In_ok-send);
+      tally = turn-tally views.Trace s None None c.firing.totals (run_on c.args.routine.now) c.firing.invariant.going q hs o shows c.firing.invariant.tally (few-wait c.firing.routine c.firing.invariant.ready) c.in_ok-ending.ensures.pages c.count_happened.new.totals after c.done_with.ensures.state c.in_default-ending.is (counted g w.In_ok-send);
       sheets = sheets-next s c.firing.summary c.firing.invariant.tally.few c.firing.invariant.sheets _ (told g w.In_ok-ending) c.send.new.summary after (sum g w.In_ok-send) fewer;
       later = omega (arith, start, later);
     }
